@@ -135,7 +135,8 @@ impl Model for MemoryDeviceOut {
 
 impl MemoryDeviceOut {
     /// A device to which writes fail at the calls whose numbers, counted from 1, are in `failing`; a
-    /// failing write takes nothing. It takes no memory.
+    /// failing write takes nothing. Each part of a piece in two parts is a call, unless it is empty.
+    /// It takes no memory.
     pub fn new(alloc: Global, failing: Vec<u64>) -> MemoryDeviceOut
         ensures sink { result.sink
             ≡ record { out = []; failing = failing.items; calls = 0; faults = 0 } }

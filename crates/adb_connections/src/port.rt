@@ -27,7 +27,7 @@ pub trait PortIn {
 
 /// What a client is sent.
 pub trait PortOut {
-    ghost use Rattle.std.specs.Prelude.{◌≡◌, ◌<◌, ℕ, List, Option, Bool, true, false, length};
+    ghost use Rattle.std.specs.Prelude.{◌≡◌, ◌<◌, ◌++◌, ℕ, List, Option, Bool, true, false, length};
     ghost use Rattle.adb_outside.specs.Outside.{Counts};
     ghost use Rattle.adb_outside.specs.Sink.{FitsPiece, TellsWrite, is_failed_write};
 
@@ -50,6 +50,31 @@ pub trait PortOut {
         ensures told { TellsWrite (written self.old) (written self.new) piece.now result }
         ensures counts { Counts steady faults self.old self.new (is_failed_write result) }
         ensures closed { closed self.new ≡ closed self.old };
+
+    /// Writes a piece that lies in two parts, one behind the other, of which either may be empty. The
+    /// trait's own body makes a write of each part that is not.
+    fn write_both(&mut self, start: &[u8], rest: &[u8]) -> Wrote
+        requires { 0 < length (start.now ++ rest.now) }
+        ensures fits { FitsPiece (start.now ++ rest.now) result }
+        ensures told { TellsWrite (written self.old) (written self.new) (start.now ++ rest.now)
+            result }
+        ensures counts { Counts steady faults self.old self.new (is_failed_write result) }
+        ensures closed { closed self.new ≡ closed self.old }
+    {
+        if start.is_empty() {
+            return self.write(rest);
+        }
+        match self.write(start) {
+            Wrote::Failed { taken } => Wrote::Failed { taken },
+            Wrote::All if rest.is_empty() => Wrote::All,
+            Wrote::All => match self.write(rest) {
+                Wrote::All => Wrote::All,
+                Wrote::Failed { taken } => Wrote::Failed {
+                    taken: start.len() + taken,
+                },
+            },
+        }
+    }
 
     /// Closes the connection. It is meant to make the half that reads answer `End` or `Failed`,
     /// which no clause says.

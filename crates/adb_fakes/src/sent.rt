@@ -1,6 +1,6 @@
 //! What a client or a device is sent, as a test reads it.
 
-ghost use Rattle.std.specs.Prelude.{◌≡◌, false, true};
+ghost use Rattle.std.specs.Prelude.{◌≡◌, ◌++◌, false, true};
 ghost use Rattle.adb_outside.specs.Outside.{Counts};
 ghost use Rattle.adb_outside.specs.Sink.{FitsPiece, is_failed_write};
 
@@ -55,10 +55,15 @@ impl<W: Wait + Copy + Drop> Sent<W> {
         self.store.lock(&self.rt).closed
     }
 
-    /// Sends a piece, if there is memory for it.
-    fn push(&self, piece: &[u8]) -> bool {
+    /// Sends two parts, one behind the other, if there is memory for both.
+    fn push(&self, start: &[u8], rest: &[u8]) -> bool {
         let mut store = self.store.lock(&self.rt);
-        store.bytes.push_slice(piece).is_ok()
+        let len = store.bytes.len();
+        let went = store.bytes.push_slice(start).is_ok() && store.bytes.push_slice(rest).is_ok();
+        if !went {
+            store.bytes.truncate(len);
+        }
+        went
     }
 
     fn close(&self) {
@@ -84,7 +89,7 @@ impl<W: Wait + Copy + Drop> Model for SharedOut<W> {
 
 impl<W: Wait + Copy + Drop> SharedOut<W> {
     /// One to which writes fail at the calls whose numbers, counted from 1, are in `failing`, and
-    /// where there is no memory. A failing write takes nothing.
+    /// where there is no memory. A failing write takes nothing. A write in two parts is one call.
     pub fn new(sent: Sent<W>, failing: Vec<u64>) -> SharedOut<W>
         ensures { result ≡ record { closed = false; faults = 0 } }
     {
@@ -95,8 +100,8 @@ impl<W: Wait + Copy + Drop> SharedOut<W> {
         }
     }
 
-    fn push(&mut self, piece: &[u8]) -> Wrote
-        ensures told { FitsPiece piece.now result }
+    fn push(&mut self, start: &[u8], rest: &[u8]) -> Wrote
+        ensures told { FitsPiece (start.now ++ rest.now) result }
         ensures counts { Counts (λ out. ⊥) (λ out. out.faults)
             self.old self.new (is_failed_write result) }
         ensures closed { self.new.closed ≡ self.old.closed }
@@ -104,7 +109,7 @@ impl<W: Wait + Copy + Drop> SharedOut<W> {
         if self.failing.fails() {
             return Wrote::Failed { taken: 0 };
         }
-        if self.sent.push(piece) {
+        if self.sent.push(start, rest) {
             return Wrote::All;
         }
         self.failing.count_fault();
@@ -131,7 +136,11 @@ impl<W: Wait + Copy + Drop> PortOut for SharedOut<W> {
     ghost steady = { λ out. ⊥ };
 
     fn write(&mut self, piece: &[u8]) -> Wrote {
-        self.push(piece)
+        self.push(&[], piece)
+    }
+
+    fn write_both(&mut self, start: &[u8], rest: &[u8]) -> Wrote {
+        self.push(start, rest)
     }
 
     fn close(&mut self) {
@@ -151,7 +160,11 @@ impl<W: Wait + Copy + Drop> DeviceOut for SharedOut<W> {
     ghost steady = { λ out. ⊥ };
 
     fn write(&mut self, piece: &[u8]) -> Wrote {
-        self.push(piece)
+        self.push(&[], piece)
+    }
+
+    fn write_both(&mut self, start: &[u8], rest: &[u8]) -> Wrote {
+        self.push(start, rest)
     }
 
     fn unplug(&mut self) {

@@ -11,7 +11,7 @@ use std::test::Fail;
 /// Whether a port that was written to and closed tells so.
 fn port_is_closed(alloc: Global) -> bool {
     let mut output = MemoryOut::new(alloc, Vec::new(alloc));
-    let took = output.write(b"OKAY") == Wrote::All;
+    let took = output.write_both(b"OK", b"AY") == Wrote::All;
     output.close();
     took && output.is_closed() && output.bytes() == b"OKAY".as_slice()
 }
@@ -19,7 +19,7 @@ fn port_is_closed(alloc: Global) -> bool {
 /// Whether a device that was written to and unplugged tells so.
 fn device_is_unplugged(alloc: Global) -> bool {
     let mut output = MemoryDeviceOut::new(alloc, Vec::new(alloc));
-    let took = output.write(b"OPEN") == Wrote::All;
+    let took = output.write_both(b"OP", b"EN") == Wrote::All;
     output.unplug();
     took && output.is_unplugged() && output.bytes() == b"OPEN".as_slice()
 }

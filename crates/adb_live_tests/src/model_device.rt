@@ -5,7 +5,7 @@ use adb_daemon::{Daemon, DaemonError};
 use adb_files::Files;
 use adb_model_device::{DeviceEnd, PipeDeviceIn, PipeDeviceOut, run_device};
 use adb_outside::{Got, Wrote};
-use adb_pipe::{PipeIn, PipeOut, pipe};
+use adb_pipe::{PipeIn, PipeOut, Taken, pipe};
 use std::alloc::{AllocError, Global};
 use std::sync::Wait;
 use std::test::Fail;
@@ -113,5 +113,22 @@ fn write_fails<W: Wait + Copy + Drop>(rt: W, alloc: Global) -> Result<bool, Allo
 #[test]
 fn writes_fail(rt: HostRuntime) -> Result<(), Fail> {
     assert!(rt; write_fails(rt, rt.alloc())?);
+    Ok(())
+}
+
+/// Whether a piece in two parts is one chunk.
+fn joins<W: Wait + Copy + Drop>(rt: W, alloc: Global) -> Result<bool, AllocError> {
+    let (to_device, mut from_host) = pipe(rt, alloc, 1)?;
+    let mut output = PipeDeviceOut::new(alloc, to_device);
+    let put = output.write_both(b"CN", b"XN") == Wrote::All;
+    Ok(match from_host.take() {
+        Taken::Chunk(chunk) => put && chunk.as_slice() == b"CNXN".as_slice(),
+        Taken::End | Taken::Lost => false,
+    })
+}
+
+#[test]
+fn parts_are_one_chunk(rt: HostRuntime) -> Result<(), Fail> {
+    assert!(rt; joins(rt, rt.alloc())?);
     Ok(())
 }

@@ -2,11 +2,14 @@
 
 use adb_connections::{DeviceIn, DeviceOut, Plug, PortIn, PortOut};
 use adb_outside::{Got, Wrote};
-use adb_sockets::{Ending, TcpIn, TcpOut, halves, tcp_device};
+use adb_sockets::{Ending, TcpDeviceOut, TcpIn, TcpOut, halves, tcp_device};
 use std::alloc::Global;
 use std::io;
+use std::io::Read;
 use std::net::{Net, TcpListener, TcpStream};
 use std::test::Fail;
+use std::thread::{join, sleep};
+use std::time::{Clock, Duration};
 
 /// A connection to this listener, by its two halves, and its other end.
 fn connection<W: Net<Listener = TcpListener, Stream = TcpStream>>(
@@ -24,7 +27,7 @@ fn connection<W: Net<Listener = TcpListener, Stream = TcpStream>>(
 /// Whether what is sent comes back, and a port that is closed ends its other half.
 fn echoes(input: &mut TcpIn, output: &mut TcpOut, other: &TcpStream) -> io::Result<bool> {
     let mut into = [0u8; 8];
-    let sent = output.write(b"OKAY") == Wrote::All;
+    let sent = output.write_both(b"OK", b"AY") == Wrote::All;
     let there = other.peek(&mut into)? == 4 && into.starts_with(b"OKAY");
     output.close();
     Ok(sent && there && input.read(&mut into) == Got::End)
@@ -79,5 +82,62 @@ fn devices_over_sockets(rt: HostRuntime) -> Result<(), Fail> {
     assert!(rt; serves(rt, alloc, port, &ending)? == (Plug::Here, true));
     drop(listener);
     assert!(rt; serves(rt, alloc, port, &ending)?.0 == Plug::Never);
+    Ok(())
+}
+
+/// The two parts of a packet.
+const START: &[u8; 24] = &[1; 24];
+const REST: u8 = 2;
+const REST_LEN: usize = 1_048_576;
+
+/// So many packets are more than lies between two ends.
+const PACKETS: usize = 12;
+
+/// Whether all packets are sent.
+fn sends_in_parts(output: &mut TcpDeviceOut, rest: &[u8]) -> bool {
+    for _ in 0..PACKETS {
+        if output.write_both(START, rest) != Wrote::All {
+            return false;
+        }
+    }
+    true
+}
+
+/// Whether just the packets come, to one who begins to read when writes have timed out.
+fn reads_late<W: Net<Listener = TcpListener, Stream = TcpStream> + Clock>(
+    rt: &W,
+    alloc: Global,
+    listener: &TcpListener,
+) -> io::Result<bool> {
+    let (stream, _) = listener.accept()?;
+    sleep(rt, Duration::from_millis(1_300));
+    let mut stream = &stream;
+    let mut start = [0; 24];
+    let mut rest = vec![in alloc; 0u8; REST_LEN]?;
+    for _ in 0..PACKETS {
+        stream.read_exact(&mut start)?;
+        stream.read_exact(&mut rest)?;
+        if start != *START || rest.iter().any(|&byte| byte != REST) {
+            return Ok(false);
+        }
+    }
+    Ok(true)
+}
+
+#[test]
+fn parts_over_sockets(rt: HostRuntime) -> Result<(), Fail> {
+    let alloc = rt.alloc();
+    let ending = Ending::new(alloc)?;
+    let listener = TcpListener::bind(&rt, "127.0.0.1:0")?;
+    let port = listener.local_addr()?.port();
+    let (mut input, mut output) = tcp_device(rt, alloc, port, &ending)?;
+    assert!(rt; input.plug() == Plug::Here);
+    let rest = vec![in alloc; REST; REST_LEN]?;
+    let (sent, came) = join(
+        &rt,
+        || sends_in_parts(&mut output, &rest),
+        || reads_late(&rt, alloc, &listener),
+    );
+    assert!(rt; sent && came?);
     Ok(())
 }

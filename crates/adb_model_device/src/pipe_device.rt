@@ -1,11 +1,11 @@
 //! The two halves of a device's link, over the ends of two pipes.
 
-ghost use Rattle.std.specs.Prelude.{◌≡◌, ◌≤◌, false, length};
+ghost use Rattle.std.specs.Prelude.{◌≡◌, ◌≤◌, ◌++◌, false, length, IfOk};
 
 use adb_connections::{DeviceIn, DeviceOut, Plug};
 use adb_outside::{Got, Text, Wrote};
 use adb_pipe::{PipeIn, PipeOut, Taken};
-use std::alloc::Global;
+use std::alloc::{AllocError, Global};
 use std::sync::Wait;
 
 /// A chunk, of which the first bytes were read.
@@ -115,18 +115,28 @@ impl<W: Wait + Drop> PipeDeviceOut<W> {
         }
     }
 
-    /// Puts a piece, if there is memory for it and the pipe takes it.
-    fn put(&mut self, piece: &[u8]) -> bool
+    /// Puts a piece in two parts, if there is memory for it and the pipe takes it.
+    fn put(&mut self, start: &[u8], rest: &[u8]) -> bool
         ensures { (self.new.faults ≡ self.old.faults) × (self.new.closed ≡ self.old.closed) }
     {
         let Some(output) = &mut self.output else {
             return false;
         };
-        match Text::from_slice(self.alloc, piece) {
+        match joined(self.alloc, start, rest) {
             Ok(chunk) => output.put(chunk).is_ok(),
             Err(_) => false,
         }
     }
+}
+
+/// A chunk of two parts, one behind the other.
+fn joined(alloc: Global, start: &[u8], rest: &[u8]) -> Result<Text, AllocError>
+    ensures { IfOk result (λ chunk. chunk ≡ start.now ++ rest.now) }
+{
+    let mut bytes = Vec::with_capacity(alloc, start.len() + rest.len())?;
+    bytes.extend_from_slice(start)?;
+    bytes.extend_from_slice(rest)?;
+    Ok(Text::from_vec(bytes))
 }
 
 impl<W: Wait + Drop> DeviceOut for PipeDeviceOut<W> {
@@ -142,7 +152,12 @@ impl<W: Wait + Drop> DeviceOut for PipeDeviceOut<W> {
 
     /// Waits while the pipe is full. A write that fails takes nothing.
     fn write(&mut self, piece: &[u8]) -> Wrote {
-        if self.put(piece) {
+        self.write_both(&[], piece)
+    }
+
+    /// Both parts are one chunk.
+    fn write_both(&mut self, start: &[u8], rest: &[u8]) -> Wrote {
+        if self.put(start, rest) {
             return Wrote::All;
         }
         self.faults = self.faults.saturating_add(1);

@@ -61,6 +61,13 @@ impl<A: DeviceOut, B: DeviceOut> DeviceOut for EitherOut<A, B> {
         }
     }
 
+    fn write_both(&mut self, start: &[u8], rest: &[u8]) -> Wrote {
+        match self {
+            EitherOut::First(device) => device.write_both(start, rest),
+            EitherOut::Second(device) => device.write_both(start, rest),
+        }
+    }
+
     fn unplug(&mut self) {
         match self {
             EitherOut::First(device) => device.unplug(),

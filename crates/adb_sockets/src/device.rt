@@ -141,8 +141,13 @@ impl DeviceOut for TcpDeviceOut {
 
     /// Fails before the device is plugged in.
     fn write(&mut self, piece: &[u8]) -> Wrote {
+        self.write_both(&[], piece)
+    }
+
+    /// Both parts by one call of the system, where that takes them whole.
+    fn write_both(&mut self, start: &[u8], rest: &[u8]) -> Wrote {
         let wrote = match self.line.stream.get() {
-            Some(stream) => send(stream, &self.line.ending, piece),
+            Some(stream) => send(stream, &self.line.ending, start, rest),
             None => Wrote::Failed { taken: 0 },
         };
         if wrote != Wrote::All {

@@ -79,7 +79,12 @@ impl PortOut for TcpOut {
     ghost steady = { λ port. ⊥ };
 
     fn write(&mut self, piece: &[u8]) -> Wrote {
-        let wrote = send(&self.stream, &self.ending, piece);
+        self.write_both(&[], piece)
+    }
+
+    /// Both parts by one call of the system, where that takes them whole.
+    fn write_both(&mut self, start: &[u8], rest: &[u8]) -> Wrote {
+        let wrote = send(&self.stream, &self.ending, start, rest);
         if wrote != Wrote::All {
             self.faults = self.faults.saturating_add(1);
         }

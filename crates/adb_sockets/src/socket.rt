@@ -1,13 +1,14 @@
 //! What is done with a stream of the system.
 
-ghost use Rattle.std.specs.Prelude.{◌<◌, length};
+ghost use Rattle.std.specs.Prelude.{◌≡◌, ◌<◌, ◌≤◌, ◌++◌, length, drop};
+ghost use Rattle.std.specs.Io.Slices.{io_slices_bytes};
 ghost use Rattle.adb_outside.specs.Source.{FitsBuffer};
 ghost use Rattle.adb_outside.specs.Sink.{FitsPiece};
 
 use crate::ending::Ending;
 use adb_outside::{Got, Wrote};
 use std::io;
-use std::io::{ErrorKind, Read, Write};
+use std::io::{ErrorKind, IoSlice, Read};
 use std::net::TcpStream;
 use std::time::Duration;
 
@@ -38,25 +39,37 @@ pub fn receive(stream: &TcpStream, into: &mut [u8]) -> Got
     Got::Failed
 }
 
-/// Sends a piece. It waits for one who does not read, until the server ends.
-pub fn send(stream: &TcpStream, ending: &Ending, piece: &[u8]) -> Wrote
-    requires { 0 < length piece.now }
-    ensures { FitsPiece piece.now result }
+/// Sends a piece that lies in two parts, one behind the other, by one call of the system where that
+/// takes it whole. It waits for one who does not read, until the server ends.
+pub fn send(stream: &TcpStream, ending: &Ending, start: &[u8], rest: &[u8]) -> Wrote
+    requires { 0 < length (start.now ++ rest.now) }
+    ensures { FitsPiece (start.now ++ rest.now) result }
 {
-    let mut stream = stream;
+    let len = start.len() + rest.len();
     let mut taken = 0;
     for _ in 0..u64::MAX {
-        match stream.write(&piece[taken..]) {
+        match stream.write_vectored(&left(start, rest, taken)) {
             Ok(0) => break,
             Ok(count) => taken += count,
             Err(error) if goes_on(error.kind(), ending) => {}
             Err(_) => break,
         }
-        if taken == piece.len() {
+        if taken == len {
             return Wrote::All;
         }
     }
     Wrote::Failed { taken }
+}
+
+/// What is left of two parts, one behind the other, behind so many of their bytes.
+fn left<'a>(start: &'a [u8], rest: &'a [u8], taken: usize) -> [IoSlice<'a>; 2]
+    requires { taken ≤ length (start.now ++ rest.now) }
+    ensures { io_slices_bytes result ≡ drop taken (start.now ++ rest.now) }
+{
+    [
+        IoSlice::new(&start[taken.min(start.len())..]),
+        IoSlice::new(&rest[taken.saturating_sub(start.len())..]),
+    ]
 }
 
 /// Whether a write that met this is made again.

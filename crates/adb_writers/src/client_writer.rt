@@ -13,7 +13,7 @@ use adb_connections::{Gate, Place, PortOut};
 use adb_desk_log::{ClientOut, DeskError, Marks};
 use adb_hall::Hall;
 use adb_hub::{Handed, HubError};
-use adb_outside::{Cause, HandOut, Wrote};
+use adb_outside::{Cause, HandOut, Parts, Wrote};
 use adb_wire::MAX_PACKET;
 use std::sync::Wait;
 use std::sync::ledger::Ledger;
@@ -52,7 +52,8 @@ fn write_out<E: Ledger, M: Ledger, K: Marks, H: Hall<E, M, K>, O: PortOut>(
         (outlet (O.faults port.old) (O.written port.old) (O.closed port.old))
         (outlet (O.faults port.new) (O.written port.new) (O.closed port.new)) }
 {
-    match port.write(bytes.as_slice()) {
+    let Parts { start, rest } = bytes.parts();
+    match port.write_both(start, rest) {
         Wrote::All => Next::More,
         Wrote::Failed { taken: _ } => {
             break_off(hall, pass, Cause::Fault);
