@@ -174,6 +174,7 @@ impl<'a> Spelled<'a> {
         requires { HasRecord entry.now }
         ensures is { result.head ++ result.rest.now ≡ record_of entry.now }
         ensures len { (HEADER_LEN ≤ length result.head) × (length result.head ≤ MAX_HEAD) }
+        ensures size { length result.rest.now ≤ MAX_DATA }
     {
         let mut head = Head::of(entry);
         let Parts { start, rest } = parts(entry);
@@ -219,6 +220,7 @@ impl Word {
 fn parts(entry: &Entry) -> Parts<'_>
     ensures is { result.start.now ++ result.rest.now ≡ text_of entry.now }
     ensures short { length result.start.now ≤ MAX_START }
+    ensures part { length result.rest.now ≤ length (text_of entry.now) }
 {
     match entry {
         Entry::Read { bytes, .. } | Entry::Recv { bytes, .. } => whole(bytes.as_slice()),
@@ -232,6 +234,7 @@ fn parts(entry: &Entry) -> Parts<'_>
 fn whole(rest: &[u8]) -> Parts<'_>
     ensures is { result.start.now ++ result.rest.now ≡ rest.now }
     ensures short { length result.start.now ≤ MAX_START }
+    ensures part { length result.rest.now ≤ length rest.now }
 {
     Parts { start: &[], rest }
 }
