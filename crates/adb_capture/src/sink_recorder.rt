@@ -10,7 +10,7 @@ ghost use Rattle.adb_capture.specs.Recording.{TellsRecord, WritesRecord, behind_
 use crate::awaiting::MAGIC;
 use crate::entry::{Entry, Owner};
 use crate::recorder::{RecordError, Recorder};
-use crate::writer::{Head, text, write_both, write_magic};
+use crate::writer::{Head, Spelled, write_both, write_magic};
 use adb_outside::{Sink, Wrote};
 use std::marker::Model;
 
@@ -149,8 +149,8 @@ impl<K: Sink + Drop> Recorder for SinkRecorder<K> {
         ensures spent { 0 < self.old.faults
             → (result ≡ Err RecordError.Failed) × (self.new.sink ≡ self.old.sink) }
     {
-        let head = Head::of(entry);
-        self.put(head.as_slice(), text(entry))
+        let Spelled { head, rest } = Spelled::of(entry);
+        self.put(head.as_slice(), rest)
     }
 
     /// Writes the record of the piece, which is not copied, as `keep` does.

@@ -1,16 +1,18 @@
 //! Writing captures.
 
 ghost use Rattle.std.specs.Prelude.{◌≡◌, ◌<◌, ◌≤◌, ◌+◌, ◌++◌, ◌^◌, ℕ, OnOk, OnErr, length, take};
+ghost use Rattle.adb_outside.specs.declared.hand_out.TheConstants.{MAX_START};
 ghost use Rattle.adb_outside.specs.Outside.{Counts};
 ghost use Rattle.adb_outside.specs.Sink.{FitsPiece, TellsWrite, is_failed_write};
 ghost use Rattle.adb_capture.specs.declared.limits.TheConstants.{HEADER_LEN, MAX_DATA};
+ghost use Rattle.adb_capture.specs.declared.writer.TheConstants.{MAX_HEAD};
 ghost use Rattle.adb_capture.specs.Records.{magic, kind_of, record_of, cause_byte, plug_letter, came_from, HasRecord};
 ghost use Rattle.adb_capture.specs.Pieces.{text_of, word_of};
 
 use crate::awaiting::MAGIC;
 use crate::entry::{Entry, Owner};
 use crate::limits::HEADER_LEN;
-use adb_outside::{ByteQueue, Cause, Kind, Sink, Wrote};
+use adb_outside::{ByteQueue, Cause, Kind, MAX_START, Parts, Sink, Wrote};
 use byteorder::{ByteOrder, LittleEndian};
 use std::alloc::AllocError;
 use std::marker::Model;
@@ -33,8 +35,8 @@ pub fn write_entry<K: Sink>(sink: &mut K, entry: &Entry) -> Wrote
         (record_of entry.now) result }
     ensures counts { Counts K.steady K.faults sink.old sink.new (is_failed_write result) }
 {
-    let head = Head::of(entry);
-    write_both(sink, head.as_slice(), text(entry))
+    let Spelled { head, rest } = Spelled::of(entry);
+    write_both(sink, head.as_slice(), rest)
 }
 
 /// Adds the bytes that a capture begins with. After want of memory the bytes are as before.
@@ -52,11 +54,10 @@ pub fn append_entry(bytes: &mut ByteQueue, entry: &Entry) -> Result<(), AllocErr
     ensures ok { OnOk result (bytes.new.bytes ≡ bytes.old.bytes ++ record_of entry.now) }
     ensures err { OnErr result (bytes.new.bytes ≡ bytes.old.bytes) }
 {
-    let head = Head::of(entry);
-    let text = text(entry);
-    bytes.reserve(head.len + text.len())?;
+    let Spelled { head, rest } = Spelled::of(entry);
+    bytes.reserve(head.len + rest.len())?;
     bytes.push_spare(head.as_slice());
-    bytes.push_spare(text);
+    bytes.push_spare(rest);
     Ok(())
 }
 
@@ -81,23 +82,27 @@ pub(crate) fn write_both<K: Sink>(sink: &mut K, first: &[u8], last: &[u8]) -> Wr
     }
 }
 
+/// How many bytes a head has at most: those before a text, and the start of one.
+const MAX_HEAD: usize = HEADER_LEN + 2 + MAX_START;
+
 /// The bytes of a record before its text: the kind, the number, the length of the data, and the
-/// data that are no text.
+/// data that are no text; and behind these it may have the start of the text.
 #[derive(Drop)]
 pub(crate) struct Head {
-    bytes: [u8; 11],
+    bytes: [u8; MAX_HEAD],
     len: usize,
 }
 
 impl Model for Head {
     ghost use Rattle.std.specs.Prelude.{◌≤◌, List, ℕ, take};
     ghost use Rattle.adb_capture.specs.declared.limits.TheConstants.{HEADER_LEN};
+    ghost use Rattle.adb_capture.specs.declared.writer.TheConstants.{MAX_HEAD};
 
     ghost Value = { List ℕ };
 
     ghost view = { λ head. take head.len head.bytes };
 
-    ghost invariant = { λ head. (HEADER_LEN ≤ head.len) × (head.len ≤ 11) };
+    ghost invariant = { λ head. (HEADER_LEN ≤ head.len) × (head.len ≤ MAX_HEAD) };
 }
 
 impl Head {
@@ -108,8 +113,8 @@ impl Head {
         ensures len { (HEADER_LEN ≤ length result) × (length result ≤ 11) }
     {
         let word = Word::of(entry);
-        let size = word.len + text(entry).len();
-        let mut bytes = [0; 11];
+        let size = word.len + text_len(entry);
+        let mut bytes = [0; MAX_HEAD];
         bytes[0] = letter(entry);
         LittleEndian::write_u32(&mut bytes[1..5], entry.owner().number());
         LittleEndian::write_u32(&mut bytes[5..9], size as u32);
@@ -127,7 +132,7 @@ impl Head {
         ensures is { result ++ piece.now ≡ record_of (came_from from piece.now) }
         ensures len { length result ≡ HEADER_LEN }
     {
-        let mut bytes = [0; 11];
+        let mut bytes = [0; MAX_HEAD];
         bytes[0] = match from {
             Owner::Client(_) => b'R',
             Owner::Link(_) => b'V',
@@ -144,6 +149,37 @@ impl Head {
         ensures { result.now ≡ self.now }
     {
         &self.bytes[..self.len]
+    }
+
+    fn push(&mut self, bytes: &[u8])
+        requires { length self.old + length bytes.now ≤ MAX_HEAD }
+        ensures { self.new ≡ self.old ++ bytes.now }
+    {
+        let len = self.len + bytes.len();
+        self.bytes[self.len..len].copy_from_slice(bytes);
+        self.len = len;
+    }
+}
+
+/// An entry's record as it is written: its head, and behind it what is left of its text, where that
+/// lies.
+#[derive(Drop)]
+pub(crate) struct Spelled<'a> {
+    pub(crate) head: Head,
+    pub(crate) rest: &'a [u8],
+}
+
+impl<'a> Spelled<'a> {
+    pub(crate) fn of(entry: &'a Entry) -> Spelled<'a>
+        requires { HasRecord entry.now }
+        ensures is { result.head ++ result.rest.now ≡ record_of entry.now }
+        ensures len { (HEADER_LEN ≤ length result.head) × (length result.head ≤ MAX_HEAD) }
+        ensures size { length result.rest.now ≤ MAX_DATA }
+    {
+        let mut head = Head::of(entry);
+        let Parts { start, rest } = parts(entry);
+        head.push(start);
+        Spelled { head, rest }
     }
 }
 
@@ -180,16 +216,34 @@ impl Word {
     }
 }
 
-/// The bytes of an entry's text.
-pub(crate) fn text(entry: &Entry) -> &[u8]
-    ensures { result.now ≡ text_of entry.now }
+/// The bytes of an entry's text. Its start is short.
+fn parts(entry: &Entry) -> Parts<'_>
+    ensures is { result.start.now ++ result.rest.now ≡ text_of entry.now }
+    ensures short { length result.start.now ≤ MAX_START }
+    ensures part { length result.rest.now ≤ length (text_of entry.now) }
 {
     match entry {
-        Entry::Read { bytes, .. } | Entry::Recv { bytes, .. } => bytes.as_slice(),
-        Entry::Put { bytes, .. } | Entry::Send { bytes, .. } => bytes.as_slice(),
-        Entry::Attach { serial, .. } => serial.as_slice(),
-        _ => &[],
+        Entry::Read { bytes, .. } | Entry::Recv { bytes, .. } => whole(bytes.as_slice()),
+        Entry::Put { bytes, .. } | Entry::Send { bytes, .. } => bytes.parts(),
+        Entry::Attach { serial, .. } => whole(serial.as_slice()),
+        _ => whole(&[]),
     }
+}
+
+/// Bytes that lie in one part.
+fn whole(rest: &[u8]) -> Parts<'_>
+    ensures is { result.start.now ++ result.rest.now ≡ rest.now }
+    ensures short { length result.start.now ≤ MAX_START }
+    ensures part { length result.rest.now ≤ length rest.now }
+{
+    Parts { start: &[], rest }
+}
+
+fn text_len(entry: &Entry) -> usize
+    ensures { result ≡ length (text_of entry.now) }
+{
+    let Parts { start, rest } = parts(entry);
+    start.len() + rest.len()
 }
 
 fn letter(entry: &Entry) -> u8

@@ -111,9 +111,10 @@ impl HandOut {
         }
     }
 
-    /// The bytes, where they are.
+    /// The bytes, where they are. The start is short.
     pub fn parts(&self) -> Parts<'_>
-        ensures { result.start.now ++ result.rest.now ≡ self.now }
+        ensures is { result.start.now ++ result.rest.now ≡ self.now }
+        ensures short { length result.start.now ≤ MAX_START }
     {
         match &self.store {
             Store::Own(text) => Parts {
