@@ -85,13 +85,11 @@ fn devices_over_sockets(rt: HostRuntime) -> Result<(), Fail> {
     Ok(())
 }
 
-/// The two parts of a packet.
+/// The start of each packet.
 const START: &[u8; 24] = &[1; 24];
-const REST: u8 = 2;
-const REST_LEN: usize = 1_048_576;
 
 /// So many packets are more than lies between two ends.
-const PACKETS: usize = 12;
+const PACKETS: usize = 6;
 
 /// Whether all packets are sent.
 fn sends_in_parts(output: &mut TcpDeviceOut, rest: &[u8]) -> bool {
@@ -108,16 +106,17 @@ fn reads_late<W: Net<Listener = TcpListener, Stream = TcpStream> + Clock>(
     rt: &W,
     alloc: Global,
     listener: &TcpListener,
+    sent: &[u8],
 ) -> io::Result<bool> {
     let (stream, _) = listener.accept()?;
     sleep(rt, Duration::from_millis(1_300));
     let mut stream = &stream;
     let mut start = [0; 24];
-    let mut rest = vec![in alloc; 0u8; REST_LEN]?;
+    let mut rest = vec![in alloc; 0u8; sent.len()]?;
     for _ in 0..PACKETS {
         stream.read_exact(&mut start)?;
         stream.read_exact(&mut rest)?;
-        if start != *START || rest.iter().any(|&byte| byte != REST) {
+        if start != *START || rest.as_slice() != sent {
             return Ok(false);
         }
     }
@@ -132,11 +131,11 @@ fn parts_over_sockets(rt: HostRuntime) -> Result<(), Fail> {
     let port = listener.local_addr()?.port();
     let (mut input, mut output) = tcp_device(rt, alloc, port, &ending)?;
     assert!(rt; input.plug() == Plug::Here);
-    let rest = vec![in alloc; REST; REST_LEN]?;
+    let rest = vec![in alloc; 2u8; 1_048_576]?;
     let (sent, came) = join(
         &rt,
         || sends_in_parts(&mut output, &rest),
-        || reads_late(&rt, alloc, &listener),
+        || reads_late(&rt, alloc, &listener, &rest),
     );
     assert!(rt; sent && came?);
     Ok(())
