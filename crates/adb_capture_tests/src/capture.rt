@@ -26,8 +26,8 @@ fn said(entry: &Entry) -> Said<'_> {
         Entry::Attach { link, kind, serial } => ("attach", *link, *kind as u16, serial.as_slice()),
         Entry::Recv { link, bytes } => ("recv", *link, 0, bytes.as_slice()),
         Entry::Detach { link, cause } => ("detach", *link, *cause as u16, b""),
-        Entry::Put { client, bytes } => ("put", *client, 0, bytes.as_slice()),
-        Entry::Send { link, bytes } => ("send", *link, 0, bytes.as_slice()),
+        Entry::Put { client, bytes } => ("put", *client, 0, bytes.parts().rest),
+        Entry::Send { link, bytes } => ("send", *link, 0, bytes.parts().rest),
     }
 }
 

@@ -12,6 +12,7 @@ use adb_capture::Entry;
 use adb_entries::{Refused, apply};
 use adb_history::Reason;
 use adb_hub::{Handed, Hub, HubError};
+use adb_outside::HandOut;
 use std::alloc::AllocError;
 
 /// Makes the next entry of the history that a hub holds, where it may come, else says the first
@@ -23,8 +24,8 @@ pub fn take(hub: &mut Hub, entry: &Entry) -> Result<Option<Rule>, AllocError>
     ensures err { OnErr result (hub.new ≡ hub.old) }
 {
     match entry {
-        Entry::Put { client, bytes } => put(hub, *client, bytes.as_slice()),
-        Entry::Send { link, bytes } => send(hub, *link, bytes.as_slice()),
+        Entry::Put { client, bytes } => put(hub, *client, bytes),
+        Entry::Send { link, bytes } => send(hub, *link, bytes),
         _ => come(hub, entry),
     }
 }
@@ -60,7 +61,7 @@ fn rule_of(reason: Reason) -> Option<Rule>
 }
 
 /// Hands out to a client as many bytes as a Put did, and compares.
-fn put(hub: &mut Hub, client: u32, bytes: &[u8]) -> Result<Option<Rule>, AllocError>
+fn put(hub: &mut Hub, client: u32, bytes: &HandOut) -> Result<Option<Rule>, AllocError>
     ensures taken { (h : History) → IsLawful hub.old h
         → IfOk result (λ broken. Takes broken (Entry.Put client bytes.now) h hub.new) }
     ensures err { OnErr result (hub.new ≡ hub.old) }
@@ -69,7 +70,7 @@ fn put(hub: &mut Hub, client: u32, bytes: &[u8]) -> Result<Option<Rule>, AllocEr
 }
 
 /// Hands out on a link as many bytes as a Send did, and compares.
-fn send(hub: &mut Hub, link: u32, bytes: &[u8]) -> Result<Option<Rule>, AllocError>
+fn send(hub: &mut Hub, link: u32, bytes: &HandOut) -> Result<Option<Rule>, AllocError>
     ensures taken { (h : History) → IsLawful hub.old h
         → IfOk result (λ broken. Takes broken (Entry.Send link bytes.now) h hub.new) }
     ensures err { OnErr result (hub.new ≡ hub.old) }
@@ -78,7 +79,7 @@ fn send(hub: &mut Hub, link: u32, bytes: &[u8]) -> Result<Option<Rule>, AllocErr
 }
 
 /// The rule that a hand-out of some bytes breaks where a hub answers so.
-fn broken_by(answer: Result<Handed, HubError>, bytes: &[u8]) -> Result<Option<Rule>, AllocError>
+fn broken_by(answer: Result<Handed, HubError>, bytes: &HandOut) -> Result<Option<Rule>, AllocError>
     ensures { result ≡ broken_by answer bytes.now }
 {
     match answer {
@@ -89,11 +90,11 @@ fn broken_by(answer: Result<Handed, HubError>, bytes: &[u8]) -> Result<Option<Ru
 }
 
 /// The same where it hands out so much of what is due.
-fn handed_rule(handed: Handed, bytes: &[u8]) -> Option<Rule>
+fn handed_rule(handed: Handed, bytes: &HandOut) -> Option<Rule>
     ensures { result ≡ handed_rule handed bytes.now }
 {
     match handed {
-        Handed::Bytes(due) if due.as_slice() == bytes => None,
+        Handed::Bytes(due) if due.equals(bytes) => None,
         _ => Some(Rule::NotDue),
     }
 }

@@ -65,7 +65,7 @@ fn serves_in_two_threads<
         &rt,
         || readers.read(&mut reading, b"000Chost:version").is_ok(),
         || match writers.put(&mut writing, 100) {
-            Ok(Handed::Bytes(bytes)) => bytes.as_slice() == b"OKAY00040029".as_slice(),
+            Ok(Handed::Bytes(bytes)) => bytes.parts().rest == b"OKAY00040029".as_slice(),
             _ => false,
         },
     );

@@ -17,7 +17,7 @@ use std::test::Fail;
 /// Whether these bytes were handed out.
 fn hands_out(answer: &Result<Handed, DeskError>, bytes: &[u8]) -> bool {
     match answer {
-        Ok(Handed::Bytes(given)) => given.as_slice() == bytes,
+        Ok(Handed::Bytes(given)) => given.parts().rest == bytes,
         _ => false,
     }
 }

@@ -42,7 +42,8 @@ booked_step e older l b =
     let after = tied_rule older (tied older l.0) e l.2 in
     booked_still m.state (ups m.state) (e ∷ older) (e ∷ older) (booked_rule e older l b)
     (still_keeps (came_count (e ∷ older)) (plugged_count (e ∷ older)) m.state (ups m.state)
-    (keeps_up_all (came_count (e ∷ older)) (plugged_count (e ∷ older)) m.state.drawn m.state after.streams) (leaves_up_all m.state (booked_rule e older l b).free m.state.drawn))
+    (keeps_up_all (came_count (e ∷ older)) (plugged_count (e ∷ older)) m.state.drawn m.state after.streams)
+    (leaves_up_all m.state (booked_rule e older l b).free m.state.drawn))
     refl refl (λ k. refl)
 
 pub booked : (h : History) → IsLegal h → IsBooked (state h) h

@@ -16,7 +16,7 @@ use Rattle.adb_forward.specs.declared.row.ForwardRow.{ForwardRow}
 use Rattle.adb_client.specs.declared.phase.Phase.{Phase}
 use Rattle.adb_client.specs.declared.phase.Phase.TheVariants.{Closing}
 use Rattle.adb_capture.specs.declared.entry.Entry.{Entry}
-use Rattle.adb_capture.specs.declared.entry.Entry.TheVariants.{Join, Enter, Read, End, Bound, Attach, Recv, Detach, Put, Send}
+use Rattle.adb_capture.specs.declared.entry.Entry.TheVariants.{Join, Enter, Attach, Put, Send}
 use Rattle.adb_stream.specs.declared.row.Stream.{Stream}
 use Rattle.adb_history.specs.Rows.{Client, Link, State, new_client, new_link, to_client, with_due}
 use Rattle.adb_history.specs.Events.{Event, quietly, owed_to, spelled_to}
@@ -357,11 +357,7 @@ module _ (older : History) (t : IsTied older) where
       tie_puts_to (came_count older) (plugged_count older) put_before sent_before c bytes ((state older).clients c) (state older) (told older) refl may t
   tied_rule (Send n bytes) may =
       tie_sends_to (came_count older) (plugged_count older) put_before sent_before n bytes ((state older).links n) (state older) (told older) refl may t
-  tied_rule (Read c bytes) may = tied_inner (Read c bytes) may tt
-  tied_rule (End c cause) may = tied_inner (End c cause) may tt
-  tied_rule (Bound c port) may = tied_inner (Bound c port) may tt
-  tied_rule (Recv n bytes) may = tied_inner (Recv n bytes) may tt
-  tied_rule (Detach n cause) may = tied_inner (Detach n cause) may tt
+  tied_rule e may = tied_inner e may tt
 
 none_rise : IsRising (let rows : List (ℕ × Row) = [] in rows)
 unfolding IsStrictlySortedBy

@@ -196,7 +196,8 @@ owned_moves = record {
   fails_open = λ c l f s w at h. record {
     rows = rows.fails_open c l f s w at h.rows;
     owned = fails_owned s h c l f.client f.stream
-        (together_at s h c l f.client f.stream (subst (λ (p : Phase). HoldsIn p s.streams c f.client) at.1 (h.owned.client c f.client at.0).holds) (at.0, at.2));
+        (together_at s h c l f.client f.stream (subst (λ (p : Phase). HoldsIn p s.streams c f.client) at.1 (h.owned.client c f.client at.0).holds)
+        (at.0, at.2));
   };
   fails_asked = λ c l f s w at h. record {
     rows = rows.fails_asked c l f s w at h.rows;

@@ -15,7 +15,7 @@ use Rattle.adb_client.specs.declared.phase.Phase.{Phase}
 use Rattle.adb_client.specs.declared.phase.Phase.TheVariants.{Asking, Opening, Streaming, Binding, Tracking, Closing}
 use Rattle.adb_client.specs.declared.about.Want.{Want}
 use Rattle.adb_capture.specs.declared.entry.Entry.{Entry}
-use Rattle.adb_capture.specs.declared.entry.Entry.TheVariants.{Join, Enter, Read, End, Bound, Attach, Recv, Detach, Put, Send}
+use Rattle.adb_capture.specs.declared.entry.Entry.TheVariants.{Join, Enter, Read, Attach}
 use Rattle.adb_reply.specs.Answer.{answer}
 use Rattle.adb_reply.specs.Strings.{failed}
 use Rattle.adb_reply.specs.declared.answer.Answer.{Answer}
@@ -367,12 +367,7 @@ rule_unread (Read c bytes) s h = reads_unread c bytes s h
 rule_unread (Join c) s h = rule_kept (unread_moves (λ _. ⊥)) (Join c) s [] (comes_unread false c s h)
 rule_unread (Enter c port) s h = rule_kept (unread_moves (λ _. ⊥)) (Enter c port) s [] (comes_unread true c s h, h)
 rule_unread (Attach t kind serial) s h = rule_kept (unread_moves (λ _. ⊥)) (Attach t kind serial) s [] (marks_unread (λ _. ⊥) s.clients h)
-rule_unread (End c cause) s h = rule_kept (unread_moves (λ _. ⊥)) (End c cause) s [] h
-rule_unread (Bound c port) s h = rule_kept (unread_moves (λ _. ⊥)) (Bound c port) s [] h
-rule_unread (Recv t bytes) s h = rule_kept (unread_moves (λ _. ⊥)) (Recv t bytes) s [] h
-rule_unread (Detach t cause) s h = rule_kept (unread_moves (λ _. ⊥)) (Detach t cause) s [] h
-rule_unread (Put c bytes) s h = rule_kept (unread_moves (λ _. ⊥)) (Put c bytes) s [] h
-rule_unread (Send t bytes) s h = rule_kept (unread_moves (λ _. ⊥)) (Send t bytes) s [] h
+rule_unread e s h = rule_kept (unread_moves (λ _. ⊥)) e s [] h
 
 -- A client that asks keeps no whole request unread.
 pub all_unread : (h : History) → UnreadBut (λ _. ⊥) (state h).clients

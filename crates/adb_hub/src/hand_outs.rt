@@ -13,6 +13,7 @@ use crate::answers::{Handed, Life};
 use crate::error::HubError;
 use crate::hub::Hub;
 use adb_capture::Owner;
+use adb_outside::{HandOut, Parts};
 
 impl Hub {
     /// Hands out the first bytes that are due to a client, at most `max`; a tracker whose list is
@@ -28,7 +29,7 @@ impl Hub {
         self.find_client(client)?;
         match adb_hub_hand_outs::put(&mut self.tables, client, max)? {
             Some(bytes) => {
-                are_bytes(bytes.as_slice());
+                has_bytes(&bytes);
                 Ok(Handed::Bytes(bytes))
             }
             None => Ok(nothing(self.client_life(client))),
@@ -47,7 +48,7 @@ impl Hub {
         self.find_link(link)?;
         match adb_hub_hand_outs::send(&mut self.tables, link, max)? {
             Some(bytes) => {
-                are_bytes(bytes.as_slice());
+                has_bytes(&bytes);
                 Ok(Handed::Bytes(bytes))
             }
             None => Ok(nothing(self.link_life(link))),
@@ -93,6 +94,15 @@ fn nothing(life: Life) -> Handed
         Life::Live => Handed::Nothing,
         Life::Gone => Handed::Done,
     }
+}
+
+/// What is handed out is bytes.
+fn has_bytes(handed: &HandOut)
+    ensures { All (λ b. b < 256) handed.now }
+{
+    let Parts { start, rest } = handed.parts();
+    are_bytes(start);
+    are_bytes(rest);
 }
 
 /// A slice of bytes has bytes.

@@ -29,14 +29,13 @@ pub fn send(tables: &mut Tables, link: u32, max: usize) -> Result<Option<HandOut
     Ok(Some(bytes))
 }
 
-/// The first bytes that are due to a link, at most `max`, copied.
+/// The first bytes that are due to a link, at most `max`.
 fn front_of(tables: &Tables, link: u32, max: usize) -> Result<HandOut, AllocError>
     ensures { IfOk result (λ bytes.
         bytes ≡ take max (due_on ((state_of tables.now).links link))) }
 {
-    let bytes = match tables.links.get(&link) {
-        Some(port) => port.link.copy_front(max)?,
-        None => Text::new(tables.alloc),
-    };
-    Ok(HandOut::own(bytes))
+    match tables.links.get(&link) {
+        Some(port) => port.link.front(max),
+        None => Ok(HandOut::own(Text::new(tables.alloc))),
+    }
 }

@@ -13,6 +13,12 @@ take_both (x ∷ xs) ys (suc n) =
     let e : suc n - suc (length xs) ≡ n - length xs = omega arith in
     rw e (ap (λ (l : List ℕ). x ∷ l) (take_both xs ys n))
 
+-- the first of two lists, and behind what is taken of one what the other has then
+pub first_of_both : (xs ys : List ℕ) (max : ℕ) → take max xs ++ take (max - length (take max xs)) ys ≡ take max (xs ++ ys)
+first_of_both xs ys max =
+    let left : max - length (take max xs) ≡ max - length xs = omega (arith, length-take max xs) in
+    ap (λ (n : ℕ). take max xs ++ take n ys) left ∙ sym (take_both xs ys max)
+
 -- a text with what it still gets of a list
 abbrev pub filled : List ℕ → ℕ → List ℕ → List ℕ
 filled text max xs = text ++ take (max - length text) xs

@@ -9,7 +9,7 @@ ghost use Rattle.adb_link.specs.Linked.{IsHeadOf, version_past};
 
 use crate::outbox::Outbox;
 use crate::outgoing::{MAX_SHORT, Outgoing};
-use adb_outside::Text;
+use adb_outside::HandOut;
 use adb_wire::{Command, Deframer, Head, MIN_VERSION, WireError, byte_sum};
 use bytes::Bytes;
 use std::alloc::{AllocError, Global};
@@ -189,11 +189,12 @@ impl Link {
         self.outbox.owed()
     }
 
-    /// The first `max` bytes that are due, or all where there are fewer, copied. Nothing changes.
-    pub fn copy_front(&self, max: usize) -> Result<Text, AllocError>
-        ensures { IfOk result (λ text. text ≡ take max self.now.due) }
+    /// The first `max` bytes that are due, or all where there are fewer. The payload is shared where
+    /// the first packet alone has them, and else they are copied. Nothing changes.
+    pub fn front(&self, max: usize) -> Result<HandOut, AllocError>
+        ensures { IfOk result (λ bytes. bytes ≡ take max self.now.due) }
     {
-        self.outbox.copy_front(self.alloc, max)
+        self.outbox.front(self.alloc, max)
     }
 
     /// The first `n` bytes that are due were handed out, also beyond the front. It takes no memory.

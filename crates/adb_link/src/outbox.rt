@@ -1,10 +1,10 @@
 //! The packets that are due, in order.
 
-ghost use Rattle.std.specs.Prelude.{◌≡◌, ◌<◌, ◌≤◌, ◌+◌, ◌-◌, ◌++◌, [], length, take, drop, max, IfOk, OnOk, OnErr};
+ghost use Rattle.std.specs.Prelude.{◌≡◌, ◌<◌, ◌≤◌, ◌+◌, ◌-◌, ◌++◌, [], length, take, drop, max, IfOk, IfSome, OnOk, OnErr};
 ghost use Rattle.std.specs.List.{concat};
 
 use crate::outgoing::Outgoing;
-use adb_outside::Text;
+use adb_outside::{HandOut, Text};
 use adb_wire::MAX_PACKET;
 use std::alloc::{AllocError, Global};
 use std::collections::VecDeque;
@@ -91,13 +91,18 @@ impl Outbox {
         self.owed
     }
 
-    /// The first `max` bytes that are due, or all where there are fewer, copied.
-    pub(crate) fn copy_front(&self, alloc: Global, max: usize) -> Result<Text, AllocError>
-        ensures { IfOk result (λ text. text ≡ take max self.now.due) }
+    /// The first `max` bytes that are due, or all where there are fewer. The payload is shared where
+    /// the first packet alone has them, and else they are copied.
+    pub(crate) fn front(&self, alloc: Global, max: usize) -> Result<HandOut, AllocError>
+        ensures { IfOk result (λ bytes. bytes ≡ take max self.now.due) }
     {
-        let mut text = Text::from_vec(Vec::with_capacity(alloc, max.min(self.owed))?);
+        let n = max.min(self.owed);
+        if let Some(packet) = with_front(&self.packets, n) {
+            return packet.front(n);
+        }
+        let mut text = Text::from_vec(Vec::with_capacity(alloc, n)?);
         fill(&mut text, &self.packets, max)?;
-        Ok(text)
+        Ok(HandOut::own(text))
     }
 
     /// The first `n` bytes were handed out. It takes no memory.
@@ -129,6 +134,17 @@ impl Outbox {
         }
         taken
     }
+}
+
+/// The first packet, if it has all of the first `n` bytes.
+fn with_front(packets: &VecDeque<Outgoing>, n: usize) -> Option<&Outgoing>
+    ensures { IfSome result (λ packet. take n packet.now ≡ take n (concat packets.now.items)) }
+{
+    let packet = packets.front()?;
+    if packet.len() < n {
+        return None;
+    }
+    Some(packet)
 }
 
 /// Fills an empty text up to `max` bytes from packets, and looks at none behind these.

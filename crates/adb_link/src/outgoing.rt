@@ -1,9 +1,9 @@
 //! One packet that is due.
 
-ghost use Rattle.std.specs.Prelude.{◌≡◌, ◌<◌, ◌≤◌, ◌+◌, ◌-◌, ◌++◌, length, take, drop, OnOk};
+ghost use Rattle.std.specs.Prelude.{◌≡◌, ◌<◌, ◌≤◌, ◌+◌, ◌-◌, ◌++◌, length, take, drop, IfOk, OnOk};
 ghost use Rattle.adb_wire.specs.Header.{header_bytes};
 
-use adb_outside::Text;
+use adb_outside::{HandOut, Text};
 use adb_wire::{HEADER_LEN, Head, header};
 use bytes::Bytes;
 use std::alloc::AllocError;
@@ -60,6 +60,22 @@ fn fill_up(text: &mut Text, bytes: &[u8], max: usize) -> Result<(), AllocError>
     text.push_slice(&bytes[..n])
 }
 
+/// The first bytes, at most `max`.
+fn first(bytes: &[u8], max: usize) -> &[u8]
+    ensures { result.now ≡ take max bytes.now }
+{
+    &bytes[..max.min(bytes.len())]
+}
+
+/// The first bytes of a payload, at most `max`, which are shared.
+fn share_first(payload: &Bytes, max: usize) -> Result<Bytes, AllocError>
+    ensures { IfOk result (λ front. front ≡ take max payload.now) }
+{
+    let mut front = payload.clone()?;
+    front.truncate(max);
+    Ok(front)
+}
+
 impl Outgoing {
     /// A packet of a header, a short payload and a shared payload. It takes no memory.
     pub(crate) fn new(head: &Head, short: &[u8], payload: Bytes) -> Outgoing
@@ -92,6 +108,16 @@ impl Outgoing {
     {
         fill_up(text, &self.start[self.from..self.to], max)?;
         fill_up(text, self.payload.as_slice(), max)
+    }
+
+    /// The first `max` bytes of those that are still due, or all where there are fewer. Those of the
+    /// payload are shared.
+    pub(crate) fn front(&self, max: usize) -> Result<HandOut, AllocError>
+        ensures { IfOk result (λ bytes. bytes ≡ take max self.now) }
+    {
+        let start = first(&self.start[self.from..self.to], max);
+        let payload = share_first(&self.payload, max - start.len())?;
+        Ok(HandOut::framed(start, payload))
     }
 
     /// The first `n` bytes were handed out. It takes no memory.

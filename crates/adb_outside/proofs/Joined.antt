@@ -1,5 +1,5 @@
 -- Whether two parts, one behind the other, are some bytes.
-use Rattle.std.proofs.Common.{rules, ◌≡◌, refl, ◌≤◌, ◌<◌, ◌++◌, length, take, drop, ℕ, false, List, [], ◌∷◌, bytes_eq, ◌&&◌, arith}
+use Rattle.std.proofs.Common.{rules, ◌≡◌, refl, ◌≤◌, ◌<◌, ◌++◌, length, take, drop, ℕ, false, nat_eq, List, [], ◌∷◌, bytes_eq, ◌&&◌, arith}
 
 -- fewer bytes than the first part has are not both
 pub too_few : (start rest bytes : List ℕ) → length bytes < length start → bytes_eq (start ++ rest) bytes ≡ false
@@ -19,3 +19,24 @@ both_are (x ∷ start) rest (y ∷ bytes) enough =
     let fewer : length start ≤ length bytes = grind arith in
     let rest_is = both_are start rest bytes fewer in
     rw rest_is (search rules)
+
+-- two parts are two others, of which the first is no longer, where its front is that one and what is behind it the other's rest
+pub same_parts : (start rest shorter more : List ℕ) → length shorter ≤ length start
+    → bytes_eq (start ++ rest) (shorter ++ more)
+    ≡ (bytes_eq (take (length shorter) start) shorter && bytes_eq (drop (length shorter) start ++ rest) more)
+same_parts start rest [] more within = refl
+same_parts [] rest (y ∷ shorter) more within = search rules
+same_parts (x ∷ start) rest (y ∷ shorter) more within =
+    let fewer : length shorter ≤ length start = grind arith in
+    let rest_is = same_parts start rest shorter more fewer in
+    rw rest_is (search rules)
+
+equal_turned : (x y : ℕ) → nat_eq x y ≡ nat_eq y x
+equal_turned x y = search rules
+
+-- bytes are others where those are these
+pub turned : (xs ys : List ℕ) → bytes_eq xs ys ≡ bytes_eq ys xs
+turned [] [] = refl
+turned [] (y ∷ ys) = refl
+turned (x ∷ xs) [] = refl
+turned (x ∷ xs) (y ∷ ys) = rw (turned xs ys, equal_turned x y) refl

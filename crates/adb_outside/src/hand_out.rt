@@ -132,12 +132,17 @@ impl HandOut {
         }
     }
 
-    /// Whether these are the bytes.
-    pub fn is(&self, bytes: &[u8]) -> bool
-        ensures { result ≡ bytes_eq self.now bytes.now }
+    /// Whether the bytes are the same, wherever they are.
+    #[tactic(auto, using(crate::proofs::Joined::turned))]
+    pub fn equals(&self, other: &HandOut) -> bool
+        ensures { result ≡ bytes_eq self.now other.now }
     {
-        let Parts { start, rest } = self.parts();
-        are_joined(start, rest, bytes)
+        let one = self.parts();
+        let two = other.parts();
+        if one.start.len() < two.start.len() {
+            return are_same(two.start, two.rest, one.start, one.rest);
+        }
+        are_same(one.start, one.rest, two.start, two.rest)
     }
 
     /// How many bytes there are.
@@ -165,6 +170,16 @@ impl HandOut {
             Store::Framed(start, bytes) => HandOut::framed(start.as_slice(), bytes.clone()?),
         })
     }
+}
+
+/// Whether the bytes in two parts are those in two others, of which the first is no longer.
+#[tactic(auto, using(crate::proofs::Joined::same_parts))]
+fn are_same(start: &[u8], rest: &[u8], shorter: &[u8], more: &[u8]) -> bool
+    requires { length shorter.now ≤ length start.now }
+    ensures { result ≡ bytes_eq (start.now ++ rest.now) (shorter.now ++ more.now) }
+{
+    let (front, back) = start.split_at(shorter.len());
+    front == shorter && are_joined(back, rest, more)
 }
 
 /// Whether two parts, one behind the other, are the bytes.

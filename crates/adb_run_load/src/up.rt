@@ -6,6 +6,7 @@ ghost use Rattle.adb_run_load.specs.Counted.{AddsUp, Begins, IsUp, Writes, Write
 
 use crate::writes::written;
 use adb_capture::Entry;
+use adb_outside::{HandOut, Parts, Text};
 use adb_wire::Deframer;
 use std::alloc::{AllocError, Global};
 use std::collections::BTreeMap;
@@ -36,7 +37,7 @@ impl Up {
         ensures { OnOk result (AddsUp entry.now self.old self.new) }
     {
         match entry {
-            Entry::Send { link, bytes } => self.sent(*link, bytes.as_slice()),
+            Entry::Send { link, bytes } => self.sent(*link, bytes),
             Entry::Join { .. }
             | Entry::Enter { .. }
             | Entry::Read { .. }
@@ -49,8 +50,24 @@ impl Up {
         }
     }
 
-    /// Counts what was sent to a link.
-    fn sent(&mut self, link: u32, bytes: &[u8]) -> Result<(), AllocError>
+    /// Counts what was sent to a link, which is joined where it lies in two parts.
+    fn sent(&mut self, link: u32, bytes: &HandOut) -> Result<(), AllocError>
+        ensures { OnOk result (Writes link bytes.now self.old self.new) }
+    {
+        let Parts { start, rest } = bytes.parts();
+        if rest.is_empty() {
+            return self.sent_slice(link, start);
+        }
+        if start.is_empty() {
+            return self.sent_slice(link, rest);
+        }
+        let mut all = Text::from_vec(Vec::with_capacity(self.alloc, bytes.len())?);
+        all.push_slice(start)?;
+        all.push_slice(rest)?;
+        self.sent_slice(link, all.as_slice())
+    }
+
+    fn sent_slice(&mut self, link: u32, bytes: &[u8]) -> Result<(), AllocError>
         ensures { OnOk result (Writes link bytes.now self.old self.new) }
     {
         begin(&mut self.links, self.alloc, link)?;

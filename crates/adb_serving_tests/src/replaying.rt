@@ -22,7 +22,7 @@ fn handed(alloc: Global, capture: &[u8]) -> Result<Vec<Text>, AllocError> {
         };
         if let Entry::Put { client, bytes } = entry {
             if let Some(answer) = answers.get_mut(client as usize) {
-                answer.push_slice(bytes.as_slice())?;
+                answer.push_slice(bytes.parts().rest)?;
             }
         }
     }

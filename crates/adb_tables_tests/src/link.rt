@@ -49,8 +49,9 @@ fn head(command: Command, length: u32) -> Head
 fn handed_out(alloc: Global, link: &mut Link, most: usize) -> Result<Text, AllocError> {
     let mut out = Text::new(alloc);
     for _ in 0..link.owed() {
-        let piece = link.copy_front(most)?;
-        out.push_slice(piece.as_slice())?;
+        let piece = link.front(most)?;
+        out.push_slice(piece.parts().start)?;
+        out.push_slice(piece.parts().rest)?;
         link.hand(link.owed().min(most));
     }
     Ok(out)

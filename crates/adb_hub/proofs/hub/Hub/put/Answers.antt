@@ -1,5 +1,4 @@
 use Rattle.std.proofs.Common.{ℕ, ◌≡◌, ◌<◌, List, Option, Ok, Some, None, sym, ◌∙◌, ap, subst}
-use Rattle.std.specs.Prelude.{All}
 use Rattle.adb_capture.specs.declared.entry.Entry.TheVariants.{Put}
 use Rattle.adb_history.specs.Accepted.{is_drawn}
 use Rattle.adb_history.specs.Kept.{Kept, kept, IsLawful}
@@ -26,8 +25,7 @@ invariant_of-self-in-Some c =
     let given = c.in_ok-bytes.ensures in
     let front = subst (λ (o : Option (List ℕ)). IsFront c.args.max (answers.offered_to t.devices ((state_of t).clients n)) o) c.in-Some.is given.bytes in
     let made = subst (λ (o : Option (List ℕ)). answers.HandsOut (Put n) o t c.put.new.tables) c.in-Some.is given.made in
-    let are = subst (All (λ b. b < 256)) c.as_slice.ensures c.are_bytes.ensures in
-    let called = put_called n bytes t c.put.new.tables c.self.invariant are known (may_put c.args.max (state_of t) ((state_of t).clients n) bytes front) made in
+    let called = put_called n bytes t c.put.new.tables c.self.invariant c.has_bytes.ensures known (may_put c.args.max (state_of t) ((state_of t).clients n) bytes front) made in
     called_sound (Put n bytes) t c.put.new.tables called
 
 pub returns-in-Some-clause-put : goal.returns-in-Some-clause-put
@@ -40,8 +38,7 @@ returns-in-Some-clause-put c h lawful =
     let given = c.in_ok-bytes.ensures in
     let front = subst (λ (o : Option (List ℕ)). IsFront c.args.max (answers.offered_to t.devices ((state_of t).clients n)) o) c.in-Some.is given.bytes in
     let made = subst (λ (o : Option (List ℕ)). answers.HandsOut (Put n) o t c.put.new.tables) c.in-Some.is given.made in
-    let are = subst (All (λ b. b < 256)) c.as_slice.ensures c.are_bytes.ensures in
-    let called = put_called n bytes t c.put.new.tables c.self.invariant are known (may_put c.args.max (state_of t) ((state_of t).clients n) bytes front) made in
+    let called = put_called n bytes t c.put.new.tables c.self.invariant c.has_bytes.ensures known (may_put c.args.max (state_of t) ((state_of t).clients n) bytes front) made in
     let before = subst (λ (k : Kept). IsLawful k h) (sym c.self.view_is) lawful in
     let after = called_lawful (Put n bytes) t c.put.new.tables called h before in
     let is = stands_for t h c.self.invariant before in (
@@ -77,4 +74,4 @@ returns-in-Some-clause-form c =
     let n = c.args.client in
     let due = answers.offered_to t.devices ((state_of t).clients n) in
     let front = subst (λ (o : Option (List ℕ)). IsFront c.args.max due o) c.in-Some.is c.in_ok-bytes.ensures.bytes in
-    (short_front c.args.max due c.in-Some.bytes front, subst (All (λ b. b < 256)) c.as_slice.ensures c.are_bytes.ensures)
+    (short_front c.args.max due c.in-Some.bytes front, c.has_bytes.ensures)

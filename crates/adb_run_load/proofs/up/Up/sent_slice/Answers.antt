@@ -1,7 +1,7 @@
 use Rattle.std.proofs.Common.{refl, ◌∙◌}
 use Rattle.adb_outside.specs.Tables.{at}
 use Rattle.adb_run_load.proofs.SentUp.{wrote_on}
-use Rattle.adb_run_load.proofs.up.Up.sent.Goals as goal
+use Rattle.adb_run_load.proofs.up.Up.sent_slice.Goals as goal
 
 pub returns : goal.returns
 returns c = record {
