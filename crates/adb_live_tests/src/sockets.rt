@@ -85,38 +85,37 @@ fn devices_over_sockets(rt: HostRuntime) -> Result<(), Fail> {
     Ok(())
 }
 
-/// The start of each packet.
-const START: &[u8; 24] = &[1; 24];
+/// The two parts of each packet.
+const START: [u8; 24] = [1; 24];
+const REST: [u8; 65_536] = [2; 65_536];
 
 /// So many packets are more than lies between two ends.
-const PACKETS: usize = 6;
+const PACKETS: usize = 100;
 
 /// Whether all packets are sent.
-fn sends_in_parts(output: &mut TcpDeviceOut, rest: &[u8]) -> bool {
+fn sends_in_parts(output: &mut TcpDeviceOut) -> bool {
     for _ in 0..PACKETS {
-        if output.write_both(START, rest) != Wrote::All {
+        if output.write_both(&START, &REST) != Wrote::All {
             return false;
         }
     }
     true
 }
 
-/// Whether just the packets come, to one who begins to read when writes have timed out.
+/// Whether just the packets come, to one who begins to read when a write has timed out.
 fn reads_late<W: Net<Listener = TcpListener, Stream = TcpStream> + Clock>(
     rt: &W,
-    alloc: Global,
     listener: &TcpListener,
-    sent: &[u8],
 ) -> io::Result<bool> {
     let (stream, _) = listener.accept()?;
     sleep(rt, Duration::from_millis(1_300));
     let mut stream = &stream;
     let mut start = [0; 24];
-    let mut rest = vec![in alloc; 0u8; sent.len()]?;
+    let mut rest = [0; 65_536];
     for _ in 0..PACKETS {
         stream.read_exact(&mut start)?;
         stream.read_exact(&mut rest)?;
-        if start != *START || rest.as_slice() != sent {
+        if start != START || rest[0] != 2 || rest[65_535] != 2 {
             return Ok(false);
         }
     }
@@ -131,11 +130,10 @@ fn parts_over_sockets(rt: HostRuntime) -> Result<(), Fail> {
     let port = listener.local_addr()?.port();
     let (mut input, mut output) = tcp_device(rt, alloc, port, &ending)?;
     assert!(rt; input.plug() == Plug::Here);
-    let rest = vec![in alloc; 2u8; 1_048_576]?;
     let (sent, came) = join(
         &rt,
-        || sends_in_parts(&mut output, &rest),
-        || reads_late(&rt, alloc, &listener, &rest),
+        || sends_in_parts(&mut output),
+        || reads_late(&rt, &listener),
     );
     assert!(rt; sent && came?);
     Ok(())
