@@ -8,7 +8,7 @@ use Rattle.adb_outside.specs.declared.kinds.Kind.{Kind}
 use Rattle.adb_client.specs.declared.phase.Phase.{Phase}
 use Rattle.adb_client.specs.declared.phase.Phase.TheVariants.{Opening, Streaming, Closing}
 use Rattle.adb_capture.specs.declared.entry.Entry.{Entry}
-use Rattle.adb_capture.specs.declared.entry.Entry.TheVariants.{Join, Enter, Read, End, Bound, Attach, Recv, Detach, Put, Send}
+use Rattle.adb_capture.specs.declared.entry.Entry.TheVariants.{Join, Enter, Read, End, Bound, Attach, Recv, Detach, Put}
 use Rattle.adb_history.specs.Rows.{Client, State, new_client, new_link, to_client, with_held}
 use Rattle.adb_history.specs.Events.{Made, Event}
 use Rattle.adb_history.specs.Tracking.{marked, list_if_stale, due_or, offered}
@@ -185,10 +185,7 @@ module _ {scope : Scope} {c t : ℕ} {P : State → List Event → Type 0} (k : 
     client_rule (Bound n port) another covers may = bound_either n port (eqb n c) refl
     client_rule (Put n bytes) another covers may = put_either n bytes may (eqb n c) refl
     client_rule (Attach n kind serial) another covers may = attach_kept n kind serial another may
-    client_rule (End n cause) another covers may = rule_turns own_turns (End n cause) s w covers h
-    client_rule (Recv n bytes) another covers may = rule_turns own_turns (Recv n bytes) s w covers h
-    client_rule (Detach n cause) another covers may = rule_turns own_turns (Detach n cause) s w covers h
-    client_rule (Send n bytes) another covers may = rule_turns own_turns (Send n bytes) s w tt h
+    client_rule e another covers may = rule_turns own_turns e s w covers h
 
   -- What holds of a client that asks no more, each entry keeps.
   pub client_kept : (s : State) (w : List Event) (e : Entry) → IsAnother c t e → Covers scope e → May s e → P s w → After P w (step s e)

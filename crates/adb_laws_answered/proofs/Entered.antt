@@ -9,7 +9,7 @@ use Rattle.adb_registry.specs.Registry.{DeviceTable}
 use Rattle.adb_forward.specs.declared.row.ForwardRow.{ForwardRow}
 use Rattle.adb_client.specs.declared.phase.Phase.TheVariants.{Closing}
 use Rattle.adb_capture.specs.declared.entry.Entry.{Entry}
-use Rattle.adb_capture.specs.declared.entry.Entry.TheVariants.{Join, Enter, Read, End, Bound, Attach, Recv, Detach, Put, Send}
+use Rattle.adb_capture.specs.declared.entry.Entry.TheVariants.{Join, Enter, Read, Attach}
 use Rattle.adb_history.specs.Rows.{Client, State, to_client, none_kept}
 use Rattle.adb_history.specs.Events.{Made, Event, quietly, owed_to}
 use Rattle.adb_history.specs.Links.{is_connected, is_credit}
@@ -211,18 +211,7 @@ all_entered (Enter n port ∷ older) legal c absent =
     entered_enter c older legal.0 n port (eqb n c) refl legal.2 (all_births older legal.0)
     (all_entered older legal.0 c absent)
 all_entered (Read n bytes ∷ older) legal c absent = entered_read c older legal.0 n bytes legal.2 absent (all_entered older legal.0 c absent)
-all_entered (End n cause ∷ older) legal c absent =
-    entered_more c older legal.0 (End n cause) legal.2 tt (λ m of. of) (all_entered older legal.0 c absent)
-all_entered (Bound n port ∷ older) legal c absent =
-    entered_more c older legal.0 (Bound n port) legal.2 tt (λ m of. of) (all_entered older legal.0 c absent)
 all_entered (Attach t kind serial ∷ older) legal c absent =
     entered_more c older legal.0 (Attach t kind serial) legal.2 (λ same. omega (arith, same, legal.2.1)) (λ m of. of)
     (all_entered older legal.0 c absent)
-all_entered (Recv t bytes ∷ older) legal c absent =
-    entered_more c older legal.0 (Recv t bytes) legal.2 tt (λ m of. of) (all_entered older legal.0 c absent)
-all_entered (Detach t cause ∷ older) legal c absent =
-    entered_more c older legal.0 (Detach t cause) legal.2 tt (λ m of. of) (all_entered older legal.0 c absent)
-all_entered (Put n bytes ∷ older) legal c absent =
-    entered_more c older legal.0 (Put n bytes) legal.2 tt (λ m of. of) (all_entered older legal.0 c absent)
-all_entered (Send t bytes ∷ older) legal c absent =
-    entered_more c older legal.0 (Send t bytes) legal.2 tt (λ m of. of) (all_entered older legal.0 c absent)
+all_entered (e ∷ older) legal c absent = entered_more c older legal.0 e legal.2 tt (λ m of. of) (all_entered older legal.0 c absent)

@@ -10,7 +10,7 @@ use Rattle.adb_stream.specs.declared.row.Stream.{Stream}
 use Rattle.adb_client.specs.declared.phase.Phase.{Phase}
 use Rattle.adb_client.specs.declared.phase.Phase.TheVariants.{Opening, Streaming}
 use Rattle.adb_capture.specs.declared.entry.Entry.{Entry}
-use Rattle.adb_capture.specs.declared.entry.Entry.TheVariants.{Join, Enter, Read, End, Bound, Attach, Recv, Detach, Put, Send}
+use Rattle.adb_capture.specs.declared.entry.Entry.TheVariants.{Join, End}
 use Rattle.adb_history.specs.Rows.{Client, State, to_client, none_kept}
 use Rattle.adb_history.specs.Events.{Made, Event, owed_to}
 use Rattle.adb_history.specs.Losing.{stream_fails, stream_of, client_ends}
@@ -36,15 +36,7 @@ failed_ended c (End n cause ∷ older) e = go (eqb n c) (not (is_orderly cause))
         → (a || has_ended c older) ≡ true
     go true b f is e h = refl
     go false b f is e h = h (is ∙ e)
-failed_ended c (Join n ∷ older) e = failed_ended c older e
-failed_ended c (Enter n port ∷ older) e = failed_ended c older e
-failed_ended c (Read n bytes ∷ older) e = failed_ended c older e
-failed_ended c (Bound n port ∷ older) e = failed_ended c older e
-failed_ended c (Attach t kind serial ∷ older) e = failed_ended c older e
-failed_ended c (Recv t bytes ∷ older) e = failed_ended c older e
-failed_ended c (Detach t cause ∷ older) e = failed_ended c older e
-failed_ended c (Put n bytes ∷ older) e = failed_ended c older e
-failed_ended c (Send t bytes ∷ older) e = failed_ended c older e
+failed_ended c (_ ∷ older) e = failed_ended c older e
 
 -- ---- its row goes
 fails_clients : (p : Phase) (cause : Cause) (o : Option Stream) (s : State) → (stream_fails p cause o s).state.clients ≡ s.clients
@@ -122,11 +114,4 @@ all_failed (Join n ∷ older) legal c came e = go (eqb n c) refl came (λ before
     go : (b : Bool) → eqb n c ≡ b → (b || has_joined c older) ≡ true → (has_joined c older ≡ true → HasFailed c older) → HasFailed c (Join n ∷ older)
     go true f came before = absurd (unheard (eqb-true n c f))
     go false f came before = failed_stays c older legal.0 came (Join n) legal.2 (before came)
-all_failed (Enter n port ∷ older) legal c came e = failed_stays c older legal.0 came (Enter n port) legal.2 (all_failed older legal.0 c came e)
-all_failed (Read n bytes ∷ older) legal c came e = failed_stays c older legal.0 came (Read n bytes) legal.2 (all_failed older legal.0 c came e)
-all_failed (Bound n port ∷ older) legal c came e = failed_stays c older legal.0 came (Bound n port) legal.2 (all_failed older legal.0 c came e)
-all_failed (Attach t kind serial ∷ older) legal c came e = failed_stays c older legal.0 came (Attach t kind serial) legal.2 (all_failed older legal.0 c came e)
-all_failed (Recv t bytes ∷ older) legal c came e = failed_stays c older legal.0 came (Recv t bytes) legal.2 (all_failed older legal.0 c came e)
-all_failed (Detach t cause ∷ older) legal c came e = failed_stays c older legal.0 came (Detach t cause) legal.2 (all_failed older legal.0 c came e)
-all_failed (Put n bytes ∷ older) legal c came e = failed_stays c older legal.0 came (Put n bytes) legal.2 (all_failed older legal.0 c came e)
-all_failed (Send t bytes ∷ older) legal c came e = failed_stays c older legal.0 came (Send t bytes) legal.2 (all_failed older legal.0 c came e)
+all_failed (x ∷ older) legal c came e = failed_stays c older legal.0 came x legal.2 (all_failed older legal.0 c came e)

@@ -10,7 +10,7 @@ use Rattle.adb_stream.specs.declared.row.Stream.{Stream}
 use Rattle.adb_client.specs.declared.phase.Phase.{Phase}
 use Rattle.adb_client.specs.declared.phase.Phase.TheVariants.{Asking, Opening, Streaming}
 use Rattle.adb_capture.specs.declared.entry.Entry.{Entry}
-use Rattle.adb_capture.specs.declared.entry.Entry.TheVariants.{Join, Enter, Read, End, Bound, Attach, Recv, Detach, Put, Send}
+use Rattle.adb_capture.specs.declared.entry.Entry.TheVariants.{Join, Enter, Read, End, Bound, Attach, Recv, Put}
 use Rattle.adb_history.specs.Rows.{Client, State, new_client, to_client, to_stream, none_kept, in_phase}
 use Rattle.adb_history.specs.Events.{Made, Event, Ending, quietly, then_also, due_to_client, due_to_link, ended, lost, client_failed, stopped, ending_in}
 use Rattle.adb_history.specs.Clients.{closing, owe_client}
@@ -336,8 +336,7 @@ module _ (older : History) (legal : IsLegal older) (h : IsFresh (λ n. has_joine
   })
   fresh_step (Recv t bytes) may = step_turns (fresh_turns (λ k. has_joined k older) 0) (Recv t bytes) s w
       ((λ p. record { reaches = λ e. tt; renews = λ e. tt; cuts = λ e. tt }), tt) h
-  fresh_step (Detach t cause) may = step_turns (fresh_turns (λ k. has_joined k older) 0) (Detach t cause) s w tt h
-  fresh_step (Send t bytes) may = step_turns (fresh_turns (λ k. has_joined k older) 0) (Send t bytes) s w tt h
+  fresh_step e may = step_turns (fresh_turns (λ k. has_joined k older) 0) e s w tt h
 
 pub all_fresh : (h : History) → IsLegal h → IsFresh (λ n. has_joined n h) (state h) (told h)
 all_fresh [] legal = record {

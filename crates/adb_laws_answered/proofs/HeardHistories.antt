@@ -70,12 +70,7 @@ all_untold (Join n ∷ older) legal c lt =
     let un = all_untold older legal.0 c (omega (arith, lt)) in record { bound = un.bound; lists = un.lists }
 all_untold (Enter n port ∷ older) legal c lt =
     let un = all_untold older legal.0 c (omega (arith, lt)) in record { bound = un.bound; lists = un.lists }
-all_untold (Read n bytes ∷ older) legal c lt = let un = all_untold older legal.0 c lt in record { bound = un.bound; lists = un.lists }
-all_untold (End n cause ∷ older) legal c lt = let un = all_untold older legal.0 c lt in record { bound = un.bound; lists = un.lists }
-all_untold (Attach n kind serial ∷ older) legal c lt = let un = all_untold older legal.0 c lt in record { bound = un.bound; lists = un.lists }
-all_untold (Recv n bytes ∷ older) legal c lt = let un = all_untold older legal.0 c lt in record { bound = un.bound; lists = un.lists }
-all_untold (Detach n cause ∷ older) legal c lt = let un = all_untold older legal.0 c lt in record { bound = un.bound; lists = un.lists }
-all_untold (Send n bytes ∷ older) legal c lt = let un = all_untold older legal.0 c lt in record { bound = un.bound; lists = un.lists }
+all_untold (_ ∷ older) legal c lt = let un = all_untold older legal.0 c lt in record { bound = un.bound; lists = un.lists }
 
 -- ---- who comes by itself
 module _ (c : ℕ) (older : History) (legal : IsLegal older) (may : May (state older) (Join c)) where

@@ -10,7 +10,7 @@ use Rattle.adb_client.specs.declared.phase.Phase.TheVariants.{Tracking}
 use Rattle.adb_reply.specs.declared.answer.Next.{Next}
 use Rattle.adb_reply.specs.declared.answer.Next.TheVariants as what
 use Rattle.adb_capture.specs.declared.entry.Entry.{Entry}
-use Rattle.adb_capture.specs.declared.entry.Entry.TheVariants.{Join, Enter, Read, End, Bound, Attach, Recv, Detach, Put, Send}
+use Rattle.adb_capture.specs.declared.entry.Entry.TheVariants.{Put}
 use Rattle.adb_history.specs.Rows.{Client, State}
 use Rattle.adb_history.specs.Events.{Event, due_to_client, owed_to}
 use Rattle.adb_history.specs.Tracking.{tracked_list, list_if_stale, due_or, offered}
@@ -97,15 +97,7 @@ put_front c n bytes older legal may true e h =
 pub handed_front : (h : History) → IsLegal h → (c : ℕ) → IsPrefixOf (bytes_put c h) (output_of c h)
 handed_front [] legal c = ([], refl)
 handed_front (Put n bytes ∷ older) legal c = put_front c n bytes older legal.0 legal.2 (eqb n c) refl (handed_front older legal.0 c)
-handed_front (Join n ∷ older) legal c = stays_front c (Join n) older (handed_front older legal.0 c)
-handed_front (Enter n port ∷ older) legal c = stays_front c (Enter n port) older (handed_front older legal.0 c)
-handed_front (Read n bytes ∷ older) legal c = stays_front c (Read n bytes) older (handed_front older legal.0 c)
-handed_front (End n cause ∷ older) legal c = stays_front c (End n cause) older (handed_front older legal.0 c)
-handed_front (Bound n port ∷ older) legal c = stays_front c (Bound n port) older (handed_front older legal.0 c)
-handed_front (Attach t kind serial ∷ older) legal c = stays_front c (Attach t kind serial) older (handed_front older legal.0 c)
-handed_front (Recv t bytes ∷ older) legal c = stays_front c (Recv t bytes) older (handed_front older legal.0 c)
-handed_front (Detach t cause ∷ older) legal c = stays_front c (Detach t cause) older (handed_front older legal.0 c)
-handed_front (Send t bytes ∷ older) legal c = stays_front c (Send t bytes) older (handed_front older legal.0 c)
+handed_front (e ∷ older) legal c = stays_front c e older (handed_front older legal.0 c)
 
 -- ---- the fields
 all_streams : (next : Option Next) → is_all next ≡ true → asks_stream next ≡ false

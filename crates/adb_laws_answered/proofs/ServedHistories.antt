@@ -9,7 +9,7 @@ use Rattle.adb_client.specs.declared.phase.Phase.TheVariants.{Asking}
 use Rattle.adb_reply.specs.declared.answer.Next.{Next}
 use Rattle.adb_reply.specs.declared.answer.Next.TheVariants as what
 use Rattle.adb_capture.specs.declared.entry.Entry.{Entry}
-use Rattle.adb_capture.specs.declared.entry.Entry.TheVariants.{Join, Enter, Read, End, Bound, Attach, Recv, Detach, Put, Send}
+use Rattle.adb_capture.specs.declared.entry.Entry.TheVariants.{Join, Enter, Read, Bound}
 use Rattle.adb_history.specs.Rows.{Client}
 use Rattle.adb_history.specs.Events.{Made, Event}
 use Rattle.adb_history.specs.Streams.{stream_ids}
@@ -221,17 +221,10 @@ module _ (c : ℕ) (older : History) (legal : IsLegal older) (came : has_joined 
       (own_served bytes (subst (λ (m : ℕ). May (state older) (Read m bytes)) (eqb-true n c e) may) b.drawn h)
 
   served_entry : (e : Entry) → May (state older) e → HasBirths older → Before → After_with e
-  served_entry (Join n) may b h = served_silent (Join n) may (silent_same c (Join n) older refl refl (λ m of. absurd of)) h
   served_entry (Enter n port) may b h = served_silent (Enter n port) may (silent_same c (Enter n port) older refl refl (enter_apart n port may)) h
   served_entry (Read n bytes) may b h = read_served n bytes may b (eqb n c) refl h
   served_entry (Bound n port) may b h = served_silent (Bound n port) may (silent_bound c n port older) h
-  served_entry (End n cause) may b h = served_silent (End n cause) may (silent_same c (End n cause) older refl refl (λ m of. absurd of)) h
-  served_entry (Attach t kind serial) may b h =
-      served_silent (Attach t kind serial) may (silent_same c (Attach t kind serial) older refl refl (λ m of. absurd of)) h
-  served_entry (Recv t bytes) may b h = served_silent (Recv t bytes) may (silent_same c (Recv t bytes) older refl refl (λ m of. absurd of)) h
-  served_entry (Detach t cause) may b h = served_silent (Detach t cause) may (silent_same c (Detach t cause) older refl refl (λ m of. absurd of)) h
-  served_entry (Put n bytes) may b h = served_silent (Put n bytes) may (silent_same c (Put n bytes) older refl refl (λ m of. absurd of)) h
-  served_entry (Send t bytes) may b h = served_silent (Send t bytes) may (silent_same c (Send t bytes) older refl refl (λ m of. absurd of)) h
+  served_entry e may b h = served_silent e may (silent_same c e older refl refl (λ m of. absurd of)) h
 
 -- ---- all histories
 -- who comes has no stream yet
@@ -254,30 +247,6 @@ all_served (Join n ∷ older) legal c came =
         subst (λ (k : ℕ). ServedIn (asks_stream (asked c (Join k ∷ older)).next) c (Join k ∷ older)) (sym (eqb-true n c e))
         (new_served c older legal.0 (subst (λ (k : ℕ). May (state older) (Join k)) (eqb-true n c e) legal.2))
     go false e came before = served_entry c older legal.0 came (Join n) legal.2 (all_births older legal.0) (before came)
-all_served (Enter n port ∷ older) legal c came =
-    served_entry c older legal.0 came (Enter n port) legal.2 (all_births older legal.0)
-    (all_served older legal.0 c came)
-all_served (Read n bytes ∷ older) legal c came =
-    served_entry c older legal.0 came (Read n bytes) legal.2 (all_births older legal.0)
-    (all_served older legal.0 c came)
-all_served (End n cause ∷ older) legal c came =
-    served_entry c older legal.0 came (End n cause) legal.2 (all_births older legal.0)
-    (all_served older legal.0 c came)
-all_served (Bound n port ∷ older) legal c came =
-    served_entry c older legal.0 came (Bound n port) legal.2 (all_births older legal.0)
-    (all_served older legal.0 c came)
-all_served (Attach t kind serial ∷ older) legal c came =
-    served_entry c older legal.0 came (Attach t kind serial) legal.2 (all_births older legal.0)
-    (all_served older legal.0 c came)
-all_served (Recv t bytes ∷ older) legal c came =
-    served_entry c older legal.0 came (Recv t bytes) legal.2 (all_births older legal.0)
-    (all_served older legal.0 c came)
-all_served (Detach t cause ∷ older) legal c came =
-    served_entry c older legal.0 came (Detach t cause) legal.2 (all_births older legal.0)
-    (all_served older legal.0 c came)
-all_served (Put n bytes ∷ older) legal c came =
-    served_entry c older legal.0 came (Put n bytes) legal.2 (all_births older legal.0)
-    (all_served older legal.0 c came)
-all_served (Send t bytes ∷ older) legal c came =
-    served_entry c older legal.0 came (Send t bytes) legal.2 (all_births older legal.0)
+all_served (e ∷ older) legal c came =
+    served_entry c older legal.0 came e legal.2 (all_births older legal.0)
     (all_served older legal.0 c came)

@@ -8,7 +8,7 @@ use Rattle.adb_forward.specs.declared.row.ForwardRow.{ForwardRow}
 use Rattle.adb_reply.specs.declared.answer.Next.{Next}
 use Rattle.adb_client.specs.declared.phase.Phase.TheVariants.{Asking}
 use Rattle.adb_capture.specs.declared.entry.Entry.{Entry}
-use Rattle.adb_capture.specs.declared.entry.Entry.TheVariants.{Join, Enter, Read, End, Bound, Attach, Recv, Detach, Put, Send}
+use Rattle.adb_capture.specs.declared.entry.Entry.TheVariants.{Join, Enter, Read, Bound}
 use Rattle.adb_history.specs.Rows.{Client}
 use Rattle.adb_history.specs.Links.{is_connected, is_credit}
 use Rattle.adb_history.specs.Streams.{stream_ids}
@@ -166,14 +166,7 @@ module _ (l : ℕ) (b : Birth) (older : History) (legal : IsLegal older) where
   new_shown (Enter n port) may births alone came new =
       let through = through_forward n older (at port (forwards older)) new.place b new.is in
       absurd (let clash : true ≡ false = sym through ∙ alone in cc)
-  new_shown (Join n) may births alone came new = absurd (birth_of (Join n) older new.place b new.is)
-  new_shown (End n cause) may births alone came new = absurd (birth_of (End n cause) older new.place b new.is)
-  new_shown (Bound n port) may births alone came new = absurd (birth_of (Bound n port) older new.place b new.is)
-  new_shown (Attach t kind serial) may births alone came new = absurd (birth_of (Attach t kind serial) older new.place b new.is)
-  new_shown (Recv t bytes) may births alone came new = absurd (birth_of (Recv t bytes) older new.place b new.is)
-  new_shown (Detach t cause) may births alone came new = absurd (birth_of (Detach t cause) older new.place b new.is)
-  new_shown (Put n bytes) may births alone came new = absurd (birth_of (Put n bytes) older new.place b new.is)
-  new_shown (Send t bytes) may births alone came new = absurd (birth_of (Send t bytes) older new.place b new.is)
+  new_shown e may births alone came new = absurd (birth_of e older new.place b new.is)
 
 entry_shown : (l : ℕ) (b : Birth) (e : Entry) (older : History) → IsLegal (e ∷ older)
     → (born l older ≡ Some b → has_joined b.client older ≡ true → IsShownAt l b older)

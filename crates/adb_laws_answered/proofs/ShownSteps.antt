@@ -3,7 +3,7 @@ use Rattle.std.proofs.Common.{◌≡◌, ℕ, Bool, true, false, not, ◌&&◌, 
 use Rattle.std.proofs.lemmas.Bool.{eq-eqb, eqb-true, eqb-false}
 use Rattle.adb_outside.specs.declared.kinds.Cause.{Cause}
 use Rattle.adb_capture.specs.declared.entry.Entry.{Entry}
-use Rattle.adb_capture.specs.declared.entry.Entry.TheVariants.{Join, Enter, Read, End, Bound, Attach, Recv, Detach, Put, Send}
+use Rattle.adb_capture.specs.declared.entry.Entry.TheVariants.{Read, End, Recv, Detach}
 use Rattle.adb_history.specs.Machine.{History, IsLegal}
 use Rattle.adb_history.specs.Bytes.{has_joined, has_failed, is_orderly}
 use Rattle.adb_history.specs.Book.{asked}
@@ -29,17 +29,12 @@ module _ (l : ℕ) (b : Birth) where
 
   stepped : (e : Entry) (older : History) (legal : IsLegal (e ∷ older)) (came : has_joined b.client older ≡ true) (n : IsShownAt l b older)
       → IsStepped l b e older legal came n
-  stepped (Join m) older legal came n = stepped_other l b (Join m) older legal came n refl tt
-  stepped (Enter m port) older legal came n = stepped_other l b (Enter m port) older legal came n refl tt
   stepped (Read m bytes) older legal came n = stepped_other l b (Read m bytes) older legal came n refl refl
   stepped (End m cause) older legal came n =
       stepped_other l b (End m cause) older legal came n refl (λ orderly same. fails_now b.client m cause older orderly same)
-  stepped (Bound m port) older legal came n = stepped_other l b (Bound m port) older legal came n refl tt
-  stepped (Attach t kind serial) older legal came n = stepped_other l b (Attach t kind serial) older legal came n refl tt
   stepped (Recv t bytes) older legal came n = recv_either t bytes older legal came n (eqb t b.link) refl
   stepped (Detach t cause) older legal came n = stepped_other l b (Detach t cause) older legal came n refl (λ same. refl)
-  stepped (Put m bytes) older legal came n = stepped_other l b (Put m bytes) older legal came n refl tt
-  stepped (Send t bytes) older legal came n = stepped_other l b (Send t bytes) older legal came n refl tt
+  stepped e older legal came n = stepped_other l b e older legal came n refl tt
 
 pub shown_step : (l : ℕ) (b : Birth) (e : Entry) (older : History) → IsLegal (e ∷ older) → has_joined b.client older ≡ true
     → (asked b.client (e ∷ older)).replies ≡ (asked b.client older).replies → IsShownAt l b older → IsShownAt l b (e ∷ older)

@@ -8,7 +8,7 @@ use Rattle.std.proofs.lemmas.List.{append-nil}
 use Rattle.std.proofs.lemmas.List.Elements.{Contains-append_right}
 use Rattle.adb_wire.specs.declared.packets.Packet.{Packet}
 use Rattle.adb_capture.specs.declared.entry.Entry.{Entry}
-use Rattle.adb_capture.specs.declared.entry.Entry.TheVariants.{Join, Enter, Read, End, Bound, Attach, Recv, Detach, Put, Send}
+use Rattle.adb_capture.specs.declared.entry.Entry.TheVariants.{Enter, Read}
 use Rattle.adb_history.specs.Rows.{State}
 use Rattle.adb_history.specs.Events.{Event, due_to_link, packets_to}
 use Rattle.adb_history.specs.Links.{open_packet}
@@ -97,14 +97,7 @@ asks_for_its : (e : Entry) (older : History) → IsLegal (e ∷ older) → AsksF
 asks_for_its (Read c bytes) older l =
     rule_asked (Read c bytes) older l (reads_make older l.0 c bytes l.2 ((state older).clients c) refl)
 asks_for_its (Enter c port) older l = rule_asked (Enter c port) older l (enters_make older l.0 c port)
-asks_for_its (Join c) older l = none_asked (Join c) older refl
-asks_for_its (End c cause) older l = none_asked (End c cause) older refl
-asks_for_its (Bound c port) older l = none_asked (Bound c port) older refl
-asks_for_its (Attach t kind serial) older l = none_asked (Attach t kind serial) older refl
-asks_for_its (Recv t bytes) older l = none_asked (Recv t bytes) older refl
-asks_for_its (Detach t cause) older l = none_asked (Detach t cause) older refl
-asks_for_its (Put c bytes) older l = none_asked (Put c bytes) older refl
-asks_for_its (Send t bytes) older l = none_asked (Send t bytes) older refl
+asks_for_its e older l = none_asked e older refl
 
 -- In every legal history each stream is asked for at once.
 pub asks_at_once : (h : History) → IsLegal h → AsksAtOnce h

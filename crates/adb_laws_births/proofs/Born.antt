@@ -14,7 +14,7 @@ use Rattle.adb_stream.specs.Flow.{new_flow}
 use Rattle.adb_stream.specs.Stream.{new_stream}
 use Rattle.adb_stream.specs.declared.row.Stream.{Stream}
 use Rattle.adb_capture.specs.declared.entry.Entry.{Entry}
-use Rattle.adb_capture.specs.declared.entry.Entry.TheVariants.{Join, Enter, Read, End, Bound, Attach, Recv, Detach, Put, Send}
+use Rattle.adb_capture.specs.declared.entry.Entry.TheVariants.{Attach, Recv}
 use Rattle.adb_history.specs.Events.{Made}
 use Rattle.adb_history.specs.Rows.{Link, State}
 use Rattle.adb_history.specs.Streams.{stream_ids}
@@ -38,9 +38,10 @@ use Rattle.adb_laws_births.specs.Drawing.{with_drawn, Opens, Makes}
 use Rattle.adb_laws_births.specs.Births.{born_stays, born_next, birth_place}
 use Rattle.adb_laws_births.specs.Born.{IsBornAs, AllBornAs, all_brought, AreBorn}
 use Rattle.adb_laws_births.proofs.Going.{go_on_same, go_on_then}
-use Rattle.adb_laws_births.proofs.GoingRules.{CanRise, goes_up_all, goes_puts, goes_client_ends, goes_bound, goes_unplugs}
+use Rattle.adb_laws_births.proofs.GoingRules.{CanRise, goes_up_all}
 use Rattle.adb_laws_births.proofs.Small.{all_small}
-use Rattle.adb_laws_births.proofs.Drawing.{goes_as, makes_goes, reads_make, enters_make}
+use Rattle.adb_laws_births.proofs.Drawing.{makes_goes}
+use Rattle.adb_laws_births.proofs.Rules.{entry_makes}
 use Rattle.adb_laws_births.proofs.Receiving.{cut_now, brought_other, brought_more, none_on, hears_cut, cut_drawn, hear_on}
 
 -- ---- what stays
@@ -293,18 +294,9 @@ module _ (older : History) (legal : IsLegal older) (b : AreBorn older) where
       goes_born (Attach t kind serial) older b (λ k. refl) refl ups.drawn_is ups.rows
 
   entry_born : (e : Entry) → IsLegal (e ∷ older) → AreBorn (e ∷ older)
-  entry_born (Join c) may = rule_born (Join c) may (λ t. refl) (goes_as (state older) _ refl refl)
-  entry_born (Enter c port) may = rule_born (Enter c port) may (λ t. refl) (enters_make older legal c port)
-  entry_born (Read c bytes) may = rule_born (Read c bytes) may (λ t. refl) (reads_make older legal c bytes may.2 ((state older).clients c) refl)
-  entry_born (End c cause) may = rule_born (End c cause) may (λ t. refl)
-      (goes_client_ends c cause ((state older).clients c) (state older) (all_owned older legal) refl)
-  entry_born (Bound c port) may = rule_born (Bound c port) may (λ t. refl) (goes_bound ((state older).clients c) c port (state older))
   entry_born (Attach t kind serial) may = attach_born t kind serial may
   entry_born (Recv t bytes) may = recv_born t bytes may ((state older).links t) refl
-  entry_born (Detach t cause) may = rule_born (Detach t cause) may (λ k. refl) (goes_unplugs ((state older).links t) t (state older))
-  entry_born (Put c bytes) may = rule_born (Put c bytes) may (λ t. refl)
-      (goes_puts c (length bytes) ((state older).clients c) (state older) (all_owned older legal))
-  entry_born (Send t bytes) may = rule_born (Send t bytes) may (λ k. refl) (goes_as (state older) _ refl refl)
+  entry_born e may = rule_born e may (λ t. refl) (entry_makes older legal e may.2 tt)
 
 -- In every legal history the streams are the births.
 pub all_born : (h : History) → IsLegal h → AreBorn h

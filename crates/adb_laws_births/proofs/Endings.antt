@@ -157,9 +157,11 @@ end_moves = record {
       row_goes h l stream w is (λ k apart. refl) (orphan_told stream.part.orphan (ending_in l w) ((h.has l).kept stream is) orphan);
   ends = ends_kept;
   fails_open = λ c l failing s w at h.
-      row_goes h l failing.stream (w ++ ended l (client_failed failing.cause) ∷ []) at.2 (λ k apart. told_other l k w (client_failed failing.cause) apart) (some_told l w (client_failed failing.cause));
+      row_goes h l failing.stream (w ++ ended l (client_failed failing.cause) ∷ []) at.2
+      (λ k apart. told_other l k w (client_failed failing.cause) apart) (some_told l w (client_failed failing.cause));
   fails_asked = λ c l failing s w at h.
-      part_changes h l failing.stream (w ++ ended l (client_failed failing.cause) ∷ []) at.2 (λ k apart. told_other l k w (client_failed failing.cause) apart) (orphaned failing.stream.part)
+      part_changes h l failing.stream (w ++ ended l (client_failed failing.cause) ∷ []) at.2
+      (λ k apart. told_other l k w (client_failed failing.cause) apart) (orphaned failing.stream.part)
       (subst (EndsAs true) (sym (told_end l w (client_failed failing.cause)))
       (asked_told failing.stream.part.orphan (ending_in l w) failing.cause ((h.has l).kept failing.stream at.2)));
   links = λ t f s w h. h;

@@ -8,7 +8,7 @@ use Rattle.adb_client.specs.declared.phase.Phase.{Phase}
 use Rattle.adb_client.specs.declared.phase.Phase.TheVariants.{Opening, Streaming, Binding, Tracking, Closing}
 use Rattle.adb_reply.specs.Strings.{failed}
 use Rattle.adb_capture.specs.declared.entry.Entry.{Entry}
-use Rattle.adb_capture.specs.declared.entry.Entry.TheVariants.{Join, Enter, Read, End, Bound, Attach, Recv, Detach, Put, Send}
+use Rattle.adb_capture.specs.declared.entry.Entry.TheVariants.{Join, Enter, Read, Attach}
 use Rattle.adb_history.specs.Rows.{Client, State, new_client, to_client, to_stream, none_kept, with_due, with_held, in_phase}
 use Rattle.adb_history.specs.Events.{Event, Ending, lost}
 use Rattle.adb_history.specs.Links.{is_connected}
@@ -195,12 +195,7 @@ begins_came (Read c bytes) older legal h = (
       (asks_with (state older).devices (state older).forwards bytes (asked_before client)) c (state older).clients h,
 )
 begins_came (Attach t kind serial) older legal h = marks_came (entered (Attach t kind serial ∷ older)) (state older).clients h
-begins_came (End c cause) older legal h = h
-begins_came (Bound c port) older legal h = h
-begins_came (Recv t bytes) older legal h = h
-begins_came (Detach t cause) older legal h = h
-begins_came (Put c bytes) older legal h = h
-begins_came (Send t bytes) older legal h = h
+begins_came _ older legal h = h
 
 -- In every legal history a client that lives came through a forward, or by itself, as it is kept.
 pub all_came : (h : History) → IsLegal h → CameAsKept h

@@ -1,5 +1,5 @@
 -- What every entry draws, and what every stream that is there after it was before.
-use Rattle.std.proofs.Common.{◌≡◌, ◌≢◌, ℕ, ◌+◌, Bool, true, false, cond, List, [], ◌∷◌, ◌++◌, length, Option, Some, None, refl, sym, ap, subst, ◌∙◌, ◌⊎◌}
+use Rattle.std.proofs.Common.{◌≡◌, ◌≢◌, ℕ, ◌+◌, Bool, true, false, cond, List, [], ◌∷◌, ◌++◌, Option, Some, None, refl, sym, ap, subst, ◌∙◌, ◌⊎◌}
 use Rattle.std.proofs.Common.{inl, inr, eqb, arith}
 use Rattle.std.proofs.lemmas.Bool.{eqb-true, eqb-false}
 use Rattle.std.proofs.lemmas.List.{append-nil}
@@ -14,14 +14,13 @@ use Rattle.adb_stream.specs.Flow.{new_flow, has_credit}
 use Rattle.adb_stream.specs.Stream.{new_stream}
 use Rattle.adb_stream.specs.declared.row.Stream.{Stream}
 use Rattle.adb_capture.specs.declared.entry.Entry.{Entry}
-use Rattle.adb_capture.specs.declared.entry.Entry.TheVariants.{Join, Enter, Read, End, Bound, Attach, Recv, Detach, Put, Send}
+use Rattle.adb_capture.specs.declared.entry.Entry.TheVariants.{Attach, Recv, Send}
 use Rattle.adb_history.specs.Rows.{Link, State}
 use Rattle.adb_history.specs.Events.{Ending, ending_in}
 use Rattle.adb_history.specs.Packets.{receives_on}
 use Rattle.adb_history.specs.Machine.{History, state, told, told_at, rule, ups, step, IsLegal}
 use Rattle.adb_history.specs.Bytes.{bytes_sent, brought, sent}
 use Rattle.adb_history.specs.Births.{Birth, births_at}
-use Rattle.adb_history.proofs.OwnedStep.{all_owned}
 use Rattle.adb_history.proofs.Linking.{credit_new}
 use Rattle.adb_laws_births.specs.Going.{Was, GoOn, Goes}
 use Rattle.adb_laws_births.specs.Hearing.{Heard, AllHear}
@@ -31,9 +30,9 @@ use Rattle.adb_laws_births.specs.Born.{AreBorn}
 use Rattle.adb_laws_births.specs.Brought.{ComeFirst, come_first_same, framed_front, brought_grows, opening_grows, remote_grows}
 use Rattle.adb_laws_births.specs.Laws.{DrawsBy, CameFrom, CameNow, DrawsAtMostOne, BringsCut, SendsFirst, GoesOn}
 use Rattle.adb_laws_births.proofs.Going.{go_on_same, go_on_then}
-use Rattle.adb_laws_births.proofs.GoingRules.{goes_puts, goes_client_ends, goes_bound, goes_unplugs}
 use Rattle.adb_laws_births.proofs.Treating.{heard_still}
-use Rattle.adb_laws_births.proofs.Drawing.{goes_as, makes_goes, reads_make, enters_make}
+use Rattle.adb_laws_births.proofs.Drawing.{makes_goes}
+use Rattle.adb_laws_births.proofs.Rules.{entry_makes}
 use Rattle.adb_laws_births.proofs.Receiving.{cut_now, brought_other, brought_more, none_on, hears_cut, hear_on}
 use Rattle.adb_laws_births.proofs.Born.{goes_ups, all_born}
 use Rattle.adb_laws_births.proofs.Ending.{ending_append}
@@ -222,19 +221,9 @@ module _ (older : History) (legal : IsLegal older) where
 
 -- Each entry of a legal history draws at most one stream, and each other stream was there before and heard what its link brought.
 pub draws_at_most_one : (e : Entry) (older : History) → IsLegal (e ∷ older) → DrawsAtMostOne e older
-draws_at_most_one (Join c) older l = rule_draws older l.0 (Join c) l (λ t. refl) (goes_as (state older) _ refl refl)
-draws_at_most_one (Enter c port) older l = rule_draws older l.0 (Enter c port) l (λ t. refl) (enters_make older l.0 c port)
-draws_at_most_one (Read c bytes) older l =
-    rule_draws older l.0 (Read c bytes) l (λ t. refl) (reads_make older l.0 c bytes l.2 ((state older).clients c) refl)
-draws_at_most_one (End c cause) older l = rule_draws older l.0 (End c cause) l (λ t. refl)
-    (goes_client_ends c cause ((state older).clients c) (state older) (all_owned older l.0) refl)
-draws_at_most_one (Bound c port) older l = rule_draws older l.0 (Bound c port) l (λ t. refl) (goes_bound ((state older).clients c) c port (state older))
 draws_at_most_one (Attach t kind serial) older l = attach_draws older l.0 t kind serial l
 draws_at_most_one (Recv t bytes) older l = draws_recv older l.0 t bytes l
-draws_at_most_one (Detach t cause) older l = rule_draws older l.0 (Detach t cause) l (λ k. refl) (goes_unplugs ((state older).links t) t (state older))
-draws_at_most_one (Put c bytes) older l =
-    rule_draws older l.0 (Put c bytes) l (λ t. refl) (goes_puts c (length bytes) ((state older).clients c) (state older) (all_owned older l.0))
-draws_at_most_one (Send t bytes) older l = rule_draws older l.0 (Send t bytes) l (λ k. refl) (goes_as (state older) _ refl refl)
+draws_at_most_one e older l = rule_draws older l.0 e l (λ t. refl) (entry_makes older l.0 e l.2 tt)
 
 -- ---- more comes
 -- What was sent to a link comes first in what was sent to it later.

@@ -3,6 +3,7 @@ pub mod GoingEnds
 pub mod GoingRules
 pub mod Treating
 pub mod Drawing
+pub mod Rules
 pub mod Receiving
 pub mod Small
 pub mod Born

@@ -1,5 +1,5 @@
 -- A stream is asked for once.
-use Rattle.std.proofs.Common.{ℕ, ◌+◌, ◌≡◌, ◌≢◌, ◌<◌, ◌≤◌, Bool, true, false, cond, All, List, [], ◌∷◌, ◌++◌, length, Option, Some, None, refl, sym, ap, ◌∙◌}
+use Rattle.std.proofs.Common.{ℕ, ◌+◌, ◌≡◌, ◌≢◌, ◌<◌, ◌≤◌, Bool, true, false, cond, All, List, [], ◌∷◌, ◌++◌, Option, Some, None, refl, sym, ap, ◌∙◌}
 use Rattle.std.proofs.Common.{◌⊎◌, inl, inr, arith}
 use Rattle.std.specs.Prelude.{nat_eq, ◌&&◌}
 use Rattle.std.proofs.lemmas.Bool.{ne_eqb, cases_eq}
@@ -10,7 +10,7 @@ use Rattle.adb_wire.specs.declared.command.Command.TheVariants.{Okay, Wrte, Clse
 use Rattle.adb_wire.specs.declared.packets.Packet.{Packet}
 use Rattle.adb_stream.specs.declared.row.Stream.{Stream}
 use Rattle.adb_capture.specs.declared.entry.Entry.{Entry}
-use Rattle.adb_capture.specs.declared.entry.Entry.TheVariants.{Join, Enter, Read, End, Bound, Attach, Recv, Detach, Put, Send}
+use Rattle.adb_capture.specs.declared.entry.Entry.TheVariants.{Attach, Recv}
 use Rattle.adb_history.specs.Rows.{Link, State}
 use Rattle.adb_history.specs.Events.{Made, Event, due_to_client, due_to_link, ended, packets_to}
 use Rattle.adb_history.specs.Links.{open_packet}
@@ -18,13 +18,13 @@ use Rattle.adb_history.specs.Packets.{treat, treat_all, faulty, receives_on}
 use Rattle.adb_history.specs.Machine.{History, state, told, told_at, rule, ups, step, IsLegal}
 use Rattle.adb_history.specs.Births.{Birth, births_at, is_open, count_from}
 use Rattle.adb_history.specs.Linked.{IsLinked}
-use Rattle.adb_history.proofs.OwnedStep.{all_owned}
 use Rattle.adb_laws_births.specs.Going.{IsOfOpen, IsFrom, Goes}
 use Rattle.adb_laws_births.specs.Hearing.{IsAnswer}
 use Rattle.adb_laws_births.specs.Drawing.{with_drawn, Draws, Makes}
-use Rattle.adb_laws_births.proofs.GoingRules.{goes_puts, goes_client_ends, goes_bound, goes_unplugs, goes_faulty}
+use Rattle.adb_laws_births.proofs.GoingRules.{goes_faulty}
 use Rattle.adb_laws_births.proofs.Treating.{treats}
-use Rattle.adb_laws_births.proofs.Drawing.{goes_as, makes_goes, reads_make, enters_make}
+use Rattle.adb_laws_births.proofs.Drawing.{makes_goes}
+use Rattle.adb_laws_births.proofs.Rules.{entry_makes}
 use Rattle.adb_laws_births.proofs.Receiving.{treated_linked, cut_now, rested, rested_linked, cut_drawn}
 use Rattle.adb_laws_births.proofs.Born.{goes_ups}
 
@@ -209,16 +209,9 @@ module _ (older : History) (legal : IsLegal older) where
   recv_same t bytes (Some link) = cut_drawn older legal t bytes link
 
   pub entry_asks : (e : Entry) → IsLegal (e ∷ older) → AsksNext s.drawn (state (e ∷ older)).drawn (told_at e older)
-  entry_asks (Join c) l = rule_asks (Join c) l (goes_as s _ refl refl)
-  entry_asks (Enter c port) l = rule_asks (Enter c port) l (enters_make older legal c port)
-  entry_asks (Read c bytes) l = rule_asks (Read c bytes) l (reads_make older legal c bytes l.2 (s.clients c) refl)
-  entry_asks (End c cause) l = rule_asks (End c cause) l (goes_client_ends c cause (s.clients c) s (all_owned older legal) refl)
-  entry_asks (Bound c port) l = rule_asks (Bound c port) l (goes_bound (s.clients c) c port s)
   entry_asks (Attach t kind serial) l = quiet_asks (Attach t kind serial) l refl (All-cons AsksNone _ [] refl (All-nil AsksNone))
   entry_asks (Recv t bytes) l = quiet_asks (Recv t bytes) l (recv_same t bytes (s.links t)) (recv_none t bytes (s.links t) refl)
-  entry_asks (Detach t cause) l = rule_asks (Detach t cause) l (goes_unplugs (s.links t) t s)
-  entry_asks (Put c bytes) l = rule_asks (Put c bytes) l (goes_puts c (length bytes) (s.clients c) s (all_owned older legal))
-  entry_asks (Send t bytes) l = rule_asks (Send t bytes) l (goes_as s _ refl refl)
+  entry_asks e l = rule_asks e l (entry_makes older legal e l.2 tt)
 
 -- ---- all entries
 pub record AsksOnce (h : History) : Type 0 where

@@ -10,7 +10,7 @@ use Rattle.adb_wire.specs.declared.command.Command.TheVariants.{Cnxn, Open, Okay
 use Rattle.adb_wire.specs.declared.headers.TheConstants.{MAX_PAYLOAD}
 use Rattle.adb_wire.specs.declared.packets.Packet.{Packet}
 use Rattle.adb_capture.specs.declared.entry.Entry.{Entry}
-use Rattle.adb_capture.specs.declared.entry.Entry.TheVariants.{Join, Enter, Read, End, Bound, Attach, Recv, Detach, Put, Send}
+use Rattle.adb_capture.specs.declared.entry.Entry.TheVariants.{Attach, Recv}
 use Rattle.adb_history.specs.Rows.{Link, State}
 use Rattle.adb_history.specs.Events.{Made, Event, quietly, due_to_client, due_to_link, ended}
 use Rattle.adb_history.specs.Links.{server_cnxn, open_packet}
@@ -20,7 +20,6 @@ use Rattle.adb_history.specs.Machine.{History, state, told_at, rule, ups, IsLega
 use Rattle.adb_history.specs.Bytes.{brought}
 use Rattle.adb_history.specs.Births.{Birth, births_at, remote_of}
 use Rattle.adb_history.specs.Fifo.{IsOf, IsRefusal, IsOwn}
-use Rattle.adb_history.proofs.OwnedStep.{all_owned}
 use Rattle.adb_laws_births.specs.Going.{IsFrom, Goes}
 use Rattle.adb_laws_births.specs.Drawing.{with_drawn, Draws, Makes}
 use Rattle.adb_laws_births.specs.Births.{born_stays}
@@ -28,8 +27,8 @@ use Rattle.adb_laws_births.specs.Born.{AllBornAs, all_brought, AreBorn}
 use Rattle.adb_laws_births.specs.Brought.{come_first_same, brought_grows, remote_grows}
 use Rattle.adb_laws_births.specs.Sending.{IsRight, IsRightEvent, HasShortService}
 use Rattle.adb_laws_births.proofs.Going.{goes_quiet}
-use Rattle.adb_laws_births.proofs.GoingRules.{goes_puts, goes_client_ends, goes_bound, goes_unplugs, goes_faulty}
-use Rattle.adb_laws_births.proofs.Drawing.{goes_as, reads_make, enters_make}
+use Rattle.adb_laws_births.proofs.GoingRules.{goes_faulty}
+use Rattle.adb_laws_births.proofs.Rules.{entry_makes}
 use Rattle.adb_laws_births.proofs.Receiving.{cut_now, rested, rested_linked, brought_more}
 use Rattle.adb_laws_births.proofs.Born.{stays_born, born_later, kept_later, birth_drawn, rows_born, goes_ups, gone_kept}
 use Rattle.adb_laws_births.proofs.Sending.{IsAhead, right_from, TellsRight, tells_goes, tells_goes_then, tells_all}
@@ -159,18 +158,9 @@ module _ (older : History) (legal : IsLegal older) (b : AreBorn older) where
       (goes_faulty (treated.state.links t) t c.fault treated.state)
 
   entry_right : (e : Entry) → IsLegal (e ∷ older) → All HasShortService (births_at e older) → TellsRight (e ∷ older) (rule e now)
-  entry_right (Join c) l short = rule_right (Join c) (λ t. refl) short (goes_as now _ refl refl)
-  entry_right (Enter c port) l short = rule_right (Enter c port) (λ t. refl) short (enters_make older legal c port)
-  entry_right (Read c bytes) l short = rule_right (Read c bytes) (λ t. refl) short (reads_make older legal c bytes l.2 (now.clients c) refl)
-  entry_right (End c cause) l short =
-      rule_right (End c cause) (λ t. refl) short (goes_client_ends c cause (now.clients c) now (all_owned older legal) refl)
-  entry_right (Bound c port) l short = rule_right (Bound c port) (λ t. refl) short (goes_bound (now.clients c) c port now)
   entry_right (Attach t kind serial) l short = attach_right t kind serial
   entry_right (Recv t bytes) l short = recv_right t bytes (now.links t) refl
-  entry_right (Detach t cause) l short = rule_right (Detach t cause) (λ k. refl) short (goes_unplugs (now.links t) t now)
-  entry_right (Put c bytes) l short =
-      rule_right (Put c bytes) (λ t. refl) short (goes_puts c (length bytes) (now.clients c) now (all_owned older legal))
-  entry_right (Send t bytes) l short = rule_right (Send t bytes) (λ k. refl) short (goes_as now _ refl refl)
+  entry_right e l short = rule_right e (λ t. refl) short (entry_makes older legal e l.2 tt)
 
   -- what an entry tells is right
   pub told_right : (e : Entry) → IsLegal (e ∷ older) → All HasShortService (births_at e older) → All (IsRightEvent (e ∷ older)) (told_at e older)

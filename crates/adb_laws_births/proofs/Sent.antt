@@ -18,7 +18,7 @@ use Rattle.adb_wire.specs.declared.format.PacketFault.{PacketFault}
 use Rattle.adb_wire.specs.declared.format.PacketFormat.{PacketFormat}
 use Rattle.adb_stream.specs.declared.credit.TheConstants.{CREDIT_WINDOW}
 use Rattle.adb_capture.specs.declared.entry.Entry.{Entry}
-use Rattle.adb_capture.specs.declared.entry.Entry.TheVariants.{Join, Enter, Read, End, Bound, Attach, Recv, Detach, Put, Send}
+use Rattle.adb_capture.specs.declared.entry.Entry.TheVariants.{Send}
 use Rattle.adb_history.specs.Rows.{Link}
 use Rattle.adb_history.specs.Events.{Event, due_to_client, due_to_link, ended, spelled_to}
 use Rattle.adb_history.specs.Links.{server_cnxn}
@@ -161,15 +161,7 @@ sent_first (Send n bytes ∷ older) legal t = go (eqb n t) refl (more_spelled t 
         → IsPrefixOf (cond b (bytes_sent t older ++ bytes) (bytes_sent t older)) (spelled_to t (told (Send n bytes ∷ older)))
     go true e first = sends_more t bytes older (Send n bytes) legal.0 (subst (λ (k : ℕ). MaySend ((state older).links k) bytes) (eqb-true n t e) legal.2)
     go false e first = first
-sent_first (Join c ∷ older) legal t = more_spelled t (Join c) older (sent_first older legal.0 t)
-sent_first (Enter c port ∷ older) legal t = more_spelled t (Enter c port) older (sent_first older legal.0 t)
-sent_first (Read c bytes ∷ older) legal t = more_spelled t (Read c bytes) older (sent_first older legal.0 t)
-sent_first (End c cause ∷ older) legal t = more_spelled t (End c cause) older (sent_first older legal.0 t)
-sent_first (Bound c port ∷ older) legal t = more_spelled t (Bound c port) older (sent_first older legal.0 t)
-sent_first (Attach n kind serial ∷ older) legal t = more_spelled t (Attach n kind serial) older (sent_first older legal.0 t)
-sent_first (Recv n bytes ∷ older) legal t = more_spelled t (Recv n bytes) older (sent_first older legal.0 t)
-sent_first (Detach n cause ∷ older) legal t = more_spelled t (Detach n cause) older (sent_first older legal.0 t)
-sent_first (Put c bytes ∷ older) legal t = more_spelled t (Put c bytes) older (sent_first older legal.0 t)
+sent_first (e ∷ older) legal t = more_spelled t e older (sent_first older legal.0 t)
 
 -- And so do its packets.
 pub sent_packets_first : (h : History) → IsLegal h → (t : ℕ) → ComeFirst (sent t h) (packets_of t h)

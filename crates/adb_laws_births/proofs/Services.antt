@@ -25,7 +25,7 @@ use Rattle.adb_reply.specs.declared.answer.Next.{Next}
 use Rattle.adb_reply.specs.declared.answer.Next.TheVariants as what
 use Rattle.adb_reply.proofs.Shortness.{IsShortText, IsShortNext, AreSmall, meaning_short, answer_short}
 use Rattle.adb_capture.specs.declared.entry.Entry.{Entry}
-use Rattle.adb_capture.specs.declared.entry.Entry.TheVariants.{Join, Enter, Read, End, Bound, Attach, Recv, Detach, Put, Send}
+use Rattle.adb_capture.specs.declared.entry.Entry.TheVariants.{Enter, Read, End, Bound, Recv, Detach}
 use Rattle.adb_history.specs.Bytes.{brought}
 use Rattle.adb_history.specs.Links.{is_connected, is_credit}
 use Rattle.adb_history.specs.Forwarding.{Binding, forwards_with, put_forward, told_port, is_unbound, bound_by}
@@ -174,11 +174,7 @@ turn_short (Detach t cause) older devices b small h = record {
   wants = h.wants;
   rows = All-filter (λ entry. is_some (at entry.1.transport (devices_if b.killed (Detach t cause ∷ older)).rows)) FitsRow b.forwards h.rows;
 }
-turn_short (Join c) older devices b small h = h
-turn_short (Enter c port) older devices b small h = h
-turn_short (Attach t kind serial) older devices b small h = h
-turn_short (Put c bytes) older devices b small h = h
-turn_short (Send t bytes) older devices b small h = h
+turn_short _ older devices b small h = h
 
 short_book : (h : History) → IsLegal h → IsShortBook (book h)
 short_book [] legal = record { nexts = λ c. tt; wants = λ c. tt; rows = All-nil FitsRow }

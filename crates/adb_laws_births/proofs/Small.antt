@@ -9,7 +9,7 @@ use Rattle.adb_registry.specs.Row.{new_row, unauthorized_row}
 use Rattle.adb_registry.specs.declared.row.Row.{Row}
 use Rattle.adb_wire.specs.declared.headers.TheConstants.{MAX_PAYLOAD}
 use Rattle.adb_wire.specs.declared.packets.Packet.{Packet}
-use Rattle.adb_capture.specs.declared.entry.Entry.TheVariants.{Join, Enter, Read, End, Bound, Attach, Recv, Detach, Put, Send}
+use Rattle.adb_capture.specs.declared.entry.Entry.TheVariants.{Attach}
 use Rattle.adb_history.specs.Links.{maxdata_of}
 use Rattle.adb_history.specs.Machine.{History, state, IsLegal}
 use Rattle.adb_history.specs.Bytes.{is_lost, brought}
@@ -27,15 +27,7 @@ plugged_takes t (Attach n kind serial ∷ older) = go (eqb n t) (plugged_takes t
     go : (b : Bool) → takes (plugged t older) ≡ 0 → takes (cond b (Some (new_row t kind serial)) (plugged t older)) ≡ 0
     go true none = refl
     go false none = none
-plugged_takes t (Join c ∷ older) = plugged_takes t older
-plugged_takes t (Enter c port ∷ older) = plugged_takes t older
-plugged_takes t (Read c bytes ∷ older) = plugged_takes t older
-plugged_takes t (End c cause ∷ older) = plugged_takes t older
-plugged_takes t (Bound c port ∷ older) = plugged_takes t older
-plugged_takes t (Recv n bytes ∷ older) = plugged_takes t older
-plugged_takes t (Detach n cause ∷ older) = plugged_takes t older
-plugged_takes t (Put c bytes ∷ older) = plugged_takes t older
-plugged_takes t (Send n bytes ∷ older) = plugged_takes t older
+plugged_takes t (_ ∷ older) = plugged_takes t older
 
 row_with_takes : (who : Option Identity) (p : Packet) (row : Row) → row.maxdata ≡ 0 → (row_with who p row).maxdata ≤ MAX_PAYLOAD
 row_with_takes None p row none = omega (arith, none)

@@ -6,7 +6,7 @@ use Rattle.std.proofs.lemmas.Bool.{eq-eqb, cases_eq}
 use Rattle.adb_stream.specs.declared.flow.Flow.{Flow}
 use Rattle.adb_stream.specs.declared.row.Stream.{Stream}
 use Rattle.adb_capture.specs.declared.entry.Entry.{Entry}
-use Rattle.adb_capture.specs.declared.entry.Entry.TheVariants.{Join, Enter, Read, End, Bound, Attach, Recv, Detach, Put, Send}
+use Rattle.adb_capture.specs.declared.entry.Entry.TheVariants.{Read, End, Attach, Recv, Detach, Put}
 use Rattle.adb_stream.specs.Flow.{has_credit}
 use Rattle.adb_history.specs.Events.{Made}
 use Rattle.adb_history.specs.Machine.{rule, History, state, told_at, told, IsLegal}
@@ -219,10 +219,7 @@ module _ (older : History) (l : ℕ) (b : Birth) (x : Stream) (own : (x.client �
           let there = there_at x.link l x older t.legal.0 (t.pair.is, t.pair.alive, refl) in
           let none = (all_linked older t.legal.0).owned.rows.links.above x.link (omega (arith, same, t.legal.2.1)) in
           let clash : None ≡ Some there.link = sym none ∙ there.is in cc
-  closed_by (Join n) = far_closed (Join n) older l b x tt tt
-  closed_by (Enter n port) = far_closed (Enter n port) older l b x tt tt
-  closed_by (Bound n port) = far_closed (Bound n port) older l b x tt tt
-  closed_by (Send n bytes) = far_closed (Send n bytes) older l b x tt tt
+  closed_by e = far_closed e older l b x tt tt
 
 pub all_by_client : AllHoldAsTold → (h : History) → IsLegal h → EndsByClient h
 all_by_client holds h legal l e older moment told =

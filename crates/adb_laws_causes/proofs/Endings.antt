@@ -5,7 +5,7 @@ use Rattle.std.proofs.lemmas.Bool.{eq-eqb}
 use Rattle.adb_outside.specs.declared.kinds.Cause.{Cause}
 use Rattle.adb_stream.specs.declared.row.Stream.{Stream}
 use Rattle.adb_capture.specs.declared.entry.Entry.{Entry}
-use Rattle.adb_capture.specs.declared.entry.Entry.TheVariants.{Join, Enter, Read, End, Bound, Attach, Recv, Detach, Put, Send}
+use Rattle.adb_capture.specs.declared.entry.Entry.TheVariants.{Read, End, Detach}
 use Rattle.adb_history.specs.Rows.{State}
 use Rattle.adb_history.specs.Events.{Ending, client_closed, lost, client_failed, stopped, ending_in}
 use Rattle.adb_history.specs.Flow.{up_all}
@@ -87,15 +87,9 @@ stop_cause (Read c bytes) older client link legal (inl why) =
     sym (all_books (Read c bytes ∷ older) legal).killed ∙ (stopped_after (Read c bytes) older ∙ why.1) in
     let before : is_killed older ≡ false = sym (all_books older legal.0).killed ∙ legal.2.0 in
     ap (λ b. b && not (is_killed older)) after ∙ ap not before
-stop_cause (Join c) older client link legal (inl why) = absurd why
-stop_cause (Enter c port) older client link legal (inl why) = absurd why
 stop_cause (End c cause) older client link legal (inl why) = absurd (let clash : stopped ≡ client_failed cause = why.0 in cc)
-stop_cause (Bound c port) older client link legal (inl why) = absurd why
-stop_cause (Attach t kind serial) older client link legal (inl why) = absurd why
-stop_cause (Recv t bytes) older client link legal (inl why) = absurd why
 stop_cause (Detach t cause) older client link legal (inl why) = absurd (let clash : stopped ≡ lost = why.0 in cc)
-stop_cause (Put c bytes) older client link legal (inl why) = absurd why
-stop_cause (Send t bytes) older client link legal (inl why) = absurd why
+stop_cause e older client link legal (inl why) = absurd why
 stop_cause e older client link legal (inr why) = absurd (let clash : stopped ≡ client_closed = why in cc)
 
 pub all_by_stop : (h : History) → IsLegal h → EndsByStop h
@@ -116,14 +110,8 @@ failure_cause : (cause : Cause) (e : Entry) (older : History) (client link : ℕ
     → WhyStep e ((rule e (state older)).state.stopped ≡ true) client link (client_failed cause) → failure_of client e ≡ Some cause
 failure_cause cause (End n k) older client link (inl why) = failure_here n client k cause why
 failure_cause cause (Read c bytes) older client link (inl why) = absurd (let clash : client_failed cause ≡ stopped = why.0 in cc)
-failure_cause cause (Join c) older client link (inl why) = absurd why
-failure_cause cause (Enter c port) older client link (inl why) = absurd why
-failure_cause cause (Bound c port) older client link (inl why) = absurd why
-failure_cause cause (Attach t kind serial) older client link (inl why) = absurd why
-failure_cause cause (Recv t bytes) older client link (inl why) = absurd why
 failure_cause cause (Detach t k) older client link (inl why) = absurd (let clash : client_failed cause ≡ lost = why.0 in cc)
-failure_cause cause (Put c bytes) older client link (inl why) = absurd why
-failure_cause cause (Send t bytes) older client link (inl why) = absurd why
+failure_cause cause e older client link (inl why) = absurd why
 failure_cause cause e older client link (inr why) = absurd (let clash : client_failed cause ≡ client_closed = why in cc)
 
 pub all_by_failure : (h : History) → IsLegal h → EndsByFailure h

@@ -6,7 +6,7 @@ use Rattle.std.proofs.Math.Bool.{or-true}
 use Rattle.std.proofs.lemmas.Bool.{eq-eqb}
 use Rattle.adb_wire.specs.Cutting.{framed}
 use Rattle.adb_capture.specs.declared.entry.Entry.{Entry}
-use Rattle.adb_capture.specs.declared.entry.Entry.TheVariants.{Join, Enter, Read, End, Bound, Attach, Recv, Detach, Put, Send}
+use Rattle.adb_capture.specs.declared.entry.Entry.TheVariants.{Read, End, Recv, Detach}
 use Rattle.adb_history.specs.Events.{Ending, client_closed, peer_closed, out_of_turn, lost, broken, client_failed, stopped, ending_in}
 use Rattle.adb_history.specs.Machine.{rule, History, state, told_at, IsLegal}
 use Rattle.adb_history.specs.Bytes.{bytes_received}
@@ -58,15 +58,10 @@ peer_cause : (l : ℕ) (e : Entry) (older : History) (x : EndsAt l e older peer_
 peer_cause l (Recv t bytes) older x time told (inl why) =
     let c = by_cut t bytes older l peer_closed x (time, why, told) in
     peer_struck l t bytes older x c c.why
-peer_cause l (Join n) older x time told (inl why) = absurd why
-peer_cause l (Enter n port) older x time told (inl why) = absurd why
 peer_cause l (Read n bytes) older x time told (inl why) = absurd (let clash : peer_closed ≡ stopped = why.0 in cc)
 peer_cause l (End n cause) older x time told (inl why) = absurd (let clash : peer_closed ≡ client_failed cause = why.0 in cc)
-peer_cause l (Bound n port) older x time told (inl why) = absurd why
-peer_cause l (Attach t kind serial) older x time told (inl why) = absurd why
 peer_cause l (Detach t cause) older x time told (inl why) = absurd (let clash : peer_closed ≡ lost = why.0 in cc)
-peer_cause l (Put n bytes) older x time told (inl why) = absurd why
-peer_cause l (Send t bytes) older x time told (inl why) = absurd why
+peer_cause l e older x time told (inl why) = absurd why
 peer_cause l e older x time told (inr why) = absurd (let clash : peer_closed ≡ client_closed = why in cc)
 
 pub all_by_peer : (h : History) → IsLegal h → EndsByPeer h
@@ -95,15 +90,10 @@ turn_cause : (l : ℕ) (e : Entry) (older : History) (x : EndsAt l e older out_o
 turn_cause l (Recv t bytes) older x at (inl why) =
     let c = by_cut t bytes older l out_of_turn x (at.0, why, at.2) in
     turn_struck l t bytes older x c at.1 c.why
-turn_cause l (Join n) older x at (inl why) = absurd why
-turn_cause l (Enter n port) older x at (inl why) = absurd why
 turn_cause l (Read n bytes) older x at (inl why) = absurd (let clash : out_of_turn ≡ stopped = why.0 in cc)
 turn_cause l (End n cause) older x at (inl why) = absurd (let clash : out_of_turn ≡ client_failed cause = why.0 in cc)
-turn_cause l (Bound n port) older x at (inl why) = absurd why
-turn_cause l (Attach t kind serial) older x at (inl why) = absurd why
 turn_cause l (Detach t cause) older x at (inl why) = absurd (let clash : out_of_turn ≡ lost = why.0 in cc)
-turn_cause l (Put n bytes) older x at (inl why) = absurd why
-turn_cause l (Send t bytes) older x at (inl why) = absurd why
+turn_cause l e older x at (inl why) = absurd why
 turn_cause l e older x at (inr why) = absurd (let clash : out_of_turn ≡ client_closed = why in cc)
 
 pub all_out_of_turn : AllHoldAsTold → (h : History) → IsLegal h → EndsOutOfTurn h
@@ -128,14 +118,9 @@ lost_cause l (Recv t bytes) older x time told (inl why) =
 lost_cause l (Detach t cause) older x time told (inl why) =
     let b = x.kept.birth in
     ap (λ a. a || list_any says_anew (brings b.link (Detach t cause) older)) (eq-eqb t b.link (sym why.1 ∙ x.kept.link))
-lost_cause l (Join n) older x time told (inl why) = absurd why
-lost_cause l (Enter n port) older x time told (inl why) = absurd why
 lost_cause l (Read n bytes) older x time told (inl why) = absurd (let clash : lost ≡ stopped = why.0 in cc)
 lost_cause l (End n cause) older x time told (inl why) = absurd (let clash : lost ≡ client_failed cause = why.0 in cc)
-lost_cause l (Bound n port) older x time told (inl why) = absurd why
-lost_cause l (Attach t kind serial) older x time told (inl why) = absurd why
-lost_cause l (Put n bytes) older x time told (inl why) = absurd why
-lost_cause l (Send t bytes) older x time told (inl why) = absurd why
+lost_cause l e older x time told (inl why) = absurd why
 lost_cause l e older x time told (inr why) = absurd (let clash : lost ≡ client_closed = why in cc)
 
 pub all_by_loss : (h : History) → IsLegal h → EndsByLoss h
@@ -164,15 +149,10 @@ broken_cause : (l : ℕ) (e : Entry) (older : History) (x : EndsAt l e older bro
 broken_cause l (Recv t bytes) older x time told (inl why) =
     let c = by_cut t bytes older l broken x (time, why, told) in
     broken_struck l t bytes older x c c.why
-broken_cause l (Join n) older x time told (inl why) = absurd why
-broken_cause l (Enter n port) older x time told (inl why) = absurd why
 broken_cause l (Read n bytes) older x time told (inl why) = absurd (let clash : broken ≡ stopped = why.0 in cc)
 broken_cause l (End n cause) older x time told (inl why) = absurd (let clash : broken ≡ client_failed cause = why.0 in cc)
-broken_cause l (Bound n port) older x time told (inl why) = absurd why
-broken_cause l (Attach t kind serial) older x time told (inl why) = absurd why
 broken_cause l (Detach t cause) older x time told (inl why) = absurd (let clash : broken ≡ lost = why.0 in cc)
-broken_cause l (Put n bytes) older x time told (inl why) = absurd why
-broken_cause l (Send t bytes) older x time told (inl why) = absurd why
+broken_cause l e older x time told (inl why) = absurd why
 broken_cause l e older x time told (inr why) = absurd (let clash : broken ≡ client_closed = why in cc)
 
 pub all_by_break : (h : History) → IsLegal h → EndsByBreak h

@@ -21,7 +21,7 @@ use Rattle.std.proofs.lemmas.Bool.{eq-eqb}
 use Rattle.adb_client.specs.declared.phase.Phase.{Phase}
 use Rattle.adb_client.specs.declared.phase.Phase.TheVariants.{Asking, Opening, Streaming, Binding, Tracking, Closing, Gone}
 use Rattle.adb_stream.specs.declared.row.Stream.{Stream}
-use Rattle.adb_capture.specs.declared.entry.Entry.TheVariants.{Join, Enter, Read, End, Bound, Attach, Recv, Detach, Put, Send}
+use Rattle.adb_capture.specs.declared.entry.Entry.TheVariants.{Enter, Read, End}
 use Rattle.adb_history.specs.Asking.{Asked}
 use Rattle.adb_history.specs.Machine.{History, state, IsLegal}
 use Rattle.adb_history.specs.Bytes.{bytes_read, brought, has_ended}
@@ -103,14 +103,7 @@ asked_read c (End n cause ∷ older) on = asked_read c older (right (nat_eq n c)
     right : (a b : Bool) → (a || b) ≡ false → b ≡ false
     right true b e = absurd (let clash : true ≡ false = e in cc)
     right false b e = e
-asked_read c (Join n ∷ older) on = asked_read c older on
-asked_read c (Enter n port ∷ older) on = asked_read c older on
-asked_read c (Bound n port ∷ older) on = asked_read c older on
-asked_read c (Attach t kind serial ∷ older) on = asked_read c older on
-asked_read c (Recv t bytes ∷ older) on = asked_read c older on
-asked_read c (Detach t cause ∷ older) on = asked_read c older on
-asked_read c (Put n bytes ∷ older) on = asked_read c older on
-asked_read c (Send t bytes ∷ older) on = asked_read c older on
+asked_read c (_ ∷ older) on = asked_read c older on
 
 -- ---- by a request
 module _ (c : ℕ) (bytes : List ℕ) (older : History) (legal : IsLegal (Read c bytes ∷ older)) (l : ℕ) (next : l ≡ (state older).drawn + 1) where

@@ -7,7 +7,7 @@ use Rattle.std.proofs.lemmas.Bool.{ne_eqb}
 use Rattle.adb_stream.specs.declared.flow.Flow.{Flow}
 use Rattle.adb_stream.specs.declared.row.Stream.{Stream}
 use Rattle.adb_capture.specs.declared.entry.Entry.{Entry}
-use Rattle.adb_capture.specs.declared.entry.Entry.TheVariants.{Join, Enter, Read, End, Bound, Attach, Recv, Detach, Put, Send}
+use Rattle.adb_capture.specs.declared.entry.Entry.TheVariants.{Read, Bound, Attach, Detach}
 use Rattle.adb_stream.specs.Flow.{is_idle}
 use Rattle.adb_history.specs.Rows.{Client, State}
 use Rattle.adb_history.specs.Machine.{rule, History, state, IsLegal}
@@ -156,14 +156,7 @@ rule_on (Read c bytes) older l legal on = go (reads_kills l ((state older).clien
     go (inl same) = same
     go (inr gone) = absurd (let clash : false ≡ true = sym (ap lives gone) ∙ on in cc)
 rule_on (Bound c port) older l legal on = same_kill (Bound c port) older legal (bound_killed c port older ((book older).waits c))
-rule_on (Join c) older l legal on = same_kill (Join c) older legal refl
-rule_on (Enter c port) older l legal on = same_kill (Enter c port) older legal refl
-rule_on (End c cause) older l legal on = same_kill (End c cause) older legal refl
-rule_on (Attach t kind serial) older l legal on = same_kill (Attach t kind serial) older legal refl
-rule_on (Recv t bytes) older l legal on = same_kill (Recv t bytes) older legal refl
-rule_on (Detach t cause) older l legal on = same_kill (Detach t cause) older legal refl
-rule_on (Put c bytes) older l legal on = same_kill (Put c bytes) older legal refl
-rule_on (Send t bytes) older l legal on = same_kill (Send t bytes) older legal refl
+rule_on e older l legal on = same_kill e older legal refl
 
 up_devices : (k : ℕ) (s : State) → (up_all k s).state.devices ≡ s.devices
 up_devices zero s = refl

@@ -15,7 +15,7 @@ use Rattle.adb_client.specs.declared.about.Want.{Want}
 use Rattle.adb_reply.specs.declared.answer.Next.{Next}
 use Rattle.adb_reply.specs.declared.answer.Next.TheVariants.{Open, Stop}
 use Rattle.adb_capture.specs.declared.entry.Entry.{Entry}
-use Rattle.adb_capture.specs.declared.entry.Entry.TheVariants.{Join, Enter, Read, End, Bound, Attach, Recv, Detach, Put, Send}
+use Rattle.adb_capture.specs.declared.entry.Entry.TheVariants.{Read, End, Bound}
 use Rattle.adb_history.specs.Rows.{Client, State, to_client, none_kept}
 use Rattle.adb_history.specs.Events.{Made, client_failed, ending_in}
 use Rattle.adb_history.specs.Clients.{owe_client}
@@ -147,15 +147,8 @@ module _ (l : ℕ) (b : Birth) (older : History) (a : Alive l b older) where
       go : (k : Bool) → is_killed (Read c bytes ∷ older) ≡ k → (k && not (is_killed older)) ≡ false
       go false e = refl
       go true e = absurd (falls e)
-  not_stopped (Join c) time none = same_kill (Join c) refl
-  not_stopped (Enter c port) time none = same_kill (Enter c port) refl
-  not_stopped (End c cause) time none = same_kill (End c cause) refl
   not_stopped (Bound c port) time none = same_kill (Bound c port) (bound_killed c port older ((book older).waits c))
-  not_stopped (Attach t kind serial) time none = same_kill (Attach t kind serial) refl
-  not_stopped (Recv t bytes) time none = same_kill (Recv t bytes) refl
-  not_stopped (Detach t cause) time none = same_kill (Detach t cause) refl
-  not_stopped (Put c bytes) time none = same_kill (Put c bytes) refl
-  not_stopped (Send t bytes) time none = same_kill (Send t bytes) refl
+  not_stopped e time none = same_kill e refl
 
 -- ---- all of these
 not_struck : (l : ℕ) (b : Birth) (e : Entry) (older : History) → IsLegal (e ∷ older) × HasFlows older × (born l older ≡ Some b)

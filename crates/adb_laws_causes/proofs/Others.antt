@@ -12,7 +12,7 @@ use Rattle.adb_outside.specs.Tables.{at}
 use Rattle.adb_wire.specs.Cutting.{cut_packets, framed}
 use Rattle.adb_stream.specs.declared.row.Stream.{Stream}
 use Rattle.adb_capture.specs.declared.entry.Entry.{Entry}
-use Rattle.adb_capture.specs.declared.entry.Entry.TheVariants.{Join, Enter, Read, End, Bound, Attach, Recv, Detach, Put, Send}
+use Rattle.adb_capture.specs.declared.entry.Entry.TheVariants.{Recv, Detach}
 use Rattle.adb_history.specs.Events.{lost, ending_in}
 use Rattle.adb_history.specs.Streams.{stream_ids}
 use Rattle.adb_history.specs.Packets.{receives}
@@ -175,15 +175,7 @@ module _ (l : ℕ) (b : Birth) (older : History) (a : Alive l b older) where
 
   pub link_quiet : (e : Entry) → IsLegal (e ∷ older) × HasFlows older × (born l older ≡ Some b) → ending_in l (told_at e older) ≡ None → LinkQuiet l b e older
   link_quiet (Recv t bytes) at none = recv_quiet t bytes at none
-  link_quiet (Join c) at none = nothing_brought l b (Join c) older refl
-  link_quiet (Enter c port) at none = nothing_brought l b (Enter c port) older refl
-  link_quiet (Read c bytes) at none = nothing_brought l b (Read c bytes) older refl
-  link_quiet (End c cause) at none = nothing_brought l b (End c cause) older refl
-  link_quiet (Bound c port) at none = nothing_brought l b (Bound c port) older refl
-  link_quiet (Attach t kind serial) at none = nothing_brought l b (Attach t kind serial) older refl
-  link_quiet (Detach t cause) at none = nothing_brought l b (Detach t cause) older refl
-  link_quiet (Put c bytes) at none = nothing_brought l b (Put c bytes) older refl
-  link_quiet (Send t bytes) at none = nothing_brought l b (Send t bytes) older refl
+  link_quiet e at none = nothing_brought l b e older refl
 
   -- ---- its link is not detached
   pub not_detached : (e : Entry) → IsLegal older → ending_in l (told_at e older) ≡ None → detaches b.link e ≡ false

@@ -20,7 +20,7 @@ use Rattle.adb_client.specs.declared.about.Want.{Want}
 use Rattle.adb_reply.specs.declared.answer.Next.{Next}
 use Rattle.adb_reply.specs.declared.answer.Next.TheVariants.{Select, Open, Stop}
 use Rattle.adb_capture.specs.declared.entry.Entry.{Entry}
-use Rattle.adb_capture.specs.declared.entry.Entry.TheVariants.{Join, Enter, Read, End, Bound, Attach, Recv, Detach, Put, Send}
+use Rattle.adb_capture.specs.declared.entry.Entry.TheVariants.{Enter, Read, End, Bound, Recv, Detach, Put}
 use Rattle.adb_history.specs.Rows.{Client, Link, State, to_client, to_stream, none_kept, with_stream_part}
 use Rattle.adb_history.specs.Events.{Event, Ending, ended, lost, client_failed, stopped, quietly, ending_in}
 use Rattle.adb_history.specs.Links.{is_connected, is_credit}
@@ -315,13 +315,11 @@ module _ (l : ℕ) (s : State) (h : IsOwned s) where
 
   -- the rule of an entry, and a stream that it does not draw
   pub rule_fate : (e : Entry) → (draws e ≡ true → l ≢ s.drawn + 1) → FateOf l (WhyBy e ((rule e s).state.stopped ≡ true)) s (rule e s)
-  rule_fate (Join c) other = fate_same l _ (s.streams l) [] refl
   rule_fate (Enter c port) other = enters_fate l _ c (at port s.forwards) s (other refl)
   rule_fate (Read c bytes) other = reads_fate l _ (s.clients c) c bytes s (other refl) h.rows.streams (λ kill n t. (refl, kill))
   rule_fate (End c cause) other = ends_client_fate c cause (s.clients c) refl
   rule_fate (Bound c port) other = bound_fate l _ (s.clients c) c port s
-  rule_fate (Attach t kind serial) other = fate_same l _ (s.streams l) _ refl
   rule_fate (Recv t bytes) other = receives_fate l t bytes s
   rule_fate (Detach t cause) other = detach_fate t cause (s.links t)
   rule_fate (Put c bytes) other = puts_fate l _ (s.clients c) c (length bytes) s
-  rule_fate (Send t bytes) other = fate_same l _ (s.streams l) [] refl
+  rule_fate _ other = fate_same l _ (s.streams l) _ refl

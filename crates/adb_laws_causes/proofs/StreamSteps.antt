@@ -4,7 +4,7 @@ use Rattle.std.specs.Prelude.{is_some}
 use Rattle.std.proofs.lemmas.Bool.{cases_eq}
 use Rattle.adb_stream.specs.declared.row.Stream.{Stream}
 use Rattle.adb_capture.specs.declared.entry.Entry.{Entry}
-use Rattle.adb_capture.specs.declared.entry.Entry.TheVariants.{Join, Enter, Read, End, Bound, Attach, Recv, Detach, Put, Send}
+use Rattle.adb_capture.specs.declared.entry.Entry.TheVariants.{Read, End, Recv, Detach, Put}
 use Rattle.adb_stream.specs.Flow.{has_credit}
 use Rattle.adb_history.specs.Rows.{Client}
 use Rattle.adb_history.specs.Events.{Made, ending_in, lost, client_failed}
@@ -176,11 +176,7 @@ module _ (older : History) (l : ℕ) (b : Birth) (x : Stream) (own : (x.client �
       go : (n ≡ x.link) ⊎ (n ≡ x.link → ⊥) → RulesOn (Detach n cause) older l b x
       go (inl same) = subst (λ (m : ℕ). RulesOn (Detach m cause) older l b x) (sym same) (detach_ruled older l b x cause)
       go (inr far) = far_ruled (Detach n cause) older l b x far
-  ruled (Attach n kind serial) = far_ruled (Attach n kind serial) older l b x tt
-  ruled (Join n) = far_ruled (Join n) older l b x tt
-  ruled (Enter n port) = far_ruled (Enter n port) older l b x tt
-  ruled (Bound n port) = far_ruled (Bound n port) older l b x tt
-  ruled (Send n bytes) = far_ruled (Send n bytes) older l b x tt
+  ruled e = far_ruled e older l b x tt
 
 -- ---- and after the up rule
 pub rule_owned : (e : Entry) (older : History) → IsLegal (e ∷ older) → IsOwned (rule e (state older)).state

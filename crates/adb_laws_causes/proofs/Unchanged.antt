@@ -12,7 +12,7 @@ use Rattle.adb_client.specs.declared.phase.Phase.{Phase}
 use Rattle.adb_client.specs.declared.phase.Phase.TheVariants.{Opening, Streaming}
 use Rattle.adb_client.specs.declared.about.Want.{Want}
 use Rattle.adb_capture.specs.declared.entry.Entry.{Entry}
-use Rattle.adb_capture.specs.declared.entry.Entry.TheVariants.{Join, Enter, Read, End, Bound, Attach, Recv, Detach, Put, Send}
+use Rattle.adb_capture.specs.declared.entry.Entry.TheVariants.{Read, Bound, Recv, Put}
 use Rattle.adb_history.specs.Rows.{Client}
 use Rattle.adb_history.specs.Links.{credit_word}
 use Rattle.adb_history.specs.Machine.{History, state, IsLegal}
@@ -118,13 +118,7 @@ far_bytes (Read n bytes) older c t far =
     record { received = refl; read = ap (λ b. cond b (bytes_read c older ++ bytes) (bytes_read c older)) (ne_eqb n c far); put = refl }
 far_bytes (Put n bytes) older c t far =
     record { received = refl; read = refl; put = ap (λ b. cond b (bytes_put c older ++ bytes) (bytes_put c older)) (ne_eqb n c far) }
-far_bytes (Join n) older c t far = record { received = refl; read = refl; put = refl }
-far_bytes (Enter n port) older c t far = record { received = refl; read = refl; put = refl }
-far_bytes (End n cause) older c t far = record { received = refl; read = refl; put = refl }
-far_bytes (Bound n port) older c t far = record { received = refl; read = refl; put = refl }
-far_bytes (Attach n kind serial) older c t far = record { received = refl; read = refl; put = refl }
-far_bytes (Detach n cause) older c t far = record { received = refl; read = refl; put = refl }
-far_bytes (Send n bytes) older c t far = record { received = refl; read = refl; put = refl }
+far_bytes _ older c t far = record { received = refl; read = refl; put = refl }
 
 -- a client that closed before has closed
 pub closed_before : (l c : ℕ) (e : Entry) (older : History) → has_closed_since l c older ≡ true → has_closed_since l c (e ∷ older) ≡ true

@@ -13,7 +13,7 @@ use Rattle.adb_reply.specs.declared.answer.Next.{Next}
 use Rattle.adb_reply.specs.declared.answer.Next.TheVariants as what
 use Rattle.adb_client.specs.declared.about.Want.{Want}
 use Rattle.adb_capture.specs.declared.entry.Entry.{Entry}
-use Rattle.adb_capture.specs.declared.entry.Entry.TheVariants.{Join, Enter, Read, End, Bound, Attach, Recv, Detach, Put, Send}
+use Rattle.adb_capture.specs.declared.entry.Entry.TheVariants.{Enter, Read, Bound, Recv}
 use Rattle.adb_history.specs.Events.{Event, due_to_client, due_to_link, ended, packets_to}
 use Rattle.adb_history.specs.Streams.{stream_ids}
 use Rattle.adb_history.specs.Asking.{Asked}
@@ -182,14 +182,7 @@ module _ {P : PromiseOf} (lasts : Lasts P) where
       → Follows P (e ∷ older) l b
   follows_first (Read c bytes) older legal births_before l b now = born_by_read c bytes older legal births_before l b now
   follows_first (Enter c port) older legal births_before l b now = born_by_enter c port older legal births_before l b now
-  follows_first (Join c) older legal births_before l b now = none_born l b (Join c) older refl now
-  follows_first (End c cause) older legal births_before l b now = none_born l b (End c cause) older refl now
-  follows_first (Bound c port) older legal births_before l b now = none_born l b (Bound c port) older refl now
-  follows_first (Attach t kind serial) older legal births_before l b now = none_born l b (Attach t kind serial) older refl now
-  follows_first (Recv t bytes) older legal births_before l b now = none_born l b (Recv t bytes) older refl now
-  follows_first (Detach t cause) older legal births_before l b now = none_born l b (Detach t cause) older refl now
-  follows_first (Put c bytes) older legal births_before l b now = none_born l b (Put c bytes) older refl now
-  follows_first (Send t bytes) older legal births_before l b now = none_born l b (Send t bytes) older refl now
+  follows_first e older legal births_before l b now = none_born l b e older refl now
 
   -- no stream has the id 0
   some_id : (l : ℕ) (b : Birth) (h : History) → born l h ≡ Some b → 0 < l

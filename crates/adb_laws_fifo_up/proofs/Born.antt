@@ -7,7 +7,7 @@ use Rattle.adb_stream.specs.declared.row.Stream.{Stream}
 use Rattle.adb_client.specs.declared.phase.Phase.{Phase}
 use Rattle.adb_client.specs.declared.phase.Phase.TheVariants.{Asking, Opening}
 use Rattle.adb_capture.specs.declared.entry.Entry.{Entry}
-use Rattle.adb_capture.specs.declared.entry.Entry.TheVariants.{Join, Enter, Read, End, Bound, Attach, Recv, Detach, Put, Send}
+use Rattle.adb_capture.specs.declared.entry.Entry.TheVariants.{Enter, Read}
 use Rattle.adb_history.specs.Rows.{Client, new_client, to_client}
 use Rattle.adb_history.specs.Events.{Ending, client_closed, ending_in}
 use Rattle.adb_history.specs.Asking.{Asked, asks_with}
@@ -253,11 +253,4 @@ carried_new l b (Read c bytes) older legal has is new =
     (ap (λ x. drop (asked c (Read c bytes ∷ older)).used x) (sym same) ∙ ap (λ n. drop n (bytes_read b.client (Read c bytes ∷ older))) (sym by.1))
     (subst (λ (n : ℕ). Starts l n rest (state (Read c bytes ∷ older)) (told (Read c bytes ∷ older))) (sym by.0)
     (step_climbs (starts_climbs l c rest) (Read c bytes) (state older) (told older) (begins_read c bytes older legal.0 legal.2.0 b new.now l above)))
-carried_new l b (Join c) older legal has is new = absurd (born_by (Join c) older b new.now)
-carried_new l b (End c cause) older legal has is new = absurd (born_by (End c cause) older b new.now)
-carried_new l b (Bound c port) older legal has is new = absurd (born_by (Bound c port) older b new.now)
-carried_new l b (Attach t kind serial) older legal has is new = absurd (born_by (Attach t kind serial) older b new.now)
-carried_new l b (Recv t bytes) older legal has is new = absurd (born_by (Recv t bytes) older b new.now)
-carried_new l b (Detach t cause) older legal has is new = absurd (born_by (Detach t cause) older b new.now)
-carried_new l b (Put c bytes) older legal has is new = absurd (born_by (Put c bytes) older b new.now)
-carried_new l b (Send t bytes) older legal has is new = absurd (born_by (Send t bytes) older b new.now)
+carried_new l b e older legal has is new = absurd (born_by e older b new.now)

@@ -5,7 +5,7 @@ use Rattle.std.proofs.lemmas.Bool.{eq-eqb}
 use Rattle.adb_registry.specs.Registry.{DeviceTable}
 use Rattle.adb_forward.specs.declared.row.ForwardRow.{ForwardRow}
 use Rattle.adb_client.specs.declared.phase.Phase.TheVariants.{Asking}
-use Rattle.adb_capture.specs.declared.entry.Entry.TheVariants.{Join, Enter, Read, End, Bound, Attach, Recv, Detach, Put, Send}
+use Rattle.adb_capture.specs.declared.entry.Entry.TheVariants.{Read, End}
 use Rattle.adb_history.specs.Rows.{Client}
 use Rattle.adb_history.specs.Asking.{Asked, asks_with}
 use Rattle.adb_history.specs.Reading.{asked_before}
@@ -33,14 +33,7 @@ asked_is_read c (Read n bytes ∷ older) e = go (eqb n c) (asked_is_read c older
         ap (λ (x : Bool). cond (not x) (bytes_asked c older ++ bytes) (bytes_asked c older)) e ∙ ap (λ x. x ++ bytes) same
     go false same = same
 asked_is_read c (End n cause ∷ older) e = asked_is_read c older (or_none (eqb n c) (has_ended c older) e)
-asked_is_read c (Join n ∷ older) e = asked_is_read c older e
-asked_is_read c (Enter n port ∷ older) e = asked_is_read c older e
-asked_is_read c (Bound n port ∷ older) e = asked_is_read c older e
-asked_is_read c (Attach t kind serial ∷ older) e = asked_is_read c older e
-asked_is_read c (Recv t bytes ∷ older) e = asked_is_read c older e
-asked_is_read c (Detach t cause ∷ older) e = asked_is_read c older e
-asked_is_read c (Put n bytes ∷ older) e = asked_is_read c older e
-asked_is_read c (Send t bytes ∷ older) e = asked_is_read c older e
+asked_is_read c (_ ∷ older) e = asked_is_read c older e
 
 not_true : (b : Bool) → not b ≡ true → b ≡ false
 not_true true e = let clash : false ≡ true = e in cc

@@ -16,7 +16,7 @@ use Rattle.adb_wire.specs.declared.format.PacketFormat.{PacketFormat}
 use Rattle.adb_client.specs.declared.phase.Phase.{Phase}
 use Rattle.adb_client.specs.declared.phase.Phase.TheVariants.{Asking, Opening, Streaming}
 use Rattle.adb_capture.specs.declared.entry.Entry.{Entry}
-use Rattle.adb_capture.specs.declared.entry.Entry.TheVariants.{Join, Enter, Read, End, Bound, Attach, Recv, Detach, Put, Send}
+use Rattle.adb_capture.specs.declared.entry.Entry.TheVariants.{Join, Enter, Read, Recv}
 use Rattle.adb_history.specs.Rows.{Client, Link, State, new_client, to_client}
 use Rattle.adb_history.specs.Events.{Made, Event}
 use Rattle.adb_history.specs.Packets.{receives_on}
@@ -154,14 +154,9 @@ module _ (l t : ℕ) (credit : Bool) (ps : List Packet) (s : State) (w : List Ev
     rows_fit l t credit ps s (comes true c s) w refl refl (asking_new l t credit ps s w h true c) h,
     rows_fit l t credit ps s (comes_in_vain s) w refl refl (λ n v see phase. (v, see, phase)) h,
   )
-  begins (Attach k kind serial) none = h
   begins (Read c bytes) none = reads_of l t credit ps s w h (s.clients c) c bytes refl
-  begins (End c cause) none = h
-  begins (Bound c port) none = h
   begins (Recv n bytes) none = absurd none
-  begins (Detach n cause) none = h
-  begins (Put c bytes) none = h
-  begins (Send n bytes) none = h
+  begins _ none = h
 
 -- ---- all histories
 pub record IsFit (l : ℕ) (b : Birth) (h : History) : Type 0 where
@@ -236,15 +231,7 @@ module _ (l : ℕ) (b : Birth) (older : History) (h : IsFit l b older) (some : 0
 
   old_fits : (e : Entry) → IsLegal older → IsFit l b (e ∷ older)
   old_fits (Recv n bytes) legal = recv_fits n bytes legal
-  old_fits (Join c) legal = fit_same (Join c) tt (stepped (Join c) tt)
-  old_fits (Enter c port) legal = fit_same (Enter c port) tt (stepped (Enter c port) tt)
-  old_fits (Read c bytes) legal = fit_same (Read c bytes) tt (stepped (Read c bytes) tt)
-  old_fits (End c cause) legal = fit_same (End c cause) tt (stepped (End c cause) tt)
-  old_fits (Bound c port) legal = fit_same (Bound c port) tt (stepped (Bound c port) tt)
-  old_fits (Attach t kind serial) legal = fit_same (Attach t kind serial) tt (stepped (Attach t kind serial) tt)
-  old_fits (Detach t cause) legal = fit_same (Detach t cause) tt (stepped (Detach t cause) tt)
-  old_fits (Put c bytes) legal = fit_same (Put c bytes) tt (stepped (Put c bytes) tt)
-  old_fits (Send t bytes) legal = fit_same (Send t bytes) tt (stepped (Send t bytes) tt)
+  old_fits e legal = fit_same e tt (stepped e tt)
 
 -- ---- a stream that is born
 drop_all : (xs : List Packet) → drop (length xs) xs ≡ []
@@ -306,14 +293,7 @@ new_fits l b (Read c bytes) older legal has is new =
     let rest = rest_read c bytes older legal.0 legal.2.0 b new.now in
     born_fits l b (Read c bytes) older has.1 is tt by.2 c rest
     (step_climbs (starts_climbs l c rest) (Read c bytes) (state older) (told older) (begins_read c bytes older legal.0 legal.2.0 b new.now l above))
-new_fits l b (Join c) older legal has is new = absurd (born_by (Join c) older b new.now)
-new_fits l b (End c cause) older legal has is new = absurd (born_by (End c cause) older b new.now)
-new_fits l b (Bound c port) older legal has is new = absurd (born_by (Bound c port) older b new.now)
-new_fits l b (Attach t kind serial) older legal has is new = absurd (born_by (Attach t kind serial) older b new.now)
-new_fits l b (Recv t bytes) older legal has is new = absurd (born_by (Recv t bytes) older b new.now)
-new_fits l b (Detach t cause) older legal has is new = absurd (born_by (Detach t cause) older b new.now)
-new_fits l b (Put c bytes) older legal has is new = absurd (born_by (Put c bytes) older b new.now)
-new_fits l b (Send t bytes) older legal has is new = absurd (born_by (Send t bytes) older b new.now)
+new_fits l b e older legal has is new = absurd (born_by e older b new.now)
 
 pub all_fit : (h : History) → IsLegal h → (l : ℕ) (b : Birth) → born l h ≡ Some b → IsFit l b h
 all_fit [] legal l b is = absurd (let drawn = born_drawn l b [] (all_births [] legal) is in omega (arith, drawn.0, drawn.1))

@@ -4,9 +4,9 @@ use Rattle.std.specs.Prelude.{Option, Some, None}
 use Rattle.std.specs.Option.{option_or}
 use Rattle.std.proofs.lemmas.List.{take-append-drop}
 use Rattle.adb_outside.specs.Bytes.{AreBytes}
-use Rattle.adb_outside.specs.declared.kinds.Cause.TheVariants.{Eof, Fault, Starved, NoThread}
+use Rattle.adb_outside.specs.declared.kinds.Cause.TheVariants.{Eof}
 use Rattle.adb_capture.specs.declared.entry.Entry.{Entry}
-use Rattle.adb_capture.specs.declared.entry.Entry.TheVariants.{Join, Enter, Read, End, Bound, Attach, Recv, Detach, Put, Send}
+use Rattle.adb_capture.specs.declared.entry.Entry.TheVariants.{Join, Enter, Read, End, Bound, Attach, Recv, Put, Send}
 use Rattle.adb_capture.specs.Records.{data_of, HasPort}
 use Rattle.adb_history.specs.declared.hand_out.TheConstants.{MAX_HAND_OUT}
 use Rattle.adb_history.specs.Rows.{Client, Link, State}
@@ -124,14 +124,7 @@ fine_out (Send t bytes) h fit fine = (
   },
   tt,
 )
-fine_out (Join c) h fit fine = absurd fit
-fine_out (Enter c port) h fit fine = absurd fit
-fine_out (Read c bytes) h fit fine = absurd fit
-fine_out (End c cause) h fit fine = absurd fit
-fine_out (Bound c port) h fit fine = absurd fit
-fine_out (Attach t kind serial) h fit fine = absurd fit
-fine_out (Recv t bytes) h fit fine = absurd fit
-fine_out (Detach t cause) h fit fine = absurd fit
+fine_out _ h fit fine = absurd fit
 
 next_fits : (h g : History) → SameCame h g → IsFew g → IsFine h → IsFit (state h) (2 ^ 32) (next_out (state h))
 next_fits h g same few fine = out_fits (state h) fine.texts (2 ^ 32)
@@ -178,14 +171,7 @@ brings h g legal same (Read c bytes) wants reads are = (are, asks_texts h g lega
 brings h g legal same (End c Eof) wants reads are = tt
 brings h g legal same (Attach t kind serial) wants reads are = tt
 brings h g legal same (Recv t bytes) wants reads are = are
-brings h g legal same (End c Fault) wants reads are = absurd wants
-brings h g legal same (End c Starved) wants reads are = absurd wants
-brings h g legal same (End c NoThread) wants reads are = absurd wants
-brings h g legal same (Enter c port) wants reads are = absurd wants
-brings h g legal same (Bound c port) wants reads are = absurd wants
-brings h g legal same (Detach t cause) wants reads are = absurd wants
-brings h g legal same (Put c bytes) wants reads are = absurd wants
-brings h g legal same (Send t bytes) wants reads are = absurd wants
+brings h g legal same _ wants reads are = absurd wants
 
 -- its number is small where few come
 pub in_range : (g : History) (e : Entry) → Wants g e → AreBytes (data_of e) → IsFew (e ∷ g) → IsInRange e
@@ -194,14 +180,7 @@ in_range g (Read c bytes) wants are few = record { owner = omega (arith, wants.1
 in_range g (End c Eof) wants are few = record { owner = omega (arith, wants.1, few.clients); port = tt; bytes = are }
 in_range g (Attach t kind serial) wants are few = record { owner = omega (arith, wants.next, few.links); port = tt; bytes = are }
 in_range g (Recv t bytes) wants are few = record { owner = omega (arith, wants.1, few.links); port = tt; bytes = are }
-in_range g (End c Fault) wants are few = absurd wants
-in_range g (End c Starved) wants are few = absurd wants
-in_range g (End c NoThread) wants are few = absurd wants
-in_range g (Enter c port) wants are few = absurd wants
-in_range g (Bound c port) wants are few = absurd wants
-in_range g (Detach t cause) wants are few = absurd wants
-in_range g (Put c bytes) wants are few = absurd wants
-in_range g (Send t bytes) wants are few = absurd wants
+in_range g _ wants are few = absurd wants
 
 -- none has a port
 pub has_port : (g : History) (e : Entry) → Wants g e → HasPort e

@@ -5,9 +5,9 @@ use Rattle.adb_outside.specs.Tables.{Rows, listed, listed_at}
 use Rattle.adb_outside.specs.Serial.{is_serial}
 use Rattle.adb_registry.specs.Registry.{DeviceTable, attach_refusal}
 use Rattle.adb_capture.specs.declared.entry.Entry.{Entry}
-use Rattle.adb_capture.specs.declared.entry.Entry.TheVariants.{Join, Enter, Read, End, Bound, Attach, Recv, Detach, Put, Send}
+use Rattle.adb_capture.specs.declared.entry.Entry.TheVariants.{Join, Read, End, Attach, Recv}
 use Rattle.adb_outside.specs.Bytes.{AreBytes}
-use Rattle.adb_outside.specs.declared.kinds.Cause.TheVariants.{Eof, Fault, Starved, NoThread}
+use Rattle.adb_outside.specs.declared.kinds.Cause.TheVariants.{Eof}
 use Rattle.adb_forward.specs.declared.row.ForwardRow.{ForwardRow}
 use Rattle.adb_capture.specs.Records.{data_of}
 use Rattle.adb_capture.specs.declared.limits.TheConstants.{MAX_DATA}
@@ -131,14 +131,7 @@ module _ (h g : History) (legal : IsLegal h) (same : SameCame h g) where
   takes (End c Eof) wants killed = drawn_by (state h).joined (came_count g) c joined_is wants
   takes (Attach t kind serial) wants killed = attaches t serial killed wants
   takes (Recv t bytes) wants killed = drawn_by (state h).devices.drawn (plugged_count g) t drawn_is_plugged wants
-  takes (End c Fault) wants killed = absurd wants
-  takes (End c Starved) wants killed = absurd wants
-  takes (End c NoThread) wants killed = absurd wants
-  takes (Enter c port) wants killed = absurd wants
-  takes (Bound c port) wants killed = absurd wants
-  takes (Detach t cause) wants killed = absurd wants
-  takes (Put c bytes) wants killed = absurd wants
-  takes (Send t bytes) wants killed = absurd wants
+  takes _ wants killed = absurd wants
 
   -- and it may come
   attach_may : (t : ℕ) (serial : List ℕ) → is_killed g ≡ false → IsPlugged g t serial
@@ -154,14 +147,7 @@ module _ (h g : History) (legal : IsLegal h) (same : SameCame h g) where
   mays (End c Eof) wants killed = (stopped_is killed, may_drawn (state h).joined (came_count g) c joined_is wants)
   mays (Attach t kind serial) wants killed = let may = attach_may t serial killed wants in (stopped_is killed, may.0, may.1)
   mays (Recv t bytes) wants killed = (stopped_is killed, may_drawn (state h).devices.drawn (plugged_count g) t drawn_is_plugged wants)
-  mays (End c Fault) wants killed = absurd wants
-  mays (End c Starved) wants killed = absurd wants
-  mays (End c NoThread) wants killed = absurd wants
-  mays (Enter c port) wants killed = absurd wants
-  mays (Bound c port) wants killed = absurd wants
-  mays (Detach t cause) wants killed = absurd wants
-  mays (Put c bytes) wants killed = absurd wants
-  mays (Send t bytes) wants killed = absurd wants
+  mays _ wants killed = absurd wants
 
 -- An entry that may come behind what came is taken in by the server that stands.
 pub taken : (h g : History) (e : Entry) → IsLegal h → SameCame h g → MayCome g e → IsTaken h e
