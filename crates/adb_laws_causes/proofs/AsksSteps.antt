@@ -14,8 +14,8 @@ use Rattle.adb_history.specs.Bytes.{has_joined, has_ended}
 use Rattle.adb_history.specs.Book.{book, asked, is_asking, asked_with, devices_if, is_killed, still_asks}
 use Rattle.adb_history.specs.Lives.{output_of}
 use Rattle.adb_history.proofs.Books.{booked, all_books}
-use Rattle.adb_laws_causes.proofs.Untouched.{Untouched, Apart, Still, u_then, u_quiet}
-use Rattle.adb_laws_causes.proofs.UntouchedEntries.{IsOthers, asking_rule, asking_apart}
+use Rattle.adb_laws_causes.proofs.Untouched.{Still}
+use Rattle.adb_laws_causes.proofs.UntouchedEntries.{Idle, IsOthers, idle_rule, idle_apart}
 use Rattle.std.proofs.lemmas.List.{append-nil}
 use Rattle.adb_outside.specs.Bytes.{IsPrefixOf}
 use Rattle.adb_history.specs.Flow.{total, up_all}
@@ -26,7 +26,7 @@ use Rattle.adb_history.proofs.OutputEntries.{tied}
 use Rattle.adb_history.proofs.LinkMoves.{all_linked}
 use Rattle.adb_history.specs.Handing.{puts, left_in, hands, lists_first, takes_of, client_left, puts_to}
 use Rattle.adb_laws_causes.proofs.OtherCauses.{bound_killed}
-use Rattle.adb_laws_causes.proofs.UpRuns.{u_up, up_apart}
+use Rattle.adb_laws_causes.proofs.UpRuns.{u_ups}
 use Rattle.adb_history.proofs.Booked.{said}
 use Rattle.adb_history.proofs.Sweep.{Sending, up_to}
 use Rattle.adb_history.specs.Tracking.{due_or, list_if_stale, offered}
@@ -135,11 +135,6 @@ up_none : (c k : ℕ) (s : State) → s.clients c ≡ None → (up_all k s).stat
 up_none c zero s is = is
 up_none c (suc k) s is = up_one_none c (suc k) (up_all k s).state (up_none c k s is)
 
-up_asks : (c k : ℕ) (s : State) → Apart 0 c s → Untouched 0 c s (up_all k s)
-up_asks c zero s h = u_quiet 0 c s
-up_asks c (suc k) s h =
-    u_then 0 c s (up_all k s) (up (suc k)) (up_asks c k s h) (u_up 0 c (suc k) (λ e. omega (arith, e)) (up_all k s).state (up_apart 0 c k s h))
-
 -- ---- after the rule
 record AskRuled (e : Entry) (older : History) (c : ℕ) : Type 0 where
   client : Client
@@ -153,7 +148,8 @@ after_up : (e : Entry) (older : History) (c : ℕ) (k : Client) → IsLegal (e �
     → AsksAsTold (e ∷ older) c k
 after_up e older c k legal here r =
     let m = rule e (state older) in
-    let u = up_asks c m.state.drawn m.state (asking_apart c r.client m.state (rule_owned e older legal) r.here r.asks) in
+    let apart = idle_apart c r.client m.state (rule_owned e older legal) r.here (subst Idle (sym r.asks) tt) in
+    let u = u_ups 0 c m.state.drawn m.state apart (λ n less e. omega (arith, e)) in
     let now = u.client r.client r.here (subst Still (sym r.asks) tt) in
     let row : r.client ≡ k = (let both : Some r.client ≡ Some k = sym now ∙ here in cc) in
     let all : length (output_of c (e ∷ older)) ≡ length (output_of c older) + length (owed_to c (m.told ++ (ups m.state).told)) =
@@ -165,10 +161,11 @@ after_up e older c k legal here r =
 -- ---- by entries of others
 module _ (e : Entry) (older : History) (c : ℕ) (k0 : Client) (legal : IsLegal (e ∷ older)) (row : ((state older).clients c ≡ Some k0) × (k0.about.phase
     ≡ Asking)) where
-  others_ask : AsksAsTold older c k0 → IsOthers c k0 (state older) (all_linked older legal.0).owned row.0 row.1 e
-      → ((bytes : List ℕ) → e ≢ Read c bytes) → is_some ((rule e (state older)).state.clients c) ≡ true → AskRuled e older c
+  others_ask : AsksAsTold older c k0 → IsOthers c e → ((bytes : List ℕ) → e ≢ Read c bytes)
+      → is_some ((rule e (state older)).state.clients c) ≡ true → AskRuled e older c
   others_ask t far other on =
-      let u = asking_rule c k0 (state older) (all_linked older legal.0).owned row.0 row.1 e legal.2 far on in
+      let idle : Idle k0.about.phase = subst Idle (sym row.1) tt in
+      let u = idle_rule c k0 (state older) (all_linked older legal.0).owned row.0 idle e legal.2 far (inr (inr on)) in
       let none : length (owed_to c (rule e (state older)).told) ≡ 0 = ap length u.owed in
       let same : length (asked c (e ∷ older)).replies ≡ length (asked c older).replies = ap (λ (q : Asked). length q.replies)
       (asked_before_is e older c other) in
@@ -275,14 +272,11 @@ join_asks older c legal =
 module _ (older : History) (c : ℕ) (k : Client) (all : AllAsk older) where
   -- by an entry of others it asked before
   other_step : (e : Entry) → IsLegal (e ∷ older) → (state (e ∷ older)).clients c ≡ Some k → k.about.phase ≡ Asking → e ≢ Join c
-      → ((bytes : List ℕ) → e ≢ Read c bytes)
-      → ((k0 : Client) (row : ((state older).clients c ≡ Some k0) × (k0.about.phase ≡ Asking)) (legal : IsLegal (e ∷ older))
-      → IsOthers c k0 (state older) (all_linked older legal.0).owned row.0 row.1 e)
-      → AsksAsTold (e ∷ older) c k
+      → ((bytes : List ℕ) → e ≢ Read c bytes) → IsOthers c e → AsksAsTold (e ∷ older) c k
   other_step e legal here asks not_join not_read far =
       let r = asked_row e older c k legal here asks not_join in
       after_up e older c k legal here
-      (others_ask e older c r.client legal (r.is, r.asks) (all c r.client r.is r.asks) (far r.client (r.is, r.asks) legal) not_read
+      (others_ask e older c r.client legal (r.is, r.asks) (all c r.client r.is r.asks) far not_read
       (on ((rule e (state older)).state.clients c) refl))
     where
       on : (o : Option Client) → (rule e (state older)).state.clients c ≡ o → is_some ((rule e (state older)).state.clients c) ≡ true
@@ -296,7 +290,7 @@ module _ (older : History) (c : ℕ) (k : Client) (all : AllAsk older) where
       go (inl same) = after_up (Join n) older c k legal here (subst (λ (i : ℕ). IsLegal (Join i ∷ older) → AskRuled (Join i) older c) (sym same)
           (join_asks older c) legal)
       go (inr far) = other_step (Join n) legal here asks (λ f. far (let same : Join n ≡ Join c = f in cc)) (λ b f. let clash : Join n ≡ Read c b = f in cc)
-          (λ k0 row l. tt)
+          tt
   ask_step (Read n bytes) legal here asks = go (cases_eq n c)
     where
       not_join : Read n bytes ≢ Join c
@@ -309,14 +303,14 @@ module _ (older : History) (c : ℕ) (k : Client) (all : AllAsk older) where
           after_up (Read n bytes) older c k legal here
           (subst (λ (i : ℕ). IsLegal (Read i bytes ∷ older) → still_asks (asked c (Read i bytes ∷ older)) ≡ true → AskRuled (Read i bytes) older c) (sym same)
           (λ l f. reads_ask older c bytes r.client l r.is r.asks (all c r.client r.is r.asks) f) legal still)
-      go (inr far) = other_step (Read n bytes) legal here asks not_join (λ b f. far (let same : Read n bytes ≡ Read c b = f in cc)) (λ k0 row l. far)
+      go (inr far) = other_step (Read n bytes) legal here asks not_join (λ b f. far (let same : Read n bytes ≡ Read c b = f in cc)) far
   ask_step (End n cause) legal here asks = go (cases_eq n c)
     where
       go : (n ≡ c) ⊎ (n ≡ c → ⊥) → AsksAsTold (End n cause ∷ older) c k
       go (inl same) = absurd (let clash : false ≡ true =
           sym (ap (λ b. not (b || has_ended c older)) (eq-eqb n c same)) ∙ goes_on_now (End n cause) older c k legal here asks in cc)
       go (inr far) = other_step (End n cause) legal here asks (λ f. let clash : End n cause ≡ Join c = f in cc)
-          (λ b f. let clash : End n cause ≡ Read c b = f in cc) (λ k0 row l. far)
+          (λ b f. let clash : End n cause ≡ Read c b = f in cc) far
   ask_step (Put n bytes) legal here asks = go (cases_eq n c)
     where
       not_join : Put n bytes ≢ Join c
@@ -328,19 +322,19 @@ module _ (older : History) (c : ℕ) (k : Client) (all : AllAsk older) where
           after_up (Put n bytes) older c k legal here
           (subst (λ (i : ℕ). IsLegal (Put i bytes ∷ older) → AskRuled (Put i bytes) older c) (sym same)
           (λ l. put_asks older c bytes r.client l (r.is, r.asks) (all c r.client r.is r.asks)) legal)
-      go (inr far) = other_step (Put n bytes) legal here asks not_join (λ b f. let clash : Put n bytes ≡ Read c b = f in cc) (λ k0 row l. far)
+      go (inr far) = other_step (Put n bytes) legal here asks not_join (λ b f. let clash : Put n bytes ≡ Read c b = f in cc) far
   ask_step (Enter n port) legal here asks = other_step (Enter n port) legal here asks (λ f. let clash : Enter n port ≡ Join c = f in cc)
-      (λ b f. let clash : Enter n port ≡ Read c b = f in cc) (λ k0 row l. tt)
+      (λ b f. let clash : Enter n port ≡ Read c b = f in cc) tt
   ask_step (Bound n port) legal here asks = other_step (Bound n port) legal here asks (λ f. let clash : Bound n port ≡ Join c = f in cc)
-      (λ b f. let clash : Bound n port ≡ Read c b = f in cc) (λ k0 row l. tt)
+      (λ b f. let clash : Bound n port ≡ Read c b = f in cc) tt
   ask_step (Attach t kind serial) legal here asks = other_step (Attach t kind serial) legal here asks
-      (λ f. let clash : Attach t kind serial ≡ Join c = f in cc) (λ b f. let clash : Attach t kind serial ≡ Read c b = f in cc) (λ k0 row l. tt)
+      (λ f. let clash : Attach t kind serial ≡ Join c = f in cc) (λ b f. let clash : Attach t kind serial ≡ Read c b = f in cc) tt
   ask_step (Recv t bytes) legal here asks = other_step (Recv t bytes) legal here asks (λ f. let clash : Recv t bytes ≡ Join c = f in cc)
-      (λ b f. let clash : Recv t bytes ≡ Read c b = f in cc) (λ k0 row l. tt)
+      (λ b f. let clash : Recv t bytes ≡ Read c b = f in cc) tt
   ask_step (Detach t cause) legal here asks = other_step (Detach t cause) legal here asks (λ f. let clash : Detach t cause ≡ Join c = f in cc)
-      (λ b f. let clash : Detach t cause ≡ Read c b = f in cc) (λ k0 row l. tt)
+      (λ b f. let clash : Detach t cause ≡ Read c b = f in cc) tt
   ask_step (Send t bytes) legal here asks = other_step (Send t bytes) legal here asks (λ f. let clash : Send t bytes ≡ Join c = f in cc)
-      (λ b f. let clash : Send t bytes ≡ Read c b = f in cc) (λ k0 row l. tt)
+      (λ b f. let clash : Send t bytes ≡ Read c b = f in cc) tt
 
 pub all_ask : (h : History) → IsLegal h → AllAsk h
 all_ask [] legal c k here asks = absurd (let clash : None ≡ Some k = here in cc)

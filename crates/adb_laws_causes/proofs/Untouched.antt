@@ -9,7 +9,7 @@ use Rattle.adb_stream.specs.declared.flow.Flow.TheVariants.{One, Credit}
 use Rattle.adb_stream.specs.declared.row.Stream.{Stream}
 use Rattle.adb_stream.specs.Flow.{first_credit, acknowledged, is_out_of_turn, accepted}
 use Rattle.adb_client.specs.declared.phase.Phase.{Phase}
-use Rattle.adb_client.specs.declared.phase.Phase.TheVariants.{Asking, Opening, Streaming}
+use Rattle.adb_client.specs.declared.phase.Phase.TheVariants.{Asking, Opening, Streaming, Closing}
 use Rattle.adb_reply.specs.Strings.{failed}
 use Rattle.adb_history.specs.Rows.{Client, State, to_client, to_stream, none_kept, with_due, in_phase, with_stream_part}
 use Rattle.adb_history.specs.Events.{Made, Ending, peer_closed, out_of_turn, quietly, then_also, owed_to}
@@ -33,6 +33,7 @@ abbrev pub Still : Phase → Type 0
 Still Asking = Unit {0}
 Still (Opening l) = Unit {0}
 Still (Streaming l) = Unit {0}
+Still Closing = Unit {0}
 Still _ = ⊥
 
 -- what a rule leaves of a stream and of its client
@@ -106,6 +107,7 @@ module _ (l c : ℕ) where
       same k (Opening n) e has = ap (λ p. marked_in p k) e
       same k (Streaming n) e has = ap (λ p. marked_in p k) e
       same k Asking e has = ap (λ p. marked_in p k) e
+      same k Closing e has = ap (λ p. marked_in p k) e
       same k _ e has = absurd has
 
   -- ---- the end of another stream

@@ -41,7 +41,7 @@ use Rattle.adb_laws_causes.proofs.UntouchedRules.{Away, OtherIn, far_receives, f
 
 -- what is left by a rule that makes no kill
 abbrev pub LeftBy : (l c : ℕ) → Made → Type 0
-LeftBy l c m = (is_some (m.state.streams l) ≡ true) ⊎ (is_some (m.state.clients c) ≡ true)
+LeftBy l c m = (m.state.stopped ≡ false) ⊎ ((is_some (m.state.streams l) ≡ true) ⊎ (is_some (m.state.clients c) ≡ true))
 
 -- ---- what another client asks
 module _ (l c : ℕ) where
@@ -71,8 +71,9 @@ module _ (l c : ℕ) where
   far_goes_on (Some what.Stop) n s other on = absurd (gone on)
     where
       gone : LeftBy l c (stops n s) → ⊥
-      gone (inl some) = let clash : false ≡ true = some in cc
-      gone (inr some) =
+      gone (inl on) = let clash : true ≡ false = on in cc
+      gone (inr (inl some)) = let clash : false ≡ true = some in cc
+      gone (inr (inr some)) =
           let none : (stops n s).state.clients c ≡ None =
           changed_other n c closing (only_client n s.clients) other.0 ∙ ap (λ b. cond b (s.clients c) None) (ne_eqb n c other.0) in
           let clash : false ≡ true = sym (ap is_some none) ∙ some in
@@ -280,7 +281,7 @@ module _ (l : ℕ) (x : Stream) (s : State) (h : IsOwned s) (p : Pair l x s) whe
     silent = tt;
   }
   far_rule (Enter n port) may far on = far_enters l x.client n (at port s.forwards) s (comes_apart n may.1, not_next)
-  far_rule (Read n bytes) may far on = far_reads l x.client (s.clients n) n bytes s (far, not_next) (inl on)
+  far_rule (Read n bytes) may far on = far_reads l x.client (s.clients n) n bytes s (far, not_next) (inr (inl on))
   far_rule (End n cause) may far on = far_ends l x.client n cause (s.clients n) s far (λ k is. other_in l n x s h p far k is)
   far_rule (Bound n port) may far on = far_bound l x.client (s.clients n) n port s refl has_one (ap is_some p.here)
   far_rule (Attach k kind serial) may far on =
@@ -292,14 +293,25 @@ module _ (l : ℕ) (x : Stream) (s : State) (h : IsOwned s) (p : Pair l x s) whe
   far_rule (Put n bytes) may far on = far_puts l x.client n far (s.clients n) (length bytes) s refl (λ k is. other_in l n x s h p far k is)
   far_rule (Send k bytes) may far on = record { row = refl; client = λ k is has. is; owed = refl; silent = tt }
 
--- ---- a client that asks
--- no stream is of a client that asks
-pub asking_apart : (c : ℕ) (k : Client) (s : State) → IsOwned s → s.clients c ≡ Some k → k.about.phase ≡ Asking → Apart 0 c s
-asking_apart c k s h here asks = record { alone = λ n z is other same. go n z is same z.part.orphan refl }
+-- ---- a client with no stream
+-- it asks, or it is closing
+abbrev pub Idle : Phase → Type 0
+Idle Asking = Unit {0}
+Idle Closing = Unit {0}
+Idle _ = ⊥
+
+idle_still : (phase : Phase) → Idle phase → Still phase
+idle_still Asking idle = tt
+idle_still Closing idle = tt
+idle_still _ idle = absurd idle
+
+-- no stream is of it
+pub idle_apart : (c : ℕ) (k : Client) (s : State) → IsOwned s → s.clients c ≡ Some k → Idle k.about.phase → Apart 0 c s
+idle_apart c k s h here idle = record { alone = λ n z is other same. go n z is same z.part.orphan refl }
   where
-    never : (n remote : ℕ) → Asking ≡ phase_for n remote → ⊥
-    never n zero e = let clash : Asking ≡ Opening n = e in cc
-    never n (suc m) e = let clash : Asking ≡ Streaming n = e in cc
+    never : (n remote : ℕ) → k.about.phase ≡ phase_for n remote → ⊥
+    never n zero e = subst Idle e idle
+    never n (suc m) e = subst Idle e idle
 
     go : (n : ℕ) (z : Stream) → s.streams n ≡ Some z → z.client ≡ c → (b : Bool) → z.part.orphan ≡ b → ⊥
     go n z is same true e =
@@ -309,15 +321,21 @@ asking_apart c k s h here asks = record { alone = λ n z is other same. go n z i
     go n z is same false e =
         let own = client_of s n z is e h in
         let row : own.client ≡ k = (let both : Some own.client ≡ Some k = sym own.is ∙ (ap s.clients same ∙ here) in cc) in
-        never n z.part.remote (sym asks ∙ (ap (λ (y : Client). y.about.phase) (sym row) ∙ own.phase))
+        never n z.part.remote (ap (λ (y : Client). y.about.phase) (sym row) ∙ own.phase)
 
--- a client that asks, with no stream
-module _ (c : ℕ) (k : Client) (s : State) (h : IsOwned s) (here : s.clients c ≡ Some k) (asks : k.about.phase ≡ Asking) where
+-- an entry of others than a client
+abbrev pub IsOthers : ℕ → Entry → Type 0
+IsOthers c (Read n bytes) = n ≢ c
+IsOthers c (End n cause) = n ≢ c
+IsOthers c (Put n bytes) = n ≢ c
+IsOthers c _ = Unit {0}
+
+module _ (c : ℕ) (k : Client) (s : State) (h : IsOwned s) (here : s.clients c ≡ Some k) (idle : Idle k.about.phase) where
   no_zero : (y : Stream) → s.streams 0 ≡ Some y → ⊥
   no_zero y is = let clash : None ≡ Some y = sym h.rows.streams.zero ∙ is in cc
 
-  asking_away : (t : ℕ) → Away 0 c t s
-  asking_away t = record { apart = asking_apart c k s h here asks; link = λ y is same. no_zero y is }
+  pub idle_away : (t : ℕ) → Away 0 c t s
+  idle_away t = record { apart = idle_apart c k s h here idle; link = λ y is same. no_zero y is }
 
   later : (n : ℕ) → n ≡ s.joined + 1 → n ≢ c
   later n next same = omega (arith, next, same, joined_client s c k h.rows here)
@@ -328,7 +346,7 @@ module _ (c : ℕ) (k : Client) (s : State) (h : IsOwned s) (here : s.clients c 
   its_phase : (y : Client) → s.clients c ≡ Some y → Still y.about.phase
   its_phase y is =
       let row : k ≡ y = (let both : Some k ≡ Some y = sym here ∙ is in cc) in
-      subst (λ (z : Client). Still z.about.phase) row (subst Still (sym asks) tt)
+      subst (λ (z : Client). Still z.about.phase) row (idle_still k.about.phase idle)
 
   -- no stream is the one of number 0
   other_zero : (n : ℕ) (y : Client) → s.clients n ≡ Some y → OtherIn 0 y.about.phase
@@ -342,28 +360,22 @@ module _ (c : ℕ) (k : Client) (s : State) (h : IsOwned s) (here : s.clients c 
       go (Streaming m) holds = none m holds
       go _ holds = tt
 
-  -- an entry of others
-  abbrev pub IsOthers : Entry → Type 0
-  IsOthers (Read n bytes) = n ≢ c
-  IsOthers (End n cause) = n ≢ c
-  IsOthers (Put n bytes) = n ≢ c
-  IsOthers _ = Unit {0}
-
-  pub asking_rule : (e : Entry) → May s e → IsOthers e → is_some ((rule e s).state.clients c) ≡ true → Untouched 0 c s (rule e s)
-  asking_rule (Join n) may far on = record {
+  -- it stays as it is where no kill was made
+  pub idle_rule : (e : Entry) → May s e → IsOthers c e → LeftBy 0 c (rule e s) → Untouched 0 c s (rule e s)
+  idle_rule (Join n) may far on = record {
     row = refl;
     client = λ y is has. ap (λ b. cond b (Some (new_client false n)) (s.clients c)) (ne_eqb n c (later n may.1)) ∙ is;
     owed = refl;
     silent = tt;
   }
-  asking_rule (Enter n port) may far on = far_enters 0 c n (at port s.forwards) s (later n may.1, drawn_later)
-  asking_rule (Read n bytes) may far on = far_reads 0 c (s.clients n) n bytes s (far, drawn_later) (inr on)
-  asking_rule (End n cause) may far on = far_ends 0 c n cause (s.clients n) s far (λ y is. other_zero n y is)
-  asking_rule (Bound n port) may far on = far_bound 0 c (s.clients n) n port s refl its_phase (ap is_some here)
-  asking_rule (Attach t kind serial) may far on =
+  idle_rule (Enter n port) may far on = far_enters 0 c n (at port s.forwards) s (later n may.1, drawn_later)
+  idle_rule (Read n bytes) may far on = far_reads 0 c (s.clients n) n bytes s (far, drawn_later) on
+  idle_rule (End n cause) may far on = far_ends 0 c n cause (s.clients n) s far (λ y is. other_zero n y is)
+  idle_rule (Bound n port) may far on = far_bound 0 c (s.clients n) n port s refl its_phase (ap is_some here)
+  idle_rule (Attach t kind serial) may far on =
       let marks = u_marks 0 c (record s { devices = attached kind serial s.devices; links = put_row t (Some new_link) s.links }) in
       record { row = refl; client = marks.client; owed = refl; silent = (record { write = refl; credit = refl }, tt) }
-  asking_rule (Recv t bytes) may far on = far_receives 0 c t bytes s (asking_away t)
-  asking_rule (Detach t cause) may far on = far_unplugs 0 c t s (asking_away t) (s.links t)
-  asking_rule (Put n bytes) may far on = far_puts 0 c n far (s.clients n) (length bytes) s refl (λ y is. other_zero n y is)
-  asking_rule (Send t bytes) may far on = record { row = refl; client = λ y is has. is; owed = refl; silent = tt }
+  idle_rule (Recv t bytes) may far on = far_receives 0 c t bytes s (idle_away t)
+  idle_rule (Detach t cause) may far on = far_unplugs 0 c t s (idle_away t) (s.links t)
+  idle_rule (Put n bytes) may far on = far_puts 0 c n far (s.clients n) (length bytes) s refl (λ y is. other_zero n y is)
+  idle_rule (Send t bytes) may far on = record { row = refl; client = λ y is has. is; owed = refl; silent = tt }

@@ -118,12 +118,17 @@ module _ (l c t : ℕ) where
       go None = u_quiet l c s
       go (Some link) = far_any p.command p s h
 
-  far_all : (packets : List Packet) (s : State) → Away l c t s → Untouched l c s (treat_all t packets s)
+  pub far_all : (packets : List Packet) (s : State) → Away l c t s → Untouched l c s (treat_all t packets s)
   far_all [] s h = u_quiet l c s
   far_all (p ∷ packets) s h =
       let one = far_treat p s h in
       u_then l c s (treat t p s) (treat_all t packets) one
       (far_all packets (treat t p s).state (away_row l c t s (treat t p s) (λ n. treat_fate n t p s) one h))
+
+  pub far_faulty : (o : Option Link) (fault : Option PacketFault) (s : State) → Away l c t s → Untouched l c s (faulty_on o t fault s)
+  far_faulty None fault s h = u_quiet l c s
+  far_faulty (Some link) None s h = u_quiet l c s
+  far_faulty (Some link) (Some fault) s h = u_link_ends l c t broken s (h.apart, h.link)
 
   far_cut : (cut : Cut PacketFormat Packet PacketFault) (s : State) → Away l c t s → Untouched l c s (receives_cut t cut s)
   far_cut cut s h =
@@ -132,12 +137,7 @@ module _ (l c t : ℕ) where
       let all = far_all cut.given rested (record { apart = record { alone = h.apart.alone }; link = h.link }) in
       let left = away_row l c t rested m (λ n. treat_all_fate n t cut.given rested) all (record { apart = record { alone = h.apart.alone }; link = h.link }) in
       u_then l c s m (faulty t cut.fault) (record { row = all.row; client = all.client; owed = all.owed; silent = all.silent })
-      (last (m.state.links t) cut.fault m.state left)
-    where
-      last : (o : Option Link) (fault : Option PacketFault) (r : State) → Away l c t r → Untouched l c r (faulty_on o t fault r)
-      last None fault r k = u_quiet l c r
-      last (Some link) None r k = u_quiet l c r
-      last (Some link) (Some fault) r k = u_link_ends l c t broken r (k.apart, k.link)
+      (far_faulty (m.state.links t) cut.fault m.state left)
 
   pub far_receives : (bytes : List ℕ) (s : State) → Away l c t s → Untouched l c s (receives t bytes s)
   far_receives bytes s h = go (s.links t)

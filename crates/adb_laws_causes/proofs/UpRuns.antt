@@ -260,12 +260,12 @@ own_up l s x h =
 pub up_apart : (l c k : ℕ) (s : State) → Apart l c s → Apart l c (up_all k s).state
 up_apart l c k s h = apart_fate l c (λ client link y. Unit {0}) s (up_all k s) (λ n. up_all_fate n (λ client link y. Unit {0}) k s (λ client link. tt)) h
 
--- before its turn
-before_up : (l c k : ℕ) (s : State) → Apart l c s → k < l → Untouched l c s (up_all k s)
-before_up l c zero s h less = u_quiet l c s
-before_up l c (suc k) s h less =
-    u_then l c s (up_all k s) (up (suc k)) (before_up l c k s h (omega (arith, less)))
-    (u_up l c (suc k) (λ e. omega (arith, e, less)) (up_all k s).state (up_apart l c k s h))
+-- of others than a stream
+pub u_ups : (l c k : ℕ) (s : State) → Apart l c s → ((n : ℕ) → n < k → suc n ≢ l) → Untouched l c s (up_all k s)
+u_ups l c zero s h others = u_quiet l c s
+u_ups l c (suc k) s h others =
+    u_then l c s (up_all k s) (up (suc k)) (u_ups l c k s h (λ n less. others n (omega (arith, less))))
+    (u_up l c (suc k) (others k (omega arith)) (up_all k s).state (up_apart l c k s h))
 
 module _ (l : ℕ) (x : Stream) (s : State) (h : Pair l x s) (apart : Apart l x.client s) where
   -- in its turn
@@ -273,7 +273,7 @@ module _ (l : ℕ) (x : Stream) (s : State) (h : Pair l x s) (apart : Apart l x.
   turn_up k same = subst (λ (n : ℕ). UpEffect l x h.client (then_also (up_all k s) (up n))) (sym same) here
     where
       u : Untouched l x.client s (up_all k s)
-      u = before_up l x.client k s apart (omega (arith, same))
+      u = u_ups l x.client k s apart (λ n less e. omega (arith, less, e, same))
 
       now : Pair l x (up_all k s).state
       now = record {

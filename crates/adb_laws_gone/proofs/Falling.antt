@@ -1,5 +1,5 @@
 -- What the close of its device makes of the client of a stream: it is gone where nothing is due to it, and else it is closing; and it is told no more.
-use Rattle.std.proofs.Common.{◌≡◌, ◌≢◌, ◌≤◌, ◌+◌, ℕ, zero, suc, Bool, true, false, cond, ◌||◌, ◌&&◌, List, [], ◌∷◌, ◌++◌, Option, Some, None, refl}
+use Rattle.std.proofs.Common.{◌≡◌, ◌≢◌, ◌≤◌, ◌+◌, ℕ, Bool, true, false, cond, ◌||◌, ◌&&◌, List, [], ◌∷◌, ◌++◌, Option, Some, None, refl}
 use Rattle.std.proofs.Common.{sym, ap, subst, ◌∙◌, eqb, arith, append_assoc, ◌⊎◌, inl, inr}
 use Rattle.std.specs.Prelude.{codes, nat_eq, is_some}
 use Rattle.std.specs.Option.{option_or}
@@ -17,7 +17,7 @@ use Rattle.adb_history.specs.Clients.{closing, closing_with, closes, owe_client}
 use Rattle.adb_history.specs.Events.{Made, Event, Ending, peer_closed, ended, quietly, then_also, owed_to, ending_in}
 use Rattle.adb_history.specs.Moves.{After, HasOne, serves}
 use Rattle.adb_history.specs.Turns.{serving}
-use Rattle.adb_history.specs.Owned.{OwnerIn, IsOwned}
+use Rattle.adb_history.specs.Owned.{IsOwned}
 use Rattle.adb_history.specs.Orderly.{phase_for}
 use Rattle.adb_history.specs.Packets.{at_stream, takes_close, treat_open, treat_any, treat_on, treat, treat_all}
 use Rattle.adb_history.specs.Rows.{Client, Link, State, to_stream, none_kept, with_due}
@@ -26,7 +26,6 @@ use Rattle.adb_history.proofs.Changes.{Changes, Stay}
 use Rattle.adb_history.proofs.Following.{after_quietly, after_then, changed_here}
 use Rattle.adb_history.proofs.Growing.{RowStep, ClientStays, AreWithin, owed_append}
 use Rattle.adb_history.proofs.LinkChanges.{HearsOn, hears_on}
-use Rattle.adb_history.proofs.OwnedMoves.{client_of}
 use Rattle.adb_history.proofs.OwnedStep.{owned_moves}
 use Rattle.adb_history.proofs.PacketMoves as moves
 use Rattle.adb_laws_causes.proofs.Effects.{Effect, EffectOr}
@@ -40,26 +39,7 @@ use Rattle.adb_laws_causes.proofs.TurnsOfPackets.{treat_turn}
 use Rattle.adb_laws_causes.proofs.UntouchedEntries.{Pair, pair_of, pair_apart, has_stream}
 use Rattle.adb_laws_answered.specs.Served.{IsDone}
 use Rattle.adb_laws_answered.proofs.DoneMoves.{done_turns}
-use Rattle.adb_laws_gone.proofs.Staying.{HasNone, s_all}
-
--- ---- a client that is closing has no stream
-module _ (c : ℕ) (k : Client) (s : State) (h : IsOwned s) (here : s.clients c ≡ Some k) (closes : k.about.phase ≡ Closing) where
-  never : (n remote : ℕ) → Closing ≡ phase_for n remote → ⊥
-  never n zero e = let clash : Closing ≡ Opening n = e in cc
-  never n (suc m) e = let clash : Closing ≡ Streaming n = e in cc
-
-  pub none_closing : HasNone c s
-  none_closing n z is same = go z.part.orphan refl
-    where
-      go : (b : Bool) → z.part.orphan ≡ b → ⊥
-      go true e =
-          let owner : OwnerIn true s.clients n z = subst (λ (b : Bool). OwnerIn b s.clients n z) e (h.owned.stream n z is).owner in
-          let clash : None ≡ Some k = sym owner.1 ∙ (ap s.clients same ∙ here) in
-          cc
-      go false e =
-          let own = client_of s n z is e h in
-          let row : own.client ≡ k = (let both : Some own.client ≡ Some k = sym own.is ∙ (ap s.clients same ∙ here) in cc) in
-          never n z.part.remote (sym closes ∙ (ap (λ (y : Client). y.about.phase) (sym row) ∙ own.phase))
+use Rattle.adb_laws_gone.proofs.Staying.{stays_treated}
 
 -- ---- it is told no more
 module _ (c : ℕ) (out : List ℕ) where
@@ -320,7 +300,7 @@ module _ (came plugged t l : ℕ) (le : t ≤ plugged) where
           by (inl none) = inl none
           by (inr k) = inr (record {
             row = k.row;
-            is = s_all x.client t packets (treat t p s).state (none_closing x.client k.row (treat t p s).state owned_now k.is k.phase) k.row k.is k.phase;
+            is = stays_treated x.client k.row (treat t p s).state owned_now k.is k.phase t packets;
             phase = k.phase;
           })
 

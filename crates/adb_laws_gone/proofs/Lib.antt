@@ -1,4 +1,3 @@
 mod Staying
-mod StayingEntries
 mod Falling
 mod PutAll

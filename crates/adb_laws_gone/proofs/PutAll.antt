@@ -1,6 +1,6 @@
 -- A client whose device closed its stream is gone only when it was put all that became due to it.
 use Rattle.std.proofs.Common.{◌≡◌, ◌≢◌, ◌≤◌, ◌+◌, ℕ, Bool, true, false, cond, not, ◌||◌, ◌&&◌, List, [], ◌∷◌, ◌++◌, length, drop}
-use Rattle.std.proofs.Common.{Option, Some, None, refl, sym, ap, subst, ◌∙◌, eqb, arith, append_assoc, ◌⊎◌, inl, inr}
+use Rattle.std.proofs.Common.{Option, Some, None, refl, sym, ap, subst, ◌∙◌, arith, append_assoc, ◌⊎◌, inl, inr}
 use Rattle.std.specs.Prelude.{nat_eq, is_some, option_map}
 use Rattle.std.specs.Option.{option_or}
 use Rattle.std.proofs.lemmas.Bool.{cases_eq, eq-eqb, ne_eqb}
@@ -44,7 +44,6 @@ use Rattle.adb_laws_births.specs.Births.{born_stays}
 use Rattle.adb_laws_births.specs.Ending.{EndsAs}
 use Rattle.adb_laws_births.proofs.Born.{all_births}
 use Rattle.adb_laws_births.proofs.Endings.{all_endings}
-use Rattle.adb_laws_births.proofs.Single.{one_stream_each}
 use Rattle.adb_laws_fifo_down.specs.Begins.{IsBornNow}
 use Rattle.adb_laws_fifo_down.specs.Follows.{Follows}
 use Rattle.adb_laws_fifo_down.specs.Followed.{LifeOf}
@@ -67,9 +66,8 @@ use Rattle.adb_laws_answered.proofs.ServedClients.{done_client}
 use Rattle.adb_history.proofs.PacketMoves as turns
 use Rattle.adb_history.specs.Turns.{serving}
 use Rattle.adb_laws_gone.specs.Gone.{PutsAllOfClosed}
-use Rattle.adb_laws_gone.proofs.Staying.{HasNone, s_faulty, s_ups}
-use Rattle.adb_laws_gone.proofs.StayingEntries.{Spares, stays_rule}
-use Rattle.adb_laws_gone.proofs.Falling.{none_closing, IsClosing, Fallen, falls}
+use Rattle.adb_laws_gone.proofs.Staying.{Spares, stays_faulty, stays_up, stays_rule}
+use Rattle.adb_laws_gone.proofs.Falling.{IsClosing, Fallen, falls}
 
 -- ---- what was so before
 killed_before : (e : Entry) (older : History) → IsLegal (e ∷ older) → is_killed (e ∷ older) ≡ false → is_killed older ≡ false
@@ -115,13 +113,6 @@ module _ (l : ℕ) (b : Birth) (h : History) (legal : IsLegal h) (birth : born l
       go None is = is
       go (Some x) is = absurd (by x.part.orphan ((all_endings h legal l).kept x is))
 
-  no_stream : HasNone b.client (state h)
-  no_stream n z is same =
-      let kept = (all_births h legal).kept n z is in
-      let number : n ≡ l = one_stream_each h legal n l kept.birth b kept.is birth (sym kept.client ∙ same) in
-      let clash : None ≡ Some z = sym row_gone ∙ (ap (state h).streams (sym number) ∙ is) in
-      cc
-
   f : Follows LifeOf h l b
   f = has_lives h legal l b birth
 
@@ -161,19 +152,15 @@ module _ (l : ℕ) (b : Birth) (e : Entry) (older : History) (legal : IsLegal (e
   owned_then = moves.rule_kept owned_moves e (state older) (told older) (begins_owned (state older) (all_owned older legal.0) e (told older) legal.2)
 
   -- a client that is closing behind the rule is there behind the entry
-  stays_up : (y : Client) → (rule e (state older)).state.clients b.client ≡ Some y → y.about.phase ≡ Closing
+  stays_then : (y : Client) → (rule e (state older)).state.clients b.client ≡ Some y → y.about.phase ≡ Closing
       → (state (e ∷ older)).clients b.client ≡ Some y
-  stays_up y is phase =
-      s_ups b.client (rule e (state older)).state.drawn (rule e (state older)).state
-      (none_closing b.client y (rule e (state older)).state owned_then is phase) y is phase
+  stays_then y is phase = stays_up b.client y (rule e (state older)).state owned_then is phase (rule e (state older)).state.drawn
 
   -- which spares it
   stays : Spares b.client e → (a : Client) → (state older).clients b.client ≡ Some a → (state (e ∷ older)).clients b.client ≡ Some a
   stays spares a is =
       let phase = is_closing l b older legal.0 birth closed a is in
-      stays_up a
-      (stays_rule b.client (state older) (no_stream l b older legal.0 birth closed) (below l b older legal.0 birth closed) e legal.2 goes_on spares a is
-      phase) phase
+      stays_then a (stays_rule b.client a (state older) (all_owned older legal.0) is phase e legal.2 goes_on spares) phase
 
 -- ---- a hand-out
 module _ (l : ℕ) (b : Birth) (bytes : List ℕ) (older : History) (legal : IsLegal (Put b.client bytes ∷ older)) (birth : born l older ≡ Some b)
@@ -219,7 +206,7 @@ module _ (l : ℕ) (b : Birth) (bytes : List ℕ) (older : History) (legal : IsL
           let there : (rule (Put b.client bytes) (state older)).state.clients b.client
           ≡ closing_with (k ∷ left) (record a { due = drop (length bytes) a.due }) =
           rule_is d due due_is ∙ ap (λ (x : List ℕ). closing_with x (record a { due = drop (length bytes) a.due })) e in
-          let behind = stays_up l b (Put b.client bytes) older legal birth closed killed _ there refl in
+          let behind = stays_then l b (Put b.client bytes) older legal birth closed killed _ there refl in
           absurd (let clash = sym gone ∙ behind in cc)
       rest d due due_is [] e =
           let front = whole d due due_is in
@@ -346,13 +333,11 @@ module _ (l t : ℕ) (bytes : List ℕ) (older : History) (legal : IsLegal (Recv
           ∙ (ap (λ (z : List ℕ). bytes_put x.client older ++ z) none ∙ append-nil (bytes_put x.client older)))))
       by (inr k) =
           let faulted : (faulty t cut.fault treated.state).state.clients x.client ≡ Some k.row =
-          s_faulty x.client t (treated.state.links t) cut.fault treated.state
-          (none_closing x.client k.row treated.state fallen.done.owned k.is k.phase) k.row k.is k.phase in
+          stays_faulty x.client k.row treated.state fallen.done.owned k.is k.phase (treated.state.links t) t cut.fault in
           let ruled : (receives t bytes (state older)).state.clients x.client ≡ Some k.row =
           ap (λ (m : Made). m.state.clients x.client) received ∙ faulted in
           let upped : (state (Recv t bytes ∷ older)).clients x.client ≡ Some k.row =
-          s_ups x.client (receives t bytes (state older)).state.drawn (receives t bytes (state older)).state
-          (none_closing x.client k.row (receives t bytes (state older)).state done_rule.owned ruled k.phase) k.row ruled k.phase in
+          stays_up x.client k.row (receives t bytes (state older)).state done_rule.owned ruled k.phase (receives t bytes (state older)).state.drawn in
           absurd (let clash : None ≡ Some k.row = sym gone ∙ upped in cc)
 
 -- ---- the entry by which it is closed
