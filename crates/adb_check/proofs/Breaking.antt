@@ -116,53 +116,25 @@ module _ (s : State) (ok : IsOrderly s) where
   send_there (Some link) bytes is may = let apart : Some link ≡ None = is in cc
 
   may_run : (e : Entry) → is_input e ≡ true → May s e → s.stopped ≡ false
-  may_run (Join c) input may = may.0
-  may_run (Enter c port) input may = may.0
-  may_run (Read c bytes) input may = may.0
-  may_run (End c cause) input may = may.0
-  may_run (Bound c port) input may = may.0
-  may_run (Attach t kind serial) input may = may.0
-  may_run (Recv t bytes) input may = may.0
-  may_run (Detach t cause) input may = may.0
   may_run (Put c bytes) input may = clash (sym input)
   may_run (Send t bytes) input may = clash (sym input)
+  may_run _ input may = may.0
 
   may_draw : (e : Entry) → ¬ NamesDrawn s e → ¬ May s e
-  may_draw (Join c) other may = other may.1
-  may_draw (Enter c port) other may = other may.1
-  may_draw (Read c bytes) other may = other may.1
-  may_draw (End c cause) other may = other may.1
-  may_draw (Bound c port) other may = other may.1
   may_draw (Attach t kind serial) other may =
       other (may.1, λ n. (let apart : None ≡ Some attach.Numbers = sym may.2 ∙ n in cc))
-  may_draw (Recv t bytes) other may = other may.1
-  may_draw (Detach t cause) other may = other may.1
   may_draw (Put c bytes) other may = put_there (s.clients c) bytes (none_there s.joined c s.clients ok.clients other) may
   may_draw (Send t bytes) other may = send_there (s.links t) bytes (none_there s.devices.drawn t s.links ok.links other) may
+  may_draw _ other may = other may.1
 
   refused_device : (why : AttachError) (e : Entry) → IsRefusedDevice why s e → ¬ May s e
   refused_device why (Attach t kind serial) is may = let apart : None ≡ Some why = sym may.2 ∙ is in cc
-  refused_device why (Join c) is may = is
-  refused_device why (Enter c port) is may = is
-  refused_device why (Read c bytes) is may = is
-  refused_device why (End c cause) is may = is
-  refused_device why (Bound c port) is may = is
-  refused_device why (Recv t bytes) is may = is
-  refused_device why (Detach t cause) is may = is
-  refused_device why (Put c bytes) is may = is
-  refused_device why (Send t bytes) is may = is
+  refused_device why _ is may = is
 
   not_due : (e : Entry) → IsNotDue s e → ¬ May s e
   not_due (Put c bytes) is may = is may
   not_due (Send t bytes) is may = is may
-  not_due (Join c) is may = is
-  not_due (Enter c port) is may = is
-  not_due (Read c bytes) is may = is
-  not_due (End c cause) is may = is
-  not_due (Bound c port) is may = is
-  not_due (Attach t kind serial) is may = is
-  not_due (Recv t bytes) is may = is
-  not_due (Detach t cause) is may = is
+  not_due _ is may = is
 
   pub may_not : (rule : Rule) (e : Entry) → Breaks rule s e → ¬ May s e
   may_not AfterKill e is may = clash (sym is.1 ∙ may_run e is.0 may)

@@ -2,7 +2,7 @@
 use Rattle.std.proofs.Common.{ℕ, ◌≡◌, Bool, true, false, cond, ◌∷◌, None, Result, Ok, Err, refl, sym, ◌∙◌, ap, subst, ◌⊎◌, inl, inr}
 use Rattle.std.specs.Prelude.{not}
 use Rattle.adb_capture.specs.declared.entry.Entry.{Entry}
-use Rattle.adb_capture.specs.declared.entry.Entry.TheVariants.{Join, Enter, Read, End, Bound, Attach, Recv, Detach, Put, Send}
+use Rattle.adb_capture.specs.declared.entry.Entry.TheVariants.{Put, Send}
 use Rattle.adb_history.specs.Machine.{History, state, IsLegal}
 use Rattle.adb_history.specs.Kept.{Kept, IsLawful}
 use Rattle.adb_history.specs.Drained.{drain_all, drained_after}
@@ -29,14 +29,7 @@ input_of e hand = flip (is_input e) hand
 passed : (e : Entry) (h : History) → not (is_input e) ≡ true → (refusal_of (state h) e ≡ None) × (history_after e h ≡ h)
 passed (Put n bytes) h hand = (refl, refl)
 passed (Send n bytes) h hand = (refl, refl)
-passed (Join n) h hand = cc
-passed (Read n bytes) h hand = cc
-passed (End n cause) h hand = cc
-passed (Enter n port) h hand = cc
-passed (Bound n port) h hand = cc
-passed (Attach n kind serial) h hand = cc
-passed (Recv n bytes) h hand = cc
-passed (Detach n cause) h hand = cc
+passed _ h hand = cc
 
 module _ (offset : ℕ) (e : Entry) (h : History) where
   pub passed_over : (holds : Kept) (out : Out) → not (is_input e) ≡ true → IsDrained holds h → ReplaysEntry (Ok tt) offset e h out out holds

@@ -6,7 +6,7 @@ use Rattle.std.proofs.lemmas.Bool.Decides.{nat_tests}
 use Rattle.adb_outside.specs.Tables.{at}
 use Rattle.adb_outside.proofs.TableLaws.{shows}
 use Rattle.adb_capture.specs.declared.entry.Entry.{Entry}
-use Rattle.adb_capture.specs.declared.entry.Entry.TheVariants.{Join, Enter, Read, End, Bound, Attach, Recv, Detach, Put, Send}
+use Rattle.adb_capture.specs.declared.entry.Entry.TheVariants.{Read}
 use Rattle.adb_stream.specs.declared.flow.Flow.{Flow}
 use Rattle.adb_stream.specs.declared.flow.Flow.TheVariants as flow
 use Rattle.adb_history.specs.Rows.{Client, State}
@@ -48,15 +48,7 @@ fits (Read n bytes) s c late le = go (nat_eq n c) refl
         (fits_here true (held_of (s.clients c)) (length bytes)
         (subst (λ (m : ℕ). nat_lt MAX_HELD (held_of (s.clients m) + length bytes) ≡ false) same late) (le c))
     go false is = subst (λ (x : ℕ). held_of (s.clients c) + x ≤ MAX_HELD) (sym (ap (λ b. cond b (length bytes) 0) is)) (omega (arith, le c))
-fits (Join n) s c late le = omega (arith, le c)
-fits (Enter n port) s c late le = omega (arith, le c)
-fits (End n cause) s c late le = omega (arith, le c)
-fits (Bound n port) s c late le = omega (arith, le c)
-fits (Attach t kind serial) s c late le = omega (arith, le c)
-fits (Recv t bytes) s c late le = omega (arith, le c)
-fits (Detach t cause) s c late le = omega (arith, le c)
-fits (Put n bytes) s c late le = omega (arith, le c)
-fits (Send t bytes) s c late le = omega (arith, le c)
+fits _ s c late le = omega (arith, le c)
 
 -- What is held of clients stays within bounds over an entry that is not late.
 pub held_step : (e : Entry) (old new : Kept) (h : History) → IsLawful old h → IsLawful new (e ∷ h)

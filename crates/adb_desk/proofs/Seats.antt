@@ -2,7 +2,7 @@
 use Rattle.std.proofs.Common.{ℕ, ◌+◌, ◌*◌, ◌^◌, ◌<◌, ◌≤◌, [], ◌∷◌, arith}
 use Rattle.std.specs.Prelude.{if◌then◌else◌}
 use Rattle.adb_capture.specs.declared.entry.Entry.{Entry}
-use Rattle.adb_capture.specs.declared.entry.Entry.TheVariants.{Join, Enter, Read, End, Bound, Attach, Recv, Detach, Put, Send}
+use Rattle.adb_capture.specs.declared.entry.Entry.TheVariants.{Join, Enter, Attach}
 use Rattle.adb_history.specs.Machine.{History, IsLegal}
 use Rattle.adb_history.specs.Book.{plugged_count}
 use Rattle.adb_history.specs.Tied.{came_count}
@@ -15,27 +15,14 @@ pub seats_more : (e : Entry) (h : History) (out free : ℕ) → out + free ≤ 2
     → out + (if is_draw e then 2 else free) ≤ 2 * (came_count (e ∷ h) + plugged_count (e ∷ h))
 seats_more (Join n) h out free le = omega (arith, le)
 seats_more (Enter n port) h out free le = omega (arith, le)
-seats_more (Read n bytes) h out free le = le
-seats_more (End n cause) h out free le = le
-seats_more (Bound n port) h out free le = le
 seats_more (Attach t kind serial) h out free le = omega (arith, le)
-seats_more (Recv t bytes) h out free le = le
-seats_more (Detach t cause) h out free le = le
-seats_more (Put n bytes) h out free le = le
-seats_more (Send t bytes) h out free le = le
+seats_more _ h out free le = le
 
 -- ---- few numbers are drawn
 came_more : (e : Entry) (h : History) → IsLegal (e ∷ h) → came_count h < 2 ^ 32 → came_count (e ∷ h) < 2 ^ 32
 came_more (Join n) h legal few = omega (arith, next_number (Join n) h legal.2, legal.1.owner)
 came_more (Enter n port) h legal few = omega (arith, next_number (Enter n port) h legal.2, legal.1.owner)
-came_more (Read n bytes) h legal few = few
-came_more (End n cause) h legal few = few
-came_more (Bound n port) h legal few = few
-came_more (Attach t kind serial) h legal few = few
-came_more (Recv t bytes) h legal few = few
-came_more (Detach t cause) h legal few = few
-came_more (Put n bytes) h legal few = few
-came_more (Send t bytes) h legal few = few
+came_more _ h legal few = few
 
 few_came : (h : History) → IsLegal h → came_count h < 2 ^ 32
 few_came [] legal = omega arith
@@ -43,15 +30,7 @@ few_came (e ∷ h) legal = came_more e h legal (few_came h legal.0)
 
 plugged_more : (e : Entry) (h : History) → IsLegal (e ∷ h) → plugged_count h < 2 ^ 32 → plugged_count (e ∷ h) < 2 ^ 32
 plugged_more (Attach t kind serial) h legal few = omega (arith, next_number (Attach t kind serial) h legal.2, legal.1.owner)
-plugged_more (Join n) h legal few = few
-plugged_more (Enter n port) h legal few = few
-plugged_more (Read n bytes) h legal few = few
-plugged_more (End n cause) h legal few = few
-plugged_more (Bound n port) h legal few = few
-plugged_more (Recv t bytes) h legal few = few
-plugged_more (Detach t cause) h legal few = few
-plugged_more (Put n bytes) h legal few = few
-plugged_more (Send t bytes) h legal few = few
+plugged_more _ h legal few = few
 
 few_plugged : (h : History) → IsLegal h → plugged_count h < 2 ^ 32
 few_plugged [] legal = omega arith

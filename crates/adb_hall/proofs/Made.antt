@@ -3,7 +3,7 @@ use Rattle.std.proofs.Common.{◌≡◌, List, [], ◌∷◌, ◌++◌, reverse,
 use Rattle.std.specs.Prelude.{option_map}
 use Rattle.std.proofs.lemmas.List.{append_assoc, reverse-append}
 use Rattle.adb_capture.specs.declared.entry.Entry.{Entry}
-use Rattle.adb_capture.specs.declared.entry.Entry.TheVariants.{Join, Enter, Read, End, Bound, Attach, Recv, Detach, Put, Send}
+use Rattle.adb_capture.specs.declared.entry.Entry.TheVariants.{Read, Recv, Put, Send}
 use Rattle.adb_history.specs.Machine.{History}
 use Rattle.adb_history.specs.Kept.{IsLawful}
 use Rattle.adb_desk_log.specs.Log.{grown}
@@ -28,24 +28,10 @@ pub bytes_in_append : (xs ys : List Entry) → bytes_in (xs ++ ys) ≡ bytes_in 
 bytes_in_append [] ys = refl
 bytes_in_append (Read c bytes ∷ xs) ys = ap (λ bs. bytes ++ bs) (bytes_in_append xs ys) ∙ sym (append_assoc bytes (bytes_in xs) (bytes_in ys))
 bytes_in_append (Recv t bytes ∷ xs) ys = ap (λ bs. bytes ++ bs) (bytes_in_append xs ys) ∙ sym (append_assoc bytes (bytes_in xs) (bytes_in ys))
-bytes_in_append (Join c ∷ xs) ys = bytes_in_append xs ys
-bytes_in_append (Enter c port ∷ xs) ys = bytes_in_append xs ys
-bytes_in_append (End c cause ∷ xs) ys = bytes_in_append xs ys
-bytes_in_append (Bound c port ∷ xs) ys = bytes_in_append xs ys
-bytes_in_append (Attach t kind serial ∷ xs) ys = bytes_in_append xs ys
-bytes_in_append (Detach t cause ∷ xs) ys = bytes_in_append xs ys
-bytes_in_append (Put c bytes ∷ xs) ys = bytes_in_append xs ys
-bytes_in_append (Send t bytes ∷ xs) ys = bytes_in_append xs ys
+bytes_in_append (_ ∷ xs) ys = bytes_in_append xs ys
 
 pub bytes_out_append : (xs ys : List Entry) → bytes_out (xs ++ ys) ≡ bytes_out xs ++ bytes_out ys
 bytes_out_append [] ys = refl
 bytes_out_append (Put c bytes ∷ xs) ys = ap (λ bs. bytes ++ bs) (bytes_out_append xs ys) ∙ sym (append_assoc bytes (bytes_out xs) (bytes_out ys))
 bytes_out_append (Send t bytes ∷ xs) ys = ap (λ bs. bytes ++ bs) (bytes_out_append xs ys) ∙ sym (append_assoc bytes (bytes_out xs) (bytes_out ys))
-bytes_out_append (Join c ∷ xs) ys = bytes_out_append xs ys
-bytes_out_append (Enter c port ∷ xs) ys = bytes_out_append xs ys
-bytes_out_append (Read c bytes ∷ xs) ys = bytes_out_append xs ys
-bytes_out_append (End c cause ∷ xs) ys = bytes_out_append xs ys
-bytes_out_append (Bound c port ∷ xs) ys = bytes_out_append xs ys
-bytes_out_append (Attach t kind serial ∷ xs) ys = bytes_out_append xs ys
-bytes_out_append (Recv t bytes ∷ xs) ys = bytes_out_append xs ys
-bytes_out_append (Detach t cause ∷ xs) ys = bytes_out_append xs ys
+bytes_out_append (_ ∷ xs) ys = bytes_out_append xs ys

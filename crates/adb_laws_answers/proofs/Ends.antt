@@ -49,15 +49,7 @@ unfailed c (End n cause ∷ older) none = go (nat_eq n c) (not (is_orderly cause
     go : (a b f : Bool) → (a || f) ≡ false → (f ≡ false → has_failed c older ≡ false) → ((a && b) || has_failed c older) ≡ false
     go true b f e later = absurd (let clash : true ≡ false = e in cc)
     go false b f e later = later e
-unfailed c (Join n ∷ older) none = unfailed c older none
-unfailed c (Enter n port ∷ older) none = unfailed c older none
-unfailed c (Read n bytes ∷ older) none = unfailed c older none
-unfailed c (Bound n port ∷ older) none = unfailed c older none
-unfailed c (Attach t kind serial ∷ older) none = unfailed c older none
-unfailed c (Recv t bytes ∷ older) none = unfailed c older none
-unfailed c (Detach t cause ∷ older) none = unfailed c older none
-unfailed c (Put n bytes ∷ older) none = unfailed c older none
-unfailed c (Send t bytes ∷ older) none = unfailed c older none
+unfailed c (_ ∷ older) none = unfailed c older none
 
 -- a client that did not end did not close
 no_close : (c : ℕ) (e : Entry) (older : History) → has_ended c (e ∷ older) ≡ false → is_close_by c e ≡ false

@@ -8,7 +8,7 @@ use Rattle.adb_client.specs.declared.phase.Phase.{Phase}
 use Rattle.adb_client.specs.declared.phase.Phase.TheVariants.{Asking, Opening, Streaming, Binding, Tracking, Closing}
 use Rattle.adb_client.specs.declared.about.Want.{Want}
 use Rattle.adb_capture.specs.declared.entry.Entry.{Entry}
-use Rattle.adb_capture.specs.declared.entry.Entry.TheVariants.{Join, Enter, Read, End, Bound, Attach, Recv, Detach, Put, Send}
+use Rattle.adb_capture.specs.declared.entry.Entry.TheVariants.{Join, Enter, Read, Attach}
 use Rattle.adb_reply.specs.Strings.{failed}
 use Rattle.adb_history.specs.Rows.{Client, State, new_client, to_client, to_stream, none_kept, with_due, in_phase}
 use Rattle.adb_history.specs.Events.{Ending, lost}
@@ -274,12 +274,7 @@ module _ (s : State) (h : IsWaited s) where
       asked_wants : (c : ℕ) (q : Asked) → AllWant (to_client c (has_asked q) s).clients
       asked_wants c q =
           same_wants c (λ x. record x { about = record x.about { selected = q.selected }; held = q.rest }) s.clients (λ x. (refl, refl)) h.wants
-  begins_waited (End c cause) may = h
-  begins_waited (Bound c port) may = h
-  begins_waited (Recv t bytes) may = h
-  begins_waited (Detach t cause) may = h
-  begins_waited (Put c bytes) may = h
-  begins_waited (Send t bytes) may = h
+  begins_waited _ may = h
 
 all_waited : (h : History) → IsLegal h → IsWaited (state h)
 all_waited [] legal = record { owned = start_owned; wants = λ k x is. absurd (let clash : None ≡ Some x = is in cc) }

@@ -6,12 +6,12 @@ use Rattle.std.proofs.lemmas.Bool.{cases_lt, cases_eq, eq-eqb, ne_eqb}
 use Rattle.std.proofs.lemmas.List.{length-append, append-nil}
 use Rattle.adb_outside.specs.Bytes.{IsPrefixOf}
 use Rattle.adb_outside.specs.Tables.{put_row}
-use Rattle.adb_outside.specs.declared.kinds.Cause.TheVariants.{Eof, Fault, Starved, NoThread}
+use Rattle.adb_outside.specs.declared.kinds.Cause.TheVariants.{Eof}
 use Rattle.adb_registry.specs.Registry.{DeviceTable}
 use Rattle.adb_forward.specs.declared.row.ForwardRow.{ForwardRow}
 use Rattle.adb_reply.specs.declared.answer.Next.{Next}
 use Rattle.adb_reply.specs.declared.answer.Next.TheVariants.{Open}
-use Rattle.adb_capture.specs.declared.entry.Entry.TheVariants.{Join, Enter, Read, End, Bound, Attach, Recv, Detach, Put, Send}
+use Rattle.adb_capture.specs.declared.entry.Entry.TheVariants.{Join, Read, End, Attach, Recv, Put, Send}
 use Rattle.adb_history.specs.Asking.{Asked, nothing_asked, asks_with}
 use Rattle.adb_history.specs.Bytes.{has_joined, has_ended, bytes_read}
 use Rattle.adb_history.specs.Births.{births, births_at, birth_by}
@@ -324,13 +324,7 @@ module _ (spelled : SpelledIsRead) where
       let came = counted older in
       let drawn = legal.2.1 in
       read_asks older legal.0 (asks_for_services older legal.0 of.0) of.1 c piece drawn.0 (omega (arith, came.joined, drawn.1)) of.2
-  asks_for_services (Enter c port ∷ older) legal of = absurd of
   asks_for_services (End c Eof ∷ older) legal of = end_asks older c of.1 (asks_for_services older legal.0 of.0)
-  asks_for_services (End c Fault ∷ older) legal of = absurd of
-  asks_for_services (End c Starved ∷ older) legal of = absurd of
-  asks_for_services (End c NoThread ∷ older) legal of = absurd of
-  asks_for_services (Bound c port ∷ older) legal of = absurd of
-  asks_for_services (Detach t cause ∷ older) legal of = absurd of
   asks_for_services (Attach t kind serial ∷ older) legal of = quiet older (asks_for_services older legal.0 of)
     where
       quiet : (older : History) → AsksForServices older → AsksForServices (Attach t kind serial ∷ older)
@@ -379,3 +373,4 @@ module _ (spelled : SpelledIsRead) where
         ended = a.ended;
         births = ap length (append-nil (births older)) ∙ a.births;
       }
+  asks_for_services (_ ∷ older) legal of = absurd of

@@ -12,7 +12,7 @@ use Rattle.adb_wire.specs.declared.packets.Packet.{Packet}
 use Rattle.adb_reply.specs.declared.answer.Next.{Next}
 use Rattle.adb_reply.specs.declared.answer.Next.TheVariants as what
 use Rattle.adb_capture.specs.declared.entry.Entry.{Entry}
-use Rattle.adb_capture.specs.declared.entry.Entry.TheVariants.{Join, Enter, Read, End, Bound, Attach, Recv, Detach, Put, Send}
+use Rattle.adb_capture.specs.declared.entry.Entry.TheVariants.{Enter, Read}
 use Rattle.adb_history.specs.Book.{asked, devices, newly}
 use Rattle.adb_history.specs.Links.{is_credit}
 use Rattle.adb_history.specs.Births.{Birth, birth_by, births, births_at, born, carried_in, is_wrte}
@@ -72,14 +72,7 @@ all_asked_for (Read c bytes ∷ older) legal none =
     (all_stay (Read c bytes) older (all_asked_for older legal.0 none))
     (asked_now c bytes older legal.2.1.0 (asked c older).next (asked c (Read c bytes ∷ older)).next refl)
 all_asked_for (Enter c port ∷ older) legal none = absurd none
-all_asked_for (Join c ∷ older) legal none = none_born (Join c) older refl (all_asked_for older legal.0 none)
-all_asked_for (End c cause ∷ older) legal none = none_born (End c cause) older refl (all_asked_for older legal.0 none)
-all_asked_for (Bound c port ∷ older) legal none = none_born (Bound c port) older refl (all_asked_for older legal.0 none)
-all_asked_for (Attach t kind serial ∷ older) legal none = none_born (Attach t kind serial) older refl (all_asked_for older legal.0 none)
-all_asked_for (Recv t bytes ∷ older) legal none = none_born (Recv t bytes) older refl (all_asked_for older legal.0 none)
-all_asked_for (Detach t cause ∷ older) legal none = none_born (Detach t cause) older refl (all_asked_for older legal.0 none)
-all_asked_for (Put c bytes ∷ older) legal none = none_born (Put c bytes) older refl (all_asked_for older legal.0 none)
-all_asked_for (Send t bytes ∷ older) legal none = none_born (Send t bytes) older refl (all_asked_for older legal.0 none)
+all_asked_for (e ∷ older) legal none = none_born e older refl (all_asked_for older legal.0 none)
 
 all_at : (P : Birth → Type 0) (bs : List Birth) (k : ℕ) (b : Birth) → All P bs → slice_get bs k ≡ Some b → P b
 all_at P [] k b all is = absurd (let clash : None ≡ Some b = is in cc)

@@ -4,7 +4,7 @@ use Rattle.std.proofs.Common.{refl, sym, subst, arith}
 use Rattle.std.proofs.lemmas.List.Elements.{All-nil, All-cons, All-head, All-tail}
 use Rattle.adb_wire.specs.declared.packets.Packet.{Packet}
 use Rattle.adb_capture.specs.declared.entry.Entry.{Entry}
-use Rattle.adb_capture.specs.declared.entry.Entry.TheVariants.{Join, Enter, Read, End, Bound, Attach, Recv, Detach, Put, Send}
+use Rattle.adb_capture.specs.declared.entry.Entry.TheVariants.{Join, Enter, Read, End, Bound, Attach, Recv, Detach, Put}
 use Rattle.adb_history.specs.Rows.{Link}
 use Rattle.adb_history.specs.Packets.{receives_on}
 use Rattle.adb_history.specs.Machine.{History, state, told, told_at, rule, ups, step, IsLegal}
@@ -54,7 +54,6 @@ recv_costs t bytes older legal worth range (Some link) is =
 
 rule_costs : (e : Entry) (older : History) → IsLegal older → BringWorth (e ∷ older) → InRange (state older)
     → Costs (toll_of e) 0 (state older) (rule e (state older))
-rule_costs (Join c) older legal worth range = costs_aside 0 (state older) (rule (Join c) (state older)) range refl refl (omega arith)
 rule_costs (Enter c port) older legal worth range = enters_costs c port (state older) range
 rule_costs (Read c bytes) older legal worth range = reads_costs c bytes (state older) range
 rule_costs (End c cause) older legal worth range = client_ends_costs c cause ((state older).clients c) (state older) range
@@ -63,7 +62,7 @@ rule_costs (Attach t kind serial) older legal worth range = plugs_costs t kind s
 rule_costs (Recv t bytes) older legal worth range = recv_costs t bytes older legal worth range ((state older).links t) refl
 rule_costs (Detach t cause) older legal worth range = unplugs_costs ((state older).links t) t (state older) range
 rule_costs (Put c bytes) older legal worth range = puts_costs c (length bytes) (state older) range
-rule_costs (Send t bytes) older legal worth range = costs_aside 0 (state older) (rule (Send t bytes) (state older)) range refl refl (omega arith)
+rule_costs e older legal worth range = costs_aside 0 (state older) (rule e (state older)) range refl refl (omega arith)
 
 step_costs : (e : Entry) (older : History) → IsLegal older → BringWorth (e ∷ older) → Costs (toll_of e + 0) 0 (state older) (step (state older) e)
 step_costs e older legal worth =

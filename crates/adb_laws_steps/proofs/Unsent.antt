@@ -6,7 +6,7 @@ use Rattle.adb_outside.specs.Tables.{Rows, change_row}
 use Rattle.adb_wire.specs.declared.command.Command.{Command}
 use Rattle.adb_wire.specs.declared.packets.Packet.{Packet}
 use Rattle.adb_capture.specs.declared.entry.Entry.{Entry}
-use Rattle.adb_capture.specs.declared.entry.Entry.TheVariants.{Join, Enter, Read, End, Bound, Attach, Recv, Detach, Put, Send}
+use Rattle.adb_capture.specs.declared.entry.Entry.TheVariants.{Join, Enter, Read, Attach}
 use Rattle.adb_stream.specs.declared.row.Stream.{Stream}
 use Rattle.adb_history.specs.Births.{count_from}
 use Rattle.adb_history.specs.Events.{Event, due_to_client, due_to_link, ended, packets_to}
@@ -109,12 +109,7 @@ module _ (l : ℕ) (some : 0 < l) where
   )
   begins (Attach t kind serial) s w h = record { gone = h.gone; drawn = h.drawn; unasked = h.unasked }
   begins (Read c bytes) s w h = (h, λ client is asking. record { gone = h.gone; drawn = h.drawn; unasked = h.unasked })
-  begins (End c cause) s w h = h
-  begins (Bound c port) s w h = h
-  begins (Recv t bytes) s w h = h
-  begins (Detach t cause) s w h = h
-  begins (Put c bytes) s w h = h
-  begins (Send t bytes) s w h = h
+  begins _ s w h = h
 
   -- what is behind an entry
   one_unsent : (e : Entry) (older : History) → (state older).streams l ≡ None → l ≤ (state older).drawn

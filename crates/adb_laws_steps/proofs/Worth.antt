@@ -5,7 +5,7 @@ use Rattle.std.proofs.lemmas.Bool.{cases_eq, ne_eqb}
 use Rattle.std.proofs.lemmas.List.Elements.{All-nil, All-cons, All-head, All-tail}
 use Rattle.adb_wire.specs.Cutting.{framed}
 use Rattle.adb_wire.specs.declared.packets.Packet.{Packet}
-use Rattle.adb_capture.specs.declared.entry.Entry.TheVariants.{Join, Enter, Read, End, Bound, Attach, Recv, Detach, Put, Send}
+use Rattle.adb_capture.specs.declared.entry.Entry.TheVariants.{Recv}
 use Rattle.adb_history.specs.Book.{plugged_count}
 use Rattle.adb_history.specs.Bytes.{is_lost, bytes_received, brought, sent}
 use Rattle.adb_history.specs.Machine.{History, IsLegal}
@@ -26,15 +26,7 @@ none_from_zero (Recv t bytes ∷ older) legal =
     ap (λ (b : Bool). cond (b && not (is_lost 0 older)) (bytes_received 0 older ++ bytes) (bytes_received 0 older))
     (let some = legal.2.1.0 in ne_eqb t 0 (λ e. omega (arith, e, some)))
     ∙ none_from_zero older legal.0
-none_from_zero (Join c ∷ older) legal = none_from_zero older legal.0
-none_from_zero (Enter c port ∷ older) legal = none_from_zero older legal.0
-none_from_zero (Read c bytes ∷ older) legal = none_from_zero older legal.0
-none_from_zero (End c cause ∷ older) legal = none_from_zero older legal.0
-none_from_zero (Bound c port ∷ older) legal = none_from_zero older legal.0
-none_from_zero (Attach t kind serial ∷ older) legal = none_from_zero older legal.0
-none_from_zero (Detach t cause ∷ older) legal = none_from_zero older legal.0
-none_from_zero (Put c bytes ∷ older) legal = none_from_zero older legal.0
-none_from_zero (Send t bytes ∷ older) legal = none_from_zero older legal.0
+none_from_zero (_ ∷ older) legal = none_from_zero older legal.0
 
 others_bring_none : (h : History) → IsLegal h → plugged_count h ≤ 1 → (t : ℕ) → t ≢ 1 → bytes_received t h ≡ []
 others_bring_none h legal one zero other = none_from_zero h legal

@@ -12,7 +12,7 @@ use Rattle.adb_wire.specs.Cutting.{framed}
 use Rattle.adb_wire.specs.Format.{is_cnxn}
 use Rattle.adb_wire.specs.declared.packets.Packet.{Packet}
 use Rattle.adb_capture.specs.declared.entry.Entry.{Entry}
-use Rattle.adb_capture.specs.declared.entry.Entry.TheVariants.{Join, Enter, Read, End, Bound, Attach, Recv, Detach, Put, Send}
+use Rattle.adb_capture.specs.declared.entry.Entry.TheVariants.{Enter, Read, Attach}
 use Rattle.adb_history.specs.Book.{plugged, is_login, is_refused, last_cnxn, row_with, row_by, device_of, devices, forwards, asked, newly}
 use Rattle.adb_history.specs.Bytes.{is_lost, bytes_received, brought, sent}
 use Rattle.adb_history.specs.Births.{Birth, births_at, born}
@@ -68,15 +68,7 @@ plugged_plain t (Attach n kind serial ∷ older) row is = go (eqb n t) is (plugg
         → row.identity ≡ None
     go true e later = let same : new_row t kind serial ≡ row = cc in ap (λ (r : Row). r.identity) (sym same)
     go false e later = later e
-plugged_plain t (Join c ∷ older) row is = plugged_plain t older row is
-plugged_plain t (Enter c port ∷ older) row is = plugged_plain t older row is
-plugged_plain t (Read c bytes ∷ older) row is = plugged_plain t older row is
-plugged_plain t (End c cause ∷ older) row is = plugged_plain t older row is
-plugged_plain t (Bound c port ∷ older) row is = plugged_plain t older row is
-plugged_plain t (Recv n bytes ∷ older) row is = plugged_plain t older row is
-plugged_plain t (Detach n cause ∷ older) row is = plugged_plain t older row is
-plugged_plain t (Put c bytes ∷ older) row is = plugged_plain t older row is
-plugged_plain t (Send n bytes ∷ older) row is = plugged_plain t older row is
+plugged_plain t (_ ∷ older) row is = plugged_plain t older row is
 
 module _ (row : Row) (none : row.identity ≡ None) where
   with_plain : (who : Option Identity) (p : Packet) → names_credit who ≡ false → is_credit_row (Some (row_with who p row)) ≡ false

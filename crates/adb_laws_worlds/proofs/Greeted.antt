@@ -1,5 +1,5 @@
 -- A server says to each link first who it is, and says it once.
-use Rattle.std.specs.Prelude.{ℕ, ◌+◌, ◌%◌, ◌^◌, ◌≡◌, ◌<◌, ◌≤◌, Bool, true, false, cond, All, List, [], ◌∷◌, ◌++◌, length, sum, nat_eq, Option, Some, None}
+use Rattle.std.specs.Prelude.{ℕ, ◌+◌, ◌%◌, ◌^◌, ◌≡◌, ◌<◌, ◌≤◌, Bool, true, false, cond, All, List, [], ◌∷◌, ◌++◌, sum, nat_eq, Option, Some, None}
 use Rattle.std.proofs.Common.{refl, sym, ◌∙◌, ap, subst, arith, ◌⊎◌, inl, inr}
 use Rattle.std.proofs.lemmas.Bool.{cases_lt, cases_eq, eq-eqb, ne_eqb}
 use Rattle.std.proofs.lemmas.List.Elements.{All-nil, All-cons, All-append, All-weaker, All-head, All-tail}
@@ -12,7 +12,7 @@ use Rattle.adb_wire.specs.declared.command.Command.TheVariants.{Okay, Wrte, Clse
 use Rattle.adb_wire.specs.declared.packets.Packet.{Packet}
 use Rattle.adb_stream.specs.declared.row.Stream.{Stream}
 use Rattle.adb_capture.specs.declared.entry.Entry.{Entry}
-use Rattle.adb_capture.specs.declared.entry.Entry.TheVariants.{Join, Enter, Read, End, Bound, Attach, Recv, Detach, Put, Send}
+use Rattle.adb_capture.specs.declared.entry.Entry.TheVariants.{Attach, Recv}
 use Rattle.adb_history.specs.Book.{plugged_count}
 use Rattle.adb_history.specs.Rows.{Link, State}
 use Rattle.adb_history.specs.Events.{Made, Event, due_to_client, due_to_link, ended, packets_to}
@@ -23,13 +23,13 @@ use Rattle.adb_history.specs.Machine.{History, state, told, told_at, rule, ups, 
 use Rattle.adb_history.specs.Births.{Birth, births_at}
 use Rattle.adb_history.specs.Linked.{IsLinked}
 use Rattle.adb_history.proofs.OutputEntries.{tied}
-use Rattle.adb_history.proofs.OwnedStep.{all_owned}
 use Rattle.adb_laws_births.specs.Going.{IsOfOpen, IsFrom, Goes}
 use Rattle.adb_laws_births.specs.Hearing.{IsAnswer}
 use Rattle.adb_laws_births.specs.Drawing.{with_drawn, Draws, Makes}
-use Rattle.adb_laws_births.proofs.GoingRules.{goes_puts, goes_client_ends, goes_bound, goes_unplugs, goes_faulty}
+use Rattle.adb_laws_births.proofs.GoingRules.{goes_faulty}
 use Rattle.adb_laws_births.proofs.Treating.{treats}
-use Rattle.adb_laws_births.proofs.Drawing.{goes_as, makes_goes, reads_make, enters_make}
+use Rattle.adb_laws_births.proofs.Drawing.{makes_goes}
+use Rattle.adb_laws_births.proofs.Rules.{entry_makes}
 use Rattle.adb_laws_births.proofs.Receiving.{treated_linked, cut_now, rested, rested_linked}
 use Rattle.adb_laws_births.proofs.Born.{goes_ups}
 use Rattle.adb_laws_births.proofs.Laws.{sends_first}
@@ -157,19 +157,12 @@ module _ (older : History) (legal : IsLegal older) where
   none e other same = inl (record { other = other; same = same })
 
   entry_says : (e : Entry) → IsLegal (e ∷ older) → Says e
-  entry_says (Join c) l = none (Join c) (rule_other (Join c) l (goes_as s _ refl refl)) refl
-  entry_says (Enter c port) l = none (Enter c port) (rule_other (Enter c port) l (enters_make older legal c port)) refl
-  entry_says (Read c bytes) l = none (Read c bytes) (rule_other (Read c bytes) l (reads_make older legal c bytes l.2 (s.clients c) refl)) refl
-  entry_says (End c cause) l = none (End c cause) (rule_other (End c cause) l (goes_client_ends c cause (s.clients c) s (all_owned older legal) refl)) refl
-  entry_says (Bound c port) l = none (Bound c port) (rule_other (Bound c port) l (goes_bound (s.clients c) c port s)) refl
   entry_says (Attach t kind serial) l = attach_says t kind serial l
   entry_says (Recv t bytes) l =
       none (Recv t bytes)
       (All-append SaysOther (rule (Recv t bytes) s).told (ups (rule (Recv t bytes) s).state).told (recv_other t bytes (s.links t) refl)
       (ups_other (Recv t bytes) l)) refl
-  entry_says (Detach t cause) l = none (Detach t cause) (rule_other (Detach t cause) l (goes_unplugs (s.links t) t s)) refl
-  entry_says (Put c bytes) l = none (Put c bytes) (rule_other (Put c bytes) l (goes_puts c (length bytes) (s.clients c) s (all_owned older legal))) refl
-  entry_says (Send t bytes) l = none (Send t bytes) (rule_other (Send t bytes) l (goes_as s _ refl refl)) refl
+  entry_says e l = none e (rule_other e l (entry_makes older legal e l.2 tt)) refl
 
 -- ---- all entries
 -- nothing becomes due to a link that was not plugged in

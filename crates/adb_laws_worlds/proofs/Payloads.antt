@@ -16,7 +16,7 @@ use Rattle.adb_registry.specs.declared.row.Row.{Row}
 use Rattle.adb_wire.specs.Cutting.{framed}
 use Rattle.adb_wire.specs.Format.{is_cnxn}
 use Rattle.adb_wire.specs.declared.packets.Packet.{Packet}
-use Rattle.adb_capture.specs.declared.entry.Entry.TheVariants.{Join, Enter, Read, End, Bound, Attach, Recv, Detach, Put, Send}
+use Rattle.adb_capture.specs.declared.entry.Entry.TheVariants.{Attach}
 use Rattle.adb_history.specs.Links.{is_connected_state, is_connected_row}
 use Rattle.adb_history.specs.Machine.{History, state, IsLegal}
 use Rattle.adb_history.specs.Bytes.{is_lost, bytes_received, brought}
@@ -65,15 +65,7 @@ plugged_off t (Attach n kind serial ∷ older) row is = go (eqb n t) is (plugged
         → row.state ≡ device.Offline
     go true e later = let same : new_row t kind serial ≡ row = cc in ap (λ (r : Row). r.state) (sym same)
     go false e later = later e
-plugged_off t (Join c ∷ older) row is = plugged_off t older row is
-plugged_off t (Enter c port ∷ older) row is = plugged_off t older row is
-plugged_off t (Read c bytes ∷ older) row is = plugged_off t older row is
-plugged_off t (End c cause ∷ older) row is = plugged_off t older row is
-plugged_off t (Bound c port ∷ older) row is = plugged_off t older row is
-plugged_off t (Recv n bytes ∷ older) row is = plugged_off t older row is
-plugged_off t (Detach n cause ∷ older) row is = plugged_off t older row is
-plugged_off t (Put c bytes ∷ older) row is = plugged_off t older row is
-plugged_off t (Send n bytes ∷ older) row is = plugged_off t older row is
+plugged_off t (_ ∷ older) row is = plugged_off t older row is
 
 module _ (row : Row) (off : row.state ≡ device.Offline) where
   no : true ≡ false → ⊥

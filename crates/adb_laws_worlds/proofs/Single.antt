@@ -8,7 +8,7 @@ use Rattle.adb_registry.specs.Row.{new_row}
 use Rattle.adb_registry.specs.declared.row.Row.{Row}
 use Rattle.adb_wire.specs.declared.packets.Packet.{Packet}
 use Rattle.adb_stream.specs.declared.row.Stream.{Stream}
-use Rattle.adb_capture.specs.declared.entry.Entry.TheVariants.{Join, Enter, Read, End, Bound, Attach, Recv, Detach, Put, Send}
+use Rattle.adb_capture.specs.declared.entry.Entry.TheVariants.{Attach}
 use Rattle.adb_history.specs.Book.{plugged, plugged_count, is_broken, last_cnxn, row_by, devices}
 use Rattle.adb_history.specs.Bytes.{is_lost, brought}
 use Rattle.adb_history.specs.Births.{Birth, born}
@@ -36,15 +36,7 @@ none_plugged (Attach n kind serial ∷ older) legal =
     let number = legal.2.1 in
     ap (λ (b : Bool). cond b (Some (new_row 0 kind serial)) (plugged 0 older)) (ne_eqb n 0 (λ zeroth. omega (arith, number, zeroth)))
     ∙ none_plugged older legal.0
-none_plugged (Join c ∷ older) legal = none_plugged older legal.0
-none_plugged (Enter c port ∷ older) legal = none_plugged older legal.0
-none_plugged (Read c bytes ∷ older) legal = none_plugged older legal.0
-none_plugged (End c cause ∷ older) legal = none_plugged older legal.0
-none_plugged (Bound c port ∷ older) legal = none_plugged older legal.0
-none_plugged (Recv n bytes ∷ older) legal = none_plugged older legal.0
-none_plugged (Detach n cause ∷ older) legal = none_plugged older legal.0
-none_plugged (Put c bytes ∷ older) legal = none_plugged older legal.0
-none_plugged (Send n bytes ∷ older) legal = none_plugged older legal.0
+none_plugged (_ ∷ older) legal = none_plugged older legal.0
 
 none_there : (h : History) → IsLegal h → at 0 (state h).devices.rows ≡ None
 none_there h legal = go (state h).stopped refl

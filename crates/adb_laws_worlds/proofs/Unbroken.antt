@@ -16,7 +16,7 @@ use Rattle.adb_wire.specs.Format.{is_cnxn}
 use Rattle.adb_wire.specs.declared.format.PacketFault.{PacketFault}
 use Rattle.adb_wire.specs.declared.packets.Packet.{Packet}
 use Rattle.adb_capture.specs.declared.entry.Entry.{Entry}
-use Rattle.adb_capture.specs.declared.entry.Entry.TheVariants.{Join, Enter, Read, End, Bound, Attach, Recv, Detach, Put, Send}
+use Rattle.adb_capture.specs.declared.entry.Entry.TheVariants.{Detach}
 use Rattle.adb_history.specs.Book.{plugged, is_login, is_refused, is_broken, last_cnxn, row_by}
 use Rattle.adb_history.specs.Births.{Birth, born}
 use Rattle.adb_history.specs.Bytes.{is_lost, bytes_received, brought, sent}
@@ -155,15 +155,7 @@ lost_stays (Detach n cause ∷ newer) older e = go (nat_eq n 1) e (lost_stays ne
     go : (b : Bool) → (b || is_lost 1 (newer ++ older)) ≡ false → (is_lost 1 (newer ++ older) ≡ false → is_lost 1 older ≡ false) → is_lost 1 older ≡ false
     go true f later = let clash : true ≡ false = f in cc
     go false f later = later f
-lost_stays (Join c ∷ newer) older e = lost_stays newer older e
-lost_stays (Enter c port ∷ newer) older e = lost_stays newer older e
-lost_stays (Read c bytes ∷ newer) older e = lost_stays newer older e
-lost_stays (End c cause ∷ newer) older e = lost_stays newer older e
-lost_stays (Bound c port ∷ newer) older e = lost_stays newer older e
-lost_stays (Attach t kind serial ∷ newer) older e = lost_stays newer older e
-lost_stays (Recv t bytes ∷ newer) older e = lost_stays newer older e
-lost_stays (Put c bytes ∷ newer) older e = lost_stays newer older e
-lost_stays (Send t bytes ∷ newer) older e = lost_stays newer older e
+lost_stays (_ ∷ newer) older e = lost_stays newer older e
 
 -- what was joined was so before
 pub joined_at : (setting : Setting) (newer older : History) → IsJoined setting (newer ++ older) → IsJoined setting older

@@ -6,7 +6,7 @@ use Rattle.std.proofs.lemmas.Bool.Decides.{eqb_tells}
 use Rattle.std.proofs.lemmas.List.{length-append}
 use Rattle.adb_outside.specs.Tables.{at}
 use Rattle.adb_capture.specs.declared.entry.Entry.{Entry}
-use Rattle.adb_capture.specs.declared.entry.Entry.TheVariants.{Join, Enter, Read, End, Bound, Attach, Recv, Detach, Put, Send}
+use Rattle.adb_capture.specs.declared.entry.Entry.TheVariants.{Join, Enter, Put}
 use Rattle.adb_history.specs.Machine.{History, IsLegal}
 use Rattle.adb_history.specs.Bytes.{bytes_put}
 use Rattle.adb_history.specs.Tied.{came_count}
@@ -101,17 +101,5 @@ pub down_added : (e : Entry) (h : History) (old new : Down) → IsLegal (e ∷ h
 down_added (Join c) h old new legal d adds = joined_down h c old new d (next_number (Join c) h legal.2) adds
 down_added (Enter c port) h old new legal d adds = entered_down h c old new d (next_number (Enter c port) h legal.2) adds port
 down_added (Put c bytes) h old new legal d adds = put_down h c bytes old new d (client_came c bytes h legal) adds
-down_added (Read c bytes) h old new legal d adds =
-    subst (λ (x : Down). IsDown (Read c bytes ∷ h) x) (sym adds) (record { total = d.total; leads = d.leads; later = d.later })
-down_added (End c cause) h old new legal d adds =
-    subst (λ (x : Down). IsDown (End c cause ∷ h) x) (sym adds) (record { total = d.total; leads = d.leads; later = d.later })
-down_added (Bound c port) h old new legal d adds =
-    subst (λ (x : Down). IsDown (Bound c port ∷ h) x) (sym adds) (record { total = d.total; leads = d.leads; later = d.later })
-down_added (Attach t kind serial) h old new legal d adds =
-    subst (λ (x : Down). IsDown (Attach t kind serial ∷ h) x) (sym adds) (record { total = d.total; leads = d.leads; later = d.later })
-down_added (Recv t bytes) h old new legal d adds =
-    subst (λ (x : Down). IsDown (Recv t bytes ∷ h) x) (sym adds) (record { total = d.total; leads = d.leads; later = d.later })
-down_added (Detach t cause) h old new legal d adds =
-    subst (λ (x : Down). IsDown (Detach t cause ∷ h) x) (sym adds) (record { total = d.total; leads = d.leads; later = d.later })
-down_added (Send t bytes) h old new legal d adds =
-    subst (λ (x : Down). IsDown (Send t bytes ∷ h) x) (sym adds) (record { total = d.total; leads = d.leads; later = d.later })
+down_added e h old new legal d adds =
+    subst (λ (x : Down). IsDown (e ∷ h) x) (sym adds) (record { total = d.total; leads = d.leads; later = d.later })

@@ -9,7 +9,7 @@ use Rattle.adb_wire.specs.Deframing.{Deframing, StandsFor}
 use Rattle.adb_wire.specs.declared.packets.Packet.{Packet}
 use Rattle.adb_wire.proofs.CuttingLaws.{for_stands}
 use Rattle.adb_capture.specs.declared.entry.Entry.{Entry}
-use Rattle.adb_capture.specs.declared.entry.Entry.TheVariants.{Join, Enter, Read, End, Bound, Attach, Recv, Detach, Put, Send}
+use Rattle.adb_capture.specs.declared.entry.Entry.TheVariants.{Attach, Send}
 use Rattle.adb_history.specs.Machine.{History, IsLegal}
 use Rattle.adb_history.specs.Bytes.{bytes_sent, sent}
 use Rattle.adb_history.specs.Book.{plugged_count}
@@ -112,18 +112,5 @@ pub up_added : (e : Entry) (h : History) (old new : Up) → IsLegal (e ∷ h) �
 up_added (Send t bytes) h old new legal u adds = sent_up h t bytes old new u (link_came t bytes h legal) adds
 up_added (Attach t kind serial) h old new legal u adds =
     subst (λ (x : Up). IsUp (Attach t kind serial ∷ h) x) (sym adds) (plugged_up h old u t kind serial)
-up_added (Join c) h old new legal u adds = subst (λ (x : Up). IsUp (Join c ∷ h) x) (sym adds) (record { total = u.total; links = u.links; later = u.later })
-up_added (Enter c port) h old new legal u adds =
-    subst (λ (x : Up). IsUp (Enter c port ∷ h) x) (sym adds) (record { total = u.total; links = u.links; later = u.later })
-up_added (Put c bytes) h old new legal u adds =
-    subst (λ (x : Up). IsUp (Put c bytes ∷ h) x) (sym adds) (record { total = u.total; links = u.links; later = u.later })
-up_added (Read c bytes) h old new legal u adds =
-    subst (λ (x : Up). IsUp (Read c bytes ∷ h) x) (sym adds) (record { total = u.total; links = u.links; later = u.later })
-up_added (End c cause) h old new legal u adds =
-    subst (λ (x : Up). IsUp (End c cause ∷ h) x) (sym adds) (record { total = u.total; links = u.links; later = u.later })
-up_added (Bound c port) h old new legal u adds =
-    subst (λ (x : Up). IsUp (Bound c port ∷ h) x) (sym adds) (record { total = u.total; links = u.links; later = u.later })
-up_added (Recv t bytes) h old new legal u adds =
-    subst (λ (x : Up). IsUp (Recv t bytes ∷ h) x) (sym adds) (record { total = u.total; links = u.links; later = u.later })
-up_added (Detach t cause) h old new legal u adds =
-    subst (λ (x : Up). IsUp (Detach t cause ∷ h) x) (sym adds) (record { total = u.total; links = u.links; later = u.later })
+up_added e h old new legal u adds =
+    subst (λ (x : Up). IsUp (e ∷ h) x) (sym adds) (record { total = u.total; links = u.links; later = u.later })

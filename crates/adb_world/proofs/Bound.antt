@@ -3,12 +3,12 @@ use Rattle.std.specs.Prelude.{ℕ, ◌+◌, ◌-◌, ◌*◌, ◌^◌, ◌≡◌
 use Rattle.std.proofs.Common.{refl, sym, ◌∙◌, ap, subst, arith, ◌⊎◌, inl, inr}
 use Rattle.std.proofs.lemmas.List.{append-nil, length-append}
 use Rattle.adb_outside.specs.Tables.{at}
-use Rattle.adb_outside.specs.declared.kinds.Cause.TheVariants.{Eof, Fault, NoThread, Starved}
+use Rattle.adb_outside.specs.declared.kinds.Cause.TheVariants.{Eof}
 use Rattle.adb_outside.proofs.TableLaws.{at_head, at_tail}
 use Rattle.adb_request.specs.Requests.{hex_digits}
 use Rattle.adb_reply.specs.declared.answer.Next.{Next}
 use Rattle.adb_reply.specs.declared.answer.Next.TheVariants.{Open}
-use Rattle.adb_capture.specs.declared.entry.Entry.TheVariants.{Join, Enter, Read, End, Bound, Attach, Recv, Detach, Put, Send}
+use Rattle.adb_capture.specs.declared.entry.Entry.TheVariants.{Join, Read, End, Attach, Recv, Put, Send}
 use Rattle.adb_stream.specs.declared.row.Stream.{Stream}
 use Rattle.adb_history.specs.Births.{Birth, born}
 use Rattle.adb_history.specs.Book.{asked}
@@ -63,17 +63,12 @@ sessions_join : (h : History) → IsOfSessions h → NoneEnters h
 sessions_join [] sessions = tt
 sessions_join (Read c bytes ∷ older) sessions = sessions_join older sessions.0
 sessions_join (Join c ∷ older) sessions = sessions_join older sessions
-sessions_join (Enter c port ∷ older) sessions = absurd sessions
 sessions_join (End c Eof ∷ older) sessions = sessions_join older sessions.0
-sessions_join (End c Fault ∷ older) sessions = absurd sessions
-sessions_join (End c Starved ∷ older) sessions = absurd sessions
-sessions_join (End c NoThread ∷ older) sessions = absurd sessions
-sessions_join (Bound c port ∷ older) sessions = absurd sessions
 sessions_join (Attach t kind serial ∷ older) sessions = sessions_join older sessions
 sessions_join (Recv t bytes ∷ older) sessions = sessions_join older sessions
-sessions_join (Detach t cause ∷ older) sessions = absurd sessions
 sessions_join (Put c bytes ∷ older) sessions = sessions_join older sessions
 sessions_join (Send t bytes ∷ older) sessions = sessions_join older sessions
+sessions_join (_ ∷ older) sessions = absurd sessions
 
 -- ---- what sessions pay
 abbrev session_pays : Session → ℕ

@@ -4,7 +4,7 @@ use Rattle.std.proofs.Common.{refl, sym, ◌∙◌, ap, subst, arith, ◌⊎◌,
 use Rattle.std.proofs.lemmas.Bool.{cases_eq, ne_eqb}
 use Rattle.std.proofs.Math.Seq.{drop-append_seam}
 use Rattle.adb_outside.specs.Tables.{at, Puts}
-use Rattle.adb_capture.specs.declared.entry.Entry.TheVariants.{Join, Enter, Read, End, Bound, Attach, Recv, Detach, Put, Send}
+use Rattle.adb_capture.specs.declared.entry.Entry.TheVariants.{Join, Enter, End, Put}
 use Rattle.adb_history.specs.Bytes.{bytes_put, bytes_sent, bytes_received, has_ended}
 use Rattle.adb_history.specs.Kept.{Kept, IsLawful}
 use Rattle.adb_history.specs.Machine.{History, state, IsLegal, MayPut}
@@ -38,13 +38,7 @@ none_put (Put n piece ∷ older) legal c past =
     other same = nobody ((state older).clients n) (ap (state older).clients same ∙ gone) legal.2
 none_put (Join n ∷ older) legal c past = none_put older legal.0 c (omega (arith, past))
 none_put (Enter n port ∷ older) legal c past = none_put older legal.0 c (omega (arith, past))
-none_put (Read n bytes ∷ older) legal c past = none_put older legal.0 c past
-none_put (End n cause ∷ older) legal c past = none_put older legal.0 c past
-none_put (Bound n port ∷ older) legal c past = none_put older legal.0 c past
-none_put (Attach t kind serial ∷ older) legal c past = none_put older legal.0 c past
-none_put (Recv t bytes ∷ older) legal c past = none_put older legal.0 c past
-none_put (Detach t cause ∷ older) legal c past = none_put older legal.0 c past
-none_put (Send t bytes ∷ older) legal c past = none_put older legal.0 c past
+none_put (_ ∷ older) legal c past = none_put older legal.0 c past
 
 pub none_ended : (h : History) → IsLegal h → (c : ℕ) → came_count h < c → has_ended c h ≡ false
 none_ended [] legal c past = refl
@@ -55,13 +49,7 @@ none_ended (End n cause ∷ older) legal c past =
     other same = let counts = (counted older).joined in let drawn = legal.2.1.1 in omega (arith, counts, drawn, same, past)
 none_ended (Join n ∷ older) legal c past = none_ended older legal.0 c (omega (arith, past))
 none_ended (Enter n port ∷ older) legal c past = none_ended older legal.0 c (omega (arith, past))
-none_ended (Read n bytes ∷ older) legal c past = none_ended older legal.0 c past
-none_ended (Bound n port ∷ older) legal c past = none_ended older legal.0 c past
-none_ended (Attach t kind serial ∷ older) legal c past = none_ended older legal.0 c past
-none_ended (Recv t bytes ∷ older) legal c past = none_ended older legal.0 c past
-none_ended (Detach t cause ∷ older) legal c past = none_ended older legal.0 c past
-none_ended (Put n bytes ∷ older) legal c past = none_ended older legal.0 c past
-none_ended (Send t bytes ∷ older) legal c past = none_ended older legal.0 c past
+none_ended (_ ∷ older) legal c past = none_ended older legal.0 c past
 
 -- ---- a session joins
 -- the text of a session that has written nothing is its own

@@ -5,13 +5,13 @@ use Rattle.std.proofs.Common.{refl, sym, ◌∙◌, ap, subst, arith, ◌⊎◌,
 use Rattle.std.proofs.lemmas.Bool.{cases_lt, eq-eqb}
 use Rattle.std.proofs.lemmas.List.{append-nil}
 use Rattle.std.proofs.lemmas.List.Elements.{All-nil, All-cons, All-append, All-head, All-tail}
-use Rattle.adb_outside.specs.declared.kinds.Cause.TheVariants.{Eof, Fault, NoThread, Starved}
+use Rattle.adb_outside.specs.declared.kinds.Cause.TheVariants.{Eof}
 use Rattle.adb_wire.specs.declared.command.Command.{Command}
 use Rattle.adb_wire.specs.declared.command.Command.TheVariants.{Cnxn, Open, Okay, Wrte, Clse, Auth, Stls}
 use Rattle.adb_wire.specs.declared.packets.Packet.{Packet}
 use Rattle.adb_reply.specs.declared.answer.Next.{Next}
 use Rattle.adb_reply.specs.declared.answer.Next.TheVariants as next
-use Rattle.adb_capture.specs.declared.entry.Entry.TheVariants.{Join, Enter, Read, End, Bound, Attach, Recv, Detach, Put, Send}
+use Rattle.adb_capture.specs.declared.entry.Entry.TheVariants.{Join, Read, End, Attach, Recv, Put, Send}
 use Rattle.adb_files.specs.Entries.{Entry as File}
 use Rattle.adb_history.specs.Asking.{Asked, nothing_asked, asks_with}
 use Rattle.adb_history.specs.Births.{Birth, birth_by, births, births_at, born, carried_in, count_from, is_open, is_wrte}
@@ -68,17 +68,12 @@ all_numbered (Read c bytes ∷ older) legal sessions =
     All-append IsNumbered (births older) (births_at (Read c bytes) older) (all_numbered older legal.0 sessions.0)
     (by_client c (asked c (Read c bytes ∷ older)).used older (newly (asked c older).next (asked c (Read c bytes ∷ older)).next) legal.2.1.0)
 all_numbered (Join n ∷ older) legal sessions = none_more (births older) (all_numbered older legal.0 sessions)
-all_numbered (Enter n port ∷ older) legal sessions = absurd sessions
 all_numbered (End n Eof ∷ older) legal sessions = none_more (births older) (all_numbered older legal.0 sessions.0)
-all_numbered (End n Fault ∷ older) legal sessions = absurd sessions
-all_numbered (End n Starved ∷ older) legal sessions = absurd sessions
-all_numbered (End n NoThread ∷ older) legal sessions = absurd sessions
-all_numbered (Bound n port ∷ older) legal sessions = absurd sessions
 all_numbered (Attach t kind serial ∷ older) legal sessions = none_more (births older) (all_numbered older legal.0 sessions)
 all_numbered (Recv t bytes ∷ older) legal sessions = none_more (births older) (all_numbered older legal.0 sessions)
-all_numbered (Detach t cause ∷ older) legal sessions = absurd sessions
 all_numbered (Put n bytes ∷ older) legal sessions = none_more (births older) (all_numbered older legal.0 sessions)
 all_numbered (Send t bytes ∷ older) legal sessions = none_more (births older) (all_numbered older legal.0 sessions)
+all_numbered (_ ∷ older) legal sessions = absurd sessions
 
 numbered : (h : History) → IsLegal h → IsOfSessions h → (l : ℕ) (b : Birth) → born l h ≡ Some b → 0 < b.client
 numbered h legal sessions zero b is = absurd (let clash : None ≡ Some b = is in cc)

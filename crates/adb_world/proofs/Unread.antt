@@ -7,7 +7,7 @@ use Rattle.std.proofs.lemmas.List.{length-append}
 use Rattle.std.proofs.lemmas.List.Elements.{All-nil, All-cons, All-contains, Contains-append_left, Contains-append_right}
 use Rattle.adb_wire.specs.declared.packets.Packet.{Packet}
 use Rattle.adb_capture.specs.declared.entry.Entry.{Entry}
-use Rattle.adb_capture.specs.declared.entry.Entry.TheVariants.{Join, Enter, Read, End, Bound, Attach, Recv, Detach, Put, Send}
+use Rattle.adb_capture.specs.declared.entry.Entry.TheVariants.{Read}
 use Rattle.adb_history.specs.Births.{Birth, born, count_from, is_open}
 use Rattle.adb_history.specs.Bytes.{bytes_read}
 use Rattle.adb_history.specs.Events.{Ending, ending_in, packets_to}
@@ -26,15 +26,7 @@ read_more d (Read n bytes) older = go (nat_eq n d)
     go : (b : Bool) → length (bytes_read d older) ≤ length (cond b (bytes_read d older ++ bytes) (bytes_read d older))
     go true = let both = length-append (bytes_read d older) bytes in omega (arith, both)
     go false = omega arith
-read_more d (Join n) older = omega arith
-read_more d (Enter n port) older = omega arith
-read_more d (End n cause) older = omega arith
-read_more d (Bound n port) older = omega arith
-read_more d (Attach t kind serial) older = omega arith
-read_more d (Recv t bytes) older = omega arith
-read_more d (Detach t cause) older = omega arith
-read_more d (Put n bytes) older = omega arith
-read_more d (Send t bytes) older = omega arith
+read_more d _ older = omega arith
 
 -- while a stream lived no more was read than at all
 pub lived_read : (l d : ℕ) (h : History) → length (bytes_read d (lived l h)) ≤ length (bytes_read d h)
