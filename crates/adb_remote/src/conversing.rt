@@ -19,10 +19,14 @@ use adb_sync_client::Step;
 use std::alloc::Global;
 use std::sync::Wait;
 
-/// The most bytes that are read at once: four whole chunks of a file, with their headers. As long as
-/// every read of a file is filled, each ends where a chunk ends; behind one that is not, reads end
-/// within chunks, whose parts are gathered.
-pub const MAX_PIECE: usize = 262_176;
+/// The most bytes that are read at once: two whole chunks of a file, with their headers.
+pub const MAX_PIECE: usize = 131_088;
+
+/// The bytes of a chunk that is as long as one may be, with its header.
+const WHOLE_CHUNK: usize = 65_544;
+
+/// The bytes before the chunks of a file: two OKAYs.
+const OKAYS: usize = 8;
 
 /// Asks a server for a job, on the device of a serial where there is one, and tells what it was
 /// answered. It sleeps in the reads and writes of the port; each byte is looked at once, and lists
@@ -95,7 +99,8 @@ fn listen<W: Wait + Copy + Drop, I: PortIn, O: PortOut>(
     let mut reading = reading;
     let mut buffer = [0u8; MAX_PIECE];
     for _ in rt.forever() {
-        match turn(alloc, job, on, input, output, &mut reading, &mut buffer) {
+        let piece = &mut buffer[..size_of_read(reading.count())];
+        match turn(alloc, job, on, input, output, &mut reading, piece) {
             Ok(step) => {
                 if !is_more(&step) {
                     return outcome(step);
@@ -105,6 +110,16 @@ fn listen<W: Wait + Copy + Drop, I: PortIn, O: PortOut>(
         }
     }
     unreachable!()
+}
+
+/// How many bytes are read at once behind so many. A read that is filled ends where a chunk of a
+/// file does, if those before it are as long as they may be, so that its parts need not be gathered:
+/// one that was not filled costs the next alone.
+fn size_of_read(count: usize) -> usize
+    ensures some { 0 < result }
+    ensures most { result ≤ MAX_PIECE }
+{
+    MAX_PIECE - count.saturating_sub(OKAYS) % WHOLE_CHUNK
 }
 
 /// What a step is that decides.

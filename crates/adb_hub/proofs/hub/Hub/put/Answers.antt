@@ -25,7 +25,8 @@ invariant_of-self-in-Some c =
     let given = c.in_ok-bytes.ensures in
     let front = subst (λ (o : Option (List ℕ)). IsFront c.args.max (answers.offered_to t.devices ((state_of t).clients n)) o) c.in-Some.is given.bytes in
     let made = subst (λ (o : Option (List ℕ)). answers.HandsOut (Put n) o t c.put.new.tables) c.in-Some.is given.made in
-    let called = put_called n bytes t c.put.new.tables c.self.invariant c.has_bytes.ensures known (may_put c.args.max (state_of t) ((state_of t).clients n) bytes front) made in
+    let called = put_called n bytes t c.put.new.tables c.self.invariant c.has_bytes.ensures known
+    (may_put c.args.max (state_of t) ((state_of t).clients n) bytes front) made in
     called_sound (Put n bytes) t c.put.new.tables called
 
 pub returns-in-Some-clause-put : goal.returns-in-Some-clause-put
@@ -38,7 +39,8 @@ returns-in-Some-clause-put c h lawful =
     let given = c.in_ok-bytes.ensures in
     let front = subst (λ (o : Option (List ℕ)). IsFront c.args.max (answers.offered_to t.devices ((state_of t).clients n)) o) c.in-Some.is given.bytes in
     let made = subst (λ (o : Option (List ℕ)). answers.HandsOut (Put n) o t c.put.new.tables) c.in-Some.is given.made in
-    let called = put_called n bytes t c.put.new.tables c.self.invariant c.has_bytes.ensures known (may_put c.args.max (state_of t) ((state_of t).clients n) bytes front) made in
+    let called = put_called n bytes t c.put.new.tables c.self.invariant c.has_bytes.ensures known
+    (may_put c.args.max (state_of t) ((state_of t).clients n) bytes front) made in
     let before = subst (λ (k : Kept). IsLawful k h) (sym c.self.view_is) lawful in
     let after = called_lawful (Put n bytes) t c.put.new.tables called h before in
     let is = stands_for t h c.self.invariant before in (

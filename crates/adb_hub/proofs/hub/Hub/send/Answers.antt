@@ -25,7 +25,8 @@ invariant_of-self-in-Some c =
     let given = c.in_ok-bytes.ensures in
     let front = subst (λ (o : Option (List ℕ)). IsFront c.args.max (answers.due_on ((state_of t).links n)) o) c.in-Some.is given.bytes in
     let made = subst (λ (o : Option (List ℕ)). answers.HandsOut (Send n) o t c.send.new.tables) c.in-Some.is given.made in
-    let called = send_called n bytes t c.send.new.tables c.self.invariant c.has_bytes.ensures known (may_send c.args.max ((state_of t).links n) bytes front) made in
+    let called = send_called n bytes t c.send.new.tables c.self.invariant c.has_bytes.ensures known
+    (may_send c.args.max ((state_of t).links n) bytes front) made in
     called_sound (Send n bytes) t c.send.new.tables called
 
 pub returns-in-Some-clause-sent : goal.returns-in-Some-clause-sent
@@ -38,7 +39,8 @@ returns-in-Some-clause-sent c h lawful =
     let given = c.in_ok-bytes.ensures in
     let front = subst (λ (o : Option (List ℕ)). IsFront c.args.max (answers.due_on ((state_of t).links n)) o) c.in-Some.is given.bytes in
     let made = subst (λ (o : Option (List ℕ)). answers.HandsOut (Send n) o t c.send.new.tables) c.in-Some.is given.made in
-    let called = send_called n bytes t c.send.new.tables c.self.invariant c.has_bytes.ensures known (may_send c.args.max ((state_of t).links n) bytes front) made in
+    let called = send_called n bytes t c.send.new.tables c.self.invariant c.has_bytes.ensures known
+    (may_send c.args.max ((state_of t).links n) bytes front) made in
     let before = subst (λ (k : Kept). IsLawful k h) (sym c.self.view_is) lawful in
     let after = called_lawful (Send n bytes) t c.send.new.tables called h before in
     let is = stands_for t h c.self.invariant before in (
