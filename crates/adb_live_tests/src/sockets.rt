@@ -92,14 +92,14 @@ const REST: [u8; 65_536] = [2; 65_536];
 /// So many packets are more than lies between two ends.
 const PACKETS: usize = 100;
 
-/// Whether all packets are sent.
+/// Whether all packets are sent. Who reads finds the end behind them.
 fn sends_in_parts(output: &mut TcpDeviceOut) -> bool {
+    let mut all = true;
     for _ in 0..PACKETS {
-        if output.write_both(&START, &REST) != Wrote::All {
-            return false;
-        }
+        all = all && output.write_both(&START, &REST) == Wrote::All;
     }
-    true
+    output.unplug();
+    all
 }
 
 /// Whether just the packets come, to one who begins to read when a write has timed out.
