@@ -7,6 +7,7 @@ ghost use Rattle.adb_history.specs.Accepted.{is_drawn};
 ghost use Rattle.adb_history.specs.Kept.{IsLawful};
 ghost use Rattle.adb_history.specs.Machine.{History, state};
 ghost use Rattle.adb_daemon.specs.Daemon.{HasDone};
+ghost use Rattle.adb_daemon.specs.Device.{Setting};
 ghost use Rattle.adb_hub.specs.Answers.{due_on, offered_to};
 ghost use Rattle.adb_laws_sessions.specs.Model.{model_setting};
 ghost use Rattle.adb_world.specs.Calls.{HasHistory, HasTaken, TakesSoundly, bytes_of};
@@ -14,7 +15,7 @@ ghost use Rattle.adb_world.specs.Parts.{plugging};
 
 use adb_daemon::{Daemon, DaemonError};
 use adb_hub::{Handed, Hub, HubError};
-use adb_outside::{Cause, HandOut, Kind};
+use adb_outside::{Cause, HandOut, Kind, Parts};
 use std::alloc::AllocError;
 
 /// The link of the model device, and its serial.
@@ -135,8 +136,31 @@ fn bytes_of(handed: Handed) -> Option<HandOut>
     }
 }
 
+/// The device takes bytes that were handed out, in which it finds nothing wrong.
+pub(crate) fn feed(device: &mut Daemon, out: &HandOut) -> Result<(), AllocError>
+    requires { TakesSoundly device.old out.now }
+    ensures { OnOk result ((fed taken : List ℕ) → HasDone model_setting fed taken device.old
+        → HasDone model_setting (fed ++ out.now) taken device.new) }
+{
+    let Parts { start, rest } = out.parts();
+    feed_front(device, start)?;
+    feed_last(device, rest)
+}
+
+/// The device takes bytes. What it finds wrong in them it tells of those behind them too.
+fn feed_front(device: &mut Daemon, piece: &[u8]) -> Result<(), AllocError>
+    ensures { OnOk result ((setting : Setting) (fed taken : List ℕ)
+        → HasDone setting fed taken device.old
+        → HasDone setting (fed ++ piece.now) taken device.new) }
+{
+    match device.feed(piece) {
+        Err(DaemonError::OutOfMemory) => Err(AllocError),
+        Ok(()) | Err(_) => Ok(()),
+    }
+}
+
 /// The device takes bytes in which it finds nothing wrong.
-pub(crate) fn feed(device: &mut Daemon, piece: &[u8]) -> Result<(), AllocError>
+fn feed_last(device: &mut Daemon, piece: &[u8]) -> Result<(), AllocError>
     requires { TakesSoundly device.old piece.now }
     ensures { OnOk result ((fed taken : List ℕ) → HasDone model_setting fed taken device.old
         → HasDone model_setting (fed ++ piece.now) taken device.new) }

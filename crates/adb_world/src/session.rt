@@ -5,7 +5,7 @@ ghost use Rattle.adb_laws_sessions.specs.Words.{most_service};
 ghost use Rattle.adb_world.specs.Answered.{answer_of};
 ghost use Rattle.adb_world.specs.Session.{handed, left_of, new_session, wrote};
 
-use adb_outside::Text;
+use adb_outside::{HandOut, Parts, Text};
 use adb_request::hex4;
 use std::alloc::{AllocError, Global};
 
@@ -64,10 +64,12 @@ impl Session {
     }
 
     /// It is handed some bytes.
-    pub(crate) fn hear(&mut self, piece: &[u8]) -> Result<(), AllocError>
+    pub(crate) fn hear(&mut self, piece: &HandOut) -> Result<(), AllocError>
         ensures { OnOk result (self.new ≡ handed piece.now self.old) }
     {
-        self.got.push_slice(piece)
+        let Parts { start, rest } = piece.parts();
+        self.got.push_slice(start)?;
+        self.got.push_slice(rest)
     }
 
     /// It has written so many bytes more.

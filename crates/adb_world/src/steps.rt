@@ -16,6 +16,7 @@ use crate::session::Session;
 use adb_laws_model_device::what_a_server_sends_is_taken;
 use adb_laws_sessions::sessions_ask_for_services;
 use adb_laws_worlds::a_device_breaks_no_link;
+use adb_outside::HandOut;
 use std::alloc::AllocError;
 use std::collections::BTreeMap;
 
@@ -34,7 +35,7 @@ impl Parts {
         let Some(piece) = send(&mut self.hub, max)? else {
             return Ok(false);
         };
-        feed(&mut self.device, piece.as_slice())?;
+        feed(&mut self.device, &piece)?;
         Ok(true)
     }
 
@@ -73,7 +74,7 @@ impl Parts {
         let Some(piece) = put(&mut self.hub, number, max)? else {
             return Ok(false);
         };
-        keep(&mut self.sessions, number, piece.as_slice())?;
+        keep(&mut self.sessions, number, &piece)?;
         Ok(true)
     }
 
@@ -104,7 +105,7 @@ impl Parts {
 }
 
 /// A session keeps what it is handed.
-fn keep(sessions: &mut BTreeMap<u32, Session>, number: u32, piece: &[u8]) -> Result<(), AllocError>
+fn keep(sessions: &mut BTreeMap<u32, Session>, number: u32, piece: &HandOut) -> Result<(), AllocError>
     ensures { OnOk result
         (Changes number (handed piece.now) sessions.old.entries sessions.new.entries) }
 {
