@@ -62,6 +62,7 @@ impl World {
     {
         settled_worlds_are_counted();
         new_worlds_have_no_files();
+        keep_memory(alloc);
         let mut parts = Parts::new(alloc)?;
         parts.greet()?;
         settle_parts(&mut parts, 0)?;
@@ -246,6 +247,17 @@ impl World {
     {
         self.parts.device.files()
     }
+}
+
+/// A block of the size up to which memory that is given back is kept for what is asked for next.
+const KEPT: usize = 33_550_000;
+
+/// Takes a block and gives it back, where there is one: from then on glibc returns no block of its
+/// size or less to the system (`mallopt(3)`, `M_MMAP_THRESHOLD`), so that the bytes that move come
+/// to the same pages again. None of it is touched.
+fn keep_memory(alloc: Global) {
+    let block: Result<Vec<u8>, AllocError> = Vec::with_capacity(alloc, KEPT);
+    drop(block);
 }
 
 /// Moves bytes, in pieces and between sides that the seed picks, until none can move, and gives the
