@@ -14,6 +14,7 @@ ghost use Rattle.adb_sync_client.specs.declared.request.TheConstants.{MAX_ASKED_
 use crate::found::Found;
 use adb_files::File;
 use adb_outside::Text;
+use adb_script::read_whole;
 use adb_sync::Dirent;
 use adb_sync_client::{Entries, PathAsk, PathValue, Step, written_files_are_pulled};
 use adb_world::World;
@@ -95,7 +96,8 @@ fn ask<V: PathValue>(
     ensures stays { world.old.spent ≡ true → IsErr result × (world.new ≡ world.old) }
 {
     let mut ask = PathAsk::<V>::new(alloc, path)?;
-    let answer = world.sync(seed, ask.out())?;
-    let step = ask.feed_to_end(answer.as_slice())?;
+    let text = Text::from_slice(alloc, ask.out())?;
+    let answer = world.sync_text(seed, text)?;
+    let step = read_whole(&mut ask, answer.as_slice())?;
     Ok(step)
 }

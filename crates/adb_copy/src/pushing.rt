@@ -110,7 +110,7 @@ fn push_file(
 {
     has_32_bits(file.mtime);
     let ask = file_text(alloc, path, file)?;
-    let answer = world.sync(seed, ask.as_slice())?;
+    let answer = world.sync_text(seed, ask)?;
     read_answer(alloc, path, answer.as_slice())
 }
 

@@ -38,7 +38,7 @@ pub fn copy_tree(
         → world.new ≡ world.old }
 {
     let tree = read_tree(alloc, script)?;
-    match copy_files(alloc, world, &tree, seed) {
+    match copy_files(alloc, world, tree, seed) {
         Ok(lines) => Ok(lines),
         Err(AllocError) => Err(ScriptError::OutOfMemory),
     }
@@ -48,19 +48,20 @@ pub fn copy_tree(
 fn copy_files(
     alloc: Global,
     world: &mut World,
-    tree: &Files,
+    tree: Files,
     seed: u64,
 ) -> Result<Vec<Line>, AllocError>
     requires settled { world.old.settled ≡ true }
     requires given { world.old.given ≡ 0 }
     requires empty { world.old.files ≡ [] }
-    requires tree { AreNamed tree.now }
-    ensures lines { IfOk result (λ lines. texts_of lines.items ≡ lines_of tree.now) }
-    ensures files { OnOk result (world.new.files ≡ tree.now) }
+    requires tree { AreNamed tree }
+    ensures lines { IfOk result (λ lines. texts_of lines.items ≡ lines_of tree) }
+    ensures files { OnOk result (world.new.files ≡ tree) }
 {
     directories_are_few();
-    are_a_map(tree);
-    push(alloc, world, tree, seed)?;
+    are_a_map(&tree);
+    push(alloc, world, &tree, seed)?;
+    drop(tree);
     let copied = pull_tree(alloc, world, seed)?;
     show_files(alloc, &copied)
 }

@@ -71,7 +71,7 @@ fn start_stream(
         (stream_session echo.size stream) world.old world.new) }
 {
     let text = echo.text(alloc, stream)?;
-    let session = world.start(ECHO_SERVICE, text.as_slice())?;
+    let session = world.start_text(ECHO_SERVICE, text)?;
     Ok(session)
 }
 

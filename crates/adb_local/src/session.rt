@@ -54,7 +54,7 @@ fn start_session(
 {
     let service = line.service(alloc)?;
     let text = line.text(alloc, number)?;
-    let session = world.start(service.as_slice(), text.as_slice())?;
+    let session = world.start_text(service.as_slice(), text)?;
     Ok(session)
 }
 

@@ -2,6 +2,7 @@ mod Chunks
 pub mod Cutting
 mod FirstBad
 pub mod Patterns
+mod Pieces
 mod Printed
 pub mod Requests
 mod Stored

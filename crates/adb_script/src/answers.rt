@@ -11,6 +11,7 @@ use crate::asking::FILE_MODE;
 use crate::counting::{byte_sum, push_number};
 use crate::line::SessionLine;
 use crate::output::ran_line;
+use crate::whole::read_whole;
 use crate::word::Word;
 use adb_outside::Text;
 use adb_sync::Dirent;
@@ -63,7 +64,7 @@ fn path_step<V: PathValue>(
     ensures { IfOk result (λ step. step ≡ V.value got.now) }
 {
     let mut ask = PathAsk::<V>::new(alloc, path.as_slice())?;
-    let step = ask.feed_to_end(got)?;
+    let step = read_whole(&mut ask, got)?;
     Ok(step)
 }
 

@@ -15,6 +15,7 @@ mod reading;
 mod script;
 mod sent;
 mod told;
+mod whole;
 mod word;
 
 pub use counting::{byte_sum, push_number};
@@ -26,4 +27,5 @@ pub use reading::split_once;
 pub use script::{MAX_LINES, MAX_SCRIPT, Script, ScriptError, split_line};
 pub use sent::pattern;
 pub use told::{Line, add_line};
+pub use whole::read_whole;
 pub use word::{MAX_WORD, Word};

@@ -3,6 +3,7 @@ pub mod Stays
 pub mod Greeted
 pub mod Numbers
 pub mod Open
+mod Parted
 pub mod Starving
 pub mod Devices
 pub mod Entries

@@ -1,13 +1,12 @@
 //! What a session is answered that runs alone, and is dropped then.
 
-ghost use Rattle.std.specs.Prelude.{◌≡◌, ◌+◌, ◌<◌, true, is_some, Some, option_map, IfOk, OnOk};
-ghost use Rattle.adb_outside.specs.Tables.{at};
+ghost use Rattle.std.specs.Prelude.{◌≡◌, ◌+◌, ◌<◌, IfOk, OnOk};
 ghost use Rattle.adb_daemon.specs.Daemon.{files_of};
 ghost use Rattle.adb_files.specs.Served.{served};
-ghost use Rattle.adb_world.specs.Answered.{answer_of};
 ghost use Rattle.adb_world.specs.Parts.{AreSame, most_sessions};
 ghost use Rattle.adb_world.specs.Settled.{IsDone};
 
+use crate::answer::Answer;
 use crate::ending::finish_one;
 use crate::parts::Parts;
 use crate::settling::settle_parts;
@@ -19,35 +18,22 @@ use std::alloc::{AllocError, Global};
 pub(crate) fn sync_parts(
     alloc: Global,
     parts: &mut Parts,
-    ask: &[u8],
+    ask: Text,
     seed: u64,
-) -> Result<Text, AllocError>
+) -> Result<Answer, AllocError>
     requires done { IsDone parts.old }
     requires room { parts.old.given < most_sessions }
     ensures done { OnOk result (IsDone parts.new) }
     ensures answer { IfOk result (λ answer.
-        answer ≡ (served (files_of parts.old.device) ask.now).answer) }
+        answer ≡ (served (files_of parts.old.device) ask).answer) }
     ensures files { OnOk result (files_of parts.new.device
-        ≡ (served (files_of parts.old.device) ask.now).files) }
+        ≡ (served (files_of parts.old.device) ask).files) }
     ensures same { OnOk result
         (AreSame parts.old.sessions.entries parts.new.sessions.entries) }
     ensures given { OnOk result (parts.new.given ≡ parts.old.given + 1) }
 {
     let number = begin(alloc, parts, b"sync:", ask)?;
     settle_parts(parts, seed)?;
-    let answer = answer_of(alloc, parts, number)?;
-    finish_one(parts, number, seed)?;
-    Ok(answer)
-}
-
-/// What a session was handed behind the replies to its requests.
-fn answer_of(alloc: Global, parts: &Parts, number: u32) -> Result<Text, AllocError>
-    requires { is_some (at number parts.now.sessions.entries) ≡ true }
-    ensures { IfOk result (λ answer. Some answer
-        ≡ option_map answer_of (at number parts.now.sessions.entries)) }
-{
-    match parts.sessions.get(&number) {
-        Some(session) => Text::from_slice(alloc, session.answer()),
-        None => unreachable!(),
-    }
+    let session = finish_one(parts, number, seed)?;
+    Ok(session.into_answer())
 }

@@ -1,20 +1,23 @@
 //! What a world asks of its hub and its device, which refuse none of it.
 
-ghost use Rattle.std.specs.Prelude.{◌≡◌, ◌<◌, ◌+◌, ◌-◌, ◌^◌, ◌++◌, ◌∷◌, [], true, false, ℕ, List, IfOk, OnOk};
+ghost use Rattle.std.specs.Prelude.{◌≡◌, ◌<◌, ◌≤◌, ◌+◌, ◌-◌, ◌^◌, ◌++◌, ◌∷◌, [], true, false, ℕ, List, length, take, IfOk, OnOk};
 ghost use Rattle.adb_outside.specs.declared.kinds.Cause.{Cause};
 ghost use Rattle.adb_capture.specs.declared.entry.Entry.{Entry};
 ghost use Rattle.adb_history.specs.Accepted.{is_drawn};
 ghost use Rattle.adb_history.specs.Kept.{IsLawful};
 ghost use Rattle.adb_history.specs.Machine.{History, state};
 ghost use Rattle.adb_daemon.specs.Daemon.{HasDone};
+ghost use Rattle.adb_daemon.specs.Device.{Setting};
 ghost use Rattle.adb_hub.specs.Answers.{due_on, offered_to};
 ghost use Rattle.adb_laws_sessions.specs.Model.{model_setting};
 ghost use Rattle.adb_world.specs.Calls.{HasHistory, HasTaken, TakesSoundly, bytes_of};
 ghost use Rattle.adb_world.specs.Parts.{plugging};
+ghost use Rattle.adb_world.specs.Session.{left_of};
 
+use crate::session::Session;
 use adb_daemon::{Daemon, DaemonError};
 use adb_hub::{Handed, Hub, HubError};
-use adb_outside::{Cause, HandOut, Kind};
+use adb_outside::{Cause, HandOut, Kind, Parts};
 use std::alloc::AllocError;
 
 /// The link of the model device, and its serial.
@@ -50,8 +53,33 @@ pub(crate) fn join(hub: &mut Hub) -> Result<u32, AllocError>
     }
 }
 
+/// The hub reads the next words of the session of a client, at most `max` bytes.
+pub(crate) fn read_next(
+    hub: &mut Hub,
+    client: u32,
+    session: &Session,
+    max: usize,
+) -> Result<(), AllocError>
+    requires held { HasHistory hub.old }
+    requires on { hub.old.stopped ≡ false }
+    requires drawn { is_drawn hub.old.joined client ≡ true }
+    requires within { session.now.written ≤ length session.now.words }
+    ensures { OnOk result ((h : History) → IsLawful hub.old h
+        → IsLawful hub.new (Entry.Read client (take max (left_of session.now)) ∷ h)) }
+{
+    let Parts { start, rest } = session.next_words(max);
+    if start.is_empty() {
+        return read(hub, client, rest);
+    }
+    if rest.is_empty() {
+        return read(hub, client, start);
+    }
+    let piece = session.words.join(start, rest)?;
+    read(hub, client, piece.as_slice())
+}
+
 /// Bytes come from a client.
-pub(crate) fn read(hub: &mut Hub, client: u32, piece: &[u8]) -> Result<(), AllocError>
+fn read(hub: &mut Hub, client: u32, piece: &[u8]) -> Result<(), AllocError>
     requires held { HasHistory hub.old }
     requires on { hub.old.stopped ≡ false }
     requires drawn { is_drawn hub.old.joined client ≡ true }
@@ -135,8 +163,31 @@ fn bytes_of(handed: Handed) -> Option<HandOut>
     }
 }
 
+/// The device takes bytes that were handed out, in which it finds nothing wrong.
+pub(crate) fn feed(device: &mut Daemon, out: &HandOut) -> Result<(), AllocError>
+    requires { TakesSoundly device.old out.now }
+    ensures { OnOk result ((fed taken : List ℕ) → HasDone model_setting fed taken device.old
+        → HasDone model_setting (fed ++ out.now) taken device.new) }
+{
+    let Parts { start, rest } = out.parts();
+    feed_front(device, start)?;
+    feed_last(device, rest)
+}
+
+/// The device takes bytes. What it finds wrong in them it tells of those behind them too.
+fn feed_front(device: &mut Daemon, piece: &[u8]) -> Result<(), AllocError>
+    ensures { OnOk result ((setting : Setting) (fed taken : List ℕ)
+        → HasDone setting fed taken device.old
+        → HasDone setting (fed ++ piece.now) taken device.new) }
+{
+    match device.feed(piece) {
+        Err(DaemonError::OutOfMemory) => Err(AllocError),
+        Ok(()) | Err(_) => Ok(()),
+    }
+}
+
 /// The device takes bytes in which it finds nothing wrong.
-pub(crate) fn feed(device: &mut Daemon, piece: &[u8]) -> Result<(), AllocError>
+fn feed_last(device: &mut Daemon, piece: &[u8]) -> Result<(), AllocError>
     requires { TakesSoundly device.old piece.now }
     ensures { OnOk result ((fed taken : List ℕ) → HasDone model_setting fed taken device.old
         → HasDone model_setting (fed ++ piece.now) taken device.new) }

@@ -1,6 +1,6 @@
 //! Ending sessions, one after the other.
 
-ghost use Rattle.std.specs.Prelude.{◌≡◌, [], true, is_some, OnOk};
+ghost use Rattle.std.specs.Prelude.{◌≡◌, [], true, is_some, Some, IfOk, OnOk};
 ghost use Rattle.adb_outside.specs.Tables.{at};
 ghost use Rattle.adb_daemon.specs.Daemon.{files_of};
 ghost use Rattle.adb_world.specs.Parts.{AreSameBut};
@@ -8,6 +8,7 @@ ghost use Rattle.adb_world.specs.Settled.{IsDone};
 
 use crate::laws::ended_sessions_change_no_file;
 use crate::parts::Parts;
+use crate::session::Session;
 use crate::settling::settle_parts;
 use adb_laws_births::what_came_stays;
 use std::alloc::AllocError;
@@ -28,10 +29,12 @@ pub(crate) fn finish_parts(parts: &mut Parts, seed: u64) -> Result<(), AllocErro
     Ok(())
 }
 
-/// The client of a session ends in order, and all settles without it.
-pub(crate) fn finish_one(parts: &mut Parts, number: u32, seed: u64) -> Result<(), AllocError>
+/// The client of a session ends in order, and all settles without it. The session is given away.
+pub(crate) fn finish_one(parts: &mut Parts, number: u32, seed: u64) -> Result<Session, AllocError>
     requires done { IsDone parts.old }
     requires there { is_some (at number parts.old.sessions.entries) ≡ true }
+    ensures session { IfOk result (λ session. Some session
+        ≡ at number parts.old.sessions.entries) }
     ensures done { OnOk result (IsDone parts.new) }
     ensures same { OnOk result
         (AreSameBut number parts.old.sessions.entries parts.new.sessions.entries) }
@@ -40,7 +43,7 @@ pub(crate) fn finish_one(parts: &mut Parts, number: u32, seed: u64) -> Result<()
 {
     what_came_stays();
     ended_sessions_change_no_file();
-    parts.end(number);
+    let session = parts.end(number);
     settle_parts(parts, seed)?;
-    Ok(())
+    Ok(session)
 }

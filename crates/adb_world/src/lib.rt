@@ -2,6 +2,7 @@
 //! pieces and in an order that a seed picks, until none can move.
 #![tactic(auto)]
 
+mod answer;
 mod asking;
 mod calls;
 mod choices;
@@ -13,7 +14,10 @@ mod session;
 mod settling;
 mod starting;
 mod steps;
+mod words;
 mod world;
 
+pub use answer::Answer;
 pub use session::{REPLIES, Session};
+pub use words::Words;
 pub use world::{World, settle};

@@ -88,11 +88,12 @@ impl Parts {
         Ok(number)
     }
 
-    /// The client of a session ends in order, by which it is gone, and the session is kept no more.
-    /// It takes no memory.
-    pub(crate) fn end(&mut self, number: u32)
+    /// The client of a session ends in order, by which it is gone, and the session is kept no more:
+    /// it is given away. It takes no memory.
+    pub(crate) fn end(&mut self, number: u32) -> Session
         requires done { IsDone self.old }
         requires there { is_some (at number self.old.sessions.entries) ≡ true }
+        ensures session { Some result ≡ at number self.old.sessions.entries }
         ensures dropped { Drops number self.old self.new }
         ensures holds { (h : History) → Holds h self.old
             → Holds (Entry.End number Cause.Eof ∷ h) self.new }
@@ -102,7 +103,7 @@ impl Parts {
         most_entries_send_nothing();
         a_client_sends_up_its_own_stream();
         end(&mut self.hub, number);
-        drop_session(&mut self.sessions, number);
+        take_session(&mut self.sessions, number)
     }
 
     /// The least number of a session that is greater than this.
@@ -120,11 +121,16 @@ impl Parts {
     }
 }
 
-/// No session is kept under a number.
-fn drop_session(sessions: &mut BTreeMap<u32, Session>, number: u32)
-    ensures { Puts number None sessions.old.entries sessions.new.entries }
+/// The session of a number is given away, and none is kept there.
+fn take_session(sessions: &mut BTreeMap<u32, Session>, number: u32) -> Session
+    requires { is_some (at number sessions.old.entries) ≡ true }
+    ensures session { Some result ≡ at number sessions.old.entries }
+    ensures puts { Puts number None sessions.old.entries sessions.new.entries }
 {
-    sessions.remove(&number);
+    match sessions.remove(&number) {
+        Some(session) => session,
+        None => unreachable!(),
+    }
 }
 
 /// A session is kept under a number.

@@ -1,11 +1,14 @@
 //! A session of a world: a client that writes what it was given and keeps what it is handed.
 
-ghost use Rattle.std.specs.Prelude.{◌≡◌, ◌≤◌, ◌+◌, length, take, IfOk, OnOk};
+ghost use Rattle.std.specs.Prelude.{◌≡◌, ◌≤◌, ◌+◌, ◌++◌, length, take, drop, IfOk, OnOk};
+ghost use Rattle.adb_world.specs.declared.session.TheConstants.{REPLIES};
 ghost use Rattle.adb_laws_sessions.specs.Words.{most_service};
 ghost use Rattle.adb_world.specs.Answered.{answer_of};
 ghost use Rattle.adb_world.specs.Session.{handed, left_of, new_session, wrote};
 
-use adb_outside::Text;
+use crate::answer::Answer;
+use crate::words::Words;
+use adb_outside::{HandOut, Parts, Text};
 use adb_request::hex4;
 use std::alloc::{AllocError, Global};
 
@@ -21,7 +24,7 @@ pub struct Session {
     /// The service that it asks for.
     pub service: Text,
     /// All that it writes.
-    pub words: Text,
+    pub words: Words,
     /// How many bytes of these it has written.
     pub written: usize,
     /// What it was handed.
@@ -30,44 +33,58 @@ pub struct Session {
 
 impl Session {
     /// A session that will ask for a service and write a text.
-    pub(crate) fn new(alloc: Global, service: &[u8], text: &[u8]) -> Result<Session, AllocError>
+    pub(crate) fn new(alloc: Global, service: &[u8], text: Text) -> Result<Session, AllocError>
         requires { length service.now ≤ most_service }
-        ensures { IfOk result (λ session. session ≡ new_session service.now text.now) }
+        ensures { IfOk result (λ session. session ≡ new_session service.now text) }
     {
-        let mut words = Text::from_slice(alloc, SELECTS)?;
-        words.push_slice(&hex4(service.len() as u16))?;
-        words.push_slice(service)?;
-        words.push_slice(text)?;
+        let mut requests = Text::from_slice(alloc, SELECTS)?;
+        requests.push_slice(&hex4(service.len() as u16))?;
+        requests.push_slice(service)?;
         Ok(Session {
             service: Text::from_slice(alloc, service)?,
-            words,
+            words: Words::new(alloc, requests, text),
             written: 0,
             got: Text::new(alloc),
         })
     }
 
-    /// The next bytes that it writes, at most `max`.
-    pub(crate) fn next_words(&self, max: usize) -> &[u8]
+    /// How many bytes it writes next, at most `max`.
+    pub(crate) fn next_len(&self, max: usize) -> usize
         requires { self.now.written ≤ length self.now.words }
-        ensures { result.now ≡ take max (left_of self.now) }
+        ensures { result ≡ length (take max (left_of self.now)) }
     {
-        let left = &self.words.as_slice()[self.written..];
-        &left[..max.min(left.len())]
+        max.min(self.words.len() - self.written)
+    }
+
+    /// The next bytes that it writes, at most `max`.
+    pub(crate) fn next_words(&self, max: usize) -> Parts<'_>
+        requires { self.now.written ≤ length self.now.words }
+        ensures { result.start.now ++ result.rest.now ≡ take max (left_of self.now) }
+    {
+        self.words.behind(self.written, max)
     }
 
     /// What it was handed behind the replies to its requests.
     pub(crate) fn answer(&self) -> &[u8]
         ensures { result.now ≡ answer_of self.now }
     {
-        let got = self.got.as_slice();
-        &got[REPLIES.min(got.len())..]
+        behind_replies(self.got.as_slice())
+    }
+
+    /// The same, given away. It takes no memory.
+    pub(crate) fn into_answer(self) -> Answer
+        ensures { result ≡ answer_of self }
+    {
+        Answer::new(self.got)
     }
 
     /// It is handed some bytes.
-    pub(crate) fn hear(&mut self, piece: &[u8]) -> Result<(), AllocError>
+    pub(crate) fn hear(&mut self, piece: &HandOut) -> Result<(), AllocError>
         ensures { OnOk result (self.new ≡ handed piece.now self.old) }
     {
-        self.got.push_slice(piece)
+        let Parts { start, rest } = piece.parts();
+        self.got.push_slice(start)?;
+        self.got.push_slice(rest)
     }
 
     /// It has written so many bytes more.
@@ -78,4 +95,11 @@ impl Session {
         let left = self.words.len() - self.written - n;
         self.written = self.words.len() - left;
     }
+}
+
+/// What follows the replies to the requests.
+pub(crate) fn behind_replies(got: &[u8]) -> &[u8]
+    ensures { result.now ≡ drop REPLIES got.now }
+{
+    &got[REPLIES.min(got.len())..]
 }

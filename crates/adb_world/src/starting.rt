@@ -8,6 +8,7 @@ ghost use Rattle.adb_world.specs.Settled.{IsAtEase};
 
 use crate::parts::Parts;
 use crate::session::Session;
+use adb_outside::Text;
 use std::alloc::{AllocError, Global};
 
 /// A session is made, and its client comes.
@@ -15,14 +16,14 @@ pub(crate) fn begin(
     alloc: Global,
     parts: &mut Parts,
     service: &[u8],
-    text: &[u8],
+    text: Text,
 ) -> Result<u32, AllocError>
     requires ease { IsAtEase parts.old }
     requires known { IsKnown service.now }
     requires room { parts.old.given < most_sessions }
     ensures number { IfOk result (λ number. number ≡ parts.old.given + 1) }
     ensures added { OnOk result (Adds (parts.old.given + 1)
-        (new_session service.now text.now) parts.old parts.new) }
+        (new_session service.now text) parts.old parts.new) }
     ensures ease { OnOk result (IsAtEase parts.new) }
 {
     let session = Session::new(alloc, service, text)?;

@@ -10,12 +10,13 @@ ghost use Rattle.adb_world.specs.Parts.{Holds, IsHeld, IsRunning, Moves};
 ghost use Rattle.adb_world.specs.Session.{Changes, handed, left_of, wrote};
 ghost use Rattle.adb_world.specs.declared.session.Session.{Session};
 
-use crate::calls::{feed, put, read, receive, send};
+use crate::calls::{feed, put, read_next, receive, send};
 use crate::parts::Parts;
 use crate::session::Session;
 use adb_laws_model_device::what_a_server_sends_is_taken;
 use adb_laws_sessions::sessions_ask_for_services;
 use adb_laws_worlds::a_device_breaks_no_link;
+use adb_outside::HandOut;
 use std::alloc::AllocError;
 use std::collections::BTreeMap;
 
@@ -34,7 +35,7 @@ impl Parts {
         let Some(piece) = send(&mut self.hub, max)? else {
             return Ok(false);
         };
-        feed(&mut self.device, piece.as_slice())?;
+        feed(&mut self.device, &piece)?;
         Ok(true)
     }
 
@@ -73,7 +74,7 @@ impl Parts {
         let Some(piece) = put(&mut self.hub, number, max)? else {
             return Ok(false);
         };
-        keep(&mut self.sessions, number, piece.as_slice())?;
+        keep(&mut self.sessions, number, &piece)?;
         Ok(true)
     }
 
@@ -92,19 +93,22 @@ impl Parts {
         let Some(session) = self.sessions.get(&number) else {
             return Ok(false);
         };
-        let piece = session.next_words(max);
-        let n = piece.len();
+        let n = session.next_len(max);
         if n == 0 {
             return Ok(false);
         }
-        read(&mut self.hub, number, piece)?;
+        read_next(&mut self.hub, number, session, max)?;
         advance(&mut self.sessions, number, n);
         Ok(true)
     }
 }
 
 /// A session keeps what it is handed.
-fn keep(sessions: &mut BTreeMap<u32, Session>, number: u32, piece: &[u8]) -> Result<(), AllocError>
+fn keep(
+    sessions: &mut BTreeMap<u32, Session>,
+    number: u32,
+    piece: &HandOut,
+) -> Result<(), AllocError>
     ensures { OnOk result
         (Changes number (handed piece.now) sessions.old.entries sessions.new.entries) }
 {

@@ -13,6 +13,7 @@ ghost use Rattle.adb_world.specs.Steps.{most_steps};
 ghost use Rattle.adb_world.specs.World.{HasStarted};
 ghost use Rattle.adb_world.specs.declared.session.Session.{Session};
 
+use crate::answer::Answer;
 use crate::asking::sync_parts;
 use crate::ending::finish_parts;
 use crate::laws::{new_worlds_have_no_files, settled_worlds_are_counted};
@@ -61,6 +62,7 @@ impl World {
     {
         settled_worlds_are_counted();
         new_worlds_have_no_files();
+        keep_memory(alloc);
         let mut parts = Parts::new(alloc)?;
         parts.greet()?;
         settle_parts(&mut parts, 0)?;
@@ -82,6 +84,31 @@ impl World {
         ensures number { IfOk result (λ number. number ≡ self.old.given + 1) }
         ensures started { OnOk result (HasStarted (self.old.given + 1)
             (new_session service.now text.now) self.old self.new) }
+        ensures whole { OnOk result (self.new.spent ≡ false) }
+        ensures new { OnOk result (self.new.settled ≡ false) }
+        ensures spent { OnErr result (self.new.spent ≡ true) }
+        ensures stays { self.old.spent ≡ true → IsErr result × (self.new ≡ self.old) }
+    {
+        if self.spent {
+            return Err(AllocError);
+        }
+        match Text::from_slice(self.alloc, text) {
+            Ok(text) => self.start_text(service, text),
+            Err(error) => {
+                self.spent = true;
+                Err(error)
+            }
+        }
+    }
+
+    /// The same with a text that is moved, and not copied.
+    pub fn start_text(&mut self, service: &[u8], text: Text) -> Result<u32, AllocError>
+        requires known { is_some (service_of service.now) ≡ true }
+        requires short { length service.now ≤ most_service }
+        requires room { self.old.given < most_sessions }
+        ensures number { IfOk result (λ number. number ≡ self.old.given + 1) }
+        ensures started { OnOk result (HasStarted (self.old.given + 1)
+            (new_session service.now text) self.old self.new) }
         ensures whole { OnOk result (self.new.spent ≡ false) }
         ensures new { OnOk result (self.new.settled ≡ false) }
         ensures spent { OnErr result (self.new.spent ≡ true) }
@@ -143,6 +170,36 @@ impl World {
         ensures spent { OnErr result (self.new.spent ≡ true) }
         ensures stays { self.old.spent ≡ true → IsErr result × (self.new ≡ self.old) }
     {
+        if self.spent {
+            return Err(AllocError);
+        }
+        match Text::from_slice(self.alloc, ask) {
+            Ok(ask) => {
+                let answer = self.sync_text(seed, ask)?;
+                Ok(answer.into_text())
+            }
+            Err(error) => {
+                self.spent = true;
+                Err(error)
+            }
+        }
+    }
+
+    /// The same with bytes that are moved, and an answer that is: neither is copied.
+    pub fn sync_text(&mut self, seed: u64, ask: Text) -> Result<Answer, AllocError>
+        requires settled { self.old.settled ≡ true }
+        requires room { self.old.given < most_sessions }
+        ensures answer { IfOk result (λ answer. answer ≡ (served self.old.files ask).answer) }
+        ensures files { OnOk result (self.new.files ≡ (served self.old.files ask).files) }
+        ensures same { OnOk result (AreSame self.old.sessions self.new.sessions) }
+        ensures given { OnOk result (self.new.given ≡ self.old.given + 1) }
+        ensures calm { OnOk result (IsSettled self.new) }
+        ensures counted { OnOk result (IsCounted self.new) }
+        ensures settled { OnOk result (self.new.settled ≡ true) }
+        ensures whole { OnOk result (self.new.spent ≡ false) }
+        ensures spent { OnErr result (self.new.spent ≡ true) }
+        ensures stays { self.old.spent ≡ true → IsErr result × (self.new ≡ self.old) }
+    {
         settled_worlds_are_counted();
         if self.spent {
             return Err(AllocError);
@@ -190,6 +247,17 @@ impl World {
     {
         self.parts.device.files()
     }
+}
+
+/// A block of the size up to which memory that is given back is kept for what is asked for next.
+const KEPT: usize = 33_550_000;
+
+/// Takes a block and gives it back, where there is one: from then on glibc returns no block of its
+/// size or less to the system (`mallopt(3)`, `M_MMAP_THRESHOLD`), so that the bytes that move come
+/// to the same pages again. None of it is touched.
+fn keep_memory(alloc: Global) {
+    let block: Result<Vec<u8>, AllocError> = Vec::with_capacity(alloc, KEPT);
+    drop(block);
 }
 
 /// Moves bytes, in pieces and between sides that the seed picks, until none can move, and gives the

@@ -1,20 +1,20 @@
-use Rattle.std.proofs.Common.{ℕ, ◌∙◌, ap, List, []}
+use Rattle.std.proofs.Common.{ℕ, ◌∙◌, ap, List}
 use Rattle.adb_files.specs.Served.{served}
 use Rattle.adb_copy.proofs.PullWorlds.{one_at_most, synced}
 use Rattle.adb_copy.proofs.asking.ask.Goals as goal
 
 pub returns-clause-step : goal.returns-clause-step
 returns-clause-step g c =
-    let text = c.out.ensures ∙ c.in_ok-ask.ensures.left in
-    c.in_ok-step.ensures.told [] c.in_ok-ask.ensures.stands
+    let text = c.in_ok-text.ensures ∙ (c.out.ensures ∙ c.in_ok-ask.ensures.left) in
+    c.in_ok-step.ensures c.in_ok-ask.ensures.stands
     ∙ ap g.V.PathValue.value (c.as_slice.ensures
     ∙ (c.in_ok-answer.ensures.answer ∙ ap (λ (bytes : List ℕ). (served c.args.world.now.files bytes).answer) text))
 
 pub returns-clause-left : goal.returns-clause-left
 returns-clause-left g c _ =
-    let text = c.out.ensures ∙ c.in_ok-ask.ensures.left in
+    let text = c.in_ok-text.ensures ∙ (c.out.ensures ∙ c.in_ok-ask.ensures.left) in
     let synced_once = c.in_ok-answer.ensures in
-    one_at_most c.args.world.now c.sync.new.self
-    (synced c.args.world.now c.sync.new.self
+    one_at_most c.args.world.now c.sync_text.new.self
+    (synced c.args.world.now c.sync_text.new.self
     (synced_once.files ∙ (ap (λ (bytes : List ℕ). (served c.args.world.now.files bytes).files) text ∙ c.requires.leaves))
     synced_once.given synced_once.same synced_once.calm synced_once.counted synced_once.settled synced_once.whole)

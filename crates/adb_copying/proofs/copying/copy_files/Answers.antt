@@ -2,9 +2,9 @@ use Rattle.adb_copying.proofs.Copies.{are_copied, left_copied, pull_room}
 use Rattle.adb_copying.proofs.copying.copy_files.Goals as goal
 
 pub pull_tree-requires-clause-files : goal.pull_tree-requires-clause-files
-pull_tree-requires-clause-files c = left_copied c.push.new.world.files c.args.tree.now c.in_ok-push.ensures.files c.requires.tree
+pull_tree-requires-clause-files c = left_copied c.push.new.world.files c.args.tree c.in_ok-push.ensures.files c.requires.tree
 
 pub pull_tree-requires-clause-room : goal.pull_tree-requires-clause-room
 pull_tree-requires-clause-room c =
-    pull_room c.push.new.world.given c.push.new.world.files c.args.tree.now c.in_ok-push.ensures.given c.in_ok-push.ensures.files c.requires.tree
-    (c.directories_are_few.ensures c.args.tree.now c.are_a_map.ensures (are_copied c.args.tree.now c.requires.tree))
+    pull_room c.push.new.world.given c.push.new.world.files c.args.tree c.in_ok-push.ensures.given c.in_ok-push.ensures.files c.requires.tree
+    (c.directories_are_few.ensures c.args.tree c.are_a_map.ensures (are_copied c.args.tree c.requires.tree))

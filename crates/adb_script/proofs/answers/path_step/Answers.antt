@@ -1,5 +1,4 @@
-use Rattle.std.proofs.Common.{[]}
 use Rattle.adb_script.proofs.answers.path_step.Goals as goal
 
 pub returns : goal.returns
-returns g c = c.in_ok-step.ensures.told [] c.in_ok-ask.ensures.stands
+returns g c = c.in_ok-step.ensures c.in_ok-ask.ensures.stands

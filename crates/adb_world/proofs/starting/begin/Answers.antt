@@ -10,9 +10,9 @@ pub join-requires-clause-fresh : goal.join-requires-clause-fresh
 join-requires-clause-fresh c =
     let service : c.in_ok-session.session.service ≡ c.args.service.now = ap (λ (s : Session). s.service) c.in_ok-session.ensures in
     record {
-      text = c.args.text.now;
+      text = c.args.text;
       known = subst IsKnown (sym service) c.requires.known;
-      is = c.in_ok-session.ensures ∙ ap (λ (x : List ℕ). new_session x c.args.text.now) (sym service);
+      is = c.in_ok-session.ensures ∙ ap (λ (x : List ℕ). new_session x c.args.text) (sym service);
     }
 
 pub returns-clause-ease : goal.returns-clause-ease

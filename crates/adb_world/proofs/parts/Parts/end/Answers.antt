@@ -26,4 +26,4 @@ returns-clause-holds c h holds =
     let gone = ends_gone h legal n (c.most_entries_send_nothing.ensures h legal) (c.a_client_sends_up_its_own_stream.ensures h legal)
     (idle_state h c.args.self.now.hub _ _ holds.lawful c.requires.done.ease.calm) in
     ended_by h c.args.self.now holds n kept.session kept.is gone c.end.new.hub _ done (c.end.ensures h holds.lawful) refl refl refl
-    c.drop_session.ensures
+    c.take_session.ensures.puts

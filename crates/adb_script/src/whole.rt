@@ -1,0 +1,35 @@
+//! Whole answers.
+
+ghost use Rattle.std.specs.Prelude.{◌≡◌, ◌++◌, [], List, ℕ, IfOk, OnOk};
+ghost use Rattle.adb_sync_client.specs.Reading.{StandsFor};
+
+use adb_sync_client::{PathAsk, PathValue, Step};
+use std::alloc::AllocError;
+
+/// How many bytes are fed at once: a chunk of the most bytes, with its header.
+const PIECE: usize = 65_544;
+
+/// What all the bytes of the answer to a request mean, of which none was fed before. They are fed in
+/// pieces, so that no more than one stands beside what they tell, which is given away.
+pub fn read_whole<V: PathValue>(ask: &mut PathAsk<V>, answer: &[u8]) -> Result<Step<V>, AllocError>
+    ensures { IfOk result (λ step. StandsFor V.kind [] ask.old.read
+        → step ≡ V.value answer.now) }
+{
+    let mut rest = answer;
+    while rest.len() > PIECE {
+        let (piece, more) = rest.split_at(PIECE);
+        feed_piece(ask, piece)?;
+        rest = more;
+    }
+    let step = ask.feed_to_end(rest)?;
+    Ok(step)
+}
+
+/// Feeds a piece behind which others come.
+fn feed_piece<V: PathValue>(ask: &mut PathAsk<V>, piece: &[u8]) -> Result<(), AllocError>
+    ensures { OnOk result ((fed : List ℕ) → StandsFor V.kind fed ask.old.read
+        → StandsFor V.kind (fed ++ piece.now) ask.new.read) }
+{
+    ask.feed(piece)?;
+    Ok(())
+}

@@ -1,0 +1,75 @@
+//! What a session writes.
+
+ghost use Rattle.std.specs.Prelude.{◌≡◌, ◌≤◌, ◌++◌, length, take, drop, IfOk};
+
+use adb_outside::{Parts, Text};
+use std::alloc::{AllocError, Global};
+use std::marker::Model;
+
+/// The requests of a session, and its text behind them, which is not copied. Contracts see all their
+/// bytes as one list.
+#[derive(Drop)]
+pub struct Words {
+    alloc: Global,
+    requests: Text,
+    text: Text,
+}
+
+impl Model for Words {
+    ghost use Rattle.std.specs.Prelude.{◌++◌, List, ℕ};
+
+    ghost Value = { List ℕ };
+
+    ghost view = { λ words. words.requests ++ words.text };
+}
+
+impl Words {
+    /// Requests, and a text. It takes no memory.
+    pub(crate) fn new(alloc: Global, requests: Text, text: Text) -> Words
+        ensures { result ≡ requests ++ text }
+    {
+        Words {
+            alloc,
+            requests,
+            text,
+        }
+    }
+
+    /// How many bytes there are.
+    pub(crate) fn len(&self) -> usize
+        ensures { result ≡ length self.now }
+    {
+        self.requests.as_slice().len() + self.text.as_slice().len()
+    }
+
+    /// The bytes behind the first `n`, where they are, and at most `max` of them.
+    pub(crate) fn behind(&self, n: usize, max: usize) -> Parts<'_>
+        requires { n ≤ length self.now }
+        ensures { result.start.now ++ result.rest.now ≡ take max (drop n self.now) }
+    {
+        let requests = self.requests.as_slice();
+        let (gone, start) = requests.split_at(n.min(requests.len()));
+        let start = first(start, max);
+        let (_, rest) = self.text.as_slice().split_at(n - gone.len());
+        Parts {
+            start,
+            rest: first(rest, max - start.len()),
+        }
+    }
+
+    /// A copy of two slices, one behind the other.
+    pub(crate) fn join(&self, start: &[u8], rest: &[u8]) -> Result<Text, AllocError>
+        ensures { IfOk result (λ text. text ≡ start.now ++ rest.now) }
+    {
+        let mut text = Text::from_slice(self.alloc, start)?;
+        text.push_slice(rest)?;
+        Ok(text)
+    }
+}
+
+/// The first bytes, at most `max`.
+fn first(bytes: &[u8], max: usize) -> &[u8]
+    ensures { result.now ≡ take max bytes.now }
+{
+    &bytes[..max.min(bytes.len())]
+}
