@@ -171,7 +171,8 @@ pub(crate) fn feed(device: &mut Daemon, out: &HandOut) -> Result<(), AllocError>
 {
     let Parts { start, rest } = out.parts();
     feed_front(device, start)?;
-    feed_last(device, rest)
+    feed_last(device, rest)?;
+    Ok(())
 }
 
 /// The device takes bytes. What it finds wrong in them it tells of those behind them too.
