@@ -9,7 +9,7 @@ feed_last-requires c =
     let start : List ℕ = c.parts.result.start.now in
     let rest : List ℕ = c.parts.result.rest.now in
     let all : (c.requires.fed ++ start) ++ rest ≡ c.requires.fed ++ c.args.out.now =
-    append_assoc c.requires.fed start rest ∙ ap (λ (bytes : List ℕ). c.requires.fed ++ bytes) c.parts.ensures in
+    append_assoc c.requires.fed start rest ∙ ap (λ (bytes : List ℕ). c.requires.fed ++ bytes) c.parts.ensures.is in
     record {
       fed = c.requires.fed ++ start;
       taken = c.requires.taken;
@@ -22,6 +22,6 @@ returns c fed taken done =
     let start : List ℕ = c.parts.result.start.now in
     let rest : List ℕ = c.parts.result.rest.now in
     let all : (fed ++ start) ++ rest ≡ fed ++ c.args.out.now =
-    append_assoc fed start rest ∙ ap (λ (bytes : List ℕ). fed ++ bytes) c.parts.ensures in
+    append_assoc fed start rest ∙ ap (λ (bytes : List ℕ). fed ++ bytes) c.parts.ensures.is in
     subst (λ (bytes : List ℕ). HasDone model_setting bytes taken c.feed_last.new.device) all
     (c.in_ok-feed_last.ensures (fed ++ start) taken (c.in_ok-feed_front.ensures model_setting fed taken done))
