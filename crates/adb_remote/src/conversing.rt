@@ -1,6 +1,6 @@
 //! A conversation.
 
-ghost use Rattle.std.specs.Prelude.{◌≡◌, ◌≢◌, ◌≤◌, ◌⊎◌, [], Err, Some, false, length, option_map, IfSome};
+ghost use Rattle.std.specs.Prelude.{◌≡◌, ◌≢◌, ◌<◌, ◌≤◌, ◌⊎◌, [], Err, Some, false, length, option_map, IfSome};
 ghost use Rattle.adb_outside.specs.Outside.{Rises};
 ghost use Rattle.adb_remote_words.specs.Words.{HasWords};
 ghost use Rattle.adb_remote.specs.Sending.{seen};
@@ -8,6 +8,7 @@ ghost use Rattle.adb_sync_client.specs.declared.step.Step.TheVariants.{More};
 ghost use Rattle.adb_remote_words.specs.Outcome.{decided};
 ghost use Rattle.adb_remote_words.specs.Reading.{ReadingStands};
 ghost use Rattle.adb_remote.specs.Conversing.{Converses, Listens, inlet, ports_of};
+ghost use Rattle.adb_remote.specs.declared.conversing.TheConstants.{MAX_PIECE};
 
 use crate::saying::say;
 use crate::sending::remote_error;
