@@ -87,6 +87,7 @@ fn devices_over_sockets(rt: HostRuntime) -> Result<(), Fail> {
 
 /// The two parts of each packet.
 const START: [u8; 24] = [1; 24];
+
 const REST: [u8; 65_536] = [2; 65_536];
 
 /// So many packets are more than lies between two ends.
