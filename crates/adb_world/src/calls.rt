@@ -1,6 +1,6 @@
 //! What a world asks of its hub and its device, which refuse none of it.
 
-ghost use Rattle.std.specs.Prelude.{◌≡◌, ◌<◌, ◌≤◌, ◌+◌, ◌-◌, ◌^◌, ◌++◌, ◌∷◌, [], true, false, ℕ, List, length, take, IfOk, OnOk};
+ghost use Rattle.std.specs.Prelude.{◌≡◌, ◌≢◌, ◌<◌, ◌≤◌, ◌+◌, ◌-◌, ◌^◌, ◌++◌, ◌∷◌, [], true, false, ℕ, List, Err, length, take, IfOk, OnOk};
 ghost use Rattle.adb_outside.specs.declared.kinds.Cause.{Cause};
 ghost use Rattle.adb_capture.specs.declared.entry.Entry.{Entry};
 ghost use Rattle.adb_history.specs.Accepted.{is_drawn};
@@ -8,6 +8,7 @@ ghost use Rattle.adb_history.specs.Kept.{IsLawful};
 ghost use Rattle.adb_history.specs.Machine.{History, state};
 ghost use Rattle.adb_daemon.specs.Daemon.{HasDone};
 ghost use Rattle.adb_daemon.specs.Device.{Setting};
+ghost use Rattle.adb_daemon.specs.declared.error.DaemonError.{DaemonError};
 ghost use Rattle.adb_hub.specs.Answers.{due_on, offered_to};
 ghost use Rattle.adb_laws_sessions.specs.Model.{model_setting};
 ghost use Rattle.adb_world.specs.Calls.{HasHistory, HasTaken, TakesSoundly, bytes_of};
@@ -181,10 +182,18 @@ fn feed_front(device: &mut Daemon, piece: &[u8]) -> Result<(), AllocError>
         → HasDone setting fed taken device.old
         → HasDone setting (fed ++ piece.now) taken device.new) }
 {
-    match device.feed(piece) {
-        Err(DaemonError::OutOfMemory) => Err(AllocError),
-        Ok(()) | Err(_) => Ok(()),
+    let answer = device.feed(piece);
+    if ran_out(&answer) {
+        return Err(AllocError);
     }
+    Ok(())
+}
+
+/// Whether a device found no memory.
+fn ran_out(answer: &Result<(), DaemonError>) -> bool
+    ensures { result ≡ false → answer.now ≢ Err DaemonError.OutOfMemory }
+{
+    matches!(answer, Err(DaemonError::OutOfMemory))
 }
 
 /// The device takes bytes in which it finds nothing wrong.

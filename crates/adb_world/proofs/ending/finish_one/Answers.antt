@@ -3,17 +3,17 @@ use Rattle.adb_world.proofs.ending.finish_one.Goals as goal
 
 pub settle_parts-requires : goal.settle_parts-requires
 settle_parts-requires c =
-    ends_running c.what_came_stays.ensures c.args.number c.args.parts.now c.end.new.self c.requires.done.ease.runs c.end.ensures.holds
+    ends_running c.what_came_stays.ensures c.args.number c.args.parts.now c.end-session.new.self c.requires.done.ease.runs c.end-session.ensures.holds
 
 pub returns-clause-same : goal.returns-clause-same
 returns-clause-same c =
-    same_but c.args.number c.args.parts.now c.end.new.self c.settle_parts.new.parts c.end.ensures.dropped c.in_ok-settle_parts.ensures.goes.same
+    same_but c.args.number c.args.parts.now c.end-session.new.self c.settle_parts.new.parts c.end-session.ensures.dropped c.in_ok-settle_parts.ensures.goes.same
 
 pub returns-clause-files : goal.returns-clause-files
 returns-clause-files c =
-    c.ended_sessions_change_no_file.ensures c.args.number c.args.parts.now c.end.new.self c.settle_parts.new.parts c.requires.done (record {
-      dropped = c.end.ensures.dropped;
-      ends = c.end.ensures.holds;
+    c.ended_sessions_change_no_file.ensures c.args.number c.args.parts.now c.end-session.new.self c.settle_parts.new.parts c.requires.done (record {
+      dropped = c.end-session.ensures.dropped;
+      ends = c.end-session.ensures.holds;
       goes = c.in_ok-settle_parts.ensures.goes;
       done = c.in_ok-settle_parts.ensures.done;
     })

@@ -1,12 +1,10 @@
-use Rattle.std.specs.Prelude.{ℕ, List, Option, ◌++◌}
-use Rattle.std.proofs.Common.{sym, subst}
+use Rattle.std.specs.Prelude.{ℕ, List, Option}
+use Rattle.std.proofs.Common.{subst}
 use Rattle.adb_capture.specs.declared.entry.Entry.TheVariants.{Send}
 use Rattle.adb_history.specs.Bytes.{bytes_sent, bytes_received}
 use Rattle.adb_history.specs.Machine.{state}
 use Rattle.adb_hub.specs.Answers.{due_on}
-use Rattle.adb_daemon.specs.Daemon.{HasDone}
-use Rattle.adb_laws_sessions.specs.Model.{model_setting}
-use Rattle.adb_world.specs.Calls.{HasTaken, TakesSoundly}
+use Rattle.adb_world.specs.Calls.{HasTaken}
 use Rattle.adb_world.proofs.Moved.{down_takes, down_moved}
 use Rattle.adb_world.proofs.Open.{linked}
 use Rattle.adb_world.proofs.parts.Parts.down.Goals as goal
@@ -20,13 +18,11 @@ feed-requires c =
     let holds = c.requires.held.holds in
     let out = subst (λ (o : Option (List ℕ)). HasTaken (Send 1) c.args.max (due_on ((state h).links 1)) o h c.args.self.now.hub c.send.new.hub)
     c.in-Some.is (c.in_ok-piece.ensures h holds.lawful) in
-    subst (TakesSoundly c.args.self.now.device) (sym c.as_slice.ensures)
-    (down_takes h c.args.self.now holds c.args.max c.send.new.hub c.in-Some.piece out c.what_a_server_sends_is_taken.ensures)
+    down_takes h c.args.self.now holds c.args.max c.send.new.hub c.in-Some.piece out c.what_a_server_sends_is_taken.ensures
 
 pub returns-clause-moves : goal.returns-clause-moves
 returns-clause-moves c h holds =
     let out = subst (λ (o : Option (List ℕ)). HasTaken (Send 1) c.args.max (due_on ((state h).links 1)) o h c.args.self.now.hub c.send.new.hub)
     c.in-Some.is (c.in_ok-piece.ensures h holds.lawful) in
-    let done = subst (λ (x : List ℕ). HasDone model_setting (bytes_sent 1 h ++ x) (bytes_received 1 h) c.feed.new.device) c.as_slice.ensures
-    (c.in_ok-feed.ensures (bytes_sent 1 h) (bytes_received 1 h) holds.done) in
+    let done = c.in_ok-feed.ensures (bytes_sent 1 h) (bytes_received 1 h) holds.done in
     down_moved h c.args.self.now holds c.args.max c.send.new.hub c.in-Some.piece out c.feed.new.device done

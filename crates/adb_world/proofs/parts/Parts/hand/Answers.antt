@@ -4,7 +4,6 @@ use Rattle.adb_capture.specs.declared.entry.Entry.TheVariants.{Put}
 use Rattle.adb_history.specs.Machine.{state}
 use Rattle.adb_hub.specs.Answers.{offered_to}
 use Rattle.adb_world.specs.Calls.{HasTaken}
-use Rattle.adb_world.specs.Session.{Changes, handed}
 use Rattle.adb_world.proofs.Moved.{hand_moved}
 use Rattle.adb_world.proofs.Open.{there_drawn}
 use Rattle.adb_world.proofs.parts.Parts.hand.Goals as goal
@@ -18,6 +17,4 @@ returns c h holds =
     let n = c.args.number in
     let out = subst (λ (o : Option (List ℕ)). HasTaken (Put n) c.args.max (offered_to (state h).devices ((state h).clients n)) o h
     c.args.self.now.hub c.put.new.hub) c.in-Some.is (c.in_ok-piece.ensures h holds.lawful) in
-    let puts = subst (λ (x : List ℕ). Changes n (handed x) c.args.self.now.sessions.entries c.keep.new.sessions.entries) c.as_slice.ensures
-    c.in_ok-keep.ensures in
-    hand_moved h c.args.self.now holds c.args.max c.put.new.hub n c.in-Some.piece _ out refl refl refl puts
+    hand_moved h c.args.self.now holds c.args.max c.put.new.hub n c.in-Some.piece _ out refl refl refl c.in_ok-keep.ensures

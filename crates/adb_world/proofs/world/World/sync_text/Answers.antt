@@ -1,4 +1,4 @@
-use Rattle.adb_world.proofs.world.World.sync.Goals as goal
+use Rattle.adb_world.proofs.world.World.sync_text.Goals as goal
 
 pub returns-in-Ok-clause-counted : goal.returns-in-Ok-clause-counted
 returns-in-Ok-clause-counted c =
