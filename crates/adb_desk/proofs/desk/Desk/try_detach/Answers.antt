@@ -9,8 +9,8 @@ invariant_of-self-in-Err-keep g c =
     c.self.invariant (sym c.shut.ensures.shut ∙ c.in_default.is)
     (λ h lawful. (refl, (c.in-Ok.ensures.detached h lawful).1)) c.keep.ensures.keeps
 
-pub invariant_of-self-in-Ok-keep-10 : goal.invariant_of-self-in-Ok-keep-10
-invariant_of-self-in-Ok-keep-10 g c =
+pub invariant_of-self-in-Ok-keep-14 : goal.invariant_of-self-in-Ok-keep-14
+invariant_of-self-in-Ok-keep-14 g c =
     stays_sound (record { hub = c.self.inside.hub; log = c.self.inside.log }) (Detach c.args.link c.args.cause) c.detach.new.self c.keep.result c.keep.new.self
     c.self.invariant (sym c.shut.ensures.shut ∙ c.in_default.is)
     (λ h lawful. (refl, (c.in-Ok.ensures.detached h lawful).1)) c.keep.ensures.keeps

@@ -13,8 +13,8 @@ invariant_of-self-in-Err-keep g c =
           (c.in-Ok.ensures.joined h lawful).1 (c.in-Ok.ensures.joined h lawful).2,
     )) c.keep.ensures.keeps
 
-pub invariant_of-self-in-Ok-keep-10 : goal.invariant_of-self-in-Ok-keep-10
-invariant_of-self-in-Ok-keep-10 g c =
+pub invariant_of-self-in-Ok-keep-14 : goal.invariant_of-self-in-Ok-keep-14
+invariant_of-self-in-Ok-keep-14 g c =
     stays_sound (record { hub = c.self.inside.hub; log = c.self.inside.log }) (Join c.in-Ok.client) c.join.new.self c.keep.result c.keep.new.self
     c.self.invariant (sym c.shut.ensures.shut ∙ c.in_default.is)
     (λ h lawful. (
