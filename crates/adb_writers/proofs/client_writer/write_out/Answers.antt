@@ -7,5 +7,5 @@ returns-in-Failed-clause-wrote g c = record {
   front = take c.in-Failed.taken c.args.bytes.now;
   lost = drop c.in-Failed.taken c.args.bytes.now;
   is = sym (take-append-drop c.in-Failed.taken c.args.bytes.now);
-  wrote = λ out is. rw c.parts.ensures at (c.in-Failed.ensures.told out is);
+  wrote = λ out is. rw c.parts.ensures.is at (c.in-Failed.ensures.told out is);
 }
