@@ -27,6 +27,9 @@ pulls_on n m a b c first second = record {
   syncs = syncs_more {n = n} {m = m} {old = a} {mid = b} {new = c} first.syncs second.syncs;
 }
 
+pub none_at_most : (most : ℕ) (world : View) → world.settled ≡ true → PullsAtMost most world world
+none_at_most most world settled = record { sessions = 0; few = omega arith; pulls = pulls_none world settled }
+
 pub one_at_most : (a b : View) → Pulls 1 a b → PullsAtMost 1 a b
 one_at_most a b pulls = record { sessions = 1; few = omega arith; pulls = pulls }
 

@@ -1,6 +1,6 @@
 use Rattle.std.proofs.Common.{ℕ, ◌∙◌, ap, List}
 use Rattle.adb_files.specs.Served.{served}
-use Rattle.adb_copy.proofs.PullWorlds.{one_at_most, synced}
+use Rattle.adb_copy.proofs.PullWorlds.{none_at_most, one_at_most, synced}
 use Rattle.adb_copy.proofs.asking.ask.Goals as goal
 
 pub returns-clause-step : goal.returns-clause-step
@@ -18,3 +18,6 @@ returns-clause-left g c _ =
     (synced c.args.world.now c.sync_text.new.self
     (synced_once.files ∙ (ap (λ (bytes : List ℕ). (served c.args.world.now.files bytes).files) text ∙ c.requires.leaves))
     synced_once.given synced_once.same synced_once.calm synced_once.counted synced_once.settled synced_once.whole)
+
+pub returns-in_err-text-clause-left : goal.returns-in_err-text-clause-left
+returns-in_err-text-clause-left g c _ = none_at_most 1 c.args.world.now c.requires.settled
