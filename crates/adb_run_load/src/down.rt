@@ -40,13 +40,7 @@ impl Down {
                 self.put(*client, bytes.len());
                 Ok(())
             }
-            Entry::Read { .. }
-            | Entry::End { .. }
-            | Entry::Bound { .. }
-            | Entry::Attach { .. }
-            | Entry::Recv { .. }
-            | Entry::Detach { .. }
-            | Entry::Send { .. } => Ok(()),
+            _ => Ok(()),
         }
     }
 

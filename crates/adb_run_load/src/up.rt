@@ -38,15 +38,7 @@ impl Up {
     {
         match entry {
             Entry::Send { link, bytes } => self.sent(*link, bytes),
-            Entry::Join { .. }
-            | Entry::Enter { .. }
-            | Entry::Read { .. }
-            | Entry::End { .. }
-            | Entry::Bound { .. }
-            | Entry::Attach { .. }
-            | Entry::Recv { .. }
-            | Entry::Detach { .. }
-            | Entry::Put { .. } => Ok(()),
+            _ => Ok(()),
         }
     }
 

@@ -22,7 +22,7 @@ pub use counting::{byte_sum, push_number};
 pub use laws::{limits_are, pulls_are_read, pushed_files_are_pulled, pushes_are_stored};
 pub use line::{EchoLine, ScriptLine, SessionLine};
 pub use output::push_escaped;
-pub use pushing::{MAX_MODE, MIN_MODE, push_text};
+pub use pushing::{MAX_MODE, MIN_MODE, pattern_text, push_text};
 pub use reading::split_once;
 pub use script::{MAX_LINES, MAX_SCRIPT, Script, ScriptError, split_line};
 pub use sent::pattern;
