@@ -1,4 +1,5 @@
 mod Taking
 mod Readings
 mod Cutting
-mod Named
+mod AllNamed
+pub mod Shadows
