@@ -2,4 +2,5 @@ mod Taking
 mod Readings
 mod Cutting
 mod AllNamed
+mod Kept
 pub mod Shadows
