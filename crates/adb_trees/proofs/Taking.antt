@@ -88,8 +88,3 @@ module _ (files new : List Entry) (size : ℕ) (line : FileLine) where
       let done = subst (λ (b : Bool). PutsLine b line files new) is p in
       let all : total new ≡ total (with_file line.path (file_of line) files) = ap total done.1 in
       omega (arith, all, total-with line.path (file_of line) files, length_pattern 0 line.size, less_without line.path files, counted)
-
-  pub same_room : (put : Bool) → put ≡ false → PutsLine put line files new → total files ≤ size → total new ≤ size
-  same_room put is p counted =
-      let done = subst (λ (b : Bool). PutsLine b line files new) is p in
-      subst (λ (fs : List Entry). total fs ≤ size) (sym done.1) counted
