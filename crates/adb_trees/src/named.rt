@@ -15,7 +15,7 @@ ghost use Rattle.byteorder.specs.Endian.{little_bytes, little_number};
 use crate::line::FileLine;
 use adb_files::{File, FileError, Files};
 use adb_outside::Text;
-use adb_script::{pattern, push_text};
+use adb_script::pattern_text;
 use byteorder::{ByteOrder, LittleEndian};
 use std::alloc::{AllocError, Global};
 use std::marker::Model;
@@ -124,8 +124,8 @@ fn text_of(alloc: Global, path: &[u8], kept: &File) -> Result<Text, AllocError>
     ensures { IfOk result (λ text. text
         ≡ push_text path.now kept.now.mode kept.now.mtime (named_file kept.now).bytes) }
 {
-    let bytes = pattern(alloc, 0, size_in(kept.bytes.as_slice()))?;
-    push_text(alloc, path, kept.mode, kept.mtime, bytes.as_slice())
+    let size = size_in(kept.bytes.as_slice());
+    pattern_text(alloc, path, kept.mode, kept.mtime, size)
 }
 
 /// A number of bytes, as it is kept.
