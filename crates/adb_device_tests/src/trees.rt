@@ -1,9 +1,9 @@
 //! Trees that scripts name, worked out by hand.
 
-use adb_files::Files;
+use adb_outside::Text;
 use adb_script::ScriptError;
-use adb_trees::read_tree;
-use std::alloc::Global;
+use adb_trees::{NamedTree, read_tree};
+use std::alloc::{AllocError, Global};
 use std::test::Fail;
 
 /// Scripts, how many files they name, and the number of the first line that is refused, or 0.
@@ -31,6 +31,16 @@ const TREES: &[(&[u8], usize, u32)] = &[
     (b"/a 33188 0 \n", 0, 1),
 ];
 
+/// Paths, and what pushes the files that two lines name at them.
+const PUSHES: &[(&[u8], &[u8])] = &[
+    (
+        b"/b/y",
+        b"SEND\x0a\0\0\0/b/y,33188DATA\x03\0\0\0\x00\x01\x02DONE\x05\0\0\0",
+    ),
+    (b"/a", b"SEND\x08\0\0\0/a,33261DONE\x02\x01\0\0"),
+    (b"/b", b""),
+];
+
 /// The files of a script, and the first line that is refused, or 0; want of memory is none.
 fn files_of(alloc: Global, script: &[u8]) -> (usize, u32) {
     match read_tree(alloc, script) {
@@ -41,7 +51,7 @@ fn files_of(alloc: Global, script: &[u8]) -> (usize, u32) {
 }
 
 /// How many files there are.
-fn count(files: &Files) -> usize {
+fn count(files: &NamedTree) -> usize {
     let mut after: &[u8] = b"";
     for number in 0..1_025 {
         match files.next_path(after) {
@@ -57,6 +67,24 @@ fn trees_are_read(rt: HostRuntime) -> Result<(), Fail> {
     let alloc = rt.alloc();
     for &(script, files, line) in TREES {
         assert!(rt; files_of(alloc, script) == (files, line), "{script:?}");
+    }
+    Ok(())
+}
+
+/// What pushes the file of a path of a script; nothing where the script doesn't name it.
+fn push_of(alloc: Global, script: &[u8], path: &[u8]) -> Result<Text, AllocError> {
+    match read_tree(alloc, script) {
+        Ok(files) if files.has(path) => files.push_text(alloc, path),
+        _ => Ok(Text::new(alloc)),
+    }
+}
+
+#[test]
+fn named_files_are_pushed(rt: HostRuntime) -> Result<(), Fail> {
+    let alloc = rt.alloc();
+    for &(path, text) in PUSHES {
+        let pushed = push_of(alloc, b"/b/y 33188 5 3\n/a 33261 258 0\n", path)?;
+        assert!(rt; pushed.as_slice() == text, "{path:?}");
     }
     Ok(())
 }

@@ -1,3 +1,4 @@
 pub mod Lines
+pub mod NamedTree
 pub mod Shown
 pub mod Trees

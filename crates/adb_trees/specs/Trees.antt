@@ -100,3 +100,4 @@ pub record Reads (script rest : List ℕ) (lines : ℕ) (tree : Tree) : Type 0 w
   pub so : reads_from (lines + 1) (length script - length rest) tree (lines_of rest) ≡ read script
   pub within : length rest ≤ length script
   pub few : lines ≤ MAX_LINES
+  pub files : length tree.files ≤ lines

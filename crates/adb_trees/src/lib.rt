@@ -3,8 +3,10 @@
 
 mod laws;
 mod line;
+mod named;
 mod reading;
 mod tree;
 
 pub use laws::limits_are;
+pub use named::NamedTree;
 pub use reading::read_tree;

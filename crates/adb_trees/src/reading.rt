@@ -3,14 +3,14 @@
 ghost use Rattle.std.specs.Prelude.{◌≡◌, ◌≢◌, ◌<◌, ◌+◌, ℕ, Some, None, Err, length, IfOk, OnOk};
 ghost use Rattle.adb_trees.specs.Trees.{AreNamed, Reads, first_bad, tree_of};
 
+use crate::named::NamedTree;
 use crate::tree::Tree;
-use adb_files::Files;
 use adb_script::{MAX_LINES, MAX_SCRIPT, ScriptError, split_line};
 use std::alloc::{AllocError, Global};
 
 /// Reads the files that the lines of a script name: lines that end with a newline, a last one without
 /// it among them. Where a line is refused the first such is told, or want of memory.
-pub fn read_tree(alloc: Global, script: &[u8]) -> Result<Files, ScriptError>
+pub fn read_tree(alloc: Global, script: &[u8]) -> Result<NamedTree, ScriptError>
     ensures tree { IfOk result (λ files. tree_of script.now ≡ Some files) }
     ensures named { IfOk result (λ files. AreNamed files) }
     ensures good { OnOk result (first_bad script.now ≡ None) }

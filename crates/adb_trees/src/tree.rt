@@ -1,14 +1,14 @@
 //! A tree, as lines name its files.
 
-ghost use Rattle.std.specs.Prelude.{◌≡◌, ◌+◌, ◌^◌, ◌<◌, length, nat_lt, is_some, Some, IfOk};
+ghost use Rattle.std.specs.Prelude.{◌≡◌, ◌+◌, ◌<◌, length, nat_lt, is_some, Some, IfOk};
 ghost use Rattle.adb_files.specs.Files.{file_at};
+ghost use Rattle.adb_script.specs.declared.script.TheConstants.{MAX_LINES};
 ghost use Rattle.adb_trees.specs.Lines.{line_of};
-ghost use Rattle.adb_trees.specs.Trees.{Puts, PutsLine, Takes, behind, no_tree};
+ghost use Rattle.adb_trees.specs.Trees.{Takes, behind, no_tree};
 ghost use Rattle.adb_trees.specs.declared.tree.TheConstants.{MAX_TREE};
 
 use crate::line::{FileLine, read_line};
-use adb_files::{File, FileError, Files};
-use adb_script::pattern;
+use crate::named::NamedTree;
 use std::alloc::{AllocError, Global};
 use std::marker::Model;
 
@@ -18,13 +18,13 @@ pub const MAX_TREE: u32 = 67_108_864;
 /// The files that the lines so far name. Contracts see them, and how many bytes they have together.
 #[derive(Drop)]
 pub struct Tree {
-    alloc: Global,
-    files: Files,
+    files: NamedTree,
     size: u32,
 }
 
 impl Model for Tree {
     ghost use Rattle.std.specs.Prelude.{◌≤◌};
+    ghost use Rattle.adb_files.specs.Files.{total};
     ghost use Rattle.adb_trees.specs.Trees.{Tree};
     ghost use Rattle.adb_trees.specs.declared.tree.TheConstants.{MAX_TREE};
 
@@ -32,7 +32,7 @@ impl Model for Tree {
 
     ghost view = { λ tree. record { files = tree.files; size = tree.size } };
 
-    ghost invariant = { λ tree. tree.size ≤ MAX_TREE };
+    ghost invariant = { λ tree. (total tree.files ≤ tree.size) × (tree.size ≤ MAX_TREE) };
 }
 
 impl Tree {
@@ -41,8 +41,7 @@ impl Tree {
         ensures { result ≡ no_tree }
     {
         Tree {
-            alloc,
-            files: Files::new(alloc),
+            files: NamedTree::new(alloc),
             size: 0,
         }
     }
@@ -50,6 +49,7 @@ impl Tree {
     /// Takes the file that a line names, without its newline; `false` where the line is refused. The
     /// tree is as before then.
     pub fn take(&mut self, text: &[u8]) -> Result<bool, AllocError>
+        requires { length self.old.files < MAX_LINES }
         ensures { IfOk result (λ taken.
             Takes taken (behind self.old (line_of text.now)) self.old self.new) }
     {
@@ -60,7 +60,7 @@ impl Tree {
     }
 
     /// The files.
-    pub fn into_files(self) -> Files
+    pub fn into_files(self) -> NamedTree
         ensures { result ≡ self.files }
     {
         self.files
@@ -68,13 +68,14 @@ impl Tree {
 
     /// Takes the file of a line.
     fn take_file(&mut self, line: &FileLine<'_>) -> Result<bool, AllocError>
+        requires { length self.old.files < MAX_LINES }
         ensures { IfOk result (λ taken.
             Takes taken (behind self.old (Some line.now)) self.old self.new) }
     {
         if self.has(line.path.as_slice()) || self.is_too_much(line.size) {
             return Ok(false);
         }
-        if !put_line(self.alloc, &mut self.files, line)? {
+        if !self.files.put(line)? {
             return Ok(false);
         }
         self.size += line.size;
@@ -85,7 +86,7 @@ impl Tree {
     fn has(&self, path: &[u8]) -> bool
         ensures { result ≡ is_some (file_at path.now self.now.files) }
     {
-        self.files.get(path).is_some()
+        self.files.has(path)
     }
 
     /// Whether so many bytes more are too many.
@@ -93,30 +94,5 @@ impl Tree {
         ensures { result ≡ nat_lt MAX_TREE (self.now.size + size) }
     {
         size > MAX_TREE - self.size
-    }
-}
-
-/// Puts the file of a line; `false` where it is refused.
-fn put_line(alloc: Global, files: &mut Files, line: &FileLine<'_>) -> Result<bool, AllocError>
-    ensures { IfOk result (λ put. PutsLine put line.now files.old files.new) }
-{
-    let file = File {
-        mode: line.mode,
-        mtime: line.mtime,
-        bytes: pattern(alloc, 0, line.size)?,
-    };
-    let done = put(files, line.path.as_slice(), file)?;
-    Ok(done)
-}
-
-/// Puts a file; `false` where it is refused.
-fn put(files: &mut Files, path: &[u8], file: File) -> Result<bool, AllocError>
-    requires { length path.now < 2 ^ 32 }
-    ensures { IfOk result (λ put. Puts put path.now file files.old files.new) }
-{
-    match files.put(path, file) {
-        Ok(()) => Ok(true),
-        Err(FileError::OutOfMemory) => Err(AllocError),
-        Err(_) => Ok(false),
     }
 }
