@@ -1,4 +1,6 @@
 mod Taking
 mod Readings
 mod Cutting
-mod Named
+mod AllNamed
+mod Kept
+pub mod Shadows

@@ -8,6 +8,7 @@ use Rattle.std.proofs.lemmas.List.{length-take}
 use Rattle.adb_script.specs.declared.script.TheConstants.{MAX_LINES, MAX_SCRIPT}
 use Rattle.adb_script.specs.Script.{CutsLine, is_too_far, lines_of}
 use Rattle.adb_trees.specs.Lines.{line_of, said}
+use Rattle.adb_trees.proofs.AllNamed.{grows_by_one}
 use Rattle.adb_trees.specs.Trees.{Tree, Reads, behind, behind_line, first_bad, no_tree, read, reads_from, then_reads, tree_of}
 
 pub begins : (script : List ℕ) → Reads script script 0 no_tree
@@ -15,6 +16,7 @@ begins script = record {
   so = ap (λ (n : ℕ). reads_from 1 n no_tree (lines_of script)) (omega arith);
   within = omega arith;
   few = omega arith;
+  files = omega arith;
 }
 
 -- what is known of the first line of what is left
@@ -57,6 +59,7 @@ module _ (script rest text more : List ℕ) (lines : ℕ) (tree : Tree) (cuts : 
     so = sym (ap (λ (o : Option Tree). then_reads (lines + 1) o (λ next. reads_from (lines + 1 + 1) end next (lines_of more))) (near is ∙ taken)) ∙ whole;
     within = omega (arith, cuts.shorter, old.within);
     few = few;
+    files = (let grown = grows_by_one tree next (line_of text) taken in let files = old.files in omega (arith, grown, files));
   }
 
 pub not_far : (number end : ℕ) → number ≤ MAX_LINES → end ≤ MAX_SCRIPT → is_too_far number end ≡ false

@@ -1,17 +1,17 @@
 -- The file of a line is taken behind a tree, or it is refused.
-use Rattle.std.proofs.Common.{ℕ, ◌+◌, ◌≡◌, ◌||◌, Bool, true, false, cond, not, List, length, Option, Some, None, refl, ◌∙◌, ap, sym, subst}
+use Rattle.std.proofs.Common.{ℕ, ◌+◌, ◌≡◌, ◌≤◌, ◌||◌, arith, Bool, true, false, cond, not, List, length, Option, Some, None, refl, ◌∙◌, ap, sym, subst}
 use Rattle.std.specs.Prelude.{is_some, nat_lt}
-use Rattle.adb_files.specs.declared.file.File.{File}
 use Rattle.adb_files.specs.declared.file.FileError.{FileError}
 use Rattle.adb_files.specs.Entries.{Entry}
-use Rattle.adb_files.specs.Files.{file_at, put_refusal}
+use Rattle.adb_files.specs.Files.{file_at, put_refusal, total, with_file}
 use Rattle.adb_files.specs.Paths.{is_path}
 use Rattle.adb_files.proofs.Lookups.{granted}
-use Rattle.adb_script.specs.Pattern.{pattern}
+use Rattle.adb_files.proofs.Rising.{total-with}
 use Rattle.adb_script.proofs.Patterns.{length_pattern}
 use Rattle.adb_trees.specs.declared.line.FileLine.{FileLine}
 use Rattle.adb_trees.specs.declared.tree.TheConstants.{MAX_TREE}
-use Rattle.adb_trees.specs.Trees.{Tree, Puts, PutsLine, Takes, behind, file_of, is_refused, with_line}
+use Rattle.adb_trees.proofs.Kept.{less_without}
+use Rattle.adb_trees.specs.Trees.{Tree, PutsLine, Takes, behind, file_of, is_refused, with_line}
 
 by_name : (form named large refused : Bool) → (named || large) ≡ true → (not form || named || large || refused) ≡ true
 by_name true true large refused is = refl
@@ -63,23 +63,6 @@ module _ (tree : Tree) (line : FileLine) where
       ap (λ (t : Bool). cond t None (Some (with_line tree line))) none ∙ ap Some (sym is)
 
 -- ---- the file of a line is put
-abbrev with_bytes : FileLine → List ℕ → File
-with_bytes line bytes = record { mode = line.mode; mtime = line.mtime; bytes = bytes }
-
-size_put : (files : List Entry) (line : FileLine) → put_refusal files line.path line.size ≡ put_refusal files line.path (length (file_of line).bytes)
-size_put files line = ap (put_refusal files line.path) (sym (length_pattern 0 line.size))
-
-by_size : (put : Bool) (line : FileLine) (old new : List Entry) → Puts put line.path (file_of line) old new → PutsLine put line old new
-by_size true line old new p = (size_put old line ∙ p.0, p.1)
-by_size false line old new p = (ap is_some (size_put old line) ∙ p.0, p.1)
-
-pub puts_line : (put : Bool) (line : FileLine) (path bytes : List ℕ) (old new : List Entry) → path ≡ line.path → bytes ≡ pattern 0 line.size
-    → Puts put path (with_bytes line bytes) old new → PutsLine put line old new
-puts_line put line path bytes old new at is p =
-    by_size put line old new
-    (subst (λ (bs : List ℕ). Puts put line.path (with_bytes line bs) old new) is
-    (subst (λ (q : List ℕ). Puts put q (with_bytes line bytes) old new) at p))
-
 module _ (files new : List Entry) (size : ℕ) (line : FileLine) where
   abbrev tree_before : Tree
   tree_before = record { files = files; size = size }
@@ -98,3 +81,15 @@ module _ (files new : List Entry) (size : ℕ) (line : FileLine) where
       taken tree_before line (record { files = new; size = size + line.size })
       (ap (λ (t : Bool). t || nat_lt MAX_TREE (size + line.size)) free ∙ room) done.0
       (ap (λ (fs : List Entry). record { files = fs; size = size + line.size }) done.1)
+
+  -- the files have no more bytes than are counted
+  pub room_after : (put : Bool) → put ≡ true → PutsLine put line files new → total files ≤ size → total new ≤ size + line.size
+  room_after put is p counted =
+      let done = subst (λ (b : Bool). PutsLine b line files new) is p in
+      let all : total new ≡ total (with_file line.path (file_of line) files) = ap total done.1 in
+      omega (arith, all, total-with line.path (file_of line) files, length_pattern 0 line.size, less_without line.path files, counted)
+
+  pub same_room : (put : Bool) → put ≡ false → PutsLine put line files new → total files ≤ size → total new ≤ size
+  same_room put is p counted =
+      let done = subst (λ (b : Bool). PutsLine b line files new) is p in
+      subst (λ (fs : List Entry). total fs ≤ size) (sym done.1) counted

@@ -1,14 +1,14 @@
 //! A tree of which only the sizes of its files are kept.
 
 ghost use Rattle.std.specs.Option.{option_copied};
-ghost use Rattle.std.specs.Prelude.{◌≡◌, ◌+◌, ◌<◌, ◌≤◌, [], Some, true, is_some, length, IfOk};
+ghost use Rattle.std.specs.Prelude.{◌≡◌, ◌+◌, ◌^◌, ◌<◌, ◌≤◌, [], Some, true, is_some, length, IfOk, OnErr};
 ghost use Rattle.adb_files.specs.declared.file.File.{File};
 ghost use Rattle.adb_files.specs.Files.{IsFileMap, file_at, next_path, total};
 ghost use Rattle.adb_script.specs.declared.script.TheConstants.{MAX_LINES};
 ghost use Rattle.adb_sync_client.specs.Texts.{push_text};
 ghost use Rattle.adb_script.specs.declared.word.TheConstants.{MAX_WORD};
 ghost use Rattle.adb_trees.specs.NamedTree.{named_file};
-ghost use Rattle.adb_trees.specs.Trees.{PutsLine};
+ghost use Rattle.adb_trees.specs.Trees.{Puts, PutsLine};
 ghost use Rattle.adb_trees.specs.declared.tree.TheConstants.{MAX_TREE};
 ghost use Rattle.byteorder.specs.Endian.{little_bytes, little_number};
 
@@ -86,22 +86,34 @@ impl NamedTree {
         self.kept.get(path).is_some()
     }
 
-    /// Puts the file of a line; `false` where it is refused.
+    /// Puts the file of a line; `false` where it is refused. The tree is as before then, and after want
+    /// of memory.
     pub(crate) fn put(&mut self, line: &FileLine<'_>) -> Result<bool, AllocError>
         requires room { total self.old + line.now.size ≤ MAX_TREE }
         requires few { length self.old < MAX_LINES }
-        ensures { IfOk result (λ put. PutsLine put line.now self.old self.new) }
+        ensures put { IfOk result (λ put. PutsLine put line.now self.old self.new) }
+        ensures err { OnErr result (self.new ≡ self.old) }
     {
+        let bytes = Text::from_slice(self.alloc, &size_bytes(line.size))?;
         let file = File {
             mode: line.mode,
             mtime: line.mtime,
-            bytes: Text::from_slice(self.alloc, &size_bytes(line.size))?,
+            bytes,
         };
-        match self.kept.put(line.path.as_slice(), file) {
-            Ok(()) => Ok(true),
-            Err(FileError::OutOfMemory) => Err(AllocError),
-            Err(_) => Ok(false),
-        }
+        put_file(&mut self.kept, line.path.as_slice(), file)
+    }
+}
+
+/// Puts a file; `false` where it is refused. The files are as before then, and after want of memory.
+fn put_file(files: &mut Files, path: &[u8], file: File) -> Result<bool, AllocError>
+    requires { length path.now < 2 ^ 32 }
+    ensures put { IfOk result (λ put. Puts put path.now file files.old files.new) }
+    ensures err { OnErr result (files.new ≡ files.old) }
+{
+    match files.put(path, file) {
+        Ok(()) => Ok(true),
+        Err(FileError::OutOfMemory) => Err(AllocError),
+        Err(_) => Ok(false),
     }
 }
 
@@ -118,7 +130,8 @@ fn text_of(alloc: Global, path: &[u8], kept: &File) -> Result<Text, AllocError>
 
 /// A number of bytes, as it is kept.
 fn size_bytes(size: u32) -> [u8; 4]
-    ensures { result ≡ little_bytes 4 size }
+    ensures bytes { result ≡ little_bytes 4 size }
+    ensures size { size < 2 ^ 32 }
 {
     let mut bytes = [0; 4];
     LittleEndian::write_u32(&mut bytes, size);

@@ -1,7 +1,7 @@
 use Rattle.std.proofs.Common.{◌≡◌, ℕ, ◌∙◌, List, [], subst, sym}
 use Rattle.adb_trees.specs.Trees.{AreNamed, Reads}
 use Rattle.adb_files.specs.Entries.{Entry}
-use Rattle.adb_trees.proofs.Named.{all_named_few}
+use Rattle.adb_trees.proofs.AllNamed.{all_named_few}
 use Rattle.adb_trees.proofs.Readings.{no_bytes, read_all}
 use Rattle.adb_trees.proofs.reading.read_tree.Goals as goal
 

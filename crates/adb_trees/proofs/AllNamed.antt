@@ -79,7 +79,7 @@ by_words (path ∷ mode ∷ mtime ∷ size ∷ []) line e = by_numbers path mode
 by_words (a ∷ b ∷ c ∷ d ∷ f ∷ more) line e = absurd (let clash : None ≡ Some line = e in cc)
 
 -- ---- one file more
-never_both : (x y : List ℕ) → is_lt (path_cmp x y) ≡ true → is_lt (path_cmp y x) ≡ false
+pub never_both : (x y : List ℕ) → is_lt (path_cmp x y) ≡ true → is_lt (path_cmp y x) ≡ false
 never_both x y is = go (path_cmp x y) refl is
   where
     go : (o : Ordering) → path_cmp x y ≡ o → is_lt o ≡ true → is_lt (path_cmp y x) ≡ false
@@ -99,10 +99,21 @@ parts_few path (e ∷ files) = go (is_lt (path_cmp e.path path)) refl (is_lt (pa
     go false less true more few = omega (arith, few)
     go false less false more few = omega (arith, few)
 
-one_more : (path : List ℕ) (file : File) (files : List Entry) → length (with_file path file files) ≤ length files + 1
+pub one_more : (path : List ℕ) (file : File) (files : List Entry) → length (with_file path file files) ≤ length files + 1
 one_more path file files =
     let e : Entry = record { path = path; file = file } in
     omega (arith, length-append (before path files) (e ∷ behind path files), parts_few path files)
+
+-- a line names one file more at most
+pub grows_by_one : (tree next : Tree) (o : Option FileLine) → trees.behind tree o ≡ Some next → length next.files ≤ length tree.files + 1
+grows_by_one tree next None e = absurd (let clash : None ≡ Some next = e in cc)
+grows_by_one tree next (Some line) e = go (is_refused tree line) e
+  where
+    go : (t : Bool) → cond t None (Some (with_line tree line)) ≡ Some next → length next.files ≤ length tree.files + 1
+    go true e = absurd (let clash : None ≡ Some next = e in cc)
+    go false e =
+        let same : with_line tree line ≡ next = cc in
+        subst (λ (t : Tree). length t.files ≤ length tree.files + 1) same (one_more line.path (file_of line) tree.files)
 
 -- ---- all lines
 -- So many lines named these files.
