@@ -1,5 +1,7 @@
 -- Files of which the lines that show them are kept.
-use Rattle.std.specs.Prelude.{ℕ, List, map}
+use Rattle.std.specs.Prelude.{ℕ, ◌≡◌, ◌⊎◌, List, map}
+use Rattle.adb_files.specs.declared.file.FileError.{FileError}
+use Rattle.adb_files.specs.declared.file.FileError.TheVariants as refusals
 use Rattle.adb_files.specs.Entries.{Entry}
 use Rattle.adb_trees.specs.Shown.{shown}
 
@@ -13,3 +15,7 @@ with_lines files = map with_line files
 -- what is kept, in order
 abbrev pub kept_lines : List Entry → List (List ℕ)
 kept_lines files = map (λ (entry : Entry). entry.file.bytes) files
+
+-- memory ran out, or the room for what is kept
+abbrev pub IsWant : FileError → Type 0
+IsWant error = (error ≡ refusals.OutOfMemory) ⊎ (error ≡ refusals.NoSpace)

@@ -1,14 +1,14 @@
 //! A tree of which only the lines that show it are kept.
 
 ghost use Rattle.std.specs.Prelude.{◌≡◌, List, [], IfOk};
-ghost use Rattle.adb_copying.specs.Kept.{with_lines};
+ghost use Rattle.adb_copying.specs.Kept.{IsWant, with_lines};
 ghost use Rattle.adb_files.specs.Entries.{Entry};
 ghost use Rattle.adb_script.specs.Told.{texts_of};
 ghost use Rattle.adb_trees.specs.Shown.{lines_of};
 
 use crate::showing::{line_of, lines_in};
 use adb_copy::PulledTree;
-use adb_files::{File, Files};
+use adb_files::{File, FileError, Files};
 use adb_script::Line;
 use std::alloc::{AllocError, Global};
 
@@ -35,7 +35,8 @@ impl ShownTree {
         ensures { (files : List Entry) → self.now.files ≡ with_lines files
             → IfOk result (λ lines. texts_of lines.items ≡ lines_of files) }
     {
-        lines_in(self.alloc, &self.files)
+        let lines = lines_in(self.alloc, &self.files)?;
+        Ok(lines)
     }
 }
 
@@ -55,7 +56,20 @@ impl PulledTree for ShownTree {
         };
         match self.files.put(path, line) {
             Ok(()) => Ok(()),
-            Err(_) => Err(AllocError),
+            Err(error) => Err(memory_of(error)),
         }
+    }
+}
+
+/// Want of memory, or of room for the lines.
+fn memory_of(error: FileError) -> AllocError
+    requires { IsWant error }
+{
+    match error {
+        FileError::OutOfMemory | FileError::NoSpace => AllocError,
+        FileError::BadPath
+        | FileError::IsDirectory
+        | FileError::NotDirectory
+        | FileError::NoFile => unreachable!(),
     }
 }
