@@ -1,5 +1,5 @@
 -- Files of which the sizes are kept: what is known of the one at a path, and one more.
-use Rattle.std.proofs.Common.{ℕ, ◌+◌, ◌*◌, ◌^◌, ◌≡◌, ◌<◌, ◌≤◌, Bool, true, false, cond, List, [], ◌∷◌, length, Option, Some, None, option_map, is_some}
+use Rattle.std.proofs.Common.{ℕ, ◌+◌, ◌*◌, ◌^◌, ◌≡◌, ◌<◌, ◌≤◌, Bool, true, false, cond, List, [], ◌∷◌, length, Some, None, option_map, is_some}
 use Rattle.std.proofs.Common.{Result, Ok, Err, refl, ◌∙◌, ap, sym, subst, arith, append-nil}
 use Rattle.std.specs.Prelude.{All, IfOk, OnErr, bytes_eq}
 use Rattle.std.specs.List.{find}
@@ -22,7 +22,7 @@ use Rattle.adb_script.specs.declared.word.TheConstants.{MAX_WORD}
 use Rattle.adb_script.proofs.Patterns.{length_pattern}
 use Rattle.adb_trees.specs.declared.line.FileLine.{FileLine}
 use Rattle.adb_trees.specs.declared.tree.TheConstants.{MAX_TREE}
-use Rattle.adb_trees.specs.NamedTree.{AreKept, named_entry, named_file, named_files}
+use Rattle.adb_trees.specs.NamedTree.{AreKept, named_entry, named_files}
 use Rattle.adb_trees.specs.Trees.{Puts, PutsLine, file_of}
 use Rattle.adb_trees.proofs.AllNamed.{never_both}
 use Rattle.adb_trees.proofs.Shadows.{put_refusal-kept, with_file-kept}

@@ -1,5 +1,5 @@
 -- The file of a line is taken behind a tree, or it is refused.
-use Rattle.std.proofs.Common.{ℕ, ◌+◌, ◌≡◌, ◌≤◌, ◌||◌, arith, Bool, true, false, cond, not, List, length, Option, Some, None, refl, ◌∙◌, ap, sym, subst}
+use Rattle.std.proofs.Common.{ℕ, ◌+◌, ◌≡◌, ◌≤◌, ◌||◌, arith, Bool, true, false, cond, not, List, Option, Some, None, refl, ◌∙◌, ap, sym, subst}
 use Rattle.std.specs.Prelude.{is_some, nat_lt}
 use Rattle.adb_files.specs.declared.file.FileError.{FileError}
 use Rattle.adb_files.specs.Entries.{Entry}
@@ -88,8 +88,3 @@ module _ (files new : List Entry) (size : ℕ) (line : FileLine) where
       let done = subst (λ (b : Bool). PutsLine b line files new) is p in
       let all : total new ≡ total (with_file line.path (file_of line) files) = ap total done.1 in
       omega (arith, all, total-with line.path (file_of line) files, length_pattern 0 line.size, less_without line.path files, counted)
-
-  pub same_room : (put : Bool) → put ≡ false → PutsLine put line files new → total files ≤ size → total new ≤ size
-  same_room put is p counted =
-      let done = subst (λ (b : Bool). PutsLine b line files new) is p in
-      subst (λ (fs : List Entry). total fs ≤ size) (sym done.1) counted
