@@ -67,9 +67,7 @@ fn memory_of(error: FileError) -> AllocError
 {
     match error {
         FileError::OutOfMemory | FileError::NoSpace => AllocError,
-        FileError::BadPath
-        | FileError::IsDirectory
-        | FileError::NotDirectory
-        | FileError::NoFile => unreachable!(),
+        FileError::BadPath | FileError::IsDirectory | FileError::NotDirectory | FileError::NoFile =>
+            unreachable!(),
     }
 }

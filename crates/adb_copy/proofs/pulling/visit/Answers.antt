@@ -1,4 +1,4 @@
-use Rattle.std.proofs.Common.{◌/◌, ◌≡◌, ◌∙◌, refl, sym}
+use Rattle.std.proofs.Common.{◌/◌, ◌≡◌, ◌∙◌, sym}
 use Rattle.std.proofs.lemmas.Bool.{eqb-true, eq-eqb}
 use Rattle.adb_files.specs.Files.{with_file}
 use Rattle.adb_world.specs.Parts.{most_sessions}
@@ -62,7 +62,7 @@ returns-clause-walks g c =
       holds = c.in_ok-pull_found.ensures.put is walks.collected walks.holds
           (visit_granted c.args.world.now.files c.requires.map c.requires.files c.args.pending.now.items c.args.found walks.collected walks.walks is);
       walks = (visit_pulled c.args.world.now.files c.requires.map c.requires.files c.args.pending.now.items c.args.found walks.collected walks.walks
-          (with_file c.args.found.path is.file walks.collected) is refl).0;
+          is).0;
     }
 
 pub returns-clause-owed : goal.returns-clause-owed
@@ -70,5 +70,4 @@ returns-clause-owed g c =
     let walks = c.requires.walks in
     let is = visit_file c.args.world.now.files c.requires.map c.requires.files c.args.pending.now.items c.args.found walks.collected walks.walks
     (λ mode. let clash = sym c.if-is_directory.false ∙ (c.is_directory.ensures ∙ eq-eqb (c.args.found.mode / 4096) 4 mode) in cc) in
-    (visit_pulled c.args.world.now.files c.requires.map c.requires.files c.args.pending.now.items c.args.found walks.collected walks.walks
-    (with_file c.args.found.path is.file walks.collected) is refl).1
+    (visit_pulled c.args.world.now.files c.requires.map c.requires.files c.args.pending.now.items c.args.found walks.collected walks.walks is).1
