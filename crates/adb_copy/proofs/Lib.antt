@@ -17,3 +17,5 @@ pub mod PullDirectory
 pub mod PullWalk
 pub mod PullWorlds
 pub mod PullVisit
+pub mod PullInto
+pub mod Finds

@@ -42,9 +42,6 @@ module _ (files : List Entry) (ok : IsFileMap files) (copied : AreCopied files) 
   pub visit_granted : (is : IsFile files found) → put_refusal tree found.path (length is.file.bytes) ≡ None
   visit_granted is = file_granted files ok pending found tree w is
 
-  pub visit_pulled : (grown : List Entry) (is : IsFile files found) → grown ≡ with_file found.path is.file tree
-      → Walks files pending grown × (owed files (pending ++ found ∷ []) ≡ owed files pending + 1)
-  visit_pulled grown is put = (
-    subst (λ (es : List Entry). Walks files pending es) (sym put) (file_walks files ok pending found tree w is),
-    file_owed files ok pending found tree w is,
-  )
+  pub visit_pulled : (is : IsFile files found)
+      → Walks files pending (with_file found.path is.file tree) × (owed files (pending ++ found ∷ []) ≡ owed files pending + 1)
+  visit_pulled is = (file_walks files ok pending found tree w is, file_owed files ok pending found tree w is)

@@ -1,20 +1,22 @@
 //! Pulling the files of the device.
 
-ghost use Rattle.std.specs.Prelude.{◌≡◌, ◌+◌, ◌<◌, ◌≤◌, ◌++◌, ◌∷◌, [], true, false, length, map, None, IfOk, IsErr, OnOk};
+ghost use Rattle.std.specs.Prelude.{◌≡◌, ◌+◌, ◌<◌, ◌≤◌, ◌++◌, ◌∷◌, [], true, false, List, length, map, None, IfOk, IsErr, OnOk};
+ghost use Rattle.adb_files.specs.Entries.{Entry};
 ghost use Rattle.adb_files.specs.Files.{IsFileMap, put_refusal, with_file};
 ghost use Rattle.adb_files.specs.Listing.{listing};
-ghost use Rattle.adb_copy.specs.Pulled.{Pulls, PullsAtMost};
+ghost use Rattle.adb_copy.specs.Pulled.{Fits, Pulls, PullsAtMost, WalksInto};
 ghost use Rattle.adb_copy.specs.Pulling.{directories};
 ghost use Rattle.adb_copy.specs.Trees.{AreCopied};
-ghost use Rattle.adb_copy.specs.Waiting.{IsFile, Walks, found_in, owed};
+ghost use Rattle.adb_copy.specs.Waiting.{IsFile, found_in, owed};
 ghost use Rattle.adb_world.specs.Parts.{most_sessions};
 ghost use Rattle.adb_copy.specs.Worlds.{Syncs};
 ghost use Rattle.adb_sync_client.specs.declared.request.TheConstants.{MAX_ASKED_PATH};
 
 use crate::asking::{list, pull};
 use crate::found::Found;
+use crate::pulled::PulledTree;
 use crate::seeds::next_seed;
-use adb_files::{File, FileError, Files};
+use adb_files::Files;
 use adb_sync::Dirent;
 use adb_world::World;
 use rand_core::SeedableRng;
@@ -38,17 +40,41 @@ pub fn pull_tree(alloc: Global, world: &mut World, seed: u64) -> Result<Files, A
         (length world.old.files + length (directories world.old.files)) world.old world.new }
     ensures stays { world.old.spent ≡ true → IsErr result × (world.new ≡ world.old) }
 {
+    let mut tree = Files::new(alloc);
+    pull_into(alloc, world, seed, &mut tree)?;
+    Ok(tree)
+}
+
+/// The same into a tree that stands for no files. Each file is put into it once it has come.
+pub fn pull_into<T: PulledTree>(
+    alloc: Global,
+    world: &mut World,
+    seed: u64,
+    tree: &mut T,
+) -> Result<(), AllocError>
+    requires settled { world.old.settled ≡ true }
+    requires files { AreCopied world.old.files }
+    requires none { T.Holds tree.old [] }
+    requires room { world.old.given
+        + (length world.old.files + length (directories world.old.files)) ≤ most_sessions }
+    ensures tree { OnOk result (T.Holds tree.new world.old.files) }
+    ensures files { OnOk result (world.new.files ≡ world.old.files) }
+    ensures syncs { OnOk result (Syncs
+        (length world.old.files + length (directories world.old.files)) world.old world.new) }
+    ensures left { world.new.spent ≡ false → PullsAtMost
+        (length world.old.files + length (directories world.old.files)) world.old world.new }
+    ensures stays { world.old.spent ≡ true → IsErr result × (world.new ≡ world.old) }
+{
     look_at_files(world);
     let mut words = Pcg32::seed_from_u64(seed);
-    let mut tree = Files::new(alloc);
     let mut pending = Vec::new(alloc);
     let root = Found::root(alloc)?;
     pending.push(root)?;
     while let Some(found) = pending.pop() {
         let seed = next_seed(&mut words);
-        visit(alloc, world, seed, found, &mut pending, &mut tree)?;
+        visit(alloc, world, seed, found, &mut pending, tree)?;
     }
-    Ok(tree)
+    Ok(())
 }
 
 /// The files of the device are a map. None of them is read.
@@ -59,21 +85,22 @@ fn look_at_files(world: &World)
 }
 
 /// Lists a directory that was found, or pulls a file.
-fn visit(
+fn visit<T: PulledTree>(
     alloc: Global,
     world: &mut World,
     seed: u64,
     found: Found,
     pending: &mut Vec<Found>,
-    tree: &mut Files,
+    tree: &mut T,
 ) -> Result<(), AllocError>
     requires settled { world.old.settled ≡ true }
     requires map { IsFileMap world.old.files }
     requires files { AreCopied world.old.files }
-    requires walks { Walks world.old.files (pending.old.items ++ found ∷ []) tree.old }
+    requires walks { WalksInto T.Holds world.old.files (pending.old.items ++ found ∷ [])
+        tree.old }
     requires room { world.old.given
         + owed world.old.files (pending.old.items ++ found ∷ []) ≤ most_sessions }
-    ensures walks { OnOk result (Walks world.old.files pending.new.items tree.new) }
+    ensures walks { OnOk result (WalksInto T.Holds world.old.files pending.new.items tree.new) }
     ensures owed { OnOk result (owed world.old.files (pending.old.items ++ found ∷ [])
         ≡ owed world.old.files pending.new.items + 1) }
     ensures pulls { OnOk result (Pulls 1 world.old world.new) }
@@ -115,28 +142,29 @@ fn list_found(
 }
 
 /// Pulls a file that was found into a tree that does not refuse it.
-fn pull_found(
+fn pull_found<T: PulledTree>(
     alloc: Global,
     world: &mut World,
     seed: u64,
     found: &Found,
-    tree: &mut Files,
+    tree: &mut T,
 ) -> Result<(), AllocError>
     requires settled { world.old.settled ≡ true }
     requires room { world.old.given < most_sessions }
     requires map { IsFileMap world.old.files }
     requires short { length found.now.path ≤ MAX_ASKED_PATH }
     requires there { IsFile world.old.files found.now }
-    requires granted { (is : IsFile world.old.files found.now)
-        → put_refusal tree.old found.now.path (length is.file.bytes) ≡ None }
-    ensures put { (is : IsFile world.old.files found.now)
-        → OnOk result (tree.new ≡ with_file found.now.path is.file tree.old) }
+    requires fits { (is : IsFile world.old.files found.now)
+        → Fits T.Holds tree.old found.now.path (length is.file.bytes) }
+    ensures put { (is : IsFile world.old.files found.now) (files : List Entry)
+        → T.Holds tree.old files → put_refusal files found.now.path (length is.file.bytes) ≡ None
+        → OnOk result (T.Holds tree.new (with_file found.now.path is.file files)) }
     ensures pulls { OnOk result (Pulls 1 world.old world.new) }
     ensures left { world.new.spent ≡ false → PullsAtMost 1 world.old world.new }
     ensures stays { world.old.spent ≡ true → IsErr result × (world.new ≡ world.old) }
 {
     let file = pull(alloc, world, seed, found)?;
-    put(tree, found.path.as_slice(), file)?;
+    tree.put(found.path.as_slice(), file)?;
     Ok(())
 }
 
@@ -155,17 +183,4 @@ fn add_entries(
         pending.push(found)?;
     }
     Ok(())
-}
-
-/// Puts a file that is not refused at its path.
-fn put(tree: &mut Files, path: &[u8], file: File) -> Result<(), AllocError>
-    requires short { length path.now ≤ MAX_ASKED_PATH }
-    requires granted { put_refusal tree.old path.now (length file.bytes) ≡ None }
-    ensures { OnOk result (tree.new ≡ with_file path.now file tree.old) }
-{
-    match tree.put(path, file) {
-        Ok(()) => Ok(()),
-        Err(FileError::OutOfMemory) => Err(AllocError),
-        Err(_) => unreachable!(),
-    }
 }

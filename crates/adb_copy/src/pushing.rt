@@ -1,9 +1,9 @@
 //! Pushing a tree of files.
 
 ghost use Rattle.std.specs.Option.{option_or};
-ghost use Rattle.std.specs.Prelude.{◌≡◌, ◌≢◌, ◌+◌, ◌<◌, ◌≤◌, ◌^◌, [], ◌∷◌, List, ℕ, true, false, is_some, length, Some, Ok, Err, IsErr, OnOk};
+ghost use Rattle.std.specs.Prelude.{◌≡◌, ◌≢◌, ◌+◌, ◌<◌, ◌≤◌, [], ◌∷◌, List, ℕ, true, false, is_some, length, Some, Ok, Err, IsErr, OnOk};
 ghost use Rattle.adb_copy.specs.Pushing.{FilesPushed, Pushes};
-ghost use Rattle.adb_copy.specs.Trees.{AreCopied, IsCopied, Refusal, all_pushed, entry_of, pushed, refused_at};
+ghost use Rattle.adb_copy.specs.Trees.{AreCopied, Refusal, all_pushed, entry_of, pushed, refused_at};
 ghost use Rattle.adb_copy.specs.Worlds.{Syncs, SyncsAtMost};
 ghost use Rattle.adb_copy.specs.declared.error.CopyError.TheVariants as errors;
 ghost use Rattle.adb_files.specs.declared.file.File.{File};
@@ -11,9 +11,9 @@ ghost use Rattle.adb_files.specs.Files.{IsFileMap, file_at};
 ghost use Rattle.adb_world.specs.Parts.{most_sessions};
 
 use crate::error::CopyError;
+use crate::pushed::PushedTree;
 use crate::seeds::next_seed;
-use crate::sending::{file_text, read_answer};
-use adb_files::{File, Files};
+use crate::sending::read_answer;
 use adb_world::World;
 use rand_core::SeedableRng;
 use rand_pcg::Pcg32;
@@ -24,39 +24,50 @@ use std::alloc::Global;
 /// `Refused` comes exactly where the device refuses the next file, and those before it stay; a
 /// device without files refuses none. Where memory runs out the world is spent, or some first files
 /// of the tree are there.
-pub fn push_tree(alloc: Global, world: &mut World, seed: u64, tree: &Files) -> Result<(), CopyError>
+pub fn push_tree<T: PushedTree>(
+    alloc: Global,
+    world: &mut World,
+    seed: u64,
+    tree: &T,
+) -> Result<(), CopyError>
     requires settled { world.old.settled ≡ true }
-    requires tree { AreCopied tree.now }
-    requires room { world.old.given + length tree.now ≤ most_sessions }
-    ensures ok { OnOk result (pushed world.old.files tree.now ≡ all_pushed world.new.files) }
+    requires tree { AreCopied (T.files tree.now) }
+    requires room { world.old.given + length (T.files tree.now) ≤ most_sessions }
+    ensures ok { OnOk result (pushed world.old.files (T.files tree.now)
+        ≡ all_pushed world.new.files) }
     ensures in_place { OnOk result ((path : List ℕ) → file_at path world.new.files
-        ≡ option_or (file_at path tree.now) (file_at path world.old.files)) }
-    ensures syncs { OnOk result (Syncs (length tree.now) world.old world.new) }
+        ≡ option_or (file_at path (T.files tree.now)) (file_at path world.old.files)) }
+    ensures syncs { OnOk result (Syncs (length (T.files tree.now)) world.old world.new) }
     ensures empty { world.old.files ≡ [] → result ≢ Err errors.OutOfMemory
-        → (result ≡ Ok tt) × (world.new.files ≡ tree.now) }
+        → (result ≡ Ok tt) × (world.new.files ≡ T.files tree.now) }
     ensures refused { (path text : List ℕ) → result ≡ Err (errors.Refused path text)
-        → pushed world.old.files tree.now ≡ refused_at world.new.files path text }
+        → pushed world.old.files (T.files tree.now) ≡ refused_at world.new.files path text }
     ensures told { (refusal : Refusal)
-        → (pushed world.old.files tree.now).refused ≡ Some refusal
+        → (pushed world.old.files (T.files tree.now)).refused ≡ Some refusal
         → result ≢ Err errors.OutOfMemory
         → result ≡ Err (errors.Refused refusal.path refusal.text) }
     ensures part { world.old.spent ≡ false → world.new.spent ≡ false
-        → FilesPushed tree.now world.old.files world.new.files
-        × SyncsAtMost (length tree.now) world.old world.new }
+        → FilesPushed (T.files tree.now) world.old.files world.new.files
+        × SyncsAtMost (length (T.files tree.now)) world.old world.new }
     ensures stays { world.old.spent ≡ true
-        → (tree.now ≢ [] → IsErr result) × (world.new ≡ world.old) }
+        → (T.files tree.now ≢ [] → IsErr result) × (world.new ≡ world.old) }
 {
-    are_a_map(tree);
+    tree.are_a_map();
     push_files(alloc, world, seed, tree)
 }
 
 /// Pushes the files of a tree in order.
-fn push_files(alloc: Global, world: &mut World, seed: u64, tree: &Files) -> Result<(), CopyError>
+fn push_files<T: PushedTree>(
+    alloc: Global,
+    world: &mut World,
+    seed: u64,
+    tree: &T,
+) -> Result<(), CopyError>
     requires settled { world.old.settled ≡ true }
-    requires map { IsFileMap tree.now }
-    requires tree { AreCopied tree.now }
-    requires room { world.old.given + length tree.now ≤ most_sessions }
-    ensures { Pushes tree.now result world.old world.new }
+    requires map { IsFileMap (T.files tree.now) }
+    requires tree { AreCopied (T.files tree.now) }
+    requires room { world.old.given + length (T.files tree.now) ≤ most_sessions }
+    ensures { Pushes (T.files tree.now) result world.old world.new }
 {
     let mut words = Pcg32::seed_from_u64(seed);
     let mut after: &[u8] = b"";
@@ -67,54 +78,23 @@ fn push_files(alloc: Global, world: &mut World, seed: u64, tree: &Files) -> Resu
     Ok(())
 }
 
-/// Files are a map from path to file.
-fn are_a_map(tree: &Files)
-    ensures { IsFileMap tree.now }
-{
-    tree.get(b"");
-}
-
 /// Pushes the file of a path.
-fn push_next(
+fn push_next<T: PushedTree>(
     alloc: Global,
     world: &mut World,
     seed: u64,
-    tree: &Files,
+    tree: &T,
     path: &[u8],
 ) -> Result<(), CopyError>
     requires settled { world.old.settled ≡ true }
-    requires tree { AreCopied tree.now }
-    requires there { is_some (file_at path.now tree.now) ≡ true }
+    requires map { IsFileMap (T.files tree.now) }
+    requires tree { AreCopied (T.files tree.now) }
+    requires there { is_some (file_at path.now (T.files tree.now)) ≡ true }
     requires room { world.old.given < most_sessions }
-    ensures { (file : File) → file_at path.now tree.now ≡ Some file
+    ensures { (file : File) → file_at path.now (T.files tree.now) ≡ Some file
         → Pushes (entry_of path.now file ∷ []) result world.old world.new }
 {
-    match tree.get(path) {
-        Some(file) => push_file(alloc, world, seed, path, file),
-        None => unreachable!(),
-    }
-}
-
-/// Pushes a file.
-fn push_file(
-    alloc: Global,
-    world: &mut World,
-    seed: u64,
-    path: &[u8],
-    file: &File,
-) -> Result<(), CopyError>
-    requires settled { world.old.settled ≡ true }
-    requires file { IsCopied (entry_of path.now file.now) }
-    requires room { world.old.given < most_sessions }
-    ensures { Pushes (entry_of path.now file.now ∷ []) result world.old world.new }
-{
-    has_32_bits(file.mtime);
-    let ask = file_text(alloc, path, file)?;
+    let ask = tree.text(alloc, path)?;
     let answer = world.sync_text(seed, ask)?;
     read_answer(alloc, path, answer.as_slice())
 }
-
-/// A time has 32 bits.
-fn has_32_bits(time: u32)
-    ensures { time < 2 ^ 32 }
-{}

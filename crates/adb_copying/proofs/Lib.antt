@@ -1,2 +1,4 @@
 pub mod Copies
 mod Shows
+mod Lines
+mod Room

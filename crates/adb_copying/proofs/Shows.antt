@@ -1,4 +1,4 @@
--- The files of a tree are shown in the order of their paths.
+-- The lines that files keep are read in the order of their paths.
 use Rattle.std.proofs.Common.{ℕ, ◌≡◌, ◌<◌, List, [], ◌∷◌, ◌++◌, length, Some, None}
 use Rattle.std.proofs.Common.{refl, sym, ◌∙◌, ap, subst, append_assoc, arith}
 use Rattle.std.specs.Prelude.{true, is_some, option_map, slice_get}
@@ -7,28 +7,28 @@ use Rattle.adb_files.specs.declared.file.File.{File}
 use Rattle.adb_files.specs.Entries.{Entry}
 use Rattle.adb_files.specs.Files.{IsFileMap, behind, file_at, next_path}
 use Rattle.adb_copy.proofs.Splits.{are_before, behind_middle, behind_nothing, found_middle}
-use Rattle.adb_trees.specs.Shown.{lines_of, shown}
+use Rattle.adb_copying.specs.Kept.{kept_lines}
 
--- The files up to a path are shown, and those behind it are left.
+-- The lines of the files up to a path are read, and those behind it are left.
 pub record Shows (files : List Entry) (after : List ℕ) (lines : List (List ℕ)) : Type 0 where
   pub done : List Entry
   pub split : done ++ behind after files ≡ files
-  pub said : lines ≡ lines_of done
+  pub said : lines ≡ kept_lines done
   pub fits : IsFileMap files
 
 pub shows_none : (files : List Entry) (lines : List (List ℕ)) → IsFileMap files → lines ≡ [] → Shows files [] lines
 shows_none files lines fits none = record { done = []; split = behind_nothing files fits.paths; said = none; fits = fits }
 
-lines-append : (xs ys : List Entry) → lines_of (xs ++ ys) ≡ lines_of xs ++ lines_of ys
+lines-append : (xs ys : List Entry) → kept_lines (xs ++ ys) ≡ kept_lines xs ++ kept_lines ys
 lines-append [] ys = refl
-lines-append (x ∷ xs) ys = ap (λ (ls : List (List ℕ)). shown x ∷ ls) (lines-append xs ys)
+lines-append (x ∷ xs) ys = ap (λ (ls : List (List ℕ)). x.file.bytes ∷ ls) (lines-append xs ys)
 
 -- none is left behind a path
-pub shows_all : (files : List Entry) (after : List ℕ) (lines : List (List ℕ)) → Shows files after lines → next_path after files ≡ None → lines ≡ lines_of files
+pub shows_all : (files : List Entry) (after : List ℕ) (lines : List (List ℕ)) → Shows files after lines → next_path after files ≡ None → lines ≡ kept_lines files
 shows_all files after lines s none = go (behind after files) s.split none
   where
-    go : (left : List Entry) → s.done ++ left ≡ files → option_map (λ (e : Entry). e.path) (slice_get left 0) ≡ None → lines ≡ lines_of files
-    go [] split none = s.said ∙ ap lines_of (sym (append-nil s.done) ∙ split)
+    go : (left : List Entry) → s.done ++ left ≡ files → option_map (λ (e : Entry). e.path) (slice_get left 0) ≡ None → lines ≡ kept_lines files
+    go [] split none = s.said ∙ ap kept_lines (sym (append-nil s.done) ∙ split)
     go (e ∷ left) split none = absurd (cc)
 
 -- the next file
@@ -73,20 +73,16 @@ module _ (files : List Entry) (after path : List ℕ) (lines : List (List ℕ)) 
       let parts = length-append s.done (next_is.entry ∷ next_is.left) in
       omega (arith, rest, whole, front, again, parts)
 
-  pub shows_on : (new : List (List ℕ))
-      → option_map (λ (file : File). lines ++ shown (record { path = path; file = file }) ∷ []) (file_at path files) ≡ Some new → Shows files path new
+  pub shows_on : (new : List (List ℕ)) → option_map (λ (file : File). lines ++ file.bytes ∷ []) (file_at path files) ≡ Some new → Shows files path new
   shows_on new is =
-      let told : Some (lines ++ shown (record { path = path; file = next_is.entry.file }) ∷ []) ≡ Some new =
-      sym (ap (option_map (λ (file : File). lines ++ shown (record { path = path; file = file }) ∷ [])) next_file) ∙ is in
-      let line : lines ++ shown (record { path = path; file = next_is.entry.file }) ∷ [] ≡ new = cc in
-      let own : shown (record { path = path; file = next_is.entry.file }) ≡ shown next_is.entry =
-      ap (λ (p : List ℕ). shown (record { path = p; file = next_is.entry.file })) (sym next_is.here) in
+      let told : Some (lines ++ next_is.entry.file.bytes ∷ []) ≡ Some new =
+      sym (ap (option_map (λ (file : File). lines ++ file.bytes ∷ [])) next_file) ∙ is in
+      let line : lines ++ next_is.entry.file.bytes ∷ [] ≡ new = cc in
       record {
         done = s.done ++ next_is.entry ∷ [];
         split = append_assoc s.done (next_is.entry ∷ []) (behind path files)
             ∙ (ap (λ (left : List Entry). s.done ++ next_is.entry ∷ left) rest_is ∙ next_is.split);
         said = sym line
-            ∙ (ap (λ (ls : List (List ℕ)). ls ++ shown (record { path = path; file = next_is.entry.file }) ∷ []) s.said
-            ∙ (ap (λ (text : List ℕ). lines_of s.done ++ text ∷ []) own ∙ sym (lines-append s.done (next_is.entry ∷ []))));
+            ∙ (ap (λ (ls : List (List ℕ)). ls ++ next_is.entry.file.bytes ∷ []) s.said ∙ sym (lines-append s.done (next_is.entry ∷ [])));
         fits = s.fits;
       }

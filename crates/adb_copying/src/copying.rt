@@ -6,11 +6,11 @@ ghost use Rattle.adb_script.specs.Told.{texts_of};
 ghost use Rattle.adb_trees.specs.Shown.{copied_lines, lines_of};
 ghost use Rattle.adb_trees.specs.Trees.{AreNamed, first_bad, tree_of};
 
-use crate::showing::{are_a_map, show_files};
-use adb_copy::{CopyError, directories_are_few, pull_tree, push_tree};
-use adb_files::Files;
+use crate::named::ScriptTree;
+use crate::shown::ShownTree;
+use adb_copy::{CopyError, directories_are_few, pull_into, push_tree};
 use adb_script::{Line, ScriptError};
-use adb_trees::read_tree;
+use adb_trees::{NamedTree, read_tree};
 use adb_world::World;
 use std::alloc::{AllocError, Global};
 
@@ -48,7 +48,7 @@ pub fn copy_tree(
 fn copy_files(
     alloc: Global,
     world: &mut World,
-    tree: Files,
+    tree: NamedTree,
     seed: u64,
 ) -> Result<Vec<Line>, AllocError>
     requires settled { world.old.settled ≡ true }
@@ -59,24 +59,25 @@ fn copy_files(
     ensures files { OnOk result (world.new.files ≡ tree) }
 {
     directories_are_few();
-    are_a_map(&tree);
-    push(alloc, world, &tree, seed)?;
-    drop(tree);
-    let copied = pull_tree(alloc, world, seed)?;
-    show_files(alloc, &copied)
+    tree.are_a_map();
+    push(alloc, world, tree, seed)?;
+    let mut copied = ShownTree::new(alloc);
+    pull_into(alloc, world, seed, &mut copied)?;
+    copied.lines()
 }
 
 /// Pushes files to a device that has none, which refuses no tree.
-fn push(alloc: Global, world: &mut World, tree: &Files, seed: u64) -> Result<(), AllocError>
+fn push(alloc: Global, world: &mut World, tree: NamedTree, seed: u64) -> Result<(), AllocError>
     requires settled { world.old.settled ≡ true }
     requires given { world.old.given ≡ 0 }
     requires empty { world.old.files ≡ [] }
-    requires tree { AreNamed tree.now }
-    ensures files { OnOk result (world.new.files ≡ tree.now) }
+    requires tree { AreNamed tree }
+    ensures files { OnOk result (world.new.files ≡ tree) }
     ensures settled { OnOk result (world.new.settled ≡ true) }
-    ensures given { OnOk result (world.new.given ≡ length tree.now) }
+    ensures given { OnOk result (world.new.given ≡ length tree) }
 {
-    match push_tree(alloc, world, seed, tree) {
+    let tree = ScriptTree { tree };
+    match push_tree(alloc, world, seed, &tree) {
         Ok(()) => Ok(()),
         Err(error) => Err(memory_of(error)),
     }

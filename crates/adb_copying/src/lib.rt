@@ -3,6 +3,9 @@
 #![tactic(auto)]
 
 mod copying;
+mod named;
 mod showing;
+mod shown;
 
 pub use copying::copy_tree;
+pub use named::ScriptTree;

@@ -4,6 +4,7 @@ ghost use Rattle.std.specs.Prelude.{◌≡◌, ◌≤◌, true};
 ghost use Rattle.adb_trees.specs.Trees.{AreNamed};
 
 use adb_copy::{CopyError, push_tree};
+use adb_copying::ScriptTree;
 use adb_files::Files;
 use adb_script::ScriptError;
 use adb_trees::read_tree;
@@ -68,17 +69,20 @@ fn is_refused(alloc: Global, world: &mut World, row: &Row) -> Result<bool, Alloc
 {
     world.sync(1, row.sent)?;
     match read_tree(alloc, row.tree) {
-        Ok(tree) => Ok(is_told(alloc, world, &tree, row) && is_kept(world.files(), row)),
+        Ok(tree) => {
+            let tree = ScriptTree { tree };
+            Ok(is_told(alloc, world, &tree, row) && is_kept(world.files(), row))
+        }
         Err(ScriptError::BadLine { .. }) => Ok(false),
         Err(ScriptError::OutOfMemory) => Err(AllocError),
     }
 }
 
 /// Whether a push tells the file that is refused.
-fn is_told(alloc: Global, world: &mut World, tree: &Files, row: &Row) -> bool
+fn is_told(alloc: Global, world: &mut World, tree: &ScriptTree, row: &Row) -> bool
     requires given { world.old.given ≤ 1 }
     requires settled { world.old.settled ≡ true }
-    requires tree { AreNamed tree.now }
+    requires tree { AreNamed tree.now.tree }
 {
     match push_tree(alloc, world, 1, tree) {
         Err(CopyError::Refused { path, text }) => {

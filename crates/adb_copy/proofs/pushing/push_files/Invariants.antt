@@ -4,7 +4,7 @@ use Rattle.adb_copy.proofs.Steps.{Walks}
 use Rattle.adb_copy.proofs.pushing.push_files.Given as goal
 
 abbrev pub invariant-loop-path : goal.invariant-loop-path
-invariant-loop-path l = Walks l.after l.tree l.fn.world l.world
+invariant-loop-path g l = Walks l.after (g.T.PushedTree.files l.tree) l.fn.world l.world
 
 abbrev pub decreases-loop-path : goal.decreases-loop-path
-decreases-loop-path l = length (behind l.after l.tree)
+decreases-loop-path g l = length (behind l.after (g.T.PushedTree.files l.tree))
