@@ -1,5 +1,5 @@
 -- A line that is kept in the place of a file that may be put is refused for want of room alone.
-use Rattle.std.proofs.Common.{ℕ, ◌+◌, ◌≡◌, ◌⊎◌, Bool, true, false, cond, not, ltb, List, length, Option, Some, None, Result, Ok, Err, inl, inr, refl, sym, ◌∙◌, ap}
+use Rattle.std.proofs.Common.{ℕ, ◌+◌, ◌≡◌, ◌⊎◌, Bool, true, false, cond, not, ltb, List, Option, Some, None, Result, Ok, Err, inl, inr, refl, ◌∙◌, ap}
 use Rattle.std.specs.Prelude.{OnErr, ⊤}
 use Rattle.adb_files.specs.declared.file.FileError.{FileError}
 use Rattle.adb_files.specs.declared.file.FileError.TheVariants as refusals
@@ -20,10 +20,10 @@ granted_by true true under large is = absurd (cc)
 granted_by true false true large is = absurd (cc)
 
 module _ (path : List ℕ) (size other : ℕ) (kept files : List Entry) (is : kept ≡ with_lines files) (granted : put_refusal files path size ≡ None) where
-  large : Bool
+  abbrev large : Bool
   large = ltb MAX_STORED (total (without path kept) + other)
 
-  left : Option FileError
+  abbrev left : Option FileError
   left = cond large (Some refusals.NoSpace) None
 
   tests : (is_path path ≡ true) × (is_directory files path ≡ false) × (is_under_file files path ≡ false)
