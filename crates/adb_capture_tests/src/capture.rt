@@ -10,7 +10,6 @@ use adb_capture::{
 };
 use adb_outside::{ByteQueue, Kind, MemorySink, MemorySource, Text, Wrote};
 use std::alloc::{AllocError, Global};
-use std::process::Abort;
 use std::test::Fail;
 
 /// What an entry says: its kind, its number, what else is no text, and its text.
@@ -31,10 +30,9 @@ fn said(entry: &Entry) -> Said<'_> {
     }
 }
 
-fn says(rt: &impl Abort, entry: &Entry, want: Said<'_>) {
+fn says(entry: &Entry, want: Said<'_>) -> bool {
     let (kind, number, word, text) = said(entry);
-    assert!(rt; kind == want.0, "{kind} is no {}", want.0);
-    assert!(rt; number == want.1 && word == want.2 && text == want.3);
+    kind == want.0 && number == want.1 && word == want.2 && text == want.3
 }
 
 /// A reader before a source.
@@ -55,92 +53,165 @@ impl Bench {
         })
     }
 
-    /// The next entry, which is written again and added again.
-    fn copies(&mut self, sink: &mut MemorySink, queue: &mut ByteQueue) -> Result<Entry, Fail> {
-        let (_, entry) = self.reader.next(&mut self.source)?.ok_or("no record")?;
-        if write_entry(sink, &entry) != Wrote::All {
-            return Err("not written".into());
-        }
-        append_entry(queue, &entry)?;
-        Ok(entry)
+    fn opens(&mut self) -> bool {
+        self.reader.open(&mut self.source).is_ok()
     }
 
-    /// The next call answers the error, and the one after it.
-    fn fails(&mut self, rt: &impl Abort, error: CaptureError) {
-        for _ in 0..2 {
-            assert!(rt; self.reader.next(&mut self.source).err() == Some(error));
+    /// Whether the next record says this, and is copied.
+    fn copies(&mut self, copies: &mut Copies, want: Said<'_>) -> Result<bool, AllocError> {
+        match self.reader.next(&mut self.source) {
+            Ok(Some((_, entry))) => copies.copy(&entry, want),
+            Ok(None) | Err(_) => Ok(false),
+        }
+    }
+
+    fn is_over(&mut self) -> bool {
+        matches!(self.reader.next(&mut self.source), Ok(None))
+    }
+
+    fn fails(&mut self, error: CaptureError) -> bool {
+        match self.reader.next(&mut self.source) {
+            Err(is) => is == error,
+            Ok(_) => false,
         }
     }
 }
 
-/// A record of each kind, and what its entry says.
+/// A capture that is written, and one that is added to a queue.
+#[derive(Drop)]
+struct Copies {
+    sink: MemorySink,
+    queue: ByteQueue,
+}
+
+impl Copies {
+    fn new(alloc: Global) -> Copies {
+        Copies {
+            sink: MemorySink::new(alloc, Vec::new(alloc)),
+            queue: ByteQueue::new(alloc),
+        }
+    }
+
+    fn opens(&mut self) -> Result<bool, AllocError> {
+        append_magic(&mut self.queue)?;
+        Ok(write_magic(&mut self.sink) == Wrote::All)
+    }
+
+    /// Writes and adds an entry. Whether it says this and was written.
+    fn copy(&mut self, entry: &Entry, want: Said<'_>) -> Result<bool, AllocError>
+        requires { HasRecord entry.now }
+    {
+        append_entry(&mut self.queue, entry)?;
+        Ok(write_entry(&mut self.sink, entry) == Wrote::All && says(entry, want))
+    }
+
+    fn are(&self, capture: &[u8]) -> bool {
+        self.sink.bytes() == capture && self.queue.as_slice() == capture
+    }
+}
+
+/// A record of each kind.
+const RECORDS: &[u8] = b"ADBHUB1\n\
+    J\x01\x02\x03\x04\0\0\0\0\
+    N\x02\0\0\0\x02\0\0\0\x39\x30\
+    R\x03\0\0\0\x02\0\0\0hi\
+    E\x04\0\0\0\x01\0\0\0\x03\
+    B\x05\0\0\0\x02\0\0\0\0\0\
+    A\x06\0\0\0\x04\0\0\0labc\
+    V\x07\0\0\0\x03\0\0\0\0\xff\n\
+    D\x08\0\0\0\x01\0\0\0\x02\
+    P\x09\0\0\0\0\0\0\0\
+    S\x0a\0\0\0\x01\0\0\0s";
+
+/// What their entries say.
+const ENTRIES: &[Said<'static>] = &[
+    ("join", 67305985, 0, b""),
+    ("enter", 2, 12345, b""),
+    ("read", 3, 0, b"hi"),
+    ("end", 4, 3, b""),
+    ("bound", 5, 0, b""),
+    ("attach", 6, 1, b"abc"),
+    ("recv", 7, 0, b"\0\xff\n"),
+    ("detach", 8, 2, b""),
+    ("put", 9, 0, b""),
+    ("send", 10, 0, b"s"),
+];
+
+/// Whether the capture is read, its entries say so, and it is copied.
+fn are_copied(bench: &mut Bench, copies: &mut Copies) -> Result<bool, AllocError> {
+    let mut so = bench.opens() && copies.opens()?;
+    for want in ENTRIES {
+        so = bench.copies(copies, *want)? && so;
+    }
+    Ok(so && bench.is_over() && copies.are(RECORDS))
+}
+
 #[test]
 fn records_are_read_and_written(rt: HostRuntime) -> Result<(), Fail> {
-    let capture = b"ADBHUB1\n\
-        J\x01\x02\x03\x04\0\0\0\0\
-        N\x02\0\0\0\x02\0\0\0\x39\x30\
-        R\x03\0\0\0\x02\0\0\0hi\
-        E\x04\0\0\0\x01\0\0\0\x03\
-        B\x05\0\0\0\x02\0\0\0\0\0\
-        A\x06\0\0\0\x04\0\0\0labc\
-        V\x07\0\0\0\x03\0\0\0\0\xff\n\
-        D\x08\0\0\0\x01\0\0\0\x02\
-        P\x09\0\0\0\0\0\0\0\
-        S\x0a\0\0\0\x01\0\0\0s"
-        .as_slice();
-    let rows: &[Said<'_>] = &[
-        ("join", 67305985, 0, b""),
-        ("enter", 2, 12345, b""),
-        ("read", 3, 0, b"hi"),
-        ("end", 4, 3, b""),
-        ("bound", 5, 0, b""),
-        ("attach", 6, 1, b"abc"),
-        ("recv", 7, 0, b"\0\xff\n"),
-        ("detach", 8, 2, b""),
-        ("put", 9, 0, b""),
-        ("send", 10, 0, b"s"),
-    ];
-    let mut bench = Bench::new(rt.alloc(), capture, &[])?;
-    assert!(rt; bench.reader.open(&mut bench.source).is_ok());
-    let mut sink = MemorySink::new(rt.alloc(), Vec::new(rt.alloc()));
-    let mut queue = ByteQueue::new(rt.alloc());
-    assert!(rt; write_magic(&mut sink) == Wrote::All);
-    append_magic(&mut queue)?;
-    for want in rows {
-        says(&rt, &bench.copies(&mut sink, &mut queue)?, *want);
-    }
-    assert!(rt; matches!(bench.reader.next(&mut bench.source), Ok(None)));
-    assert!(rt; sink.bytes() == capture && queue.as_slice() == capture);
+    let mut bench = Bench::new(rt.alloc(), RECORDS, &[])?;
+    let mut copies = Copies::new(rt.alloc());
+    assert!(rt; are_copied(&mut bench, &mut copies)?);
     Ok(())
+}
+
+const TRUNCATED: CaptureError = CaptureError::Truncated { offset: 8 };
+
+const UNKNOWN_KIND: CaptureError = CaptureError::BadRecord {
+    offset: 8,
+    why: Why::UnknownKind,
+};
+
+const TOO_LARGE: CaptureError = CaptureError::BadRecord {
+    offset: 8,
+    why: Why::TooLarge,
+};
+
+const BAD_FORM: CaptureError = CaptureError::BadRecord {
+    offset: 8,
+    why: Why::BadForm,
+};
+
+/// Captures, and why they are refused.
+const REFUSED: &[(&[u8], CaptureError)] = &[
+    (b"", CaptureError::BadMagic),
+    (b"ADBHUB1\r\n", CaptureError::BadMagic),
+    (b"ADBHUB1\nJ", TRUNCATED),
+    (b"ADBHUB1\nR\0\0\0\0\0\0\x20\0", TRUNCATED),
+    (b"ADBHUB1\nX\0\0\0\0\x01\0\x20\0", UNKNOWN_KIND),
+    (b"ADBHUB1\nR\0\0\0\0\x01\0\x20\0", TOO_LARGE),
+    (b"ADBHUB1\nJ\0\0\0\0\x01\0\0\0x", BAD_FORM),
+    (b"ADBHUB1\nN\0\0\0\0\x02\0\0\0\0\0", BAD_FORM),
+    (b"ADBHUB1\nN\0\0\0\0\x01\0\0\0\x01", BAD_FORM),
+    (b"ADBHUB1\nE\0\0\0\0\x01\0\0\0\x04", BAD_FORM),
+    (b"ADBHUB1\nB\0\0\0\0\x03\0\0\0\0\0\0", BAD_FORM),
+    (b"ADBHUB1\nA\0\0\0\0\0\0\0\0", BAD_FORM),
+    (b"ADBHUB1\nA\0\0\0\0\x02\0\0\0xa", BAD_FORM),
+    (b"ADBHUB1\nD\0\0\0\0\0\0\0\0", BAD_FORM),
+    (b"ADBHUB1\nJ\0\0\0\0\x02\0\0\0x", TRUNCATED),
+    (b"ADBHUB1\nX\0\0\0\0\0\0\0", TRUNCATED),
+];
+
+/// Whether a call answers the error, and the one after it too.
+fn is_refused(
+    alloc: Global,
+    capture: &[u8],
+    failing: &[u64],
+    error: CaptureError,
+) -> Result<bool, AllocError> {
+    let mut bench = Bench::new(alloc, capture, failing)?;
+    Ok(bench.fails(error) && bench.fails(error))
 }
 
 #[test]
 fn captures_are_refused(rt: HostRuntime) -> Result<(), Fail> {
-    let bad = |why| CaptureError::BadRecord { offset: 8, why };
-    let truncated = CaptureError::Truncated { offset: 8 };
-    let cases: &[(&[u8], CaptureError)] = &[
-        (b"", CaptureError::BadMagic),
-        (b"ADBHUB1\r\n", CaptureError::BadMagic),
-        (b"ADBHUB1\nJ", truncated),
-        (b"ADBHUB1\nR\0\0\0\0\0\0\x20\0", truncated),
-        (b"ADBHUB1\nX\0\0\0\0\x01\0\x20\0", bad(Why::UnknownKind)),
-        (b"ADBHUB1\nR\0\0\0\0\x01\0\x20\0", bad(Why::TooLarge)),
-        (b"ADBHUB1\nJ\0\0\0\0\x01\0\0\0x", bad(Why::BadForm)),
-        (b"ADBHUB1\nN\0\0\0\0\x02\0\0\0\0\0", bad(Why::BadForm)),
-        (b"ADBHUB1\nN\0\0\0\0\x01\0\0\0\x01", bad(Why::BadForm)),
-        (b"ADBHUB1\nE\0\0\0\0\x01\0\0\0\x04", bad(Why::BadForm)),
-        (b"ADBHUB1\nB\0\0\0\0\x03\0\0\0\0\0\0", bad(Why::BadForm)),
-        (b"ADBHUB1\nA\0\0\0\0\0\0\0\0", bad(Why::BadForm)),
-        (b"ADBHUB1\nA\0\0\0\0\x02\0\0\0xa", bad(Why::BadForm)),
-        (b"ADBHUB1\nD\0\0\0\0\0\0\0\0", bad(Why::BadForm)),
-        (b"ADBHUB1\nJ\0\0\0\0\x02\0\0\0x", truncated),
-        (b"ADBHUB1\nX\0\0\0\0\0\0\0", truncated),
-    ];
-    for (capture, error) in cases {
-        Bench::new(rt.alloc(), capture, &[])?.fails(&rt, *error);
+    for &(capture, error) in REFUSED {
+        assert!(rt;
+            is_refused(rt.alloc(), capture, &[], error)?,
+            "of {capture:?}"
+        );
     }
     let part = b"ADBHUB1\nJ\x01\0\0\0\0";
-    Bench::new(rt.alloc(), part, &[3])?.fails(&rt, CaptureError::ReadFault);
+    assert!(rt; is_refused(rt.alloc(), part, &[3], CaptureError::ReadFault)?);
     Ok(())
 }
 
@@ -164,30 +235,90 @@ fn attach(alloc: Global) -> Result<Entry, AllocError>
     })
 }
 
-/// Recorders in memory, over a sink and over nothing. Of the first the second call fails, of the
-/// second the second record is torn: nothing follows it.
+/// Recorders in memory and over a sink.
+#[derive(Drop)]
+struct Recorders {
+    memory: MemoryRecorder,
+    written: SinkRecorder<MemorySink>,
+}
+
+impl Recorders {
+    /// Of the first the second call fails, of the second the second record is torn.
+    fn new(alloc: Global) -> Result<Recorders, AllocError> {
+        let memory = MemoryRecorder::new(alloc, Vec::from_slice(alloc, &[2])?);
+        let failing = Vec::from_slice(alloc, &[5])?;
+        Ok(Recorders {
+            memory,
+            written: SinkRecorder::new(MemorySink::new(alloc, failing)),
+        })
+    }
+
+    /// Whether both keep an entry as a row says.
+    fn keep(&mut self, entry: &Entry, row: &Keeping) -> bool
+        requires { HasRecord entry.now }
+    {
+        let kept = self.memory.keep(entry).is_ok();
+        let wrote = self.written.keep(entry).is_ok();
+        kept == row.kept && wrote == row.wrote && self.hold(row)
+    }
+
+    fn hold(&self, row: &Keeping) -> bool {
+        let bytes = self.written.sink().bytes();
+        self.memory.entries().len() == row.count && bytes == TORN.get(..row.len).unwrap_or(TORN)
+    }
+
+    /// Whether all that is kept in memory is what `attach` makes.
+    fn are_attached(&self) -> bool {
+        for copy in self.memory.entries() {
+            if !says(copy, ("attach", 1, 0, b"abc")) {
+                return false;
+            }
+        }
+        true
+    }
+}
+
+/// Whether the entry is kept and written, how many are kept then, and how many bytes are written.
+#[derive(Clone, Copy, Drop)]
+struct Keeping {
+    kept: bool,
+    wrote: bool,
+    count: usize,
+    len: usize,
+}
+
+const KEEPINGS: &[Keeping] = &[
+    Keeping {
+        kept: true,
+        wrote: true,
+        count: 1,
+        len: 21,
+    },
+    Keeping {
+        kept: false,
+        wrote: false,
+        count: 1,
+        len: 31,
+    },
+    Keeping {
+        kept: true,
+        wrote: false,
+        count: 2,
+        len: 31,
+    },
+];
+
+/// Two records, of which the second is torn: nothing follows it.
+const TORN: &[u8] = b"ADBHUB1\nA\x01\0\0\0\x04\0\0\0uabcA\x01\0\0\0\x04\0\0\0u";
+
 #[test]
 fn recorders_keep(rt: HostRuntime) -> Result<(), Fail> {
     let entry = attach(rt.alloc())?;
-    let mut memory = MemoryRecorder::new(rt.alloc(), Vec::from_slice(rt.alloc(), &[2])?);
-    let failing = Vec::from_slice(rt.alloc(), &[5])?;
-    let mut written = SinkRecorder::new(MemorySink::new(rt.alloc(), failing));
-    let torn = b"ADBHUB1\nA\x01\0\0\0\x04\0\0\0uabcA\x01\0\0\0\x04\0\0\0u".as_slice();
-    let rows: &[(bool, bool, usize, usize)] = &[
-        (true, true, 1, 21),
-        (false, false, 1, 31),
-        (true, false, 2, 31),
-    ];
-    for &(kept, wrote, count, len) in rows {
-        assert!(rt; memory.keep(&entry).is_ok() == kept);
-        assert!(rt; written.keep(&entry).is_ok() == wrote);
-        assert!(rt; memory.entries().len() == count);
-        assert!(rt; written.sink().bytes() == &torn[..len]);
+    let mut recorders = Recorders::new(rt.alloc())?;
+    for row in KEEPINGS {
+        assert!(rt; recorders.keep(&entry, row), "{} written", row.len);
     }
-    for copy in memory.entries() {
-        says(&rt, copy, ("attach", 1, 0, b"abc"));
-    }
-    assert!(rt; NullRecorder::new().keep(&entry).is_ok());
+    assert!(rt; recorders.are_attached() && NullRecorder::new().keep(&entry).is_ok());
     Ok(())
 }
 
@@ -197,18 +328,25 @@ fn keeps_both(recorder: &mut impl Recorder) -> bool {
     client.is_ok() && recorder.keep_piece(Owner::Link(2), b"c").is_ok()
 }
 
+/// Whether these are the entries of both.
+fn are_both(entries: &[Entry]) -> bool {
+    match entries {
+        [a, b] => says(a, ("read", 1, 0, b"ab")) && says(b, ("recv", 2, 0, b"c")),
+        _ => false,
+    }
+}
+
 #[test]
-fn pieces_are_kept(rt: HostRuntime) -> Result<(), Fail> {
+fn pieces_are_kept(rt: HostRuntime) {
     let mut memory = MemoryRecorder::new(rt.alloc(), Vec::new(rt.alloc()));
-    let mut written = SinkRecorder::new(MemorySink::new(rt.alloc(), Vec::new(rt.alloc())));
-    assert!(rt; keeps_both(&mut memory) && keeps_both(&mut written));
+    assert!(rt; keeps_both(&mut memory) && are_both(memory.entries()));
     assert!(rt; keeps_both(&mut NullRecorder::new()));
+}
+
+#[test]
+fn pieces_are_written(rt: HostRuntime) {
+    let mut written = SinkRecorder::new(MemorySink::new(rt.alloc(), Vec::new(rt.alloc())));
+    assert!(rt; keeps_both(&mut written));
     let records = b"ADBHUB1\nR\x01\0\0\0\x02\0\0\0abV\x02\0\0\0\x01\0\0\0c".as_slice();
     assert!(rt; written.sink().bytes() == records);
-    let rows: [Said<'_>; 2] = [("read", 1, 0, b"ab"), ("recv", 2, 0, b"c")];
-    for (copy, want) in memory.entries().iter().zip(rows) {
-        says(&rt, copy, want);
-    }
-    assert!(rt; memory.entries().len() == 2);
-    Ok(())
 }
