@@ -4,11 +4,11 @@ use Rattle.adb_client.specs.declared.client.Client.TheInside.{Inside}
 
 abbrev pub seen : Inside → SeenClient
 seen c = record {
-  about = c.about;
-  held = c.input.held;
-  ready = c.input.ready;
-  cuts = c.input.cuts;
-  due = c.output.due;
-  spare = c.output.spare;
-  places = c.output.places;
+  about = c.parts.value.about;
+  held = c.parts.value.input.held;
+  ready = c.parts.value.input.ready;
+  cuts = c.parts.value.input.cuts;
+  due = c.parts.value.output.due;
+  spare = c.parts.value.output.spare;
+  places = c.parts.value.output.places;
 }

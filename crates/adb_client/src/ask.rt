@@ -24,7 +24,7 @@ pub struct Asked {
 }
 
 /// What some bytes ask first. An error is want of memory for a text of the request.
-pub(crate) fn ask_in(alloc: Global, bytes: &[u8]) -> Result<Asked, AllocError>
+pub fn ask_in(alloc: Global, bytes: &[u8]) -> Result<Asked, AllocError>
     ensures asked { IfOk result (λ asked. asked ≡ asked_in bytes.now) }
     ensures within { IfOk result (λ asked. asked.len ≤ length bytes.now) }
 {

@@ -19,8 +19,15 @@ use std::marker::Model;
 /// lists of bytes, and four numbers beside them: how many of the first bytes held are ready to be
 /// cut off without memory, in how many pieces, and how many places are reserved for bytes, and how
 /// many for slices, that become due without memory. After want of memory the client is as before.
+///
+/// It is one word, so that a table moves its row for little.
 #[derive(Drop)]
 pub struct Client {
+    parts: Box<Parts>,
+}
+
+#[derive(Drop)]
+struct Parts {
     about: About,
     input: Input,
     output: Output,
@@ -41,9 +48,9 @@ impl Client {
     ghost use Rattle.adb_client.specs.Lending.{LendsAbout};
 
     /// A client that asks and sent nothing yet, by its number, and whether it came through a
-    /// forward. It takes no memory.
-    pub fn new(alloc: Global, number: u32, forwarded: bool) -> Client
-        ensures { result ≡ record {
+    /// forward.
+    pub fn new(alloc: Global, number: u32, forwarded: bool) -> Result<Client, AllocError>
+        ensures { IfOk result (λ client. client ≡ record {
           about = new_about number forwarded;
           held = [];
           ready = 0;
@@ -51,9 +58,9 @@ impl Client {
           due = [];
           spare = 0;
           places = 0;
-        } }
+        }) }
     {
-        Client {
+        let parts = Parts {
             about: About {
                 number,
                 forwarded,
@@ -66,14 +73,17 @@ impl Client {
             },
             input: Input::new(alloc),
             output: Output::new(alloc),
-        }
+        };
+        Ok(Client {
+            parts: Box::new(alloc, parts)?,
+        })
     }
 
     /// What is plain of it.
     pub fn about(&self) -> &About
         ensures { result.now ≡ self.now.about }
     {
-        &self.about
+        &self.parts.about
     }
 
     /// What is plain of it, to be written.
@@ -81,7 +91,7 @@ impl Client {
         ensures* writes_back { sem 𝓛 (LendsAbout self.entry result) }
         ensures value { result.now ≡ self.old.about }
     {
-        &mut self.about
+        &mut self.parts.about
     }
 
     /// A piece came, and is held behind what was.
@@ -91,7 +101,7 @@ impl Client {
         }) }
         ensures err { OnErr result (self.new ≡ self.old) }
     {
-        self.input.take_in(piece)
+        self.parts.input.take_in(piece)
     }
 
     /// The last `n` bytes held go again, and what was ready is so no longer. It takes no memory.
@@ -103,7 +113,7 @@ impl Client {
           cuts = 0;
         } }
     {
-        self.input.take_back(n);
+        self.parts.input.take_back(n);
     }
 
     /// What is asked first from a place on among what is held. Nothing changes. An error is want of
@@ -113,7 +123,7 @@ impl Client {
         ensures asked { IfOk result (λ asked. asked ≡ asked_in (drop at self.now.held)) }
         ensures within { IfOk result (λ asked. at + asked.len ≤ length self.now.held) }
     {
-        self.input.ask_from(at)
+        self.parts.input.ask_from(at)
     }
 
     /// The first `n` bytes held go. It takes no memory.
@@ -124,14 +134,14 @@ impl Client {
           ready = self.old.ready - n;
         } }
     {
-        self.input.pass_over(n);
+        self.parts.input.pass_over(n);
     }
 
     /// How many bytes are held.
     pub fn held(&self) -> usize
         ensures { result ≡ length self.now.held }
     {
-        self.input.len()
+        self.parts.input.len()
     }
 
     /// Makes at least the first `n` bytes held ready to be cut off, in at least `cuts` pieces,
@@ -146,7 +156,7 @@ impl Client {
         ensures err { OnErr result (self.new ≡ self.old) }
         ensures is_ready { n ≤ self.old.ready → cuts ≤ self.old.cuts → IsOk result }
     {
-        self.input.prepare_cuts(n, cuts)
+        self.parts.input.prepare_cuts(n, cuts)
     }
 
     /// Takes the first `n` bytes held off, of those that are ready, as a shared slice. It takes no
@@ -161,7 +171,7 @@ impl Client {
           cuts = self.old.cuts - 1;
         } }
     {
-        self.input.cut_ready(n)
+        self.parts.input.cut_ready(n)
     }
 
     /// Bytes become due, copied.
@@ -169,7 +179,7 @@ impl Client {
         ensures ok { OnOk result (self.new ≡ record self.old { due = self.old.due ++ bytes.now }) }
         ensures err { OnErr result (self.new ≡ self.old) }
     {
-        self.output.owe(bytes)
+        self.parts.output.owe(bytes)
     }
 
     /// Makes the spare at least `n`: so many bytes can become due by `owe_spare`, which alone lowers
@@ -179,7 +189,7 @@ impl Client {
         ensures err { OnErr result (self.new ≡ self.old) }
         ensures has_room { n ≤ self.old.spare → IsOk result }
     {
-        self.output.reserve(n)
+        self.parts.output.reserve(n)
     }
 
     /// Bytes become due, in reserved places. It takes no memory.
@@ -190,7 +200,7 @@ impl Client {
           spare = self.old.spare - length bytes.now;
         } }
     {
-        self.output.owe_spare(bytes);
+        self.parts.output.owe_spare(bytes);
     }
 
     /// Makes the places at least `n`: so many slices can become due by `owe_slice_spare`, which alone
@@ -200,7 +210,7 @@ impl Client {
         ensures err { OnErr result (self.new ≡ self.old) }
         ensures has_room { n ≤ self.old.places → IsOk result }
     {
-        self.output.reserve_slices(n)
+        self.parts.output.reserve_slices(n)
     }
 
     /// A slice becomes due, in a reserved place; no byte is copied. It takes no memory.
@@ -212,14 +222,14 @@ impl Client {
           places = self.old.places - 1;
         } }
     {
-        self.output.owe_slice_spare(bytes);
+        self.parts.output.owe_slice_spare(bytes);
     }
 
     /// How many bytes are due.
     pub fn owed(&self) -> usize
         ensures { result ≡ length self.now.due }
     {
-        self.output.owed()
+        self.parts.output.owed()
     }
 
     /// The first `max` bytes that are due, or all where there are fewer. Those of one slice are
@@ -227,7 +237,7 @@ impl Client {
     pub fn front(&self, max: usize) -> Result<HandOut, AllocError>
         ensures { IfOk result (λ bytes. bytes ≡ take max self.now.due) }
     {
-        self.output.front(max)
+        self.parts.output.front(max)
     }
 
     /// The first `n` bytes that were due were handed out. It takes no memory.
@@ -235,6 +245,6 @@ impl Client {
         requires { n ≤ length self.old.due }
         ensures { self.new ≡ record self.old { due = drop n self.old.due } }
     {
-        self.output.hand(n);
+        self.parts.output.hand(n);
     }
 }

@@ -10,7 +10,7 @@ mod phase;
 mod slices;
 
 pub use about::{About, Want};
-pub use ask::{Ask, Asked};
+pub use ask::{Ask, Asked, ask_in};
 pub use client::Client;
 pub use output::{MAX_SLICE, limits_are};
 pub use phase::Phase;

@@ -2,8 +2,8 @@
 
 ghost use Rattle.std.specs.Prelude.{◌≡◌, ◌<◌, ◌≤◌, ◌+◌, ◌-◌, ◌++◌, [], length, take, drop, max, IsOk, IfOk, OnOk, OnErr};
 
-use crate::slices::{Slice, fill, put_back, share_front};
-use adb_outside::{HandOut, Text};
+use crate::slices::{Slice, fill, first, put_back, share_front};
+use adb_outside::{HandOut, MAX_START, Text};
 use bytes::{Bytes, BytesMut};
 use std::alloc::{AllocError, Global};
 use std::collections::VecDeque;
@@ -154,13 +154,16 @@ impl Output {
     }
 
     /// The first `max` bytes that are due, or all where there are fewer. They are shared where the
-    /// first slice alone has them, and else copied.
+    /// first slice alone has them, and else copied; a few without memory, where no slice is due.
     pub(crate) fn front(&self, max: usize) -> Result<HandOut, AllocError>
         ensures { IfOk result (λ bytes. bytes ≡ take max self.now.due) }
     {
         let n = max.min(self.owed());
         if let Some(bytes) = share_front(&self.slices, n) {
             return Ok(HandOut::shared(bytes));
+        }
+        if self.slices.is_empty() && n <= MAX_START {
+            return Ok(HandOut::framed(first(self.own.as_slice(), n), Bytes::new()));
         }
         let mut text = Text::from_vec(Vec::with_capacity(self.alloc, n)?);
         fill(&mut text, &self.slices, self.own.as_slice(), max)?;

@@ -104,7 +104,7 @@ fn insert(clients: &mut TouchedMap<Client>, alloc: Global, client: u32) -> Resul
         clients.old.entries clients.new.entries) }
     ensures err { OnErr result (clients.new.entries ≡ clients.old.entries) }
 {
-    clients.insert(client, Client::new(alloc, client, true))?;
+    clients.insert(client, Client::new(alloc, client, true)?)?;
     Ok(())
 }
 

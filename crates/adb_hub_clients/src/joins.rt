@@ -18,7 +18,7 @@ pub fn join(tables: &mut Tables, client: u32) -> Result<(), AllocError>
     ensures made { OnOk result (Makes (Join client) tables.old tables.new) }
     ensures kept { OnErr result (Keeps tables.old tables.new) }
 {
-    let row = Client::new(tables.alloc, client, false);
+    let row = Client::new(tables.alloc, client, false)?;
     put_client(&mut tables.clients, client, row)?;
     tables.joined = client;
     Ok(())
