@@ -12,7 +12,7 @@ use Rattle.adb_outside.specs.Tables.{at, IsRising}
 use Rattle.adb_hub_tables.specs.declared.words.Block.{Block}
 use Rattle.adb_hub_tables.specs.declared.words.Kind.{Kind}
 use Rattle.adb_hub_tables.specs.First.{first_number, owes_at}
-use Rattle.adb_hub_tables.specs.Marked.{marks_of, mark_in, mark, first_mark, IsBlock, AreBlocks, IsMarked}
+use Rattle.adb_hub_tables.specs.Marked.{marks_of, mark_in, mark, first_mark, IsBlock, AreBlocks, IsMarked, LacksBut}
 use Rattle.adb_outside.proofs.TableLaws.{at_head, at_tail, below_head, past_head}
 use Rattle.adb_hub_tables.proofs.TouchedRows.{none_owed, least_owed}
 
@@ -117,6 +117,19 @@ none_marked which blocks rises all none = go (first_mark which blocks) (first_is
     go : (first : Option ℕ) → IsLeast which blocks first → None ≡ first
     go None least = refl
     go (Some id) least = absurd (let clash : 1 ≡ 0 = sym least.0 ∙ none id in omega (arith, clash))
+
+-- a number that alone has a mark is the first
+pub only_marked : (which : Kind) (blocks : List (ℕ × Block)) → IsRising blocks → AreBlocks blocks → (n : ℕ) → mark which blocks n ≡ 1
+    → LacksBut which n blocks → Some n ≡ first_mark which blocks
+only_marked which blocks rises all n one lacks = go (first_mark which blocks) (first_is_least which blocks rises all)
+  where
+    go : (first : Option ℕ) → IsLeast which blocks first → Some n ≡ first
+    go None least = absurd (let clash : 1 ≡ 0 = sym one ∙ least n in omega (arith, clash))
+    go (Some id) least = ap Some (sym (same (cases_eq id n)))
+      where
+        same : (id ≡ n) ⊎ (id ≡ n → ⊥) → id ≡ n
+        same (inl it) = it
+        same (inr off) = absurd (let clash : 1 ≡ 0 = sym least.0 ∙ lacks id off in omega (arith, clash))
 
 -- the blocks that are left have the first mark of all
 pub record Left (which : Kind) (all left : List (ℕ × Block)) : Type 0 where

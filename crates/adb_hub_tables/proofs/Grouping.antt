@@ -60,6 +60,10 @@ module _ (number : ℕ) (fits : number < 2 ^ 32) {groups blocks : List (ℕ × B
       go None is full row made = absurd (let clash : None ≡ Some row = made in cc)
       go (Some old) is full row made = (old, is, λ due. has_all which old full)
 
+  -- a mark of a number that is not known changes nothing
+  pub mark_unknown : {after : List (ℕ × Block)} → ((k : ℕ) → at k after ≡ at k blocks) → AreGrouped groups after
+  mark_unknown {after} same which = record { blocked = (grouped which).blocked; each = λ n row is. (grouped which).each n row (sym (same n) ∙ is) }
+
   -- a mark is taken away in a block
   pub unmark_grouped : (gone : Kind) {after : List (ℕ × Block)}
       → Puts (number / 64) (option_map (without_mark gone (number % 64)) (at (number / 64) blocks)) blocks after → AreGrouped groups after

@@ -3,6 +3,7 @@ mod MarkedRows
 mod FirstMark
 mod TouchedRows
 mod Grouping
+mod Seeing
 pub mod Rows
 mod Owing
 pub mod StreamRows

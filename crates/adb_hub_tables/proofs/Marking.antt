@@ -39,7 +39,7 @@ pub record Turns (number : ℕ) (new : Option Block) (blocks others : List (ℕ 
 pub low : (n : ℕ) → n % 64 < 64
 low n = omega arith
 
-apart_in : (n number : ℕ) → n ≢ number → n / 64 ≡ number / 64 → n % 64 ≢ number % 64
+pub apart_in : (n number : ℕ) → n ≢ number → n / 64 ≡ number / 64 → n % 64 ≢ number % 64
 apart_in n number apart same is = apart (omega (arith, same, is))
 
 module _ {number : ℕ} {new : Option Block} {blocks others : List (ℕ × Block)} (h : Turns number new blocks others) where
@@ -107,7 +107,7 @@ module _ (places marks i : ℕ) (within : i < 64) where
       most b below = omega (arith, below)
 
   -- others are marked as before
-  known_other : (j : ℕ) → j ≢ i → bit_at (bit_or marks (bit_and places (bit i))) j ≡ bit_at marks j
+  pub known_other : (j : ℕ) → j ≢ i → bit_at (bit_or marks (bit_and places (bit i))) j ≡ bit_at marks j
   known_other j apart =
       let none : bit_at (bit i) j ≡ 0 = bit_at_set_other w64 0 i within j apart ∙ bit_at-zero j in
       let clear : bit_at (bit_and places (bit i)) j ≡ 0 = bit_at_and places (bit i) j ∙ (ap (min (bit_at places j)) none ∙ least (bit_at places j)) in
@@ -136,6 +136,48 @@ already places marks i within so = same_from_bits (bit_or marks (bit_and places 
     go j (inl same) = subst (λ k. bit_at (bit_or marks (bit_and places (bit i))) k ≡ bit_at marks k) (sym same)
         (at_i (bit_at places i) refl (bit_at-lt places i))
     go j (inr apart) = known_other places marks i within j apart
+
+abbrev block_of : ℕ → ℕ → ℕ → Block
+block_of p d n = record { places = p; due = d; news = n }
+
+module _ (i : ℕ) (within : i < 64) (b : Block) where
+  not_known : place_bit i b ≡ 0 → bit_at b.places i ≡ 1 → ⊥
+  not_known none known =
+      let set : bit_at (place_bit i b) i ≡ 1 = bit_at_and b.places (bit i) i ∙ (ap (λ k. min k (bit_at (bit i) i)) known
+      ∙ ap (min 1) (bit_at_set_same w64 0 i within)) in
+      let clash : 1 ≡ 0 = sym set ∙ (ap (λ p. bit_at p i) none ∙ bit_at-zero i) in
+      omega (arith, clash)
+
+  -- to mark a number that is not known changes nothing
+  pub unplaced : place_bit i b ≡ 0 → b ≡ with_mark i b
+  unplaced none = sym (ap (λ d. block_of b.places d (bit_or b.news (place_bit i b))) (already b.places b.due i within (λ known. absurd (not_known none known)))
+      ∙ ap (block_of b.places b.due) (already b.places b.news i within (λ known. absurd (not_known none known))))
+
+  -- a number with a place is known
+  pub known_place : place_bit i b ≢ 0 → bit_at b.places i ≡ 1
+  known_place some = go (bit_at b.places i) refl (bit_at-lt b.places i)
+    where
+      low_zero : (x : ℕ) → min 0 x ≡ 0
+      low_zero x = omega arith
+
+      high_zero : (x : ℕ) → min x 0 ≡ 0
+      high_zero x = omega arith
+
+      none : bit_at b.places i ≡ 0 → place_bit i b ≡ 0
+      none off = same_from_bits (place_bit i b) 0 (λ j. at_bit j (cases_eq j i))
+        where
+          at_i : bit_at (place_bit i b) i ≡ bit_at 0 i
+          at_i = bit_at_and b.places (bit i) i ∙ (ap (λ k. min k (bit_at (bit i) i)) off ∙ (low_zero (bit_at (bit i) i) ∙ sym (bit_at-zero i)))
+
+          at_bit : (j : ℕ) → (j ≡ i) ⊎ (j ≡ i → ⊥) → bit_at (place_bit i b) j ≡ bit_at 0 j
+          at_bit j (inl same) = subst (λ k. bit_at (place_bit i b) k ≡ bit_at 0 k) (sym same) at_i
+          at_bit j (inr apart) = bit_at_and b.places (bit i) j ∙ (ap (min (bit_at b.places j)) (bit_at_set_other w64 0 i within j apart ∙ bit_at-zero j)
+              ∙ (high_zero (bit_at b.places j) ∙ sym (bit_at-zero j)))
+
+      go : (k : ℕ) → bit_at b.places i ≡ k → k < 2 → bit_at b.places i ≡ 1
+      go zero off below = absurd (some (none off))
+      go (suc zero) on below = on
+      go (suc (suc n)) more below = absurd (omega (arith, below))
 
 -- the words of a block with a number known, marked, unmarked or forgotten
 pub placed : (which : Kind) (i : ℕ) (b : Block) → marks_of which (with_place i b) ≡ bit_or (marks_of which b) (bit i)
@@ -298,16 +340,14 @@ module _ (number : ℕ) {blocks others : List (ℕ × Block)} where
           ∙ known_same b.places (marks_of which b) (number % 64) (low number) known
 
   -- and so has one that came to be known
-  pub seen_known : Puts (number / 64) (Some (known (number % 64) (at (number / 64) blocks))) blocks others → Holds (Marked number) others
-  seen_known puts is which = ap (λ o. mark_in which o (number % 64)) puts.here ∙ go (at (number / 64) blocks)
+  pub seen_known : Puts (number / 64) (Some (known (number % 64) (at (number / 64) blocks))) blocks others
+      → (which : Kind) → mark which others number ≡ 1
+  seen_known puts which = ap (λ o. mark_in which o (number % 64)) puts.here ∙ go (at (number / 64) blocks)
     where
       go : (o : Option Block) → mark_in which (Some (known (number % 64) o)) (number % 64) ≡ 1
       go None = ap (λ w. bit_at w (number % 64)) (created which (number % 64)) ∙ bit_at_set_same w64 0 (number % 64) (low number)
       go (Some b) = ap (λ w. bit_at w (number % 64)) (placed which (number % 64) b)
           ∙ bit_at_set_same w64 (marks_of which b) (number % 64) (low number)
-
-abbrev block_of : ℕ → ℕ → ℕ → Block
-block_of p d n = record { places = p; due = d; news = n }
 
 -- to mark it again changes nothing
 pub marked_twice : (number : ℕ) (blocks : List (ℕ × Block)) → Holds (Marked number) blocks

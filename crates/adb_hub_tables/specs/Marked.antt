@@ -1,5 +1,5 @@
 -- Numbers that are known, and those of them that are marked, in blocks of 64.
-use Rattle.std.specs.Prelude.{ℕ, ◌≡◌, ◌<◌, ◌*◌, ◌+◌, ◌^◌, ◌/◌, ◌%◌, ◌||◌, ◌⊎◌, ⊤, Bool, true, false, not, eqb, if◌then◌else◌, List, [], ◌∷◌, Option, Some, None}
+use Rattle.std.specs.Prelude.{ℕ, ◌≡◌, ◌≢◌, ◌<◌, ◌*◌, ◌+◌, ◌^◌, ◌/◌, ◌%◌, ◌||◌, ◌⊎◌, ⊤, Bool, true, false, not, eqb, if◌then◌else◌, List, [], ◌∷◌, Option, Some, None}
 use Rattle.std.specs.Prelude.{bit_and, bit_or, option_map}
 use Rattle.std.specs.List.{sum_by}
 use Rattle.std.specs.Map.{values_of}
@@ -7,7 +7,7 @@ use Rattle.std.specs.Int.{bit_at, bit_not, trailing_zeros, w64}
 use Rattle.adb_outside.specs.Tables.{at, Puts}
 use Rattle.adb_hub_tables.specs.declared.words.Block.{Block}
 use Rattle.adb_hub_tables.specs.declared.marks.Seen.{Seen}
-use Rattle.adb_hub_tables.specs.declared.marks.Seen.TheVariants.{Nothing, Marked, Lack}
+use Rattle.adb_hub_tables.specs.declared.marks.Seen.TheVariants.{Nothing, Marked, Lack, Alone}
 use Rattle.adb_hub_tables.specs.declared.words.Kind.{Kind}
 use Rattle.adb_hub_tables.specs.declared.words.Kind.TheVariants.{Due, News}
 
@@ -77,6 +77,10 @@ place_in (Some block) i = bit_at block.places i
 -- whether a number is known
 abbrev pub place : List (ℕ × Block) → ℕ → ℕ
 place blocks n = place_in (at (n / 64) blocks) (n % 64)
+
+-- The i-th number of a block, if it is one, is known there.
+abbrev pub IsKnownIn : Option Block → ℕ → Type 0
+IsKnownIn block i = place_in block i ≡ 1
 
 -- whether any number of a block has a mark
 abbrev pub has_marks : Kind → Block → Bool
@@ -155,8 +159,22 @@ pub record IsMarked {X : Type 0} (which : Kind) (owed : X → Bool) (blocks : Li
 abbrev pub AreGrouped : List (ℕ × Block) → List (ℕ × Block) → Type 0
 AreGrouped groups blocks = (which : Kind) → IsMarked which (has_marks which) groups blocks
 
+-- No number has a mark, but perhaps one.
+abbrev pub LacksBut : Kind → ℕ → List (ℕ × Block) → Type 0
+LacksBut which n blocks = (m : ℕ) → m ≢ n → mark which blocks m ≡ 0
+
+-- A number has all marks, and others have no other marks than before.
+pub record IsMarkedIn (number : ℕ) (blocks others : List (ℕ × Block)) : Type 0 where
+  pub all : (which : Kind) → mark which others number ≡ 1
+  pub apart : (which : Kind) (n : ℕ) → n ≢ number → mark which others n ≡ mark which blocks n
+
 -- What was seen of the marks still holds.
 abbrev pub Holds : Seen → List (ℕ × Block) → Type 0
 Holds Nothing blocks = ⊤
 Holds (Marked n) blocks = place blocks n ≡ 1 → (which : Kind) → mark which blocks n ≡ 1
 Holds (Lack which) blocks = (n : ℕ) → mark which blocks n ≡ 0
+Holds (Alone which n) blocks = ((other : Kind) → mark other blocks n ≡ 1) × LacksBut which n blocks
+
+-- Where no other number had a mark, none has it now.
+abbrev pub Unmarks : Kind → ℕ → List (ℕ × Block) → List (ℕ × Block) → Type 0
+Unmarks which number blocks others = LacksBut which number blocks → Holds (Lack which) others

@@ -1,8 +1,9 @@
 //! Numbers with two kinds of marks, in blocks of 64, and those blocks in groups of 64.
 
-ghost use Rattle.std.specs.Prelude.{◌≡◌, ◌/◌, ◌%◌, ◌<◌, ◌^◌, [], true, Some, None, OnErr, OnOk, filter, nat_eq, option_map};
+ghost use Rattle.std.specs.Prelude.{◌≡◌, ◌/◌, ◌%◌, ◌<◌, ◌^◌, ℕ, List, [], true, false, Some, None, OnErr, OnOk, IfSome, filter, nat_eq, option_map};
 ghost use Rattle.adb_outside.specs.Tables.{at, IsRising, Puts};
-ghost use Rattle.adb_hub_tables.specs.Marked.{AreBlocks, AreGrouped, with_mark, without_mark, first_mark, known, is_empty, Forgets, Thins, mark, weight};
+ghost use Rattle.adb_hub_tables.specs.Marked.{AreBlocks, AreGrouped, with_mark, without_mark, first_mark, known, is_empty, Forgets, Holds, IsMarkedIn, LacksBut, Thins, Unmarks, mark, place, weight};
+ghost use Rattle.adb_hub_tables.specs.declared.words.Block.{Block};
 
 use crate::words;
 use crate::words::{Block, Kind, Words};
@@ -20,6 +21,8 @@ enum Seen {
     Marked(u32),
     /// That no number has a mark.
     Lack(Kind),
+    /// That of all numbers this one alone has a mark, and has all marks.
+    Alone(Kind, u32),
 }
 
 /// Numbers with marks, in blocks. Contracts see the blocks. A block with marks is marked itself
@@ -70,7 +73,7 @@ impl Marks {
         words::know(&mut self.groups, high)?;
         match words::know(&mut self.blocks, number) {
             Ok(()) => {
-                self.seen = Seen::Marked(number);
+                self.seen = once_marked(self.seen, number);
                 Ok(())
             }
             Err(error) => {
@@ -90,8 +93,9 @@ impl Marks {
         if is_marked(self.seen, number) {
             return;
         }
-        mark_grouped(&mut self.groups, &mut self.blocks, number);
-        self.seen = Seen::Marked(number);
+        if mark_grouped(&mut self.groups, &mut self.blocks, number) {
+            self.seen = once_marked(self.seen, number);
+        }
     }
 
     /// Takes a mark of a number away. It takes no memory.
@@ -103,7 +107,7 @@ impl Marks {
         ensures falls { mark which self.old.entries number ≡ 1
             → weight which self.new.entries < weight which self.old.entries }
     {
-        self.seen = Seen::Nothing;
+        self.seen = once_unmarked(self.seen, which, number);
         words::unmark(&mut self.blocks, which, number);
     }
 
@@ -113,7 +117,7 @@ impl Marks {
         ensures fits { number < 2 ^ 32 }
         ensures forgets { Forgets number self.old.entries self.new.entries }
     {
-        self.seen = Seen::Nothing;
+        self.seen = once_forgotten(self.seen, number);
         if words::forget_in(&mut self.blocks, number) {
             let before = mem::replace(&mut self.spare, Some(number / 64));
             drop_empty(&mut self.groups, &mut self.blocks, before, number / 64);
@@ -151,8 +155,11 @@ impl Marks {
         if self.blocks.len() == 0 {
             return None;
         }
-        if lacks(self.seen, which) {
-            return None;
+        let seen = self.seen;
+        match seen {
+            Seen::Lack(kind) if kind == which => return None,
+            Seen::Alone(kind, number) if kind == which => return Some(number),
+            _ => {}
         }
         while let Some(high) = words::first(&self.groups, which) {
             if let Some(number) = words::first_in(&self.blocks, which, high) {
@@ -165,18 +172,25 @@ impl Marks {
     }
 }
 
-/// A number that is known has all marks, and its block among the groups.
-fn mark_grouped(groups: &mut Words, blocks: &mut Words, number: u32)
+/// A number that is known has all marks, and its block among the groups. Whether it is known.
+fn mark_grouped(groups: &mut Words, blocks: &mut Words, number: u32) -> bool
     requires { AreGrouped groups.old.entries blocks.old.entries }
     ensures fits { number < 2 ^ 32 }
     ensures block { let high = number / 64 in Puts high
         (option_map (with_mark (number % 64)) (at high blocks.old.entries))
         blocks.old.entries blocks.new.entries }
     ensures grouped { AreGrouped groups.new.entries blocks.new.entries }
+    ensures known { result ≡ true → place blocks.new.entries number ≡ 1 }
+    ensures unknown { result ≡ false → (k : ℕ)
+        → at k blocks.new.entries ≡ at k blocks.old.entries }
 {
-    if words::mark(blocks, number) {
+    let Some(lacked) = words::mark(blocks, number) else {
+        return false;
+    };
+    if lacked {
         words::mark(groups, number / 64);
     }
+    true
 }
 
 /// A block in which no number is known goes, but one.
@@ -204,22 +218,58 @@ fn drop_block(groups: &mut Words, blocks: &mut Words, high: u32)
     words::forget(groups, high);
 }
 
-/// Whether it was seen last that no number has a mark.
-fn lacks(seen: Seen, which: Kind) -> bool
-    ensures { result ≡ true → seen ≡ Seen.Lack which }
+/// The mark that no number has but perhaps this one, where one was seen.
+fn lacking(seen: Seen, number: u32) -> Option<Kind>
+    ensures { (blocks : List (ℕ × Block)) → Holds seen blocks
+        → IfSome result (λ which. LacksBut which number blocks) }
 {
     match seen {
-        Seen::Lack(kind) => kind == which,
-        _ => false,
+        Seen::Lack(kind) => Some(kind),
+        Seen::Alone(kind, alone) if alone == number => Some(kind),
+        _ => None,
     }
 }
 
-/// Whether a number was the last that was marked.
+/// What is seen once a number has all marks.
+fn once_marked(seen: Seen, number: u32) -> Seen
+    ensures { (blocks others : List (ℕ × Block)) → Holds seen blocks
+        → IsMarkedIn number blocks others → Holds result others }
+{
+    match lacking(seen, number) {
+        Some(kind) => Seen::Alone(kind, number),
+        None => Seen::Marked(number),
+    }
+}
+
+/// What is seen once a number has lost a mark.
+fn once_unmarked(seen: Seen, which: Kind, number: u32) -> Seen
+    ensures { (blocks others : List (ℕ × Block)) → Holds seen blocks
+        → Unmarks which number blocks others → Holds result others }
+{
+    match lacking(seen, number) {
+        Some(kind) if kind == which => Seen::Lack(kind),
+        _ => Seen::Nothing,
+    }
+}
+
+/// What is seen once a number has lost all marks.
+fn once_forgotten(seen: Seen, number: u32) -> Seen
+    ensures { (blocks others : List (ℕ × Block)) → Holds seen blocks
+        → ((which : Kind) → Unmarks which number blocks others) → Holds result others }
+{
+    match lacking(seen, number) {
+        Some(kind) => Seen::Lack(kind),
+        None => Seen::Nothing,
+    }
+}
+
+/// Whether it was seen that a number has all marks, if it is known.
 fn is_marked(seen: Seen, number: u32) -> bool
-    ensures { result ≡ true → seen ≡ Seen.Marked number }
+    ensures { result ≡ true → (blocks : List (ℕ × Block)) → Holds seen blocks
+        → Holds (Seen.Marked number) blocks }
 {
     match seen {
-        Seen::Marked(last) => last == number,
+        Seen::Marked(marked) | Seen::Alone(_, marked) => marked == number,
         _ => false,
     }
 }

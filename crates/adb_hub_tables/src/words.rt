@@ -1,9 +1,9 @@
 //! Blocks of 64 numbers, with two words of marks.
 
-ghost use Rattle.std.specs.Prelude.{◌≡◌, ◌/◌, ◌%◌, ◌<◌, ◌^◌, Some, None, OnErr, OnOk, eqb, false, filter, nat_eq, option_map};
+ghost use Rattle.std.specs.Prelude.{◌≡◌, ◌≢◌, ◌/◌, ◌%◌, ◌<◌, ◌^◌, ℕ, Some, None, OnErr, OnOk, IfNone, IfSome, eqb, false, filter, nat_eq, option_map};
 ghost use Rattle.std.specs.Option.{option_map_or};
 ghost use Rattle.adb_outside.specs.Tables.{at, IsRising, Puts};
-ghost use Rattle.adb_hub_tables.specs.Marked.{AreBlocks, first_at, lacks_marks, marks_of, with_mark, with_place, without_mark, without_place, forgotten, first_mark, is_empty, known, mark, new_block, weight};
+ghost use Rattle.adb_hub_tables.specs.Marked.{AreBlocks, IsKnownIn, first_at, lacks_marks, marks_of, place_bit, with_mark, with_place, without_mark, without_place, forgotten, first_mark, is_empty, known, mark, new_block, weight};
 
 use std::alloc::AllocError;
 use std::collections::BTreeMap;
@@ -50,17 +50,23 @@ impl Block {
         self.news |= bit;
     }
 
-    /// A number that is known has all marks. Whether a word of marks was empty before.
-    fn mark(&mut self, i: u32) -> bool
+    /// A number that is known has all marks. Whether a word of marks was empty before; `None` where
+    /// it is not known.
+    fn mark(&mut self, i: u32) -> Option<bool>
         requires { i < 64 }
-        ensures lacked { result ≡ lacks_marks self.old }
+        ensures lacked { IfSome result (λ lacked. lacked ≡ lacks_marks self.old) }
+        ensures known { IfSome result (λ lacked. place_bit i self.old ≢ 0) }
+        ensures unknown { IfNone result (self.new ≡ self.old) }
         ensures block { self.new ≡ with_mark i self.old }
     {
-        let lacked = self.due == 0 || self.news == 0;
         let bit = self.places & (1u64 << i);
+        if bit == 0 {
+            return None;
+        }
+        let lacked = self.due == 0 || self.news == 0;
         self.due |= bit;
         self.news |= bit;
-        lacked
+        Some(lacked)
     }
 
     /// A number does not have a mark.
@@ -119,18 +125,23 @@ pub(crate) fn know(marks: &mut Words, number: u32) -> Result<(), AllocError>
     Ok(())
 }
 
-/// A number that is known has all marks. Whether a word of marks of its block was empty before. It
-/// takes no memory.
-pub(crate) fn mark(marks: &mut Words, number: u32) -> bool
+/// A number that is known has all marks. Whether a word of marks of its block was empty before;
+/// `None` where it is not known. It takes no memory.
+pub(crate) fn mark(marks: &mut Words, number: u32) -> Option<bool>
     ensures fits { number < 2 ^ 32 }
-    ensures lacked { result ≡ option_map_or lacks_marks (at (number / 64) marks.old.entries) false }
+    ensures lacked { IfSome result (λ lacked.
+        lacked ≡ option_map_or lacks_marks (at (number / 64) marks.old.entries) false) }
+    ensures known { IfSome result (λ lacked.
+        IsKnownIn (at (number / 64) marks.old.entries) (number % 64)) }
+    ensures unknown { IfNone result ((k : ℕ)
+        → at k marks.new.entries ≡ at k marks.old.entries) }
     ensures block { let high = number / 64 in Puts high
         (option_map (with_mark (number % 64)) (at high marks.old.entries))
         marks.old.entries marks.new.entries }
 {
     match marks.get_mut(&(number / 64)) {
         Some(block) => block.mark(number % 64),
-        None => false,
+        None => None,
     }
 }
 

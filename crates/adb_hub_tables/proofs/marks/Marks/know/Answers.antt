@@ -2,7 +2,7 @@ use Rattle.std.proofs.Common.{ap, subst, sym, ◌∙◌, refl, ◌/◌}
 use Rattle.adb_outside.specs.Tables.{at}
 use Rattle.adb_hub_tables.specs.Marked.{AreGrouped, Holds}
 use Rattle.adb_hub_tables.proofs.Grouping.{high_below}
-use Rattle.adb_hub_tables.proofs.Marking.{seen_known}
+use Rattle.adb_hub_tables.proofs.Seeing.{is_known_in}
 use Rattle.adb_hub_tables.proofs.MarkedRows.{grown, dropped}
 use Rattle.adb_hub_tables.proofs.marks.Marks.know.Goals as goal
 
@@ -10,7 +10,8 @@ pub invariant_of-self-in-Ok : goal.invariant_of-self-in-Ok
 invariant_of-self-in-Ok c = (
   λ which. grown (c.args.number / 64) (high_below c.args.number c.ranges.number.fits) (c.self.invariant.0 which) c.in_ok-know.ensures.ok
       c.know-2.new.marks.entries c.in-Ok.ensures.ok.others,
-  seen_known c.args.number c.in-Ok.ensures.ok,
+  c.once_marked-self-inside.ensures c.self.inside.blocks.entries c.know-2.new.marks.entries c.self.invariant.1
+      (is_known_in c.args.number c.in-Ok.ensures.ok),
 )
 
 pub invariant_of-self-in-Err : goal.invariant_of-self-in-Err
