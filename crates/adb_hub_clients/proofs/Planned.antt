@@ -1,14 +1,15 @@
 -- What a client asks is answered.
-use Rattle.std.proofs.Common.{ℕ, ◌≡◌, ◌≤◌, ◌++◌, List, length, Bool, true, false, Option, Some, None, refl, sym, ◌∙◌, ap, subst, cond}
+use Rattle.std.proofs.Common.{ℕ, ◌≡◌, ◌≤◌, ◌++◌, arith, List, [], drop, length, Bool, true, false, Option, Some, None, refl, sym, ◌∙◌, ap, subst, cond}
 use Rattle.std.proofs.Common.{eqb}
 use Rattle.std.specs.Prelude.{option_map, option_and_then}
 use Rattle.std.proofs.lemmas.Bool.{eqb-true, eq-eqb}
+use Rattle.std.proofs.lemmas.List.{drop_all}
 use Rattle.adb_outside.specs.Tables.{at, change_row}
 use Rattle.adb_client.specs.Client.{SeenClient}
 use Rattle.adb_history.specs.Rows.{Client, State, to_client, with_due}
 use Rattle.adb_history.specs.Clients.{owe_client}
-use Rattle.adb_history.specs.Asking.{Asked, reads_on}
-use Rattle.adb_history.specs.Reading.{has_asked, asks, goes_on}
+use Rattle.adb_history.specs.Asking.{Asked, reads_on, asks_with}
+use Rattle.adb_history.specs.Reading.{asked_before, has_asked, asks, goes_on}
 use Rattle.adb_hub_clients.specs.Plan.{asking, asked_by}
 use Rattle.adb_hub_clients.specs.declared.plan.Plan.{Plan}
 use Rattle.adb_laws_resting.specs.Wanted.{IsSoundNext}
@@ -19,7 +20,7 @@ use Rattle.adb_hub_rules.specs.Up.{IsSized}
 use Rattle.adb_hub_clients.specs.Leaving.{HoldsAtLeast}
 use Rattle.adb_hub_clients.specs.Taking.{takes_in, holding}
 use Rattle.adb_hub_clients.specs.Asking.{after_requests, hears, FitsNext}
-use Rattle.adb_hub_clients.specs.Planning.{PlansAt, answered}
+use Rattle.adb_hub_clients.specs.Planning.{PlansAt, PlansWhole, answered}
 use Rattle.adb_hub_clients.specs.declared.hearing.Heard.{Heard}
 use Rattle.adb_hub_clients.proofs.Answering.{next_fits}
 
@@ -98,6 +99,60 @@ plan_follows plan c t plans none = by_row (at c t.clients.entries) plans
 pub plan_within : (plan : Plan) (t : Tables) (found : Option SeenClient) → PlansAt t found (Some plan) → HoldsAtLeast plan.used found
 plan_within plan t None plans = tt
 plan_within plan t (Some client) plans = plans.within
+
+-- ---- a piece that is a whole request
+-- nothing of what is held is asked then
+pub none_held : (found : Option SeenClient) → HoldsAtLeast 0 found
+none_held None = tt
+none_held (Some client) = omega arith
+
+module _ (plan : Plan) (c : ℕ) (piece : List ℕ) (t : Tables) (plans : PlansWhole t (at c t.clients.entries) piece plan) where
+  pub whole_fits : IsSized t → FitsNext plan.next
+  whole_fits sized = by_row (at c t.clients.entries) plans
+    where
+      by_row : (found : Option SeenClient) → PlansWhole t found piece plan → FitsNext plan.next
+      by_row None plans = absurd plans
+      by_row (Some client) plans =
+          subst (λ (q : Asked). FitsNext q.next) (sym plans.asked.asked)
+          (next_fits t.devices sized t.forwards (length piece) (asking piece client.about.selected) tt)
+
+  pub whole_follows : at 0 t.forwards ≡ None → IsSoundNext t.forwards plan.next
+  whole_follows none = by_row (at c t.clients.entries) plans
+    where
+      by_row : (found : Option SeenClient) → PlansWhole t found piece plan → IsSoundNext t.forwards plan.next
+      by_row None plans = absurd plans
+      by_row (Some client) plans =
+          subst (λ (q : Asked). IsSoundNext t.forwards q.next) (sym plans.asked.asked)
+          (sound_next t.devices t.forwards none (length piece) (asking piece client.about.selected) tt)
+
+  -- what is asked, with other bytes past it, and another count of them
+  abbrev asked_past : List ℕ → ℕ → Asked
+  asked_past rest used = record { replies = plan.replies; used = used; rest = rest; selected = plan.selected; next = plan.next }
+
+  -- what follows it is what follows the piece
+  pub planned_whole : (row : Client) → (state_of t).clients c ≡ Some row
+      → (goes_on plan.next c (hears (heard_of (record plan { used = 0 })) c (state_of t))).state
+      ≡ (asks (asks_with t.devices t.forwards piece (asked_before row)) c (state_of t)).state
+  planned_whole row here = by_row (at c t.clients.entries) here plans
+    where
+      or_row : Option Client → Client
+      or_row None = row
+      or_row (Some row) = row
+
+      by_row : (found : Option SeenClient) → option_map client_row found ≡ Some row → PlansWhole t found piece plan
+          → (goes_on plan.next c (hears (heard_of (record plan { used = 0 })) c (state_of t))).state
+          ≡ (asks (asks_with t.devices t.forwards piece (asked_before row)) c (state_of t)).state
+      by_row None is plans = absurd plans
+      by_row (Some client) is plans =
+          let same : client_row client ≡ row = ap or_row is in
+          let none : row.held ≡ [] = sym (ap (λ (row : Client). row.held) same) ∙ plans.none in
+          let past : drop plan.used piece ≡ [] = drop_all plan.used piece (omega (arith, plans.asked.all)) in
+          let reads : asks_with t.devices t.forwards piece (asked_before row) ≡ asked_past [] plan.used =
+          ap (λ held. reads_on t.devices t.forwards (length (held ++ piece)) (record (asked_before row) { rest = held ++ piece })) none
+          ∙ (ap (λ (row : Client). reads_on t.devices t.forwards (length piece) (asking piece row.about.selected)) (sym same)
+          ∙ (sym plans.asked.asked ∙ ap (λ rest. asked_past rest plan.used) past)) in
+          ap (λ (s : State). (goes_on plan.next c s).state) (heard_is (record plan { used = 0 }) c row (state_of t) here)
+          ∙ (ap (λ rest. (asks (asked_past rest 0) c (state_of t)).state) none ∙ sym (ap (λ (q : Asked). (asks q c (state_of t)).state) reads))
 
 -- ---- a piece that is held before
 -- what is asked replaces what was held

@@ -1,12 +1,14 @@
 -- What a client asks, as a plan says it.
-use Rattle.std.specs.Prelude.{ℕ, ◌≡◌, ◌≤◌, length, Option, Some, None}
+use Rattle.std.specs.Prelude.{ℕ, ◌≡◌, ◌≤◌, List, [], length, Option, Some, None}
 use Rattle.adb_client.specs.Client.{SeenClient}
 use Rattle.adb_history.specs.Rows.{Client, State}
-use Rattle.adb_history.specs.Asking.{reads_on}
-use Rattle.adb_history.specs.Reading.{asks}
-use Rattle.adb_hub_clients.specs.Plan.{asking, asked_by}
+use Rattle.adb_history.specs.Asking.{reads_on, asks_with}
+use Rattle.adb_history.specs.Reading.{asked_before, asks}
+use Rattle.adb_hub_clients.specs.Leaving.{Leaves}
+use Rattle.adb_hub_clients.specs.Plan.{asking, asked_by, IsWholePlan}
 use Rattle.adb_hub_clients.specs.declared.plan.Plan.{Plan}
 use Rattle.adb_hub_tables.specs.declared.tables.Tables.{Tables}
+use Rattle.adb_hub_tables.specs.Tables.{state_of}
 
 -- A plan says what a client asks.
 pub record Plans (t : Tables) (client : SeenClient) (plan : Plan) : Type 0 where
@@ -23,3 +25,17 @@ PlansAt t (Some client) None = ⊥
 -- what is kept when all whole requests that a client holds are answered
 abbrev pub answered : ℕ → Client → State → State
 answered c row s = (asks (reads_on s.devices s.forwards (length row.held) (asking row.held row.about.selected)) c s).state
+
+-- There is a client that holds nothing, and a piece asks this of it.
+pub record IsAskedWhole (t : Tables) (client : SeenClient) (piece : List ℕ) (plan : Plan) : Type 0 where
+  pub none : client.held ≡ []
+  pub asked : IsWholePlan t.devices t.forwards client.about.selected piece plan
+
+abbrev pub PlansWhole : Tables → Option SeenClient → List ℕ → Plan → Type 0
+PlansWhole t None piece plan = ⊥
+PlansWhole t (Some client) piece plan = IsAskedWhole t client piece plan
+
+-- The whole requests that a client asks by a piece are answered, where the client is there.
+abbrev pub Answers : ℕ → List ℕ → (old new : Tables) → Type 0
+Answers c piece old new = (row : Client) → (state_of old).clients c ≡ Some row
+    → Leaves (asks (asks_with old.devices old.forwards piece (asked_before row)) c (state_of old)).state new

@@ -1,11 +1,13 @@
 -- One request after another is read.
-use Rattle.std.specs.Prelude.{ℕ, ◌≡◌, ◌<◌, ◌≤◌, List, length, drop, Option, Some, None}
+use Rattle.std.specs.Prelude.{ℕ, ◌≡◌, ◌<◌, ◌≤◌, ◌+◌, List, length, drop, Option, Some, None}
 use Rattle.adb_registry.specs.Registry.{DeviceTable}
 use Rattle.adb_forward.specs.declared.row.ForwardRow.{ForwardRow}
 use Rattle.adb_request.specs.Requests.{request_at}
 use Rattle.adb_reply.specs.declared.answer.Answer.{Answer}
 use Rattle.adb_reply.specs.declared.answer.Next.{Next}
 use Rattle.adb_reply.specs.declared.answer.Next.TheVariants.{Select}
+use Rattle.adb_client.specs.Ask.{asked_in}
+use Rattle.adb_client.specs.declared.ask.Asked.{Asked as FirstAsked}
 use Rattle.adb_history.specs.Asking.{Asked, after_answer, after_found}
 use Rattle.adb_hub_clients.specs.declared.requests.Reading.{Reading}
 use Rattle.adb_hub_clients.specs.declared.requests.Step.{Step}
@@ -47,3 +49,8 @@ pub record ReadsOne (devices : DeviceTable) (forwards : List (ℕ × ForwardRow)
       ≡ stepped step others (asked_so_far new held)
   pub within : new.used ≤ length held
   pub later : step ≡ Again → old.used < new.used
+
+-- That is what bytes ask behind the first of them.
+pub record IsAskedBehind (at : ℕ) (asked : FirstAsked) (held : List ℕ) : Type 0 where
+  pub is : asked ≡ asked_in (drop at held)
+  pub within : at + asked.len ≤ length held

@@ -1,31 +1,66 @@
 //! Bytes of a client that asks: its whole requests are answered (OVERVIEW.TXT, "Protocol details").
 
-ghost use Rattle.std.specs.Prelude.{◌≡◌, Some, None, IfOk, OnOk, OnErr};
+ghost use Rattle.std.specs.Prelude.{◌≡◌, Some, None, IfOk, IfSome, OnOk, OnErr};
 ghost use Rattle.adb_outside.specs.Tables.{at};
 ghost use Rattle.adb_history.specs.Rows.{Client as Row};
-ghost use Rattle.adb_history.specs.Asking.{asks_with};
-ghost use Rattle.adb_history.specs.Reading.{asked_before, asks};
+ghost use Rattle.adb_history.specs.Reading.{goes_on};
+ghost use Rattle.adb_laws_resting.specs.Wanted.{IsSoundNext};
 ghost use Rattle.adb_hub_tables.specs.Fit.{IsFit};
 ghost use Rattle.adb_hub_tables.specs.Tables.{state_of};
 ghost use Rattle.adb_hub_rules.specs.Up.{IsSized};
-ghost use Rattle.adb_hub_clients.specs.Leaving.{Leaves};
-ghost use Rattle.adb_hub_clients.specs.Planning.{PlansAt, answered};
+ghost use Rattle.adb_hub_clients.specs.Asking.{hears, FitsNext};
+ghost use Rattle.adb_hub_clients.specs.Leaving.{Leaves, HoldsAtLeast};
+ghost use Rattle.adb_hub_clients.specs.Planning.{Answers, PlansAt, PlansWhole, answered};
 
 use crate::following::follow;
 use crate::hearing::{Heard, reserve_replies};
-use crate::plan::{Plan, make_plan};
+use crate::plan::{Plan, make_plan, plan_piece};
 use crate::taking::{take_back, take_in};
 use adb_hub_tables::Tables;
+use adb_reply::Next;
 use std::alloc::AllocError;
 
-/// A piece came from a client that asks: its whole requests are answered.
+/// A piece came from a client that asks: its whole requests are answered. A piece that is a whole
+/// request, the usual one, is not held before.
 pub(crate) fn ask(tables: &mut Tables, client: u32, piece: &[u8]) -> Result<(), AllocError>
     requires fit { IsFit tables.old }
     requires sized { IsSized tables.old }
     requires ports { at 0 tables.old.forwards ≡ None }
-    ensures made { OnOk result ((row : Row) → (state_of tables.old).clients client ≡ Some row
-        → let s = state_of tables.old in Leaves (asks (asks_with s.devices s.forwards piece.now
-        (asked_before row)) client s).state tables.new) }
+    ensures made { OnOk result (Answers client piece.now tables.old tables.new) }
+    ensures kept { OnErr result (Leaves (state_of tables.old) tables.new) }
+{
+    match whole_plan(tables, client, piece)? {
+        Some(plan) => {
+            let heard = Heard {
+                replies: plan.replies,
+                used: 0,
+                selected: plan.selected,
+            };
+            make(tables, client, &heard, plan.next)
+        }
+        None => hold_and_answer(tables, client, piece),
+    }
+}
+
+/// What a client asks by a piece that is a whole request, where it holds nothing. Nothing changes.
+fn whole_plan(tables: &Tables, client: u32, piece: &[u8]) -> Result<Option<Plan>, AllocError>
+    ensures { IfOk result (λ plan. IfSome plan (λ plan.
+        PlansWhole tables.now (at client tables.now.clients.entries) piece.now plan)) }
+{
+    match tables.clients.get(&client) {
+        Some(row) if row.held() == 0 => {
+            plan_piece(tables.alloc, row, piece, &tables.devices, &tables.forwards)
+        }
+        _ => Ok(None),
+    }
+}
+
+/// A piece is held behind what a client sent, and the whole requests are answered.
+fn hold_and_answer(tables: &mut Tables, client: u32, piece: &[u8]) -> Result<(), AllocError>
+    requires fit { IsFit tables.old }
+    requires sized { IsSized tables.old }
+    requires ports { at 0 tables.old.forwards ≡ None }
+    ensures made { OnOk result (Answers client piece.now tables.old tables.new) }
     ensures kept { OnErr result (Leaves (state_of tables.old) tables.new) }
 {
     take_in(tables, client, piece)?;
@@ -48,7 +83,14 @@ fn answer(tables: &mut Tables, client: u32) -> Result<(), AllocError>
     ensures kept { OnErr result (Leaves (state_of tables.old) tables.new) }
 {
     match plan_of(tables, client)? {
-        Some(plan) => make(tables, client, plan),
+        Some(plan) => {
+            let heard = Heard {
+                replies: plan.replies,
+                used: plan.used,
+                selected: plan.selected,
+            };
+            make(tables, client, &heard, plan.next)
+        }
         None => Ok(()),
     }
 }
@@ -67,23 +109,21 @@ fn plan_of(tables: &Tables, client: u32) -> Result<Option<Plan>, AllocError>
     }
 }
 
-/// A plan is made: replies become due, and what follows is done.
-fn make(tables: &mut Tables, client: u32, plan: Plan) -> Result<(), AllocError>
+/// Requests are heard, in places that are made for the replies, and what follows is done.
+fn make(
+    tables: &mut Tables,
+    client: u32,
+    heard: &Heard,
+    next: Option<Next>,
+) -> Result<(), AllocError>
     requires fit { IsFit tables.old }
-    requires plan { PlansAt tables.old (at client tables.old.clients.entries) (Some plan) }
-    requires sized { IsSized tables.old }
-    requires ports { at 0 tables.old.forwards ≡ None }
-    ensures made { OnOk result ((row : Row) → (state_of tables.old).clients client ≡ Some row
-        → Leaves (answered client row (state_of tables.old)) tables.new) }
+    requires held { HoldsAtLeast heard.now.used (at client tables.old.clients.entries) }
+    requires fits { FitsNext next }
+    requires follows { IsSoundNext tables.old.forwards next }
+    ensures made { OnOk result (Leaves (goes_on next client
+        (hears heard.now client (state_of tables.old))).state tables.new) }
     ensures kept { OnErr result (Leaves (state_of tables.old) tables.new) }
 {
-    let heard = Heard {
-        replies: plan.replies,
-        used: plan.used,
-        selected: plan.selected,
-    };
-    match reserve_replies(tables, client, &heard) {
-        Ok(()) => follow(tables, client, &heard, plan.next),
-        Err(error) => Err(error),
-    }
+    reserve_replies(tables, client, heard)?;
+    follow(tables, client, heard, next)
 }

@@ -1,15 +1,17 @@
 //! What a client that asks has asked.
 
-ghost use Rattle.std.specs.Prelude.{◌≡◌, ◌≤◌, length, IfOk};
+ghost use Rattle.std.specs.Prelude.{◌≡◌, ◌≤◌, length, IfOk, IfSome};
 ghost use Rattle.adb_history.specs.Asking.{reads_on};
-ghost use Rattle.adb_hub_clients.specs.Plan.{asking, asked_by};
+ghost use Rattle.adb_hub_clients.specs.Plan.{asking, asked_by, IsWholePlan};
+ghost use Rattle.adb_hub_clients.specs.Requests.{IsAskedBehind};
 
 use crate::requests::{Reading, Step};
-use adb_client::Client;
+use adb_client::{Ask, Asked, Client, ask_in};
 use adb_forward::Forwards;
 use adb_outside::Text;
 use adb_registry::Registry;
 use adb_reply::Next;
+use adb_request::Request;
 use std::alloc::{AllocError, Global};
 
 /// What a client that asks has asked: the replies to its whole requests, in order; how many bytes
@@ -45,6 +47,39 @@ pub fn make_plan(
         }
     }
     Ok(planned(reading, None))
+}
+
+/// What a piece asks of a client that holds nothing, where it is one whole request.
+pub(crate) fn plan_piece(
+    alloc: Global,
+    client: &Client,
+    piece: &[u8],
+    devices: &Registry,
+    forwards: &Forwards,
+) -> Result<Option<Plan>, AllocError>
+    ensures { IfOk result (λ plan. IfSome plan (λ plan.
+        IsWholePlan devices.now forwards.now client.now.about.selected piece.now plan)) }
+{
+    let Some(request) = whole_request(alloc, piece)? else {
+        return Ok(None);
+    };
+    let mut reading = Reading::new(alloc, client.about().selected);
+    match reading.answer(alloc, request, piece.len(), devices, forwards)? {
+        Step::Again => Ok(Some(planned(reading, None))),
+        Step::End(next) => Ok(Some(planned(reading, next))),
+    }
+}
+
+/// The request that a piece is, where it is one whole.
+fn whole_request(alloc: Global, piece: &[u8]) -> Result<Option<Request>, AllocError>
+    ensures { IfOk result (λ request. IfSome request (λ request.
+        IsAskedBehind 0 (record { ask = Ask.Whole request; len = length piece.now }) piece.now)) }
+{
+    let Asked { ask, len } = ask_in(alloc, piece)?;
+    match ask {
+        Ask::Whole(request) if len == piece.len() => Ok(Some(request)),
+        _ => Ok(None),
+    }
 }
 
 /// What was read, with what follows it.

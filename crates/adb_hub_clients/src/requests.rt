@@ -1,13 +1,14 @@
 //! One request after another.
 
-ghost use Rattle.std.specs.Prelude.{◌≡◌, ◌≤◌, ◌+◌, [], length, IfOk, OnOk};
-ghost use Rattle.adb_hub_clients.specs.Requests.{step_after, selected_after, TakesAnswer, ReadsOne};
+ghost use Rattle.std.specs.Prelude.{◌≡◌, ◌≤◌, ◌+◌, List, ℕ, [], length, IfOk, OnOk};
+ghost use Rattle.adb_hub_clients.specs.Requests.{step_after, selected_after, IsAskedBehind, TakesAnswer, ReadsOne};
 
 use adb_client::{Ask, Asked, Client};
 use adb_forward::Forwards;
 use adb_outside::Text;
 use adb_registry::Registry;
 use adb_reply::{Answer, Next, reply};
+use adb_request::Request;
 use std::alloc::{AllocError, Global};
 
 /// The requests read so far: the replies to them, how many bytes they have, and the transport that
@@ -55,11 +56,27 @@ impl Reading {
         match ask {
             Ask::More => Ok(Step::End(None)),
             Ask::Malformed => Ok(Step::End(Some(Next::Close))),
-            Ask::Whole(request) => {
-                let answer = reply(alloc, devices, forwards, self.selected, &request)?;
-                self.take_in(answer, len)
-            }
+            Ask::Whole(request) => self.answer(alloc, request, len, devices, forwards),
         }
+    }
+
+    /// Answers the request behind what was read, of so many bytes.
+    pub(crate) fn answer(
+        &mut self,
+        alloc: Global,
+        request: Request,
+        len: usize,
+        devices: &Registry,
+        forwards: &Forwards,
+    ) -> Result<Step, AllocError>
+        requires { self.old.used + len ≤ usize.MAX }
+        ensures reads { IfOk result (λ step. (held : List ℕ)
+            → IsAskedBehind self.old.used (record { ask = Ask.Whole request; len = len }) held
+            → ReadsOne devices.now forwards.now held self.old step self.new) }
+        ensures used { OnOk result (self.new.used ≡ self.old.used + len) }
+    {
+        let answer = reply(alloc, devices, forwards, self.selected, &request)?;
+        self.take_in(answer, len)
     }
 
     /// A request of so many bytes was answered.
@@ -68,9 +85,14 @@ impl Reading {
         ensures asked { IfOk result (λ step. TakesAnswer answer len self.old step self.new) }
         ensures used { OnOk result (self.new.used ≡ self.old.used + len) }
     {
-        self.replies.push_slice(answer.bytes.as_slice())?;
+        let Answer { bytes, next } = answer;
+        if self.replies.is_empty() {
+            self.replies = bytes;
+        } else {
+            self.replies.push_slice(bytes.as_slice())?;
+        }
         self.used += len;
-        Ok(self.follow(answer.next))
+        Ok(self.follow(next))
     }
 
     /// Where the answer selects a transport, the next request is read.

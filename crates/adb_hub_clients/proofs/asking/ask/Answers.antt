@@ -1,31 +1,42 @@
-use Rattle.std.proofs.Common.{ap, ◌∙◌, ◌++◌, refl, length}
-use Rattle.adb_history.specs.Rows.{State}
-use Rattle.adb_history.specs.Asking.{asks_with}
-use Rattle.adb_history.specs.Reading.{asked_before}
-use Rattle.adb_hub_tables.specs.Tables.{state_of}
-use Rattle.adb_hub_clients.specs.Planning.{answered}
-use Rattle.adb_hub_clients.proofs.Planned.{asks_anew, holding_row, holds_same}
+use Rattle.std.proofs.Common.{◌≡◌, ◌∙◌, ℕ, List, Option, Some, subst}
+use Rattle.std.specs.Prelude.{IfSome}
+use Rattle.std.proofs.lemmas.Result.{on_ok_weaker}
+use Rattle.adb_outside.specs.Tables.{at}
+use Rattle.adb_client.specs.Client.{SeenClient}
+use Rattle.adb_hub_tables.specs.declared.tables.Tables.{Tables}
+use Rattle.adb_hub_clients.specs.Planning.{PlansWhole}
+use Rattle.adb_hub_clients.specs.declared.plan.Plan.{Plan}
+use Rattle.adb_hub_clients.proofs.Planned.{none_held, planned_whole, whole_fits, whole_follows}
 use Rattle.adb_hub_clients.proofs.asking.ask.Goals as goal
 
-pub take_back-requires-clause-holds : goal.take_back-requires-clause-holds
-take_back-requires-clause-holds c =
-    holds_same (length c.args.piece.now) c.args.client c.take_in.new.tables c.answer.new.tables c.in-Err.ensures.kept.state c.in_ok-take_in.ensures.holds
+plans : (t : Tables) (found : Option SeenClient) (piece : List ℕ) (o : Option Plan) (plan : Plan) → o ≡ Some plan
+    → IfSome o (λ plan. PlansWhole t found piece plan) → PlansWhole t found piece plan
+plans t found piece o plan is planned = subst (λ (o : Option Plan). IfSome o (λ plan. PlansWhole t found piece plan)) is planned
 
-pub returns-in-Ok-clause-made : goal.returns-in-Ok-clause-made
-returns-in-Ok-clause-made c = λ row here.
-    let old = c.args.tables.now in
-    let s = state_of old in
-    let client = c.args.client in
+pub make-requires-clause-held : goal.make-requires-clause-held
+make-requires-clause-held c = none_held (at c.args.client c.args.tables.now.clients.entries)
+
+pub make-requires-clause-fits : goal.make-requires-clause-fits
+make-requires-clause-fits c =
+    let t = c.args.tables.now in
     let piece = c.args.piece.now in
-    let more = record row { held = row.held ++ piece } in
-    let taken = c.in_ok-take_in.ensures.made.state in
-    let leaves = c.in-Ok.ensures.made more (ap (λ (s : State). s.clients client) taken ∙ holding_row client piece s row here) in
-    record {
-      state = leaves.state
-          ∙ (ap (answered client more) taken ∙ asks_anew (asks_with old.devices old.forwards piece (asked_before row)) client piece s);
-      fit = leaves.fit;
-    }
+    whole_fits c.in-Some.plan c.args.client piece t
+    (plans t (at c.args.client t.clients.entries) piece _ c.in-Some.plan c.in-Some.is c.in_ok-plan.ensures) c.requires.sized
 
-pub returns-in-Err-clause-kept : goal.returns-in-Err-clause-kept
-returns-in-Err-clause-kept c =
-    c.take_back.ensures c.args.piece.now (state_of c.args.tables.now) refl (c.in-Err.ensures.kept.state ∙ c.in_ok-take_in.ensures.made.state)
+pub make-requires-clause-follows : goal.make-requires-clause-follows
+make-requires-clause-follows c =
+    let t = c.args.tables.now in
+    let piece = c.args.piece.now in
+    whole_follows c.in-Some.plan c.args.client piece t
+    (plans t (at c.args.client t.clients.entries) piece _ c.in-Some.plan c.in-Some.is c.in_ok-plan.ensures) c.requires.ports
+
+pub returns-in-Some-clause-made : goal.returns-in-Some-clause-made
+returns-in-Some-clause-made c =
+    let t = c.args.tables.now in
+    let piece = c.args.piece.now in
+    let plan = c.in-Some.plan in
+    let planned_here = plans t (at c.args.client t.clients.entries) piece _ plan c.in-Some.is c.in_ok-plan.ensures in
+    on_ok_weaker c.make.result (λ leaves row here. record {
+      state = leaves.state ∙ planned_whole plan c.args.client piece t planned_here row here;
+      fit = leaves.fit;
+    }) c.make.ensures.made
