@@ -3,6 +3,7 @@ use Rattle.std.proofs.Common.{ℕ, Option, Some, None, ◌∙◌, ap}
 use Rattle.std.specs.Prelude.{Result, Ok, Err, OnErr}
 use Rattle.adb_outside.specs.Tables.{at}
 use Rattle.adb_link.specs.Linked.{Linked}
+use Rattle.adb_wire.specs.Deframing.{Deframing}
 use Rattle.adb_history.specs.Rows.{State}
 use Rattle.adb_capture.specs.declared.entry.Entry.{Entry}
 use Rattle.adb_history.specs.Machine.{step, ups}
@@ -12,8 +13,6 @@ use Rattle.adb_hub_tables.specs.Places.{StaysRead}
 use Rattle.adb_hub_tables.specs.Fit.{Keeps, Makes}
 use Rattle.adb_hub_tables.specs.Widening.{WidensPort, WidensRow, Widens}
 use Rattle.adb_hub_tables.proofs.Widening.{widened_state}
-use Rattle.adb_hub_links.specs.declared.cutting.Cutting.{Cutting}
-use Rattle.adb_hub_links.specs.Cutting.{cut_in}
 use Rattle.adb_hub_links.specs.Settling.{behind, HasSettled}
 
 -- ---- one after another
@@ -30,10 +29,10 @@ read_reserved old None (Some new) h read = absurd read
 read_reserved None (Some middle) (Some new) h read = absurd h
 read_reserved (Some old) (Some middle) (Some new) h read = read ∙ ap (λ (link : Linked). link.incoming) h.link
 
-pub settled_reserved : {link : ℕ} {cutting : Cutting} (old middle new : Tables) → Widens old middle → HasSettled link cutting middle new
-    → HasSettled link cutting old new
-settled_reserved {link} {cutting} old middle new h settled = record {
-  state = settled.state ∙ ap (λ (s : State). (ups (behind link (cut_in cutting) s)).state) (widened_state old middle h);
+pub settled_reserved : {link : ℕ} {c incoming : Deframing} (old middle new : Tables) → Widens old middle → HasSettled link c incoming middle new
+    → HasSettled link c incoming old new
+settled_reserved {link} {c} {incoming} old middle new h settled = record {
+  state = settled.state ∙ ap (λ (s : State). (ups (behind link c s)).state) (widened_state old middle h);
   provided = settled.provided;
   here = settled.here;
   apart = λ k other.

@@ -12,3 +12,4 @@ mod Lawful
 mod Received
 mod Waited
 mod Wholes
+mod Alone

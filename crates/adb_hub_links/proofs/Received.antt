@@ -30,6 +30,15 @@ use Rattle.adb_hub_links.proofs.Lawful.{behind_piece, leaves_named, whole, recei
 pub in_range : (link : ℕ) (piece : List ℕ) → link < 2 ^ 32 → ((i : ℕ) → get_or piece i 0 < 256) → IsInRange (Recv link piece)
 in_range link piece number bytes = record { owner = number; port = tt; bytes = All-from_get_or (λ b. b < 256) piece 0 (λ i _. bytes i) }
 
+-- what was cut off is what there was to cut
+pub all_cut : {c : Deframing} {cutting : Cutting} → IsCutTo c cutting → cut_in cutting ≡ c
+all_cut {c} {cutting} cut =
+    ap (λ (d : Deframing). record d { given = packets_of cutting.packets.items }) cut.incoming
+    ∙ ap (λ (ps : List Packet). record c { given = ps }) cut.packets
+
+pub rest_cut : {c : Deframing} {cutting : Cutting} → IsCutTo c cutting → cutting.incoming ≡ record (cut_in cutting) { given = [] }
+rest_cut cut = cut.incoming ∙ ap (λ (d : Deframing). record d { given = [] }) (sym (all_cut cut))
+
 -- A piece came on a link that lives, of tables between two entries.
 pub record Comes (link : ℕ) (piece : List ℕ) (old : Tables) (port : Port) : Type 0 where
   pub fit : IsFit old
@@ -72,23 +81,21 @@ module _ {link : ℕ} {piece : List ℕ} {old : Tables} {port : Port} (h : Comes
   pub cut_same : cut_of port.link.incoming piece ≡ cut_behind (link_row port) piece
   cut_same = ap (λ (sums : Bool). cut_packets (record { sums = sums }) (port.link.incoming.rest ++ piece)) read_out.sums
 
-  module _ {cutting : Cutting} (cut : IsCutTo (cut_of port.link.incoming piece) cutting) where
-    cut_is : cut_in cutting ≡ cut_behind (link_row port) piece
-    cut_is =
-        ap (λ (d : Deframing). record d { given = packets_of cutting.packets.items }) cut.incoming
-        ∙ (ap (λ (ps : List Packet). record (cut_of port.link.incoming piece) { given = ps }) cut.packets ∙ cut_same)
+  module _ {c : Deframing} (cut : c ≡ cut_of port.link.incoming piece) where
+    cut_is : c ≡ cut_behind (link_row port) piece
+    cut_is = cut ∙ cut_same
 
-    pub piece_leaves : LeavesNamed link (cut_in cutting) (state_of old)
+    pub piece_leaves : LeavesNamed link c (state_of old)
     piece_leaves =
-        subst (λ (c : Deframing). LeavesNamed link c (state_of old)) (sym cut_is)
+        subst (λ (d : Deframing). LeavesNamed link d (state_of old)) (sym cut_is)
         (subst (LeavesNamed link (cut_behind (link_row port) piece)) (sym is_past)
         (leaves_named h.reached.history link piece (link_row port) shown_past h.reached.legal))
 
-    module _ (new : Tables) (settled : HasSettled link cutting old new) where
+    module _ {incoming : Deframing} (rest : incoming ≡ record c { given = [] }) (new : Tables) (settled : HasSettled link c incoming old new) where
       step_made : state_of new ≡ (step (state_of old) (Recv link piece)).state
       step_made =
           settled.state
-          ∙ (ap (λ (c : Deframing). (ups (behind link c (state_of old))).state) cut_is
+          ∙ (ap (λ (d : Deframing). (ups (behind link d (state_of old))).state) cut_is
           ∙ (ap (λ (s : State). (ups (behind link (cut_behind (link_row port) piece) s)).state) is_past
           ∙ (ap (λ (s : State). (ups s).state) (sym (behind_piece h.reached.history link piece (link_row port) shown_past))
           ∙ ap (λ (s : State). (step s (Recv link piece)).state) (sym is_past))))
@@ -104,16 +111,16 @@ module _ {link : ℕ} {piece : List ℕ} {old : Tables} {port : Port} (h : Comes
 
         out_here : k ≡ link → IsReadOut now
         out_here same =
-            let incoming : now.link.incoming ≡ record (cut_behind (link_row port) piece) { given = [] } =
+            let held : now.link.incoming ≡ record (cut_behind (link_row port) piece) { given = [] } =
             settled.here now (subst (λ (q : ℕ). at q new.links.entries ≡ Some now) same is)
-            ∙ (cut.incoming ∙ ap (λ (d : Deframing). record d { given = [] }) cut_same) in
+            ∙ (rest ∙ ap (λ (d : Deframing). record d { given = [] }) cut_is) in
             let bytes = subst (λ (q : ℕ). framed (bytes_received q (Recv link piece ∷ h.reached.history))
             ≡ joined (framed (bytes_received link h.reached.history)).given (cut_behind (link_row port) piece)) (sym same)
             (whole h.reached.history link piece (link_row port) shown_past h.reached.legal) in
             record {
-              given = ap (λ (d : Deframing). d.given) incoming;
-              sound = ap (λ (d : Deframing). d.fault) incoming ∙ (sym (ap (λ (d : Deframing). d.fault) bytes) ∙ read_as.sound);
-              sums = ap (λ (d : Deframing). d.reading.sums) incoming ∙ (sym (ap (λ (d : Deframing). d.reading.sums) bytes) ∙ read_as.sums);
+              given = ap (λ (d : Deframing). d.given) held;
+              sound = ap (λ (d : Deframing). d.fault) held ∙ (sym (ap (λ (d : Deframing). d.fault) bytes) ∙ read_as.sound);
+              sums = ap (λ (d : Deframing). d.reading.sums) held ∙ (sym (ap (λ (d : Deframing). d.reading.sums) bytes) ∙ read_as.sums);
             }
 
         out_apart : k ≢ link → (row : Option Port) → at k old.links.entries ≡ row → StaysRead row (Some now) → IsReadOut now

@@ -104,7 +104,7 @@ module _ {link : ℕ} {cutting : Cutting} {ids : List ℕ} {old middle new : Tab
     reads : (k : ℕ) → StaysRead (at k middle.links.entries) (at k last.links.entries)
     reads k = read_then (at k middle.links.entries) (at k new.links.entries) (at k last.links.entries) (h.takes.read k) (uses.read k)
 
-    pub settled : ((k : ℕ) → CoversUp ids k (state_of new) → state_of last ≡ (up_all k (state_of new)).state) → HasSettled link cutting old last
+    pub settled : ((k : ℕ) → CoversUp ids k (state_of new) → state_of last ≡ (up_all k (state_of new)).state) → HasSettled link (cut_in cutting) cutting.incoming old last
     settled all = record {
       state =
           all new.streams.drawn

@@ -1,37 +1,23 @@
--- A packet that came whole makes the step of its entry.
-use Rattle.std.proofs.Common.{ℕ, ◌^◌, ◌≡◌, ◌<◌, ◌≤◌, Bool, true, false, cond, List, [], ◌∷◌, ◌++◌, length, drop, Option, Some, None, refl, sym, ◌∙◌, ap, subst, arith, inl}
-use Rattle.std.specs.Prelude.{◌&&◌, not, is_some}
-use Rattle.std.proofs.lemmas.List.{append-nil, length-drop}
-use Rattle.std.specs.List.{All}
-use Rattle.std.proofs.lemmas.List.Elements.{All-drop, All-cons, All-nil}
-use Rattle.adb_outside.specs.Tables.{at}
+-- A packet that came whole, or that a piece is, stands alone.
+use Rattle.std.proofs.Common.{ℕ, ◌≡◌, ◌<◌, ◌≤◌, Bool, true, false, cond, List, [], ◌∷◌, ◌++◌, length, take, drop, None, Ok}
+use Rattle.std.proofs.Common.{refl, sym, ◌∙◌, ap, arith, inl}
+use Rattle.std.specs.Prelude.{◌&&◌, not}
+use Rattle.std.proofs.lemmas.List.{append-nil, length-drop, length-take, take-append-drop}
+use Rattle.std.proofs.lemmas.List.Elements.{All-drop}
 use Rattle.adb_wire.specs.declared.headers.Head.{Head}
 use Rattle.adb_wire.specs.declared.headers.TheConstants.{HEADER_LEN, MAX_PAYLOAD}
 use Rattle.adb_wire.specs.declared.packets.Packet.{Packet}
 use Rattle.adb_wire.specs.declared.format.PacketFormat.{PacketFormat}
-use Rattle.adb_wire.specs.Header.{IsBytes, IsHead, header_bytes}
+use Rattle.adb_wire.specs.Header.{IsBytes, IsHead, header_bytes, head_at}
 use Rattle.adb_wire.specs.Packet.{spelling}
-use Rattle.adb_wire.specs.Format.{packet_of, packet_under, packet_with, is_cnxn, has_sums}
+use Rattle.adb_wire.specs.Format.{packet_len, packet_of, packet_under, packet_with, is_cnxn, has_sums}
 use Rattle.adb_wire.specs.Cutting.{Begins}
-use Rattle.adb_wire.specs.Deframing.{Deframing, no_bytes}
+use Rattle.adb_wire.specs.FormatLaws.{head_same}
+use Rattle.adb_wire.specs.Deframing.{no_bytes}
 use Rattle.adb_wire.proofs.HeaderLaws.{head_spelled, head_reads}
 use Rattle.adb_wire.proofs.CuttingLaws.{behind_push, spells_cut}
-use Rattle.adb_capture.specs.declared.entry.Entry.TheVariants.{Recv}
-use Rattle.adb_history.specs.Machine.{May, IsInRange}
-use Rattle.adb_hub_tables.specs.declared.ports.Port.{Port}
-use Rattle.adb_hub_tables.specs.declared.tables.Tables.{Tables}
-use Rattle.adb_hub_tables.specs.Tables.{state_of}
-use Rattle.adb_hub_tables.specs.Fit.{IsFit, IsReached, Makes}
-use Rattle.adb_hub_rules.specs.declared.came.Came.{Came}
-use Rattle.adb_hub_rules.specs.Came as came_packet
-use Rattle.adb_hub_rules.specs.Came.{IsCame, packets_of}
-use Rattle.adb_hub_links.specs.declared.cutting.Cutting.{Cutting}
-use Rattle.adb_hub_links.specs.Cutting.{IsCutTo, cut_of, cut_in}
-use Rattle.adb_hub_links.specs.Settling.{LeavesNamed, HasSettled}
-use Rattle.adb_hub_links.specs.Whole.{IsWhole, StandsAlone, IsFreshAt, is_plain}
-use Rattle.adb_hub_links.proofs.Received.{Comes, piece_leaves, piece_made}
+use Rattle.adb_hub_links.specs.Whole.{IsWhole, IsPlain, StandsAlone, IsAlone, alone, is_plain}
 
--- ---- the packet
 -- it is not too long
 pub whole_size : (head : Head) (bytes : List ℕ) → IsWhole head bytes → length (drop HEADER_LEN bytes) ≤ MAX_PAYLOAD
 whole_size head bytes w = omega (arith, w.long, length-drop HEADER_LEN bytes, (head_reads bytes head w.read).short)
@@ -52,7 +38,8 @@ no_sums carries true false is = refl
 no_sums true true true is = absurd (let clash : false ≡ true = is in cc)
 no_sums false true true is = absurd (let clash : false ≡ true = is in cc)
 
-pub stands_alone : (head : Head) (bytes : List ℕ) → IsBytes bytes → IsWhole head bytes → is_plain head (drop HEADER_LEN bytes) ≡ true → StandsAlone bytes
+pub stands_alone : (head : Head) (bytes : List ℕ) → IsBytes bytes → IsWhole head bytes → is_plain head (drop HEADER_LEN bytes) ≡ true
+    → StandsAlone bytes (packet_of bytes)
 stands_alone head bytes are w plain =
     let payload : List ℕ = drop HEADER_LEN bytes in
     let p : Packet = packet_under head payload in
@@ -77,46 +64,19 @@ stands_alone head bytes are w plain =
     (sym (behind_push [] p) ∙ no_sums _ (is_cnxn head.command) (has_sums head.arg0) plain)
     ∙ ap (λ (q : Packet). record no_bytes { given = q ∷ [] }) (whole_packet head bytes w))
 
--- ---- on a link to which nothing was fed
--- its entry is in range
-pub whole_in_range : (link : ℕ) (bytes : List ℕ) → link < 2 ^ 32 → IsBytes bytes → IsInRange (Recv link bytes)
-whole_in_range link bytes number are = record { owner = number; port = tt; bytes = are }
+-- the packet of a piece that begins with that header
+pub piece_alone : (head : Head) (bytes : List ℕ) (p : Packet) → IsBytes bytes → IsPlain head bytes → p ≡ packet_under head (drop HEADER_LEN bytes)
+    → IsAlone bytes p
+piece_alone head bytes p are plain is = record {
+  stands = stands_alone head bytes are plain.whole plain.plain ∙ ap alone (sym (is ∙ whole_packet head bytes plain.whole));
+  size = omega (arith, ap (λ (q : Packet). length q.payload) is, whole_size head bytes plain.whole);
+}
 
--- A packet that stands alone came on a link that holds nothing.
-pub record ComesAlone (link : ℕ) (bytes : List ℕ) (old : Tables) : Type 0 where
-  pub port : Port
-  pub comes : Comes link bytes old port
-  pub fresh : port.link.incoming ≡ no_bytes
-
-pub comes_alone : (link : ℕ) (bytes : List ℕ) (old : Tables) → IsFit old → IsReached (state_of old) → May (state_of old) (Recv link bytes)
-    → IsInRange (Recv link bytes) → IsFreshAt (at link old.links.entries) → ComesAlone link bytes old
-comes_alone link bytes old fit reached may range fresh = go (at link old.links.entries) refl fresh
-  where
-    go : (row : Option Port) → at link old.links.entries ≡ row → IsFreshAt row → ComesAlone link bytes old
-    go None is fresh = absurd fresh
-    go (Some port) is fresh = record {
-      port = port;
-      comes = record { fit = fit; reached = reached; may = may; range = range; here = is };
-      fresh = fresh;
-    }
-
-module _ {link : ℕ} {bytes : List ℕ} {old : Tables} (h : ComesAlone link bytes old) {cutting : Cutting} (cut : IsCutTo (cut_of no_bytes bytes) cutting) where
-  cut_here : IsCutTo (cut_of h.port.link.incoming bytes) cutting
-  cut_here = subst (λ (d : Deframing). IsCutTo (cut_of d bytes) cutting) (sym h.fresh) cut
-
-  pub alone_leaves : LeavesNamed link (cut_in cutting) (state_of old)
-  alone_leaves = piece_leaves h.comes cut_here
-
-  pub alone_made : (new : Tables) → HasSettled link cutting old new → Makes (Recv link bytes) old new
-  alone_made new settled = piece_made h.comes cut_here new settled
-
--- ---- what it is cut to
-pub whole_cut : (bytes : List ℕ) (cutting : Cutting) (came : Came) → StandsAlone bytes → IsCame came → came_packet.packet_of came ≡ packet_of bytes
-    → cutting.packets.items ≡ came ∷ [] → cutting.incoming ≡ no_bytes → cutting.broken ≡ false → IsCutTo (cut_of no_bytes bytes) cutting
-whole_cut bytes cutting came alone is_came is items new sound = record {
-  came = subst (All IsCame) (sym items) (All-cons IsCame came [] is_came (All-nil IsCame));
-  packets = ap packets_of items ∙ (ap (λ (p : Packet). p ∷ []) is ∙ sym (ap (λ (d : Deframing). d.given) alone));
-  incoming = new ∙ sym (ap (λ (d : Deframing). record d { given = [] }) alone);
-  broken = sound ∙ sym (ap (λ (d : Deframing). is_some d.fault) alone);
-  unfed = λ unfed. new;
+-- its header is read of the first bytes alone
+pub head_whole : (head : Head) (bytes : List ℕ) → head_at (take HEADER_LEN bytes) ≡ Ok head → length bytes ≡ packet_len head → IsWhole head bytes
+head_whole head bytes read long = record {
+  read =
+      ap head_at (sym (take-append-drop HEADER_LEN bytes))
+      ∙ (head_same (take HEADER_LEN bytes) (drop HEADER_LEN bytes) (omega (arith, length-take HEADER_LEN bytes, long)) ∙ read);
+  long = long;
 }

@@ -43,11 +43,11 @@ pub record CanSettle (link : ℕ) (cutting : Cutting) (ids : List ℕ) (t : Tabl
   pub reserved : IsReserved link cutting.packets.items ids t
   pub leaves : LeavesNamed link (cut_in cutting) (state_of t)
 
--- The packets of a link were treated, and then their fault, and the streams that they name went up.
-pub record HasSettled (link : ℕ) (cutting : Cutting) (old new : Tables) : Type 0 where
-  pub state : state_of new ≡ (ups (behind link (cut_in cutting) (state_of old))).state
+-- The packets of a link were treated, and then their fault, the streams that they name went up, and this is held behind them.
+pub record HasSettled (link : ℕ) (c incoming : Deframing) (old new : Tables) : Type 0 where
+  pub state : state_of new ≡ (ups (behind link c (state_of old))).state
   pub provided : IsProvided new
-  pub here : (port : Port) → at link new.links.entries ≡ Some port → port.link.incoming ≡ cutting.incoming
+  pub here : (port : Port) → at link new.links.entries ≡ Some port → port.link.incoming ≡ incoming
   pub apart : (k : ℕ) → k ≢ link → StaysRead (at k old.links.entries) (at k new.links.entries)
 
 -- a link behind a piece that completes nothing

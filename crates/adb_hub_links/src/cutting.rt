@@ -8,11 +8,9 @@ ghost use Rattle.adb_hub_tables.specs.declared.ports.Port.{Port};
 ghost use Rattle.adb_hub_rules.specs.Came.{IsCame, packet_of, packets_of};
 ghost use Rattle.adb_wire.specs.declared.command.Command.TheVariants.{Cnxn};
 ghost use Rattle.adb_wire.specs.declared.headers.TheConstants.{MAX_PAYLOAD};
-ghost use Rattle.adb_wire.specs.Deframing.{no_bytes};
 ghost use Rattle.adb_hub_links.specs.Cutting.{IsClear, IsCutTo, TakesNext, cut_of};
-ghost use Rattle.adb_hub_links.specs.Whole.{StandsAlone};
+ghost use Rattle.adb_hub_links.specs.Whole.{alone};
 
-use crate::whole::Whole;
 use adb_banner::IdentityError;
 use adb_hub_rules::Came;
 use adb_hub_tables::{Port, TouchedMap};
@@ -46,12 +44,11 @@ impl Cutting {
         })
     }
 
-    /// A whole packet that stands alone, on a link to which nothing was fed. It is not copied.
-    pub(crate) fn whole(alloc: Global, packet: &Whole) -> Result<Cutting, AllocError>
-        requires { StandsAlone packet.now }
-        ensures { IfOk result (IsCutTo (cut_of no_bytes packet.now)) }
+    /// A packet alone, on a link to which nothing was fed.
+    pub(crate) fn whole(alloc: Global, packet: Packet) -> Result<Cutting, AllocError>
+        requires { length packet.payload ≤ MAX_PAYLOAD }
+        ensures { IfOk result (IsCutTo (alone packet)) }
     {
-        let packet = packet.packet()?;
         let came = came(alloc, packet)?;
         let mut packets = VecDeque::new(alloc);
         packets.push_back(came)?;

@@ -1,21 +1,24 @@
 //! Bytes that come on a device's link.
 
-ghost use Rattle.std.specs.Prelude.{◌≡◌, true, OnOk, OnErr};
+ghost use Rattle.std.specs.Prelude.{◌≡◌, ◌≤◌, true, length, OnOk, OnErr};
 ghost use Rattle.adb_outside.specs.Tables.{at};
 ghost use Rattle.adb_capture.specs.declared.entry.Entry.{Entry};
+ghost use Rattle.adb_wire.specs.Deframing.{no_bytes};
+ghost use Rattle.adb_wire.specs.declared.headers.TheConstants.{MAX_PAYLOAD};
 ghost use Rattle.adb_history.specs.Machine.{May};
 ghost use Rattle.adb_hub_tables.specs.Fit.{IsFit, IsReached, Keeps, Makes};
 ghost use Rattle.adb_hub_tables.specs.Tables.{state_of};
 ghost use Rattle.adb_hub_links.specs.Cutting.{IsCutting, cut_in};
 ghost use Rattle.adb_hub_links.specs.Settling.{HasSettled, LeavesNamed};
-ghost use Rattle.adb_hub_links.specs.Whole.{IsFreshAt};
+ghost use Rattle.adb_hub_links.specs.Whole.{IsFreshAt, alone};
 
 use crate::cutting::{Cutting, with_piece};
 use crate::reserving::reserve;
 use crate::settling::settle;
 use crate::waiting::wait;
-use crate::whole::Whole;
+use crate::whole::{Whole, packet_alone};
 use adb_hub_tables::{Port, Tables, TouchedMap};
+use adb_wire::Packet;
 use std::alloc::AllocError;
 
 /// Bytes came on a link: the packets that are whole now are treated, in order, a byte that is wrong
@@ -23,6 +26,22 @@ use std::alloc::AllocError;
 /// is gone nothing is made. After want of memory only places and pieces that are ready may have
 /// become more.
 pub fn recv(tables: &mut Tables, link: u32, piece: &[u8]) -> Result<(), AllocError>
+    requires fit { IsFit tables.old }
+    requires reached { IsReached (state_of tables.old) }
+    requires may { May (state_of tables.old) (Entry.Recv link piece.now) }
+    ensures made { OnOk result (Makes (Entry.Recv link piece.now) tables.old tables.new) }
+    ensures kept { OnErr result (Keeps tables.old tables.new) }
+{
+    if is_fresh(&tables.links, link) {
+        if let Some(packet) = packet_alone(tables.alloc, piece)? {
+            return take_alone(tables, link, packet);
+        }
+    }
+    recv_piece(tables, link, piece)
+}
+
+/// Bytes came on a link, whatever they are: they are cut behind what is held.
+fn recv_piece(tables: &mut Tables, link: u32, piece: &[u8]) -> Result<(), AllocError>
     requires fit { IsFit tables.old }
     requires reached { IsReached (state_of tables.old) }
     requires may { May (state_of tables.old) (Entry.Recv link piece.now) }
@@ -50,10 +69,10 @@ pub fn recv_whole(tables: &mut Tables, link: u32, packet: &Whole) -> Result<(), 
     ensures kept { OnErr result (Keeps tables.old tables.new) }
 {
     if is_fresh(&tables.links, link) && packet.stands_alone() {
-        let cutting = Cutting::whole(tables.alloc, packet)?;
-        return take(tables, link, cutting);
+        let packet = packet.packet()?;
+        return take_alone(tables, link, packet);
     }
-    recv(tables, link, packet.as_slice())
+    recv_piece(tables, link, packet.as_slice())
 }
 
 /// Whether a link lives of which nothing is known to be held, and no check words are looked at.
@@ -66,12 +85,26 @@ fn is_fresh(links: &TouchedMap<Port>, link: u32) -> bool
     }
 }
 
+/// A packet alone is treated, on a link to which nothing was fed.
+fn take_alone(tables: &mut Tables, link: u32, packet: Packet) -> Result<(), AllocError>
+    requires size { length packet.payload ≤ MAX_PAYLOAD }
+    requires fit { IsFit tables.old }
+    requires leaves { LeavesNamed link (alone packet) (state_of tables.old) }
+    ensures settled { OnOk result
+        (HasSettled link (alone packet) no_bytes tables.old tables.new) }
+    ensures kept { OnErr result (Keeps tables.old tables.new) }
+{
+    let cutting = Cutting::whole(tables.alloc, packet)?;
+    take(tables, link, cutting)
+}
+
 /// The packets of a link are treated, with all memory taken before.
 fn take(tables: &mut Tables, link: u32, cutting: Cutting) -> Result<(), AllocError>
     requires cut { IsCutting cutting }
     requires fit { IsFit tables.old }
     requires leaves { LeavesNamed link (cut_in cutting) (state_of tables.old) }
-    ensures settled { OnOk result (HasSettled link cutting tables.old tables.new) }
+    ensures settled { OnOk result
+        (HasSettled link (cut_in cutting) cutting.incoming tables.old tables.new) }
     ensures kept { OnErr result (Keeps tables.old tables.new) }
 {
     let ids = reserve(tables, link, &cutting.packets)?;

@@ -9,6 +9,7 @@ ghost use Rattle.adb_history.specs.Packets.{faulty, treat_all};
 ghost use Rattle.adb_hub_rules.specs.Came.{IsCame, packets_of, slices_in};
 ghost use Rattle.adb_hub_tables.specs.Places.{ClientRoom, IsProvided, LinkRoom, Takes, Uses};
 ghost use Rattle.adb_hub_tables.specs.Tables.{state_of};
+ghost use Rattle.adb_hub_links.specs.Cutting.{cut_in};
 ghost use Rattle.adb_hub_links.specs.Settling.{CanSettle, HasSettled, reading};
 
 use crate::cutting::Cutting;
@@ -21,7 +22,7 @@ use std::collections::{BTreeSet, VecDeque};
 /// ids are sent up.
 pub(crate) fn settle(tables: &mut Tables, link: u32, cutting: Cutting, ids: &BTreeSet<u32>)
     requires { CanSettle link cutting ids.now.keys tables.old }
-    ensures { HasSettled link cutting tables.old tables.new }
+    ensures { HasSettled link (cut_in cutting) cutting.incoming tables.old tables.new }
 {
     let Cutting {
         incoming,

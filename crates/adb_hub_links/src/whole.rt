@@ -1,14 +1,14 @@
 //! Packets that came whole.
 
-ghost use Rattle.std.specs.Prelude.{◌≡◌, ◌≤◌, true, length, IfOk};
+ghost use Rattle.std.specs.Prelude.{◌≡◌, ◌≤◌, true, length, IfOk, IfSome};
 ghost use Rattle.adb_wire.specs.Format.{packet_of};
 ghost use Rattle.adb_wire.specs.Header.{IsBytes};
 ghost use Rattle.adb_wire.specs.declared.headers.TheConstants.{MAX_PAYLOAD};
-ghost use Rattle.adb_hub_links.specs.Whole.{IsWhole, StandsAlone, is_plain};
+ghost use Rattle.adb_hub_links.specs.Whole.{IsAlone, IsPlain, IsWhole, StandsAlone, is_plain};
 
-use adb_wire::{Command, HEADER_LEN, Head, Packet, VERSION, byte_sum};
+use adb_wire::{Command, HEADER_LEN, Head, Packet, VERSION, byte_sum, read_header};
 use bytes::Bytes;
-use std::alloc::AllocError;
+use std::alloc::{AllocError, Global};
 use std::marker::Model;
 
 /// A packet that came whole: its bytes, which are shared, and the header that was read of them.
@@ -63,12 +63,46 @@ impl Whole {
 
     /// Whether it is good where no check words are looked at, and asks for none behind it.
     pub(crate) fn stands_alone(&self) -> bool
-        ensures alone { result ≡ true → StandsAlone self.now }
+        ensures alone { result ≡ true → StandsAlone self.now (packet_of self.now) }
         ensures bytes { IsBytes self.now }
     {
         let bytes = self.bytes.as_slice();
         are_bytes(bytes);
         is_plain(&self.head, &bytes[HEADER_LEN..])
+    }
+}
+
+/// The packet that a piece is, where it is one packet, good where no check words are looked at, and
+/// asks for none behind it.
+pub(crate) fn packet_alone(alloc: Global, piece: &[u8]) -> Result<Option<Packet>, AllocError>
+    ensures { IfOk result (λ packet. IfSome packet (IsAlone piece.now)) }
+{
+    are_bytes(piece);
+    match head_alone(piece) {
+        Some(head) => {
+            let payload = Bytes::copy_from_slice(alloc, &piece[HEADER_LEN..])?;
+            Ok(Some(Packet {
+                command: head.command,
+                arg0: head.arg0,
+                arg1: head.arg1,
+                payload,
+            }))
+        }
+        None => Ok(None),
+    }
+}
+
+/// The header of a piece that is one packet, good where no check words are looked at, and asks for
+/// none behind it.
+fn head_alone(piece: &[u8]) -> Option<Head>
+    ensures { IfSome result (λ head. IsPlain head piece.now) }
+{
+    let (words, payload) = piece.split_first_chunk::<HEADER_LEN>()?;
+    let head = read_header(words).ok()?;
+    if payload.len() == head.length as usize && is_plain(&head, payload) {
+        Some(head)
+    } else {
+        None
     }
 }
 

@@ -1,85 +1,26 @@
-use Rattle.std.proofs.Common.{refl, sym, ◌∙◌, ap, subst}
-use Rattle.std.proofs.lemmas.Result.{on_ok_weaker, on_err_weaker}
-use Rattle.std.specs.Option.{option_copied}
-use Rattle.adb_wire.specs.Deframing.{Deframing}
-use Rattle.adb_hub_tables.specs.declared.tables.Tables.{Tables}
-use Rattle.adb_hub_tables.specs.Fit.{Keeps}
-use Rattle.adb_hub_links.specs.Cutting.{IsCutTo}
-use Rattle.adb_hub_links.proofs.Keeping.{on_err, keeps_then, makes_then}
-use Rattle.adb_hub_links.proofs.Received.{Comes, comes_kept, in_range, read_out, piece_leaves, piece_made}
-use Rattle.adb_hub_links.proofs.Waited.{gone_made, waited_made, same_kept}
+use Rattle.std.proofs.Common.{Option, subst}
+use Rattle.std.proofs.lemmas.Result.{on_ok_weaker}
+use Rattle.std.specs.Prelude.{IfSome}
+use Rattle.adb_wire.specs.declared.packets.Packet.{Packet}
+use Rattle.adb_hub_links.specs.Whole.{IsAlone}
+use Rattle.adb_hub_links.proofs.Received.{in_range}
+use Rattle.adb_hub_links.proofs.Alone.{ComesAlone, comes_alone, alone_leaves, alone_made}
 use Rattle.adb_hub_links.proofs.receiving.recv.Goals as goal
 
-pub returns-in_default-clause-made : goal.returns-in_default-clause-made
-returns-in_default-clause-made c =
-    gone_made c.args.link c.args.piece.now c.args.tables.now c.requires.fit c.requires.reached (sym c.get.ensures.value ∙ ap option_copied c.in_default.is)
+pub take_alone-requires-clause-leaves : goal.take_alone-requires-clause-leaves
+take_alone-requires-clause-leaves c =
+    let range = in_range c.args.link c.args.piece.now c.ranges.link.fits (λ i. (c.type_inv.piece i).fits) in
+    let comes : ComesAlone c.args.link c.args.piece.now c.args.tables.now =
+    comes_alone _ _ _ c.requires.fit c.requires.reached c.requires.may range (c.is_fresh.ensures c.if-is_fresh.true) in
+    let alone : IsAlone c.args.piece.now c.in-Some.packet =
+    subst (λ (found : Option Packet). IfSome found (IsAlone c.args.piece.now)) c.in-Some.is c.in_ok-packet.ensures in
+    alone_leaves comes alone.stands
 
-pub returns-then-piece-missing-clause-made : goal.returns-then-piece-missing-clause-made
-returns-then-piece-missing-clause-made c =
-    let new : Tables = record c.args.tables.now { links = c.wait.new.links } in
-    let comes : Comes c.args.link c.args.piece.now c.args.tables.now c.in-Some.port.now = record {
-      fit = c.requires.fit;
-      reached = c.requires.reached;
-      may = c.requires.may;
-      range = in_range c.args.link c.args.piece.now c.ranges.link.fits (λ i. (c.type_inv.piece i).fits);
-      here = sym c.get.ensures.value ∙ ap option_copied c.in-Some.is;
-    } in
-    let waits = c.missing.ensures.short (read_out comes).sound c.args.piece.now c.if-piece-missing.true in
-    on_ok_weaker c.wait.result (λ here. waited_made comes waits new refl here c.wait.ensures.apart) c.wait.ensures.here
-
-pub returns-then-piece-missing-clause-kept : goal.returns-then-piece-missing-clause-kept
-returns-then-piece-missing-clause-kept c =
-    let old = c.args.tables.now in
-    on_err_weaker c.wait.result (same_kept old (record old { links = c.wait.new.links }) c.requires.fit refl) c.wait.ensures.kept
-
-pub returns-in_err-incoming-clause-kept : goal.returns-in_err-incoming-clause-kept
-returns-in_err-incoming-clause-kept c =
-    let old = c.args.tables.now in
-    let middle : Tables = record old { links = c.with_piece.new.links } in
-    on_err c.from_residual.result (Keeps old middle) (same_kept old middle c.requires.fit refl c.with_piece.ensures.stays)
-
-pub returns-in_err-cutting-clause-kept : goal.returns-in_err-cutting-clause-kept
-returns-in_err-cutting-clause-kept c =
-    let old = c.args.tables.now in
-    let middle : Tables = record old { links = c.with_piece.new.links } in
-    on_err c.from_residual-in_err-cutting.result (Keeps old middle) (same_kept old middle c.requires.fit refl c.with_piece.ensures.stays)
-
-pub take-requires-clause-leaves : goal.take-requires-clause-leaves
-take-requires-clause-leaves c =
-    let old = c.args.tables.now in
-    let middle : Tables = record old { links = c.with_piece.new.links } in
-    let here = sym c.get.ensures.value ∙ ap option_copied c.in-Some.is in
-    let kept = same_kept old middle c.requires.fit refl c.with_piece.ensures.stays in
-    let comes : Comes c.args.link c.args.piece.now old c.in-Some.port.now = record {
-      fit = c.requires.fit;
-      reached = c.requires.reached;
-      may = c.requires.may;
-      range = in_range c.args.link c.args.piece.now c.ranges.link.fits (λ i. (c.type_inv.piece i).fits);
-      here = here;
-    } in
-    let cut = subst (λ (d : Deframing). IsCutTo d c.in_ok-cutting.cutting) (c.in_ok-incoming.ensures.next c.in-Some.port.now here) c.in_ok-cutting.ensures in
-    piece_leaves (comes_kept comes kept (c.with_piece.ensures.stays c.args.link ∙ here)) cut
-
-pub returns-clause-made : goal.returns-clause-made
-returns-clause-made c =
-    let old = c.args.tables.now in
-    let middle : Tables = record old { links = c.with_piece.new.links } in
-    let here = sym c.get.ensures.value ∙ ap option_copied c.in-Some.is in
-    let kept = same_kept old middle c.requires.fit refl c.with_piece.ensures.stays in
-    let comes : Comes c.args.link c.args.piece.now old c.in-Some.port.now = record {
-      fit = c.requires.fit;
-      reached = c.requires.reached;
-      may = c.requires.may;
-      range = in_range c.args.link c.args.piece.now c.ranges.link.fits (λ i. (c.type_inv.piece i).fits);
-      here = here;
-    } in
-    let cut = subst (λ (d : Deframing). IsCutTo d c.in_ok-cutting.cutting) (c.in_ok-incoming.ensures.next c.in-Some.port.now here) c.in_ok-cutting.ensures in
-    let now = comes_kept comes kept (c.with_piece.ensures.stays c.args.link ∙ here) in
-    on_ok_weaker c.take.result (λ settled. makes_then kept (piece_made now cut c.take.new.tables settled)) c.take.ensures.settled
-
-pub returns-clause-kept : goal.returns-clause-kept
-returns-clause-kept c =
-    let old = c.args.tables.now in
-    let middle : Tables = record old { links = c.with_piece.new.links } in
-    let kept = same_kept old middle c.requires.fit refl c.with_piece.ensures.stays in
-    on_err_weaker c.take.result (keeps_then kept) c.take.ensures.kept
+pub returns-in-Some-clause-made : goal.returns-in-Some-clause-made
+returns-in-Some-clause-made c =
+    let range = in_range c.args.link c.args.piece.now c.ranges.link.fits (λ i. (c.type_inv.piece i).fits) in
+    let comes : ComesAlone c.args.link c.args.piece.now c.args.tables.now =
+    comes_alone _ _ _ c.requires.fit c.requires.reached c.requires.may range (c.is_fresh.ensures c.if-is_fresh.true) in
+    let alone : IsAlone c.args.piece.now c.in-Some.packet =
+    subst (λ (found : Option Packet). IfSome found (IsAlone c.args.piece.now)) c.in-Some.is c.in_ok-packet.ensures in
+    on_ok_weaker c.take_alone.result (alone_made comes alone.stands c.take_alone.new.tables) c.take_alone.ensures.settled
