@@ -3,6 +3,7 @@
 ghost use Rattle.std.specs.Prelude.{◌≤◌, length};
 
 use adb_client::{Ask, Client, MAX_SLICE};
+use adb_outside::HandOut;
 use adb_request::Request;
 use bytes::Bytes;
 use std::alloc::AllocError;
@@ -19,16 +20,10 @@ fn word(ask: &Ask) -> &'static [u8] {
     }
 }
 
-/// A piece comes. Whether what is asked then, looked at and passed over, is told by this word.
-fn asks(client: &mut Client, piece: &[u8], told: &[u8]) -> Result<bool, AllocError> {
-    client.take_in(piece)?;
-    let asked = client.ask_from(0)?;
-    client.pass_over(asked.len);
-    Ok(word(&asked.ask) == told)
-}
+/// A piece that comes, what is asked then, and how many bytes are held behind that.
+type Asks = (&'static [u8], &'static [u8], usize);
 
-/// Pieces that come, what is asked then, and how many bytes are held behind that.
-const ASKS: &[(&[u8], &[u8], usize)] = &[
+const ASKS: &[Asks] = &[
     (b"000", b"more", 3),
     (b"Chost:versio", b"more", 15),
     (b"n0003a:b0001c", b"version", 12),
@@ -37,12 +32,24 @@ const ASKS: &[(&[u8], &[u8], usize)] = &[
     (b"", b"malformed", 4),
 ];
 
+/// What is asked, which is passed over.
+fn asked(client: &mut Client) -> Result<&'static [u8], AllocError> {
+    let asked = client.ask_from(0)?;
+    client.pass_over(asked.len);
+    Ok(word(&asked.ask))
+}
+
+/// A piece comes. Whether that is asked then, and so many bytes are held.
+fn asks(client: &mut Client, row: &Asks) -> Result<bool, AllocError> {
+    client.take_in(row.0)?;
+    Ok(asked(client)? == row.1 && client.held() == row.2)
+}
+
 #[test]
 fn requests_are_taken_off(rt: HostRuntime) -> Result<(), Fail> {
-    let mut client = Client::new(rt.alloc(), 7, true);
-    for &(piece, words, held) in ASKS {
-        assert!(rt; asks(&mut client, piece, words)?, "at {piece:?}");
-        assert_eq!(rt; client.held(), held);
+    let mut client = Client::new(rt.alloc(), 7, true)?;
+    for row in ASKS {
+        assert!(rt; asks(&mut client, row)?, "at {:?}", row.0);
     }
     Ok(())
 }
@@ -77,8 +84,10 @@ fn cut_ahead(client: &mut Client, n: usize) -> Result<Bytes, AllocError>
     Ok(client.cut_ready(n.saturating_sub(1)))
 }
 
-/// Changes, what each takes off, and how many bytes are held then.
-const CHANGES: &[(Change, &[u8], usize)] = &[
+/// A change, what it takes off, and how many bytes are held then.
+type Changes = (Change, &'static [u8], usize);
+
+const CHANGES: &[Changes] = &[
     (Change::TakeIn(b"abcdefghij"), b"", 10),
     (Change::CutReady(3), b"ab", 8),
     (Change::CutReady(3), b"cd", 6),
@@ -90,13 +99,16 @@ const CHANGES: &[(Change, &[u8], usize)] = &[
     (Change::PassOver(1), b"", 0),
 ];
 
+fn cuts(client: &mut Client, row: &Changes) -> Result<bool, AllocError> {
+    let off = changed(client, row.0)?;
+    Ok(off.as_slice() == row.1 && client.held() == row.2)
+}
+
 #[test]
 fn what_is_held_is_cut(rt: HostRuntime) -> Result<(), Fail> {
-    let mut client = Client::new(rt.alloc(), 1, false);
-    for &(change, off, held) in CHANGES {
-        let bytes = changed(&mut client, change)?;
-        assert_eq!(rt; bytes.as_slice(), off);
-        assert_eq!(rt; client.held(), held);
+    let mut client = Client::new(rt.alloc(), 1, false)?;
+    for row in CHANGES {
+        assert!(rt; cuts(&mut client, row)?, "{:?} off, {} held", row.1, row.2);
     }
     Ok(())
 }
@@ -126,8 +138,10 @@ fn owe(client: &mut Client, debt: Debt) -> Result<(), AllocError> {
     Ok(())
 }
 
-/// Changes, the first four bytes that are due then, and how many are.
-const DEBTS: &[(Debt, &[u8], usize)] = &[
+/// A change, the first four bytes that are due then, and how many are.
+type Debts = (Debt, &'static [u8], usize);
+
+const DEBTS: &[Debts] = &[
     (Debt::Owe(b"ab"), b"ab", 2),
     (Debt::Slice(b"cdef"), b"abcd", 6),
     (Debt::Slice(b""), b"abcd", 6),
@@ -139,16 +153,23 @@ const DEBTS: &[(Debt, &[u8], usize)] = &[
     (Debt::Hand(3), b"", 0),
 ];
 
+fn owes(client: &mut Client, row: &Debts) -> Result<bool, AllocError> {
+    owe(client, row.0)?;
+    let front = client.front(4)?;
+    Ok(is_made_of(&front, row.1) && client.owed() == row.2)
+}
+
+fn is_made_of(front: &HandOut, bytes: &[u8]) -> bool {
+    let parts = front.parts();
+    front.len() == bytes.len() && bytes.starts_with(parts.start) && bytes.ends_with(parts.rest)
+}
+
 #[test]
 fn what_is_due_is_handed_out(rt: HostRuntime) -> Result<(), Fail> {
-    assert_eq!(rt; MAX_SLICE, 1_048_576);
-    let mut client = Client::new(rt.alloc(), 1, false);
-    for &(debt, front, owed) in DEBTS {
-        owe(&mut client, debt)?;
-        let first = client.front(4)?;
-        assert!(rt; first.parts().start.is_empty());
-        assert_eq!(rt; first.parts().rest, front);
-        assert_eq!(rt; client.owed(), owed);
+    assert!(rt; MAX_SLICE == 1_048_576);
+    let mut client = Client::new(rt.alloc(), 1, false)?;
+    for row in DEBTS {
+        assert!(rt; owes(&mut client, row)?, "{:?} of {}", row.1, row.2);
     }
     Ok(())
 }

@@ -1,80 +1,140 @@
 //! What no clause says: lists as they are printed, and each call and refusal once.
 
 use adb_forward::{ForwardError, Forwards};
-use std::process::Abort;
+use adb_outside::MAX_SERIAL;
+use std::alloc::AllocError;
 use std::test::Fail;
 
-/// Puts a row of `emu1` at a port.
-fn put_plain(forwards: &mut Forwards, local: u16) -> Result<(), ForwardError> {
-    forwards.put(local, 1, b"emu1", b"tcp:80", true)
+#[derive(Clone, Copy)]
+enum Act {
+    /// Puts a row of this port, transport, serial and end.
+    Put(u16, u32, &'static [u8], &'static [u8]),
+    /// Finds the row of a port, of this transport where there is one.
+    Find(u16, Option<u32>),
+    /// Removes the row of a port, where there is one.
+    Remove(u16, bool),
+    RemoveOf(u32),
+    RemoveAll,
 }
 
-fn assert_listed(rt: &impl Abort, forwards: &Forwards, want: &[u8]) {
-    let listed = forwards.list();
-    assert!(rt;
-        listed.is_ok_and(|text| text.as_slice() == want),
-        "{want:?}"
-    );
+/// What is done with the forwards, and their list then.
+const ACTS: &[(Act, &[u8])] = &[
+    (Act::RemoveAll, b""),
+    (
+        Act::Put(65535, 2, b"127.0.0.1:5555", b"localabstract:x;y"),
+        b"127.0.0.1:5555 tcp:65535 localabstract:x;y\n",
+    ),
+    (
+        Act::Put(40000, 1, b"emu1", b"tcp:80"),
+        b"emu1 tcp:40000 tcp:80\n127.0.0.1:5555 tcp:65535 localabstract:x;y\n",
+    ),
+    (
+        Act::Put(7, 2, b"", b"tcp:81"),
+        b" tcp:7 tcp:81\nemu1 tcp:40000 tcp:80\n127.0.0.1:5555 tcp:65535 localabstract:x;y\n",
+    ),
+    (
+        Act::Put(40000, 3, b"emu3", b"!~"),
+        b" tcp:7 tcp:81\nemu3 tcp:40000 !~\n127.0.0.1:5555 tcp:65535 localabstract:x;y\n",
+    ),
+    (
+        Act::Find(40000, Some(3)),
+        b" tcp:7 tcp:81\nemu3 tcp:40000 !~\n127.0.0.1:5555 tcp:65535 localabstract:x;y\n",
+    ),
+    (
+        Act::Find(8, None),
+        b" tcp:7 tcp:81\nemu3 tcp:40000 !~\n127.0.0.1:5555 tcp:65535 localabstract:x;y\n",
+    ),
+    (
+        Act::Remove(8, false),
+        b" tcp:7 tcp:81\nemu3 tcp:40000 !~\n127.0.0.1:5555 tcp:65535 localabstract:x;y\n",
+    ),
+    (
+        Act::Remove(40000, true),
+        b" tcp:7 tcp:81\n127.0.0.1:5555 tcp:65535 localabstract:x;y\n",
+    ),
+    (Act::RemoveOf(2), b""),
+    (Act::Put(5, 1, b"emu1", b"tcp:80"), b"emu1 tcp:5 tcp:80\n"),
+    (Act::RemoveAll, b""),
+];
+
+/// Does that. Whether the answer is as it should.
+fn acts(forwards: &mut Forwards, act: Act) -> bool {
+    match act {
+        Act::Put(local, transport, serial, remote) => {
+            return serial.len() <= MAX_SERIAL
+                && forwards.put(local, transport, serial, remote, false) == Ok(());
+        }
+        Act::Find(local, transport) => return transport_of(forwards, local) == transport,
+        Act::Remove(local, found) => return forwards.remove(local) == found,
+        Act::RemoveOf(transport) => forwards.remove_of(transport),
+        Act::RemoveAll => forwards.remove_all(),
+    }
+    true
+}
+
+fn transport_of(forwards: &Forwards, local: u16) -> Option<u32> {
+    match forwards.find(local) {
+        Some(row) => Some(row.transport),
+        None => None,
+    }
+}
+
+fn lists(forwards: &Forwards, list: &[u8]) -> Result<bool, AllocError> {
+    let listed = forwards.list()?;
+    Ok(listed.as_slice() == list)
 }
 
 #[test]
 fn listed(rt: HostRuntime) -> Result<(), Fail> {
     let mut forwards = Forwards::new(rt.alloc());
-    assert_listed(&rt, &forwards, b"");
-    let rows: [(u16, u32, &[u8], &[u8]); 4] = [
-        (65535, 2, b"127.0.0.1:5555", b"localabstract:x;y"),
-        (40000, 1, b"emu1", b"tcp:80"),
-        (7, 2, b"", b"tcp:81"),
-        (40000, 3, b"emu3", b"!~"),
-    ];
-    for (local, transport, serial, remote) in rows {
-        forwards.put(local, transport, serial, remote, false)?;
+    for &(act, list) in ACTS {
+        assert!(rt;
+            acts(&mut forwards, act) && lists(&forwards, list)?,
+            "{list:?}"
+        );
     }
-    let all = b" tcp:7 tcp:81\nemu3 tcp:40000 !~\n\
-        127.0.0.1:5555 tcp:65535 localabstract:x;y\n";
-    assert_listed(&rt, &forwards, all);
-    assert!(rt; forwards.find(40000).is_some_and(|row| row.transport == 3));
-    assert!(rt; forwards.find(8).is_none());
-    assert!(rt; !forwards.remove(8));
-    assert!(rt; forwards.remove(40000));
-    assert_listed(
-        &rt,
-        &forwards,
-        b" tcp:7 tcp:81\n127.0.0.1:5555 tcp:65535 localabstract:x;y\n",
-    );
-    forwards.remove_of(2);
-    assert_listed(&rt, &forwards, b"");
-    put_plain(&mut forwards, 5)?;
-    forwards.remove_all();
-    assert_listed(&rt, &forwards, b"");
     Ok(())
 }
 
-#[test]
-fn refused(rt: HostRuntime) -> Result<(), Fail> {
-    let mut forwards = Forwards::new(rt.alloc());
+/// Whether as many rows are put as there may be.
+fn is_filled(forwards: &mut Forwards) -> bool {
+    let mut so = true;
     for local in 1..65 {
-        assert!(rt; !forwards.is_full());
-        assert_eq!(rt; put_plain(&mut forwards, local), Ok(()), "{local}");
+        so = !forwards.is_full()
+            && forwards.put(local, 1, b"emu1", b"tcp:80", true) == Ok(())
+            && so;
     }
-    assert!(rt; forwards.is_full());
-    let long = [b'r'; 513];
-    let cases: [(u16, &[u8], bool, Result<(), ForwardError>); 11] = [
-        (0, b"tcp:80", false, Err(ForwardError::BadSpec)),
-        (1, b"", false, Err(ForwardError::BadSpec)),
-        (1, b"tcp: 80", false, Err(ForwardError::BadSpec)),
-        (1, b"tcp:\x7f", false, Err(ForwardError::BadSpec)),
-        (1, b"tcp:\x80", false, Err(ForwardError::BadSpec)),
-        (1, &long, false, Err(ForwardError::BadSpec)),
-        (65, b"", true, Err(ForwardError::BadSpec)),
-        (64, b"tcp:81", true, Err(ForwardError::Exists)),
-        (65, b"tcp:81", true, Err(ForwardError::Full)),
-        (65, b"tcp:81", false, Err(ForwardError::Full)),
-        (64, &long[..512], false, Ok(())),
-    ];
-    for (local, remote, norebind, want) in cases {
-        let put = forwards.put(local, 2, &long[..64], remote, norebind);
-        assert_eq!(rt; put, want, "{local} {remote:?}");
+    so && forwards.is_full()
+}
+
+/// A port, where its row is put to, whether it may be bound already.
+type Put = (u16, &'static [u8], bool, Result<(), ForwardError>);
+
+/// What is put while the table is full.
+const PUTS: &[Put] = &[
+    (0, b"tcp:80", false, Err(ForwardError::BadSpec)),
+    (1, b"", false, Err(ForwardError::BadSpec)),
+    (1, b"tcp: 80", false, Err(ForwardError::BadSpec)),
+    (1, b"tcp:\x7f", false, Err(ForwardError::BadSpec)),
+    (1, b"tcp:\x80", false, Err(ForwardError::BadSpec)),
+    (1, &[b'r'; 513], false, Err(ForwardError::BadSpec)),
+    (65, b"", true, Err(ForwardError::BadSpec)),
+    (64, b"tcp:81", true, Err(ForwardError::Exists)),
+    (65, b"tcp:81", true, Err(ForwardError::Full)),
+    (65, b"tcp:81", false, Err(ForwardError::Full)),
+    (64, &[b'r'; 512], false, Ok(())),
+];
+
+fn puts(forwards: &mut Forwards, put: Put) -> bool {
+    let (local, remote, norebind, answer) = put;
+    forwards.put(local, 2, &[b'r'; 64], remote, norebind) == answer
+}
+
+#[test]
+fn refused(rt: HostRuntime) {
+    let mut forwards = Forwards::new(rt.alloc());
+    assert!(rt; is_filled(&mut forwards));
+    for &put in PUTS {
+        assert!(rt; puts(&mut forwards, put), "{} {:?}", put.0, put.1);
     }
-    Ok(())
 }

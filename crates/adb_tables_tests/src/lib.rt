@@ -4,6 +4,8 @@
 #[cfg(test)]
 mod client;
 #[cfg(test)]
+mod devices;
+#[cfg(test)]
 mod forward;
 #[cfg(test)]
 mod link;
@@ -11,6 +13,8 @@ mod link;
 mod registry;
 #[cfg(test)]
 mod reply;
+#[cfg(test)]
+mod requests;
 #[cfg(test)]
 mod rows;
 #[cfg(test)]

@@ -1,18 +1,18 @@
 //! What comes in on a link, and what is due to it, byte for byte.
 
-ghost use Rattle.std.specs.Prelude.{◌≡◌};
+ghost use Rattle.std.specs.Prelude.{◌≡◌, None, true, IfOk};
 
-use adb_link::*;
-use adb_outside::Text;
-use adb_wire::{Command, Head};
+use adb_link::Link;
+use adb_outside::{Parts, Text};
+use adb_wire::{Command, Deframer, Head};
 use bytes::Bytes;
 use std::alloc::{AllocError, Global};
-use std::panic::Expect;
-use std::process::Abort;
+use std::test::Fail;
 
 /// What the server says first, with the sum of its payload.
-const CONNECT: &[u8] =
-    b"CNXN\x01\x00\x00\x01\x00\x00\x10\x00\x17\x00\x00\x00\xed\x08\x00\x00\xbc\xb1\xa7\xb1host::features=shell_v2";
+const CONNECT: &[&[u8]] = &[
+    b"CNXN\x01\x00\x00\x01\x00\x00\x10\x00\x17\x00\x00\x00\xed\x08\x00\x00\xbc\xb1\xa7\xb1host::features=shell_v2",
+];
 
 /// What a device of version 0x01000000 says.
 const OLD_DEVICE: &[u8] =
@@ -45,44 +45,59 @@ fn head(command: Command, length: u32) -> Head
     }
 }
 
-/// All that is due, handed out in pieces of at most that many bytes.
-fn handed_out(alloc: Global, link: &mut Link, most: usize) -> Result<Text, AllocError> {
+/// The most bytes that are handed out at once.
+const MOST: usize = 5;
+
+fn handed_out(alloc: Global, link: &mut Link) -> Result<Text, AllocError> {
     let mut out = Text::new(alloc);
     for _ in 0..link.owed() {
-        let piece = link.front(most)?;
-        out.push_slice(piece.parts().start)?;
-        out.push_slice(piece.parts().rest)?;
-        link.hand(link.owed().min(most));
+        hand_out(link, &mut out)?;
     }
     Ok(out)
 }
 
-/// Hands out all that is due, which is those parts.
-fn are_due(rt: &impl Abort, alloc: Global, link: &mut Link, parts: &[&[u8]]) {
-    let out = handed_out(alloc, link, 5).expect(rt, "memory");
+fn hand_out(link: &mut Link, out: &mut Text) -> Result<(), AllocError> {
+    let piece = link.front(MOST)?;
+    push(out, piece.parts())?;
+    link.hand(link.owed().min(MOST));
+    Ok(())
+}
+
+fn push(out: &mut Text, parts: Parts<'_>) -> Result<(), AllocError> {
+    out.push_slice(parts.start)?;
+    out.push_slice(parts.rest)
+}
+
+/// Hands out all that is due. Whether it is those packets.
+fn are_due(alloc: Global, link: &mut Link, packets: &[&[u8]]) -> Result<bool, AllocError> {
+    let out = handed_out(alloc, link)?;
+    Ok(are_joined(out.as_slice(), packets) && link.owed() == 0)
+}
+
+/// Whether the bytes are those parts, one behind the other.
+fn are_joined(bytes: &[u8], parts: &[&[u8]]) -> bool {
     let mut at = 0usize;
     for part in parts {
         let end = at.saturating_add(part.len());
-        assert!(rt; end <= out.len());
-        assert_eq!(rt; &out.as_slice()[at..end], *part);
+        if bytes.get(at..end) != Some(*part) {
+            return false;
+        }
         at = end;
     }
-    assert_eq!(rt; at, out.len());
-    assert_eq!(rt; link.owed(), 0);
+    at == bytes.len()
 }
 
-/// Three packets become due in reserved places: an acknowledgement, a grant and a write.
-fn owe_three(rt: &impl Abort, link: &mut Link) {
-    link.reserve(3).expect(rt, "memory");
+fn owe_write(link: &mut Link) -> Result<(), AllocError> {
+    link.owe_slice(&head(Command::Wrte, 3), Bytes::from_static(b"hi\n"))
+}
+
+/// An acknowledgement, a grant and a write become due in reserved places.
+fn owe_three(link: &mut Link) -> Result<(), AllocError> {
+    link.reserve(3)?;
     link.owe_short_spare(&head(Command::Okay, 0), b"");
     link.owe_short_spare(&head(Command::Okay, 4), b"\x00\x00\x01\x00");
     link.owe_slice_spare(&head(Command::Wrte, 3), Bytes::from_static(b"hi\n"));
-}
-
-/// A write becomes due.
-fn owe_write(rt: &impl Abort, link: &mut Link) {
-    link.owe_slice(&head(Command::Wrte, 3), Bytes::from_static(b"hi\n"))
-        .expect(rt, "memory");
+    Ok(())
 }
 
 /// A CNXN of that version was taken from the link.
@@ -93,57 +108,102 @@ fn took_connect(link: &mut Link, version: u32) {
     });
 }
 
-#[test]
-fn check_words_follow_the_last_cnxn(rt: HostRuntime) {
-    let mut link = Link::new(rt.alloc());
-    owe_write(&rt, &mut link);
-    took_connect(&mut link, 0x0100_0000);
-    owe_three(&rt, &mut link);
-    took_connect(&mut link, 0x0100_0001);
-    owe_write(&rt, &mut link);
-    took_connect(&mut link, 0x0100_0000);
-    owe_write(&rt, &mut link);
-    let plain = WRITE_WITHOUT_SUM;
-    are_due(
-        &rt,
-        rt.alloc(),
-        &mut link,
-        &[plain, READY, GRANT, WRITE, plain, WRITE],
-    );
+/// Packets become due before and after each CNXN of a device that changes its version.
+fn owe_between_versions(link: &mut Link) -> Result<(), AllocError> {
+    owe_write(link)?;
+    took_connect(link, 0x0100_0000);
+    owe_three(link)?;
+    took_connect(link, 0x0100_0001);
+    owe_write(link)?;
+    took_connect(link, 0x0100_0000);
+    owe_write(link)
 }
 
+const BETWEEN_VERSIONS: &[&[u8]] = &[
+    WRITE_WITHOUT_SUM,
+    READY,
+    GRANT,
+    WRITE,
+    WRITE_WITHOUT_SUM,
+    WRITE,
+];
+
 #[test]
-fn a_cnxn_goes_out_with_its_sum(rt: HostRuntime) {
+fn check_words_follow_the_last_cnxn(rt: HostRuntime) -> Result<(), Fail> {
     let mut link = Link::new(rt.alloc());
-    let connect = Head {
+    owe_between_versions(&mut link)?;
+    assert!(rt; are_due(rt.alloc(), &mut link, BETWEEN_VERSIONS)?);
+    Ok(())
+}
+
+fn owe_connect(link: &mut Link) -> Result<(), AllocError> {
+    let head = Head {
         command: Command::Cnxn,
         arg0: 0x0100_0001,
         arg1: 1_048_576,
         length: 23,
         check: 0,
     };
-    link.owe_slice(&connect, Bytes::from_static(b"host::features=shell_v2"))
-        .expect(&rt, "memory");
-    are_due(&rt, rt.alloc(), &mut link, &[CONNECT]);
+    link.owe_slice(&head, Bytes::from_static(b"host::features=shell_v2"))
 }
 
 #[test]
-fn a_piece_is_cut_beside_what_is_held(rt: HostRuntime) {
+fn a_cnxn_goes_out_with_its_sum(rt: HostRuntime) -> Result<(), Fail> {
     let mut link = Link::new(rt.alloc());
-    let mut incoming = link.with_piece(OLD_DEVICE).expect(&rt, "memory");
-    let device = incoming.next().expect(&rt, "a packet");
-    assert_eq!(rt; device.payload.as_slice(), b"device::".as_slice());
-    assert_eq!(rt; link.missing(), 24);
-    assert!(rt; !incoming.is_broken());
+    owe_connect(&mut link)?;
+    assert!(rt; are_due(rt.alloc(), &mut link, CONNECT)?);
+    Ok(())
+}
+
+/// A piece comes in that is a packet. Whether that has this payload, and the link is whole then.
+fn takes_packet(link: &mut Link, piece: &[u8], payload: &[u8]) -> Result<bool, AllocError>
+    requires { link.old.incoming.fault ≡ None }
+    ensures { IfOk result (λ so. so ≡ true → link.new.incoming.fault ≡ None) }
+{
+    let mut incoming = link.with_piece(piece)?;
+    let so = is_next(&mut incoming, payload) && link.missing() == 24 && !incoming.is_broken();
     link.put_incoming(incoming, true);
-    let incoming = link
-        .with_piece(&WRITE_WITHOUT_SUM[..26])
-        .expect(&rt, "memory");
-    assert!(rt; !incoming.is_broken());
+    Ok(so)
+}
+
+fn is_next(incoming: &mut Deframer, payload: &[u8]) -> bool {
+    match incoming.next() {
+        Some(packet) => packet.payload.as_slice() == payload,
+        None => false,
+    }
+}
+
+/// A piece comes in. Whether the link is whole then, and misses so many bytes.
+fn waits(link: &mut Link, piece: &[u8], missing: usize) -> Result<bool, AllocError>
+    requires { link.old.incoming.fault ≡ None }
+    ensures { IfOk result (λ so. so ≡ true → link.new.incoming.fault ≡ None) }
+{
+    let incoming = link.with_piece(piece)?;
+    let so = !incoming.is_broken();
     link.put_incoming(incoming, true);
-    assert_eq!(rt; link.missing(), 1);
-    let incoming = link.with_piece(b"\n").expect(&rt, "memory");
-    assert!(rt; incoming.is_broken());
+    Ok(so && link.missing() == missing)
+}
+
+/// A piece comes in. Whether the link is broken then.
+fn breaks(link: &mut Link, piece: &[u8]) -> Result<bool, AllocError>
+    requires { link.old.incoming.fault ≡ None }
+{
+    let incoming = link.with_piece(piece)?;
+    let so = incoming.is_broken();
     link.put_incoming(incoming, true);
-    assert_eq!(rt; link.missing(), usize::MAX);
+    Ok(so && link.missing() == usize::MAX)
+}
+
+fn is_cut(link: &mut Link) -> Result<bool, AllocError>
+    requires { link.old.incoming.fault ≡ None }
+{
+    let (start, end) = WRITE_WITHOUT_SUM.split_at(26);
+    Ok(takes_packet(link, OLD_DEVICE, b"device::")? && waits(link, start, 1)? && breaks(link, end)?)
+}
+
+#[test]
+fn a_piece_is_cut_beside_what_is_held(rt: HostRuntime) -> Result<(), Fail> {
+    let mut link = Link::new(rt.alloc());
+    assert!(rt; is_cut(&mut link)?);
+    Ok(())
 }

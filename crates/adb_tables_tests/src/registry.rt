@@ -1,225 +1,285 @@
 //! What no clause says: lists as they are printed, and each call and refusal once.
 
-ghost use Rattle.std.specs.Prelude.{◌≡◌, length, IfOk};
-
-use adb_outside::{Identity, Kind, Selector, Text};
+use crate::devices::{Device, Names, Says, plug, plugged};
+use adb_outside::{Kind, Selector, Text};
 use adb_registry::{AttachError, Refusal, Registry};
 use std::alloc::{AllocError, Global};
 use std::test::Fail;
 
-/// What a device says once it is plugged in.
-#[derive(Clone, Copy)]
-enum Says {
-    Nothing,
-    Auth,
-    Names {
-        product: &'static [u8],
-        model: &'static [u8],
-        device: &'static [u8],
-    },
+/// The longest serial.
+const LONGEST: &[u8] = &[b'!'; 64];
+
+const NO_SERIALS: &[&[u8]] = &[b"", b"a b", b"a\x7f", b"\x20", &[b'!'; 65]];
+
+fn attaches(registry: &mut Registry, serial: &[u8], id: u32) -> bool {
+    registry.attach(Kind::Usb, serial) == Ok(id)
 }
 
-fn identity(
-    alloc: Global,
-    product: &[u8],
-    model: &[u8],
-    device: &[u8],
-) -> Result<Identity, AllocError>
-    ensures { IfOk result (λ identity. length identity.features ≡ 0) }
-{
-    Ok(Identity {
-        system: Text::from_slice(alloc, b"device")?,
-        serial: Text::new(alloc),
-        product: Text::from_slice(alloc, product)?,
-        model: Text::from_slice(alloc, model)?,
-        device: Text::from_slice(alloc, device)?,
-        features: Text::new(alloc),
-    })
-}
-
-/// Plugs in a device, which then says this.
-fn plug(
-    alloc: Global,
-    registry: &mut Registry,
-    kind: Kind,
-    serial: &[u8],
-    says: Says,
-) -> Result<u32, AttachError> {
-    let id = registry.attach(kind, serial)?;
-    match says {
-        Says::Nothing => {}
-        Says::Auth => registry.unauthorized(id),
-        Says::Names {
-            product,
-            model,
-            device,
-        } => {
-            let identity = identity(alloc, product, model, device)?;
-            registry.online(id, identity, 0x0100_0001, 4096);
-        }
-    }
-    Ok(id)
+fn refuses(registry: &mut Registry, serial: &[u8], error: AttachError) -> bool {
+    registry.attach(Kind::Usb, serial) == Err(error)
 }
 
 #[test]
-fn attached_or_refused(rt: HostRuntime) -> Result<(), Fail> {
-    let alloc = rt.alloc();
-    let mut registry = Registry::new(alloc);
-    let long = [b'!'; 65];
-    for serial in [b"".as_slice(), b"a b", b"a\x7f", b"\x20", &long] {
-        let refused = registry.attach(Kind::Usb, serial);
-        assert_eq!(rt; refused, Err(AttachError::BadSerial), "{serial:?}");
+fn serials_are_refused(rt: HostRuntime) {
+    let mut registry = Registry::new(rt.alloc());
+    for serial in NO_SERIALS {
+        assert!(rt;
+            refuses(&mut registry, serial, AttachError::BadSerial),
+            "{serial:?}"
+        );
     }
+}
+
+/// Whether as many devices are attached as there may be, and not one more.
+fn is_filled(registry: &mut Registry) -> bool {
+    let mut so = true;
     for id in 1..129 {
-        assert_eq!(rt; registry.attach(Kind::Usb, &long[..64]), Ok(id));
+        so = attaches(registry, LONGEST, id) && so;
     }
-    assert_eq!(rt; registry.attach(Kind::Usb, b"a b"), Err(AttachError::Full));
-    assert!(rt; registry.detach(5));
-    assert!(rt; !registry.detach(5));
-    assert!(rt; registry.row(5).is_none());
-    assert_eq!(rt; registry.attach(Kind::Usb, b"~"), Ok(129));
+    so && refuses(registry, b"a b", AttachError::Full)
+}
+
+/// Whether a device goes, once, and the next number is drawn for another.
+fn is_replaced(registry: &mut Registry) -> bool {
+    registry.detach(5)
+        && !registry.detach(5)
+        && registry.row(5).is_none()
+        && attaches(registry, b"~", 129)
+}
+
+/// Whether all devices go, and the next number is drawn for another.
+fn is_cleared(registry: &mut Registry) -> bool {
     registry.clear();
-    assert!(rt; registry.row(129).is_none());
-    assert_eq!(rt; registry.attach(Kind::Usb, b"~"), Ok(130));
-    Ok(())
+    registry.row(129).is_none() && attaches(registry, b"~", 130)
+}
+
+#[test]
+fn attached_and_detached(rt: HostRuntime) {
+    let mut registry = Registry::new(rt.alloc());
+    assert!(rt; is_filled(&mut registry));
+    assert!(rt; is_replaced(&mut registry));
+    assert!(rt; is_cleared(&mut registry));
+}
+
+const LISTED: &[Device] = &[
+    Device {
+        kind: Kind::Usb,
+        serial: b"emu1",
+        says: Says::Names(Names {
+            product: b"",
+            model: b"Pix 3",
+            device: b"",
+            has_shell: false,
+        }),
+    },
+    Device {
+        kind: Kind::Usb,
+        serial: b"emu1",
+        says: Says::Auth,
+    },
+    Device {
+        kind: Kind::Usb,
+        serial: b"serial-of-22-bytes-abc",
+        says: Says::Nothing,
+    },
+    Device {
+        kind: Kind::Usb,
+        serial: b"serial-of-23-bytes-abcd",
+        says: Says::Nothing,
+    },
+    Device {
+        kind: Kind::Usb,
+        serial: b"emu2",
+        says: Says::Names(Names {
+            product: b"a b~\x7f",
+            model: &[b'p'; 65],
+            device: b"c:d\xff",
+            has_shell: false,
+        }),
+    },
+];
+
+const SHORT_LIST: &[u8] = b"emu1\tdevice\nemu1\tunauthorized\nserial-of-22-bytes-abc\toffline\n\
+    serial-of-23-bytes-abcd\toffline\nemu2\tdevice\n";
+
+const LONG_LIST: &[u8] = b"emu1                   device model:Pix_3 transport_id:1\n\
+    emu1                   unauthorized transport_id:2\n\
+    serial-of-22-bytes-abc offline transport_id:3\n\
+    serial-of-23-bytes-abcd offline transport_id:4\n\
+    emu2                   device product:a_b~_ \
+    model:pppppppppppppppppppppppppppppppppppppppppppppppppppppppppppppppp \
+    device:c:d_ transport_id:5\n";
+
+fn lists_short(registry: &Registry) -> Result<bool, AllocError> {
+    let list = registry.short_list()?;
+    Ok(list.as_slice() == SHORT_LIST)
+}
+
+fn lists_long(registry: &Registry) -> Result<bool, AllocError> {
+    let list = registry.long_list()?;
+    Ok(list.as_slice() == LONG_LIST)
+}
+
+fn lists(registry: &Registry) -> Result<bool, AllocError> {
+    Ok(lists_short(registry)? && lists_long(registry)?)
 }
 
 #[test]
 fn listed(rt: HostRuntime) -> Result<(), Fail> {
-    let alloc = rt.alloc();
-    let mut registry = Registry::new(alloc);
-    let model = Says::Names {
-        product: b"",
-        model: b"Pix 3",
-        device: b"",
-    };
-    let all = Says::Names {
-        product: b"a b~\x7f",
-        model: &[b'p'; 65],
-        device: b"c:d\xff",
-    };
-    let devices: [(&[u8], Says); 5] = [
-        (b"emu1", model),
-        (b"emu1", Says::Auth),
-        (b"serial-of-22-bytes-abc", Says::Nothing),
-        (b"serial-of-23-bytes-abcd", Says::Nothing),
-        (b"emu2", all),
-    ];
-    for (serial, says) in devices {
-        plug(alloc, &mut registry, Kind::Usb, serial, says)?;
-    }
-    let short = b"emu1\tdevice\nemu1\tunauthorized\nserial-of-22-bytes-abc\toffline\n\
-        serial-of-23-bytes-abcd\toffline\nemu2\tdevice\n";
-    assert_eq!(rt; registry.short_list()?.as_slice(), short.as_slice());
-    let long = b"emu1                   device model:Pix_3 transport_id:1\n\
-        emu1                   unauthorized transport_id:2\n\
-        serial-of-22-bytes-abc offline transport_id:3\n\
-        serial-of-23-bytes-abcd offline transport_id:4\n\
-        emu2                   device product:a_b~_ \
-        model:pppppppppppppppppppppppppppppppppppppppppppppppppppppppppppppppp \
-        device:c:d_ transport_id:5\n";
-    assert_eq!(rt; registry.long_list()?.as_slice(), long.as_slice());
+    let registry = plugged(rt.alloc(), LISTED)?;
+    assert!(rt; lists(&registry)?);
     Ok(())
 }
 
-/// What is chosen by each of the selectors.
-fn choices(
-    registry: &Registry,
-    selectors: &[Selector; 5],
-    ready: bool,
-) -> [Result<u32, Refusal>; 5] {
-    let [first, second, third, fourth, fifth] = selectors;
-    [
-        registry.choose(first, ready),
-        registry.choose(second, ready),
-        registry.choose(third, ready),
-        registry.choose(fourth, ready),
-        registry.choose(fifth, ready),
-    ]
+/// The ways to choose a device: the serial is `emu1`, and the id 3.
+#[derive(Clone, Copy)]
+enum Way {
+    Any,
+    Usb,
+    Local,
+    Serial,
+    Id,
 }
 
-/// A device more at each stage; what is chosen of those that are ready, and of all.
+/// A way, and what is chosen where the device has to be ready, and where not.
+type Choice = (Way, Result<u32, Refusal>, Result<u32, Refusal>);
+
+const OF_NONE: &[Choice] = &[
+    (Way::Any, Err(Refusal::NoAny), Err(Refusal::NoAny)),
+    (Way::Usb, Err(Refusal::NoUsb), Err(Refusal::NoUsb)),
+    (Way::Local, Err(Refusal::NoLocal), Err(Refusal::NoLocal)),
+    (Way::Serial, Err(Refusal::NoSerial), Err(Refusal::NoSerial)),
+    (Way::Id, Err(Refusal::NoId), Err(Refusal::NoId)),
+];
+
+/// A device more, and what is chosen then.
+struct Stage {
+    device: Device,
+    choices: &'static [Choice],
+}
+
+const NAMELESS: Says = Says::Names(Names {
+    product: b"",
+    model: b"",
+    device: b"",
+    has_shell: false,
+});
+
+const STAGES: &[Stage] = &[
+    Stage {
+        device: Device {
+            kind: Kind::Usb,
+            serial: b"emu1",
+            says: Says::Nothing,
+        },
+        choices: &[
+            (Way::Any, Err(Refusal::Offline), Ok(1)),
+            (Way::Usb, Err(Refusal::Offline), Ok(1)),
+            (Way::Local, Err(Refusal::NoLocal), Err(Refusal::NoLocal)),
+            (Way::Serial, Err(Refusal::Offline), Ok(1)),
+            (Way::Id, Err(Refusal::NoId), Err(Refusal::NoId)),
+        ],
+    },
+    Stage {
+        device: Device {
+            kind: Kind::Local,
+            serial: b"emu1",
+            says: Says::Auth,
+        },
+        choices: &[
+            (Way::Any, Err(Refusal::ManyAny), Err(Refusal::ManyAny)),
+            (Way::Usb, Err(Refusal::Offline), Ok(1)),
+            (Way::Local, Err(Refusal::Unauthorized), Ok(2)),
+            (
+                Way::Serial,
+                Err(Refusal::ManySerial),
+                Err(Refusal::ManySerial),
+            ),
+            (Way::Id, Err(Refusal::NoId), Err(Refusal::NoId)),
+        ],
+    },
+    Stage {
+        device: Device {
+            kind: Kind::Local,
+            serial: b"emu1",
+            says: NAMELESS,
+        },
+        choices: &[
+            (Way::Any, Err(Refusal::ManyAny), Err(Refusal::ManyAny)),
+            (Way::Usb, Err(Refusal::Offline), Ok(1)),
+            (Way::Local, Err(Refusal::ManyLocal), Err(Refusal::ManyLocal)),
+            (
+                Way::Serial,
+                Err(Refusal::ManySerial),
+                Err(Refusal::ManySerial),
+            ),
+            (Way::Id, Ok(3), Ok(3)),
+        ],
+    },
+    Stage {
+        device: Device {
+            kind: Kind::Usb,
+            serial: b"emu1",
+            says: Says::Nothing,
+        },
+        choices: &[
+            (Way::Any, Err(Refusal::ManyAny), Err(Refusal::ManyAny)),
+            (Way::Usb, Err(Refusal::ManyUsb), Err(Refusal::ManyUsb)),
+            (Way::Local, Err(Refusal::ManyLocal), Err(Refusal::ManyLocal)),
+            (
+                Way::Serial,
+                Err(Refusal::ManySerial),
+                Err(Refusal::ManySerial),
+            ),
+            (Way::Id, Ok(3), Ok(3)),
+        ],
+    },
+];
+
+fn selector(alloc: Global, way: Way) -> Result<Selector, AllocError> {
+    Ok(match way {
+        Way::Any => Selector::Any,
+        Way::Usb => Selector::Usb,
+        Way::Local => Selector::Local,
+        Way::Serial => Selector::Serial(Text::from_slice(alloc, b"emu1")?),
+        Way::Id => Selector::Id(3),
+    })
+}
+
+fn chooses(alloc: Global, registry: &Registry, choice: &Choice) -> Result<bool, AllocError> {
+    let selector = selector(alloc, choice.0)?;
+    Ok(
+        registry.choose(&selector, true) == choice.1
+            && registry.choose(&selector, false) == choice.2,
+    )
+}
+
+fn choose(alloc: Global, registry: &Registry, choices: &[Choice]) -> Result<bool, AllocError> {
+    for choice in choices {
+        if !chooses(alloc, registry, choice)? {
+            return Ok(false);
+        }
+    }
+    Ok(true)
+}
+
+#[test]
+fn none_chosen(rt: HostRuntime) -> Result<(), Fail> {
+    let registry = Registry::new(rt.alloc());
+    assert!(rt; choose(rt.alloc(), &registry, OF_NONE)?);
+    Ok(())
+}
+
+fn stands(alloc: Global, registry: &mut Registry, stage: &Stage) -> Result<bool, AttachError> {
+    plug(alloc, registry, &stage.device)?;
+    Ok(choose(alloc, registry, stage.choices)?)
+}
+
 #[test]
 fn chosen(rt: HostRuntime) -> Result<(), Fail> {
-    use Refusal::*;
-    let alloc = rt.alloc();
-    let mut registry = Registry::new(alloc);
-    let selectors = [
-        Selector::Any,
-        Selector::Usb,
-        Selector::Local,
-        Selector::Serial(Text::from_slice(alloc, b"emu1")?),
-        Selector::Id(3),
-    ];
-    let none = [
-        Err(NoAny),
-        Err(NoUsb),
-        Err(NoLocal),
-        Err(NoSerial),
-        Err(NoId),
-    ];
-    assert_eq!(rt; choices(&registry, &selectors, true), none);
-    let names = Says::Names {
-        product: b"",
-        model: b"",
-        device: b"",
-    };
-    let stages = [
-        (
-            (Kind::Usb, Says::Nothing),
-            [
-                Err(Offline),
-                Err(Offline),
-                Err(NoLocal),
-                Err(Offline),
-                Err(NoId),
-            ],
-            [Ok(1), Ok(1), Err(NoLocal), Ok(1), Err(NoId)],
-        ),
-        (
-            (Kind::Local, Says::Auth),
-            [
-                Err(ManyAny),
-                Err(Offline),
-                Err(Unauthorized),
-                Err(ManySerial),
-                Err(NoId),
-            ],
-            [Err(ManyAny), Ok(1), Ok(2), Err(ManySerial), Err(NoId)],
-        ),
-        (
-            (Kind::Local, names),
-            [
-                Err(ManyAny),
-                Err(Offline),
-                Err(ManyLocal),
-                Err(ManySerial),
-                Ok(3),
-            ],
-            [Err(ManyAny), Ok(1), Err(ManyLocal), Err(ManySerial), Ok(3)],
-        ),
-        (
-            (Kind::Usb, Says::Nothing),
-            [
-                Err(ManyAny),
-                Err(ManyUsb),
-                Err(ManyLocal),
-                Err(ManySerial),
-                Ok(3),
-            ],
-            [
-                Err(ManyAny),
-                Err(ManyUsb),
-                Err(ManyLocal),
-                Err(ManySerial),
-                Ok(3),
-            ],
-        ),
-    ];
-    for ((kind, says), ready, any) in stages {
-        plug(alloc, &mut registry, kind, b"emu1", says)?;
-        assert_eq!(rt; choices(&registry, &selectors, true), ready);
-        assert_eq!(rt; choices(&registry, &selectors, false), any);
+    let mut registry = Registry::new(rt.alloc());
+    for (at, stage) in STAGES.iter().enumerate() {
+        assert!(rt; stands(rt.alloc(), &mut registry, stage)?, "stage {at}");
     }
     Ok(())
 }

@@ -1,476 +1,241 @@
-//! Each request over a few registries, with its reply and what follows, byte for byte.
+//! How requests are answered over a few registries, and what is no more than it may be.
 
-ghost use Rattle.std.specs.Prelude.{◌≡◌, IfOk, codes};
-
-use adb_forward::Forwards;
-use adb_outside::{Identity, Kind, Text};
-use adb_registry::Registry;
+use crate::devices::{Device, Names, Says, plugged};
+use adb_forward::{ForwardError, Forwards};
+use adb_outside::Kind;
+use adb_registry::{AttachError, Registry};
 use adb_reply::{Answer, Next, replies_begin_right, reply, texts_carry_their_length};
-use adb_request::{hex4, read};
+use adb_request::read;
 use std::alloc::{AllocError, Global};
+use std::process::Abort;
 use std::test::Fail;
 
-/// How many of the devices below are plugged in: `emu1`, which is online; `127.0.0.1:5555`, online
-/// over a local port; `emu3`, which said nothing yet; `emu4`, which is unauthorized.
-const NONE: u32 = 0;
+pub const NONE: usize = 0;
 
-const ONE: u32 = 1;
+pub const ONE: usize = 1;
 
-const TWO: u32 = 2;
+pub const TWO: usize = 2;
 
-const ALL: u32 = 4;
+pub const ALL: usize = 4;
 
-/// A device that names its model and its features.
-fn identity(alloc: Global) -> Result<Identity, AllocError>
-    ensures { IfOk result (λ identity. identity.features ≡ codes "shell_v2") }
-{
-    Ok(Identity {
-        system: Text::from_slice(alloc, b"device")?,
-        serial: Text::new(alloc),
-        product: Text::new(alloc),
-        model: Text::from_slice(alloc, b"Pix 3")?,
-        device: Text::new(alloc),
-        features: Text::from_slice(alloc, b"shell_v2")?,
-    })
+const PHONE: Says = Says::Names(Names {
+    product: b"",
+    model: b"Pix 3",
+    device: b"",
+    has_shell: true,
+});
+
+/// Two that are online, one that said nothing yet, and one that is unauthorized.
+const DEVICES: &[Device] = &[
+    Device {
+        kind: Kind::Usb,
+        serial: b"emu1",
+        says: PHONE,
+    },
+    Device {
+        kind: Kind::Local,
+        serial: b"127.0.0.1:5555",
+        says: PHONE,
+    },
+    Device {
+        kind: Kind::Usb,
+        serial: b"emu3",
+        says: Says::Nothing,
+    },
+    Device {
+        kind: Kind::Usb,
+        serial: b"emu4",
+        says: Says::Auth,
+    },
+];
+
+fn devices(count: usize) -> &'static [Device] {
+    DEVICES.get(..count).unwrap_or(DEVICES)
 }
 
-fn devices(alloc: Global, count: u32) -> Result<Registry, Fail> {
-    let mut registry = Registry::new(alloc);
-    let plugged: [(Kind, &[u8]); 4] = [
-        (Kind::Usb, b"emu1"),
-        (Kind::Local, b"127.0.0.1:5555"),
-        (Kind::Usb, b"emu3"),
-        (Kind::Usb, b"emu4"),
-    ];
-    for (kind, serial) in plugged {
-        let next = registry.attach(kind, serial).map_err(|_| "attach")?;
-        if next > count {
-            registry.detach(next);
-        } else if next <= TWO && registry.row(next).is_some() {
-            registry.online(next, identity(alloc)?, 0x0100_0001, 4096);
-        } else if next == ALL && registry.row(next).is_some() {
-            registry.unauthorized(next);
-        }
-    }
-    Ok(registry)
-}
+/// What follows a reply: in a word, its number, and its text.
+pub type Said<'a> = (&'a str, u32, &'a [u8]);
 
-/// What follows a reply, in words; numbers are shown in hexadecimal digits.
-fn shown(alloc: Global, next: &Next) -> Result<Text, AllocError> {
+pub const CLOSE: Said<'static> = ("close", 0, b"");
+
+fn said(next: &Next) -> Said<'_> {
     match next {
-        Next::Close => Text::from_slice(alloc, b"close"),
-        Next::Select(id) => numbered(alloc, b"select ", *id, b""),
-        Next::Track { long: false } => Text::from_slice(alloc, b"track"),
-        Next::Track { long: true } => Text::from_slice(alloc, b"track long"),
-        Next::Open { transport, service } => {
-            numbered(alloc, b"open ", *transport, service.as_slice())
-        }
+        Next::Close => CLOSE,
+        Next::Select(id) => ("select", *id, b""),
+        Next::Track { long: false } => ("track", 0, b""),
+        Next::Track { long: true } => ("track long", 0, b""),
+        Next::Open { transport, service } => ("open", *transport, service.as_slice()),
         Next::Bind {
             transport: _,
             local,
             remote,
             chosen: false,
-        } => numbered(alloc, b"bind ", u32::from(*local), remote.as_slice()),
+        } => ("bind", u32::from(*local), remote.as_slice()),
         Next::Bind {
             transport,
             local: _,
             remote,
             chosen: true,
-        } => numbered(alloc, b"bind any of ", *transport, remote.as_slice()),
+        } => ("bind any of", *transport, remote.as_slice()),
         Next::Rebind {
             transport: _,
             local,
             remote,
-        } => numbered(alloc, b"rebind ", u32::from(*local), remote.as_slice()),
-        Next::Unbind(port) => numbered(alloc, b"unbind ", u32::from(*port), b""),
-        Next::UnbindAll => Text::from_slice(alloc, b"unbind all"),
-        Next::Stop => Text::from_slice(alloc, b"stop"),
+        } => ("rebind", u32::from(*local), remote.as_slice()),
+        Next::Unbind(port) => ("unbind", u32::from(*port), b""),
+        Next::UnbindAll => ("unbind all", 0, b""),
+        Next::Stop => ("stop", 0, b""),
     }
 }
 
-fn numbered(alloc: Global, name: &[u8], number: u32, end: &[u8]) -> Result<Text, AllocError> {
-    let mut text = Text::from_slice(alloc, name)?;
-    text.push_slice(&hex4((number & 65535) as u16))?;
-    text.push_slice(end)?;
-    Ok(text)
+/// How many of the devices are plugged in, which is selected, the request, its reply, and what
+/// follows.
+pub type Case = (
+    usize,
+    Option<u32>,
+    &'static [u8],
+    &'static [u8],
+    Said<'static>,
+);
+
+fn put(forwards: &mut Forwards, local: u16) -> Result<(), ForwardError> {
+    forwards.put(local, 1, b"emu1", b"tcp:80", true)
 }
 
-/// How many devices there are, which is selected (0 for none), the request, its reply, what follows.
-type Case = (u32, u32, &'static [u8], &'static [u8], &'static [u8]);
-
-/// The forward of port 40000 to `tcp:80` of the first device is there in each case.
-const CASES: &[Case] = &[
-    (NONE, 0, b"host:version", b"OKAY00040029", b"close"),
-    (NONE, 0, b"host:kill", b"OKAY", b"stop"),
-    (
-        NONE,
-        0,
-        b"host:nope",
-        b"FAIL0014unknown host service",
-        b"close",
-    ),
-    (NONE, 0, b"host:devices", b"OKAY0000", b"close"),
-    (ONE, 0, b"host:devices", b"OKAY000cemu1\tdevice\n", b"close"),
-    (
-        ONE,
-        0,
-        b"host:track-devices",
-        b"OKAY000cemu1\tdevice\n",
-        b"track",
-    ),
-    (
-        ONE,
-        0,
-        b"host:devices-l",
-        b"OKAY0039emu1                   device model:Pix_3 transport_id:1\n",
-        b"close",
-    ),
-    (NONE, 0, b"host:track-devices-l", b"OKAY0000", b"track long"),
-    (ONE, 0, b"host:transport:emu1", b"OKAY", b"select 0001"),
-    (
-        NONE,
-        0,
-        b"host:transport:x",
-        b"FAIL0014device 'x' not found",
-        b"close",
-    ),
-    (
-        NONE,
-        0,
-        b"host:transport:",
-        b"FAIL0013device '' not found",
-        b"close",
-    ),
-    (
-        ALL,
-        0,
-        b"host:transport:emu3",
-        b"FAIL000edevice offline",
-        b"close",
-    ),
-    (
-        ALL,
-        0,
-        b"host:transport:emu4",
-        b"FAIL0013device unauthorized",
-        b"close",
-    ),
-    (
-        NONE,
-        0,
-        b"host:transport-any",
-        b"FAIL001ano devices/emulators found",
-        b"close",
-    ),
-    (ONE, 0, b"host:transport-any", b"OKAY", b"select 0001"),
-    (
-        TWO,
-        0,
-        b"host:transport-any",
-        b"FAIL001dmore than one device/emulator",
-        b"close",
-    ),
-    (
-        NONE,
-        0,
-        b"host:transport-usb",
-        b"FAIL0010no devices found",
-        b"close",
-    ),
-    (TWO, 0, b"host:transport-usb", b"OKAY", b"select 0001"),
-    (
-        ALL,
-        0,
-        b"host:transport-usb",
-        b"FAIL0014more than one device",
-        b"close",
-    ),
-    (
-        ONE,
-        0,
-        b"host:transport-local",
-        b"FAIL0012no emulators found",
-        b"close",
-    ),
-    (TWO, 0, b"host:transport-local", b"OKAY", b"select 0002"),
-    (TWO, 0, b"host:transport-id:2", b"OKAY", b"select 0002"),
-    (
-        TWO,
-        0,
-        b"host:transport-id:007",
-        b"FAIL001fno device with transport id '7'",
-        b"close",
-    ),
-    (
-        ONE,
-        0,
-        b"host:tport:any",
-        b"OKAY\x01\0\0\0\0\0\0\0",
-        b"select 0001",
-    ),
-    (
-        ONE,
-        0,
-        b"host:tport:serial:emu1",
-        b"OKAY\x01\0\0\0\0\0\0\0",
-        b"select 0001",
-    ),
-    (ONE, 0, b"host:get-serialno", b"OKAY0004emu1", b"close"),
-    (ONE, 0, b"host:get-devpath", b"OKAY0005usb:1", b"close"),
-    (TWO, 2, b"host:get-devpath", b"OKAY0007unknown", b"close"),
-    (
-        TWO,
-        0,
-        b"host:get-state",
-        b"FAIL001dmore than one device/emulator",
-        b"close",
-    ),
-    (TWO, 1, b"host:get-state", b"OKAY0006device", b"close"),
-    (
-        TWO,
-        9,
-        b"host:get-state",
-        b"FAIL001ddevice offline (no transport)",
-        b"close",
-    ),
-    (
-        TWO,
-        0,
-        b"host-serial:127.0.0.1:5555:get-state",
-        b"OKAY0006device",
-        b"close",
-    ),
-    (
-        ALL,
-        0,
-        b"host-serial:emu3:get-state",
-        b"OKAY0007offline",
-        b"close",
-    ),
-    (
-        ALL,
-        0,
-        b"host-serial:emu4:get-state",
-        b"OKAY000cunauthorized",
-        b"close",
-    ),
-    (
-        TWO,
-        0,
-        b"host-transport-id:2:get-serialno",
-        b"OKAY000e127.0.0.1:5555",
-        b"close",
-    ),
-    (ONE, 0, b"host:features", b"OKAY0008shell_v2", b"close"),
-    (
-        ALL,
-        0,
-        b"host-serial:emu3:features",
-        b"FAIL000edevice offline",
-        b"close",
-    ),
-    (
-        NONE,
-        0,
-        b"host-usb:features",
-        b"FAIL0010no devices found",
-        b"close",
-    ),
-    (
-        ONE,
-        0,
-        b"host:forward:tcp:0;tcp:80",
-        b"",
-        b"bind any of 0001tcp:80",
-    ),
-    (
-        ONE,
-        0,
-        b"host:forward:tcp:7;tcp:80",
-        b"",
-        b"bind 0007tcp:80",
-    ),
-    (
-        ONE,
-        0,
-        b"host:forward:tcp:40000;tcp:81",
-        b"OKAYOKAY",
-        b"rebind 9c40tcp:81",
-    ),
-    (
-        ONE,
-        0,
-        b"host:forward:norebind:tcp:40000;tcp:81",
-        b"FAIL001dcannot rebind existing socket",
-        b"close",
-    ),
-    (
-        ONE,
-        0,
-        b"host:forward:norebind:tcp:7;tcp:81",
-        b"",
-        b"bind 0007tcp:81",
-    ),
-    (
-        ONE,
-        0,
-        b"host:forward:tcp:7",
-        b"FAIL0019bad forward specification",
-        b"close",
-    ),
-    (
-        NONE,
-        0,
-        b"host:forward:tcp:7",
-        b"FAIL0019bad forward specification",
-        b"close",
-    ),
-    (
-        NONE,
-        0,
-        b"host:forward:norebind:tcp:40000;tcp:81",
-        b"FAIL001ano devices/emulators found",
-        b"close",
-    ),
-    (
-        NONE,
-        0,
-        b"host:killforward:tcp:40000",
-        b"OKAYOKAY",
-        b"unbind 9c40",
-    ),
-    (
-        NONE,
-        0,
-        b"host:killforward:tcp:7",
-        b"FAIL001alistener 'tcp:7' not found",
-        b"close",
-    ),
-    (
-        NONE,
-        0,
-        b"host:killforward:tcp:0",
-        b"FAIL0019bad forward specification",
-        b"close",
-    ),
-    (NONE, 0, b"host:killforward-all", b"OKAYOKAY", b"unbind all"),
-    (
-        NONE,
-        0,
-        b"host-usb:killforward-all",
-        b"OKAYOKAY",
-        b"unbind all",
-    ),
-    (
-        NONE,
-        0,
-        b"host:list-forward",
-        b"OKAY0016emu1 tcp:40000 tcp:80\n",
-        b"close",
-    ),
-    (
-        ONE,
-        0,
-        b"shell:echo hi",
-        b"FAIL001ddevice offline (no transport)",
-        b"close",
-    ),
-    (
-        ONE,
-        7,
-        b"shell:echo hi",
-        b"FAIL001ddevice offline (no transport)",
-        b"close",
-    ),
-    (ONE, 1, b"shell:echo hi", b"", b"open 0001shell:echo hi"),
-    (ONE, 1, b"", b"", b"open 0001"),
-    (TWO, 2, b"sync:", b"", b"open 0002sync:"),
-    (ONE, 1, b"host:version", b"OKAY00040029", b"close"),
-    (
-        ONE,
-        1,
-        b"host:transport:x",
-        b"FAIL0014device 'x' not found",
-        b"close",
-    ),
-    (ONE, 1, b"host:devices", b"OKAY000cemu1\tdevice\n", b"close"),
-];
-
-fn forwards(alloc: Global) -> Result<Forwards, Fail> {
+fn one_forward(alloc: Global) -> Result<Forwards, ForwardError> {
     let mut forwards = Forwards::new(alloc);
-    forwards
-        .put(40000, 1, b"emu1", b"tcp:80", true)
-        .map_err(|_| "put")?;
+    put(&mut forwards, 40000)?;
+    Ok(forwards)
+}
+
+fn full_forwards(alloc: Global) -> Result<Forwards, ForwardError> {
+    let mut forwards = one_forward(alloc)?;
+    for local in 1..64 {
+        put(&mut forwards, local)?;
+    }
     Ok(forwards)
 }
 
 fn answer_to(
     alloc: Global,
-    count: u32,
-    selected: u32,
-    text: &[u8],
+    registry: &Registry,
     forwards: &Forwards,
-) -> Result<Answer, Fail> {
-    let registry = devices(alloc, count)?;
+    selected: Option<u32>,
+    text: &[u8],
+) -> Result<Answer, AllocError> {
     let request = read(alloc, text)?;
-    let selected = if selected == 0 { None } else { Some(selected) };
-    Ok(reply(alloc, &registry, forwards, selected, &request)?)
+    reply(alloc, registry, forwards, selected, &request)
+}
+
+fn is_that(answer: &Answer, bytes: &[u8], says: Said<'_>) -> bool {
+    answer.bytes.as_slice() == bytes && said(&answer.next) == says
+}
+
+fn answers(
+    alloc: Global,
+    registry: &Registry,
+    forwards: &Forwards,
+    case: &Case,
+) -> Result<bool, AllocError> {
+    let answer = answer_to(alloc, registry, forwards, case.1, case.2)?;
+    Ok(is_that(&answer, case.3, case.4))
+}
+
+fn is_answered(alloc: Global, forwards: &Forwards, case: &Case) -> Result<bool, AttachError> {
+    let registry = plugged(alloc, devices(case.0))?;
+    Ok(answers(alloc, &registry, forwards, case)?)
+}
+
+/// Each of the cases has its reply, where port 40000 is forwarded to `tcp:80` of the first device.
+pub fn are_answered(rt: &impl Abort, alloc: Global, cases: &[Case]) -> Result<(), Fail> {
+    let forwards = one_forward(alloc)?;
+    for case in cases {
+        assert!(rt; is_answered(alloc, &forwards, case)?, "{:?}", case.2);
+    }
+    Ok(())
+}
+
+/// The table of forwards is full in each case.
+const FULL_CASES: &[Case] = &[
+    (
+        ONE,
+        None,
+        b"host:forward:tcp:64;tcp:80",
+        b"FAIL0011too many forwards",
+        CLOSE,
+    ),
+    (
+        ONE,
+        None,
+        b"host:forward:tcp:0;tcp:80",
+        b"FAIL0011too many forwards",
+        CLOSE,
+    ),
+    (
+        ONE,
+        None,
+        b"host:forward:tcp:63;tcp:80",
+        b"OKAYOKAY",
+        ("rebind", 63, b"tcp:80"),
+    ),
+    (
+        ONE,
+        None,
+        b"host:forward:norebind:tcp:63;tcp:80",
+        b"FAIL001dcannot rebind existing socket",
+        CLOSE,
+    ),
+];
+
+#[test]
+fn forwards_are_limited(rt: HostRuntime) -> Result<(), Fail> {
+    let forwards = full_forwards(rt.alloc())?;
+    for case in FULL_CASES {
+        assert!(rt; is_answered(rt.alloc(), &forwards, case)?, "{:?}", case.2);
+    }
+    Ok(())
+}
+
+/// How long a service is, its reply, and what follows in a word, with its number. It takes its text
+/// and a NUL in one packet.
+type Service = (usize, &'static [u8], &'static str, u32);
+
+const SERVICES: &[Service] = &[
+    (4095, b"", "open", 1),
+    (4096, b"FAIL0015service name too long", "close", 0),
+];
+
+fn answer_to_service(alloc: Global, registry: &Registry, len: usize) -> Result<Answer, AllocError> {
+    let service = vec![in alloc; b'a'; len]?;
+    let forwards = Forwards::new(alloc);
+    answer_to(alloc, registry, &forwards, Some(1), service.as_slice())
+}
+
+fn is_for(answer: &Answer, service: &Service) -> bool {
+    let (word, number, _) = said(&answer.next);
+    answer.bytes.as_slice() == service.1 && word == service.2 && number == service.3
+}
+
+fn serves(alloc: Global, registry: &Registry, service: &Service) -> Result<bool, AllocError> {
+    let answer = answer_to_service(alloc, registry, service.0)?;
+    Ok(is_for(&answer, service))
 }
 
 #[test]
-fn requests_are_answered(rt: HostRuntime) -> Result<(), Fail> {
-    let alloc = rt.alloc();
-    let forwards = forwards(alloc)?;
-    for &(count, selected, text, bytes, next) in CASES {
-        let answer = answer_to(alloc, count, selected, text, &forwards)?;
-        assert_eq!(rt; answer.bytes.as_slice(), bytes, "to {text:?}");
-        assert_eq!(rt;
-            shown(alloc, &answer.next)?.as_slice(),
-            next,
-            "after {text:?}"
+fn services_are_limited(rt: HostRuntime) -> Result<(), Fail> {
+    let registry = plugged(rt.alloc(), devices(ONE))?;
+    for service in SERVICES {
+        assert!(rt;
+            serves(rt.alloc(), &registry, service)?,
+            "{} bytes",
+            service.0
         );
     }
+    Ok(())
+}
+
+#[test]
+fn replies_have_laws() {
     replies_begin_right();
     texts_carry_their_length();
-    Ok(())
-}
-
-/// A service takes its text and a NUL in one packet; the table of forwards is full at 64.
-#[test]
-fn limits_are_kept(rt: HostRuntime) -> Result<(), Fail> {
-    let alloc = rt.alloc();
-    let mut forwards = forwards(alloc)?;
-    for (len, bytes, next) in [
-        (4095, b"".as_slice(), b"open 0001".as_slice()),
-        (4096, b"FAIL0015service name too long", b"close"),
-    ] {
-        let service = vec![in alloc; b'a'; len]?;
-        let answer = answer_to(alloc, ONE, 1, service.as_slice(), &forwards)?;
-        assert_eq!(rt; answer.bytes.as_slice(), bytes, "{len} bytes");
-        assert!(rt;
-            shown(alloc, &answer.next)?.as_slice().starts_with(next),
-            "{len} bytes"
-        );
-    }
-    for local in 1..64 {
-        forwards
-            .put(local, 1, b"emu1", b"tcp:80", true)
-            .map_err(|_| "put")?;
-    }
-    for (text, bytes) in [
-        (
-            b"host:forward:tcp:64;tcp:80".as_slice(),
-            b"FAIL0011too many forwards".as_slice(),
-        ),
-        (b"host:forward:tcp:0;tcp:80", b"FAIL0011too many forwards"),
-        (b"host:forward:tcp:63;tcp:80", b"OKAYOKAY"),
-        (
-            b"host:forward:norebind:tcp:63;tcp:80",
-            b"FAIL001dcannot rebind existing socket",
-        ),
-    ] {
-        let answer = answer_to(alloc, ONE, 0, text, &forwards)?;
-        assert_eq!(rt; answer.bytes.as_slice(), bytes, "to {text:?}");
-    }
-    Ok(())
 }

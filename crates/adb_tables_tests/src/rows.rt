@@ -34,8 +34,10 @@ fn write(rows: &mut RowMap<u32>, id: u32, row: u32) {
     }
 }
 
-/// Steps, what each answers, and how many rows there are then.
-const STEPS: &[(Step, Option<u32>, usize)] = &[
+/// A step, what it answers, and how many rows there are then.
+type Row = (Step, Option<u32>, usize);
+
+const STEPS: &[Row] = &[
     (Step::Look(7), None, 0),
     (Step::Put(7, 70), None, 1),
     (Step::Put(4_294_967_295, 71), None, 2),
@@ -62,12 +64,15 @@ const STEPS: &[(Step, Option<u32>, usize)] = &[
     (Step::Put(3, 79), None, 1),
 ];
 
+fn is_told(rows: &mut RowMap<u32>, row: &Row) -> Result<bool, AllocError> {
+    Ok(told(rows, row.0)? == row.1 && rows.len() == row.2)
+}
+
 #[test]
 fn rows_far_apart(rt: HostRuntime) -> Result<(), Fail> {
     let mut rows = RowMap::new(rt.alloc());
-    for &(step, answer, len) in STEPS {
-        assert_eq!(rt; told(&mut rows, step)?, answer, "of {len}");
-        assert_eq!(rt; rows.len(), len);
+    for row in STEPS {
+        assert!(rt; is_told(&mut rows, row)?, "{:?} of {}", row.1, row.2);
     }
     Ok(())
 }
@@ -80,6 +85,10 @@ fn comes_and_goes(rows: &mut RowMap<u32>, id: u32, stays: u32) -> Result<bool, A
     Ok(found && row.is_some() && !rows.contains_key(&id) && rows.contains_key(&stays))
 }
 
+fn is_all(rows: &RowMap<u32>, id: u32, row: u32) -> bool {
+    rows.len() == 1 && rows.get(&id).copied() == Some(row)
+}
+
 #[test]
 fn a_row_stays_while_others_come_and_go(rt: HostRuntime) -> Result<(), Fail> {
     let mut rows = RowMap::new(rt.alloc());
@@ -87,7 +96,6 @@ fn a_row_stays_while_others_come_and_go(rt: HostRuntime) -> Result<(), Fail> {
     for id in 2..1002 {
         assert!(rt; comes_and_goes(&mut rows, id, 1)?, "at {id}");
     }
-    assert_eq!(rt; rows.len(), 1);
-    assert_eq!(rt; told(&mut rows, Step::Look(1))?, Some(10));
+    assert!(rt; is_all(&rows, 1, 10));
     Ok(())
 }

@@ -1,19 +1,17 @@
 //! Writes that are held back, and streams that are found by link and id.
 
 use adb_stream::{Credit, Streams, Took, Window};
-use std::test::Fail;
 
 #[test]
-fn one_write_each_way(rt: HostRuntime) -> Result<(), Fail> {
+fn one_write_each_way(rt: HostRuntime) {
     let mut window = Window::new();
     assert!(rt; window.can_write());
     window.wrote();
     assert!(rt; window.acked());
-    assert_eq!(rt; window.took(0), Took::AckNow);
-    assert_eq!(rt; window.took(3), Took::Accepted);
-    assert_eq!(rt; window.to_hand(), 3);
+    assert!(rt; window.took(0) == Took::AckNow);
+    assert!(rt; window.took(3) == Took::Accepted);
+    assert!(rt; window.to_hand() == 3);
     assert!(rt; window.handed(3));
-    Ok(())
 }
 
 /// A call of a credit, and its answer.
@@ -23,69 +21,97 @@ enum Call {
     Handed(usize, u32),
 }
 
-#[test]
-fn credit_is_given_back(rt: HostRuntime) -> Result<(), Fail> {
-    let mut credit = Credit::new();
-    let calls: [Call; 13] = [
-        Call::Took(1, Took::Accepted),
-        Call::Took(1, Took::Accepted),
-        Call::Handed(2, 2),
-        Call::Took(0, Took::Accepted),
-        Call::Took(262_145, Took::OutOfTurn),
-        Call::Took(262_144, Took::Accepted),
-        Call::Took(1, Took::OutOfTurn),
-        Call::Handed(65_535, 0),
-        Call::Handed(1, 65_536),
-        Call::Handed(131_071, 131_071),
-        Call::Took(196_608, Took::OutOfTurn),
-        Call::Took(196_607, Took::Accepted),
-        Call::Handed(262_144, 262_144),
-    ];
-    for call in calls {
-        match call {
-            Call::Took(n, took) => assert_eq!(rt; credit.took(n), took),
-            Call::Handed(n, back) => {
-                assert!(rt; 0 < n && n <= credit.to_hand());
-                assert_eq!(rt; credit.handed(n), back);
-            }
-        }
+const CALLS: &[Call] = &[
+    Call::Took(1, Took::Accepted),
+    Call::Took(1, Took::Accepted),
+    Call::Handed(2, 2),
+    Call::Took(0, Took::Accepted),
+    Call::Took(262_145, Took::OutOfTurn),
+    Call::Took(262_144, Took::Accepted),
+    Call::Took(1, Took::OutOfTurn),
+    Call::Handed(65_535, 0),
+    Call::Handed(1, 65_536),
+    Call::Handed(131_071, 131_071),
+    Call::Took(196_608, Took::OutOfTurn),
+    Call::Took(196_607, Took::Accepted),
+    Call::Handed(262_144, 262_144),
+];
+
+fn is_answered(credit: &mut Credit, call: Call) -> bool {
+    match call {
+        Call::Took(n, took) => credit.took(n) == took,
+        Call::Handed(n, back) => 0 < n && n <= credit.to_hand() && credit.handed(n) == back,
     }
-    credit.grant(u32::MAX);
-    credit.grant(2);
-    assert_eq!(rt; credit.can_send(), u32::MAX);
-    credit.sent(5);
-    Ok(())
 }
 
 #[test]
-fn streams_stand_by_link(rt: HostRuntime) -> Result<(), Fail> {
-    let mut streams = Streams::new(rt.alloc());
-    for (client, link, id) in [(7, 2, 1), (8, 1, 2), (9, 2, 3)] {
-        assert_eq!(rt; streams.draw(client, link, id == 1), Ok(id));
+fn credit_is_given_back(rt: HostRuntime) {
+    let mut credit = Credit::new();
+    for (at, call) in CALLS.iter().enumerate() {
+        assert!(rt; is_answered(&mut credit, *call), "call {at}");
     }
-    let cases: [(u32, u32, Option<u32>); 5] = [
-        (2, 1, Some(7)),
-        (1, 1, None),
-        (1, 2, Some(8)),
-        (2, 3, Some(9)),
-        (2, 4, None),
-    ];
-    for (link, id, client) in cases {
-        assert_eq!(rt; streams.find(link, id).map(|stream| stream.client), client);
+    credit.grant(u32::MAX);
+    credit.grant(2);
+    assert!(rt; credit.can_send() == u32::MAX);
+    credit.sent(5);
+}
+
+/// Clients, their links, and the ids that are drawn for them.
+const DRAWN: &[(u32, u32, u32)] = &[(7, 2, 1), (8, 1, 2), (9, 2, 3)];
+
+/// A link, an id, and the client that is found by them.
+const FOUND: &[(u32, u32, Option<u32>)] = &[
+    (2, 1, Some(7)),
+    (1, 1, None),
+    (1, 2, Some(8)),
+    (2, 3, Some(9)),
+    (2, 4, None),
+];
+
+fn draws(streams: &mut Streams, client: u32, link: u32, id: u32) -> bool {
+    streams.draw(client, link, id == 1) == Ok(id)
+}
+
+fn client_of(streams: &Streams, link: u32, id: u32) -> Option<u32> {
+    match streams.find(link, id) {
+        Some(stream) => Some(stream.client),
+        None => None,
     }
+}
+
+/// Whether the first stream of a link goes with what was written there, and another is the first.
+fn is_closed(streams: &mut Streams) -> bool {
     if let Some(part) = streams.find_mut(2, 1) {
         part.remote = 40;
     }
-    assert_eq!(rt; streams.first_of(2), Some(1));
-    let remote = match streams.close(1) {
-        Some(stream) => stream.part.remote,
-        None => 0,
-    };
-    assert_eq!(rt; remote, 40);
-    assert_eq!(rt; streams.first_of(2), Some(3));
-    assert_eq!(rt; streams.first_of(3), None);
+    streams.first_of(2) == Some(1)
+        && remote_of_closed(streams, 1) == Some(40)
+        && streams.first_of(2) == Some(3)
+        && streams.first_of(3).is_none()
+}
+
+fn remote_of_closed(streams: &mut Streams, id: u32) -> Option<u32> {
+    match streams.close(id) {
+        Some(stream) => Some(stream.part.remote),
+        None => None,
+    }
+}
+
+/// Whether all streams go, and the next id is drawn for another.
+fn is_cleared(streams: &mut Streams) -> bool {
     streams.clear();
-    assert_eq!(rt; streams.first_of(2), None);
-    assert_eq!(rt; streams.draw(5, 2, false), Ok(4));
-    Ok(())
+    streams.first_of(2).is_none() && draws(streams, 5, 2, 4)
+}
+
+#[test]
+fn streams_stand_by_link(rt: HostRuntime) {
+    let mut streams = Streams::new(rt.alloc());
+    for &(client, link, id) in DRAWN {
+        assert!(rt; draws(&mut streams, client, link, id), "{id}");
+    }
+    for &(link, id, client) in FOUND {
+        assert!(rt; client_of(&streams, link, id) == client, "{link}, {id}");
+    }
+    assert!(rt; is_closed(&mut streams));
+    assert!(rt; is_cleared(&mut streams));
 }
