@@ -6,7 +6,7 @@ use adb_client::Client;
 use adb_forward::Forwards;
 use adb_hub_clients::{Plan, make_plan};
 use adb_outside::{Identity, Kind, Text};
-use adb_registry::Registry;
+use adb_registry::{AttachError, Registry};
 use adb_reply::Next;
 use std::alloc::{AllocError, Global};
 use std::test::Fail;
@@ -63,23 +63,30 @@ fn word(next: &Option<Next>) -> &'static [u8] {
 }
 
 /// Whether a plan is that of a row.
-fn is_of(plan: Plan, row: &Row) -> bool {
+fn is_of(plan: &Plan, row: &Row) -> bool {
     plan.used == row.1
         && plan.replies.as_slice() == row.2
         && plan.selected.unwrap_or(0) == row.3
         && word(&plan.next) == row.4
 }
 
+fn client_with(alloc: Global, held: &[u8]) -> Result<Client, AllocError> {
+    let mut client = Client::new(alloc, 7, false)?;
+    client.take_in(held)?;
+    Ok(client)
+}
+
+/// The plan of a client where there are no forwards.
+fn plan_of(alloc: Global, client: &Client, devices: &Registry) -> Result<Plan, AllocError> {
+    let forwards = Forwards::new(alloc);
+    make_plan(alloc, client, devices, &forwards)
+}
+
 /// Whether a client that holds the bytes of a row asks what it says.
-fn asked_as(
-    alloc: Global,
-    devices: &Registry,
-    forwards: &Forwards,
-    row: &Row,
-) -> Result<bool, AllocError> {
-    let mut client = Client::new(alloc, 7, false);
-    client.take_in(row.0)?;
-    Ok(is_of(make_plan(alloc, &client, devices, forwards)?, row))
+fn asks(alloc: Global, devices: &Registry, row: &Row) -> Result<bool, AllocError> {
+    let client = client_with(alloc, row.0)?;
+    let plan = plan_of(alloc, &client, devices)?;
+    Ok(is_of(&plan, row))
 }
 
 /// A device that says nothing of itself.
@@ -96,19 +103,18 @@ fn identity(alloc: Global) -> Identity
     }
 }
 
+fn one_device(alloc: Global) -> Result<Registry, AttachError> {
+    let mut devices = Registry::new(alloc);
+    let id = devices.attach(Kind::Usb, b"emu1")?;
+    devices.online(id, identity(alloc), 0x0100_0001, 4096);
+    Ok(devices)
+}
+
 #[test]
 fn requests_are_planned(rt: HostRuntime) -> Result<(), Fail> {
-    let alloc = rt.alloc();
-    let forwards = Forwards::new(alloc);
-    let mut devices = Registry::new(alloc);
-    devices.attach(Kind::Usb, b"emu1").map_err(|_| "attach")?;
-    devices.online(1, identity(alloc), 0x0100_0001, 4096);
+    let devices = one_device(rt.alloc())?;
     for row in ROWS {
-        assert!(rt;
-            asked_as(alloc, &devices, &forwards, row)?,
-            "of {:?}",
-            row.0
-        );
+        assert!(rt; asks(rt.alloc(), &devices, row)?, "of {:?}", row.0);
     }
     Ok(())
 }

@@ -14,7 +14,9 @@ use std::test::Fail;
 
 /// What is due to the clients 1 and 2; whether the list of the second is stale; and who is next, or
 /// 0.
-const ROWS: &[(&[u8], &[u8], bool, u32)] = &[
+type Row = (&'static [u8], &'static [u8], bool, u32);
+
+const ROWS: &[Row] = &[
     (b"", b"", false, 0),
     (b"", b"b", false, 2),
     (b"", b"", true, 2),
@@ -40,37 +42,43 @@ fn nobody(alloc: Global) -> Tables
 }
 
 fn client(alloc: Global, number: u32, due: &[u8], mark: bool) -> Result<Client, AllocError> {
-    let mut client = Client::new(alloc, number, false);
+    let mut client = Client::new(alloc, number, false)?;
     client.owe(due)?;
     client.about_mut().mark = mark;
     Ok(client)
 }
 
-/// Who is next of the two clients of a row.
-fn next_of(alloc: Global, row: &(&[u8], &[u8], bool, u32)) -> Result<u32, Fail> {
+/// A client of this number comes, to whom that is due, and whose list may be stale.
+fn comes(
+    alloc: Global,
+    clients: &mut TouchedMap<Client>,
+    number: u32,
+    due: &[u8],
+    mark: bool,
+) -> Result<(), AllocError> {
+    let client = client(alloc, number, due, mark)?;
+    clients.insert(number, client)?;
+    Ok(())
+}
+
+/// Whether of the two clients of a row that is next whom it says.
+fn is_next(alloc: Global, row: &Row) -> Result<bool, AllocError> {
     let mut clients = TouchedMap::new(alloc);
-    clients
-        .insert(1, client(alloc, 1, row.0, false)?)
-        .map_err(|_| "insert")?;
-    clients
-        .insert(2, client(alloc, 2, row.1, row.2)?)
-        .map_err(|_| "insert")?;
-    Ok(clients.first_owed().unwrap_or(0))
+    comes(alloc, &mut clients, 1, row.0, false)?;
+    comes(alloc, &mut clients, 2, row.1, row.2)?;
+    Ok(clients.first_owed().unwrap_or(0) == row.3)
 }
 
 #[test]
 fn the_least_is_next(rt: HostRuntime) -> Result<(), Fail> {
-    let alloc = rt.alloc();
-    let mut server = nobody(alloc);
-    assert!(rt; next_due(&mut server).is_none(), "nobody came");
     for row in ROWS {
-        assert_eq!(rt;
-            next_of(alloc, row)?,
-            row.3,
-            "of {:?} and {:?}",
-            row.0,
-            row.1
-        );
+        assert!(rt; is_next(rt.alloc(), row)?, "of {:?} and {:?}", row.0, row.1);
     }
     Ok(())
+}
+
+#[test]
+fn nobody_is_next(rt: HostRuntime) {
+    let mut server = nobody(rt.alloc());
+    assert!(rt; next_due(&mut server).is_none());
 }

@@ -1,6 +1,7 @@
 //! The least to which something is due, and who is named, as rows come, are lent and go.
 
 use adb_hub_tables::{Owes, TouchedMap};
+use std::alloc::{AllocError, Global};
 use std::test::Fail;
 
 /// A row to which something is due, or not.
@@ -33,7 +34,9 @@ enum Act {
 }
 
 /// What is done with a number, and who is the first then to whom something is due, or 0.
-const STEPS: &[(Act, u32, u32)] = &[
+type Step = (Act, u32, u32);
+
+const STEPS: &[Step] = &[
     (Act::Insert, 64, 0),
     (Act::Insert, 1, 0),
     (Act::Insert, u32::MAX, 0),
@@ -50,20 +53,24 @@ const STEPS: &[(Act, u32, u32)] = &[
     (Act::Pay, 64, 0),
 ];
 
-fn take_step(rows: &mut TouchedMap<Debt>, act: Act, number: u32) -> Result<(), Fail> {
+fn take_step(rows: &mut TouchedMap<Debt>, act: Act, number: u32) -> Result<(), AllocError> {
     match act {
-        Act::Insert => {
-            rows.insert(number, Debt { due: false })
-                .map_err(|_| "insert")?;
-        }
+        Act::Insert => insert(rows, number)?,
         Act::Owe => set(rows, number, true),
         Act::Pay => set(rows, number, false),
-        Act::Remove => {
-            rows.remove(&number);
-        }
+        Act::Remove => remove(rows, number),
         Act::KeepOnly => rows.keep_only(number),
     }
     Ok(())
+}
+
+fn insert(rows: &mut TouchedMap<Debt>, number: u32) -> Result<(), AllocError> {
+    rows.insert(number, Debt { due: false })?;
+    Ok(())
+}
+
+fn remove(rows: &mut TouchedMap<Debt>, number: u32) {
+    rows.remove(&number);
 }
 
 fn set(rows: &mut TouchedMap<Debt>, number: u32, due: bool) {
@@ -72,24 +79,25 @@ fn set(rows: &mut TouchedMap<Debt>, number: u32, due: bool) {
     }
 }
 
+fn is_first(rows: &mut TouchedMap<Debt>, step: &Step) -> Result<bool, AllocError> {
+    take_step(rows, step.0, step.1)?;
+    Ok(rows.first_owed().unwrap_or(0) == step.2)
+}
+
+/// Whether the row of 64 is all that is left, until that goes too.
+fn is_left(rows: &mut TouchedMap<Debt>) -> bool {
+    let so = rows.len() == 1 && rows.get(&64).is_some() && !rows.contains_key(&63);
+    rows.clear();
+    so && rows.len() == 0
+}
+
 #[test]
 fn the_least_is_first(rt: HostRuntime) -> Result<(), Fail> {
     let mut rows = TouchedMap::new(rt.alloc());
-    for (what, number, first) in STEPS {
-        take_step(&mut rows, *what, *number)?;
-        assert_eq!(rt;
-            rows.first_owed().unwrap_or(0),
-            *first,
-            "after {:?} of {}",
-            *what,
-            *number
-        );
+    for step in STEPS {
+        assert!(rt; is_first(&mut rows, step)?, "{:?} of {}", step.0, step.1);
     }
-    assert_eq!(rt; rows.len(), 1, "one row is left");
-    assert!(rt; rows.get(&64).is_some(), "the row of 64");
-    assert!(rt; !rows.contains_key(&63), "no row of 63");
-    rows.clear();
-    assert_eq!(rt; rows.len(), 0, "no row is left");
+    assert!(rt; is_left(&mut rows));
     Ok(())
 }
 
@@ -102,7 +110,7 @@ const BEFORE: &[(Act, u32)] = &[
 ];
 
 /// What is done with a number, and who is named then, or 0.
-const NAMES: &[(Act, u32, u32)] = &[
+const NAMES: &[Step] = &[
     (Act::Owe, 70, 3),
     (Act::Owe, 3, 3),
     (Act::Owe, 6, 70),
@@ -115,21 +123,24 @@ const NAMES: &[(Act, u32, u32)] = &[
     (Act::Owe, 70, 70),
 ];
 
+fn is_named(rows: &mut TouchedMap<Debt>, step: &Step) -> Result<bool, AllocError> {
+    take_step(rows, step.0, step.1)?;
+    Ok(rows.next_touched().unwrap_or(0) == step.2)
+}
+
+fn rows_before(alloc: Global) -> Result<TouchedMap<Debt>, AllocError> {
+    let mut rows = TouchedMap::new(alloc);
+    for &(act, number) in BEFORE {
+        take_step(&mut rows, act, number)?;
+    }
+    Ok(rows)
+}
+
 #[test]
 fn each_is_named_once(rt: HostRuntime) -> Result<(), Fail> {
-    let mut rows = TouchedMap::new(rt.alloc());
-    for (what, number) in BEFORE {
-        take_step(&mut rows, *what, *number)?;
-    }
-    for (what, number, name) in NAMES {
-        take_step(&mut rows, *what, *number)?;
-        assert_eq!(rt;
-            rows.next_touched().unwrap_or(0),
-            *name,
-            "after {:?} of {}",
-            *what,
-            *number
-        );
+    let mut rows = rows_before(rt.alloc())?;
+    for step in NAMES {
+        assert!(rt; is_named(&mut rows, step)?, "{:?} of {}", step.0, step.1);
     }
     Ok(())
 }

@@ -1,14 +1,12 @@
 //! Whole loads, counted and weighed.
 
-ghost use Rattle.std.specs.Prelude.{◌<◌, ◌^◌};
+ghost use Rattle.adb_capture.specs.Records.{HasRecord};
 
-use adb_capture::append_entry;
-use adb_load::*;
+use adb_capture::{Entry, append_entry};
+use adb_load::Load;
 use adb_outside::ByteQueue;
 use adb_wire::byte_sum;
-use std::alloc::Global;
-use std::panic::Expect;
-use std::process::Abort;
+use std::alloc::{AllocError, Global};
 use std::test::Fail;
 
 /// What is told of a load: how many entries it has, how many bytes their records have, and the sum
@@ -29,49 +27,78 @@ impl Tally {
     }
 }
 
-/// The record of the next entry; no bytes where none is left.
-fn next_record(rt: &impl Abort, alloc: Global, load: &mut Load) -> ByteQueue {
-    let mut record = ByteQueue::new(alloc);
-    if let Some(entry) = load.next().expect(rt, "memory") {
-        append_entry(&mut record, &entry).expect(rt, "memory");
+/// Adds the next entry, where one is left.
+fn add_next(alloc: Global, load: &mut Load, tally: &mut Tally) -> Result<(), AllocError> {
+    if let Some(entry) = load.next()? {
+        let record = record_of(alloc, &entry)?;
+        tally.add(record.as_slice());
     }
-    record
+    Ok(())
 }
 
-fn tally_of(rt: &impl Abort, alloc: Global, streams: u32) -> Tally
-    requires { streams < 2 ^ 16 }
+fn record_of(alloc: Global, entry: &Entry) -> Result<ByteQueue, AllocError>
+    requires { HasRecord entry.now }
 {
-    let mut load = Load::new(alloc, 7, streams).expect(rt, "memory");
+    let mut record = ByteQueue::new(alloc);
+    append_entry(&mut record, entry)?;
+    Ok(record)
+}
+
+fn tally_of(alloc: Global, streams: u16) -> Result<Tally, AllocError> {
+    let mut load = Load::new(alloc, 7, u32::from(streams))?;
     let mut tally = Tally {
         entries: 0,
         size: 0,
         weight: 0,
     };
     for _ in 0..1000 {
-        let record = next_record(rt, alloc, &mut load);
-        if !record.is_empty() {
-            tally.add(record.as_slice());
-        }
+        add_next(alloc, &mut load, &mut tally)?;
     }
-    tally
+    Ok(tally)
 }
 
-/// The numbers come from `examples/count_load 7 1 3 20 40`, which knows nothing of this program.
+/// How many streams a load has, and its tally: that comes from `examples/count_load 7 1 3 20 40`,
+/// which knows nothing of this program.
+const TALLIES: &[(u16, Tally)] = &[
+    (
+        1,
+        Tally {
+            entries: 35,
+            size: 19_012,
+            weight: 61_019_174,
+        },
+    ),
+    (
+        3,
+        Tally {
+            entries: 81,
+            size: 56_294,
+            weight: 337_094_022,
+        },
+    ),
+    (
+        20,
+        Tally {
+            entries: 475,
+            size: 382_795,
+            weight: 11_711_932_534,
+        },
+    ),
+    (
+        40,
+        Tally {
+            entries: 953,
+            size: 789_532,
+            weight: 47_855_654_171,
+        },
+    ),
+];
+
 #[test]
 fn loads_of_a_seed(rt: HostRuntime) -> Result<(), Fail> {
-    for (streams, entries, size, weight) in [
-        (1, 35, 19_012, 61_019_174),
-        (3, 81, 56_294, 337_094_022),
-        (20, 475, 382_795, 11_711_932_534),
-        (40, 953, 789_532, 47_855_654_171),
-    ] {
-        let want = Tally {
-            entries,
-            size,
-            weight,
-        };
+    for &(streams, tally) in TALLIES {
         assert!(rt;
-            tally_of(&rt, rt.alloc(), streams) == want,
+            tally_of(rt.alloc(), streams)? == tally,
             "of {streams} streams"
         );
     }
