@@ -8,18 +8,23 @@ use adb_desk_log::{ALL_PARTS, ClientIn, ClientOut, DeskError, LinkIn, Marks};
 use adb_hall::Hall;
 use adb_hub::{Handed, Life, MAX_HELD, Room};
 use adb_one_desk::OneDesk;
-use adb_outside::{Cause, Kind};
+use adb_outside::{Cause, HandOut, Kind};
 use std::alloc::{AllocError, Global};
 use std::marker::Brand;
 use std::sync::ledger::{Blank, Ledger};
 use std::test::Fail;
 
 /// Whether these bytes were handed out.
-fn hands_out(answer: &Result<Handed, DeskError>, bytes: &[u8]) -> bool {
+pub fn hands_out(answer: &Result<Handed, DeskError>, bytes: &[u8]) -> bool {
     match answer {
-        Ok(Handed::Bytes(given)) => given.parts().rest == bytes,
+        Ok(Handed::Bytes(given)) => is_made_of(given, bytes),
         _ => false,
     }
+}
+
+fn is_made_of(given: &HandOut, bytes: &[u8]) -> bool {
+    let parts = given.parts();
+    given.len() == bytes.len() && bytes.starts_with(parts.start) && bytes.ends_with(parts.rest)
 }
 
 /// A client that asks for the version is answered.
@@ -44,24 +49,33 @@ fn counts_what_it_moved<E: Ledger, M: Ledger, K: Marks>(
     hall.entries() == Some(3) && hall.moved() == Some(28)
 }
 
+fn answers_and_counts<E: Ledger, M: Ledger, K: Marks>(
+    hall: &mut OneDesk<MemoryRecorder, E, M, K>,
+    mut reading: ClientIn<E, M, K>,
+    mut writing: ClientOut<E, M, K>,
+) -> bool {
+    let answered = asks_version(hall, &mut reading, &mut writing);
+    counts_what_it_moved(hall, reading, writing) && answered
+}
+
 /// What is more than may be held is refused for now, and no entry is made.
 fn holds_so_much<E: Ledger, M: Ledger, K: Marks>(
     hall: &mut OneDesk<MemoryRecorder, E, M, K>,
-    reading: &mut ClientIn<E, M, K>,
+    mut reading: ClientIn<E, M, K>,
     piece: &[u8],
 ) -> bool {
-    hall.read(reading, &piece[..piece.len().min(MAX_HELD + 1)]) == Err(DeskError::Later)
+    hall.read(&mut reading, &piece[..piece.len().min(MAX_HELD + 1)]) == Err(DeskError::Later)
         && hall.recorder().entries().len() == 1
-        && hall.room(reading) == Ok(Room::Bytes(MAX_HELD))
+        && hall.room(&mut reading) == Ok(Room::Bytes(MAX_HELD))
 }
 
 /// A recorder that fails shuts the hall: every later call has that answer.
 fn is_shut_by_its_recorder<E: Ledger, M: Ledger, K: Marks>(
     hall: &mut OneDesk<MemoryRecorder, E, M, K>,
-    reading: &mut ClientIn<E, M, K>,
+    mut reading: ClientIn<E, M, K>,
 ) -> bool {
-    hall.read(reading, b"x") == Err(DeskError::RecordFault)
-        && hall.end(reading, Cause::Eof) == Err(DeskError::RecordFault)
+    hall.read(&mut reading, b"x") == Err(DeskError::RecordFault)
+        && hall.end(&mut reading, Cause::Eof) == Err(DeskError::RecordFault)
         && hall.over() == Some(DeskError::RecordFault)
 }
 
@@ -101,39 +115,17 @@ fn frees_what_goes_up<E: Ledger, M: Ledger, K: Marks>(
         && hall.room(reading) == Ok(Room::Bytes(4_096))
 }
 
-/// Tries a case with the passes of the first client.
-fn holds_of_a_client<E: Ledger, M: Ledger, K: Marks>(
-    hall: &mut OneDesk<MemoryRecorder, E, M, K>,
-    case: Case,
-    piece: &[u8],
-) -> bool {
-    let Ok((reading, writing)) = hall.join() else {
-        return false;
-    };
-    let (mut reading, mut writing) = (reading, writing);
-    match case {
-        Case::Counts => {
-            let asked = asks_version(hall, &mut reading, &mut writing);
-            let counted = counts_what_it_moved(hall, reading, writing);
-            asked && counted
-        }
-        Case::Holds => holds_so_much(hall, &mut reading, piece),
-        Case::Shuts => is_shut_by_its_recorder(hall, &mut reading),
-        Case::Frees => frees_by_a_device(hall, &mut reading, piece),
-    }
-}
-
 /// Tries what a device's answer makes of what is held.
 fn frees_by_a_device<E: Ledger, M: Ledger, K: Marks>(
     hall: &mut OneDesk<MemoryRecorder, E, M, K>,
-    reading: &mut ClientIn<E, M, K>,
+    mut reading: ClientIn<E, M, K>,
     piece: &[u8],
 ) -> bool {
-    let Ok((link, _sender)) = hall.attach(Kind::Usb, b"emu1") else {
+    let Ok((mut link, _sender)) = hall.attach(Kind::Usb, b"emu1") else {
         return false;
     };
-    let mut link = link;
-    fills_a_stream(hall, &mut link, reading, piece) && frees_what_goes_up(hall, &mut link, reading)
+    fills_a_stream(hall, &mut link, &mut reading, piece)
+        && frees_what_goes_up(hall, &mut link, &mut reading)
 }
 
 /// What is tried.
@@ -143,6 +135,23 @@ enum Case {
     Holds,
     Frees,
     Shuts,
+}
+
+/// Tries a case with the passes of the first client.
+fn holds_of_a_client<E: Ledger, M: Ledger, K: Marks>(
+    hall: &mut OneDesk<MemoryRecorder, E, M, K>,
+    case: Case,
+    piece: &[u8],
+) -> bool {
+    let Ok((reading, writing)) = hall.join() else {
+        return false;
+    };
+    match case {
+        Case::Counts => answers_and_counts(hall, reading, writing),
+        Case::Holds => holds_so_much(hall, reading, piece),
+        Case::Frees => frees_by_a_device(hall, reading, piece),
+        Case::Shuts => is_shut_by_its_recorder(hall, reading),
+    }
 }
 
 /// Tries a case over a recorder that fails at the calls of these numbers.
@@ -179,12 +188,18 @@ fn holds(alloc: Global, failing: &[u64], case: Case) -> Result<bool, AllocError>
     )
 }
 
+/// The calls at which the recorder fails, and what is tried.
+const CASES: &[(&[u64], Case)] = &[
+    (&[], Case::Counts),
+    (&[], Case::Holds),
+    (&[], Case::Frees),
+    (&[2], Case::Shuts),
+];
+
 #[test]
 fn answers_keeps_and_counts(rt: HostRuntime) -> Result<(), Fail> {
-    let alloc = rt.alloc();
-    assert!(rt; holds(alloc, &[], Case::Counts)?);
-    assert!(rt; holds(alloc, &[], Case::Holds)?);
-    assert!(rt; holds(alloc, &[], Case::Frees)?);
-    assert!(rt; holds(alloc, &[2], Case::Shuts)?);
+    for (at, (failing, case)) in CASES.iter().enumerate() {
+        assert!(rt; holds(rt.alloc(), failing, *case)?, "case {at}");
+    }
     Ok(())
 }
