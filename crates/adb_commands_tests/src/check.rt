@@ -4,7 +4,6 @@ use adb_capture::{CaptureError, Entry};
 use adb_check::{Judge, Judgement, Rule, Verdict, judge_capture};
 use adb_outside::{MemorySource, Text};
 use std::alloc::{AllocError, Global};
-use std::process::Abort;
 use std::test::Fail;
 
 /// What a capture begins with.
@@ -141,28 +140,42 @@ fn capture_of(alloc: Global, records: &[&[u8]]) -> Result<Text, AllocError> {
     Ok(bytes)
 }
 
+fn source_of(alloc: Global, case: &Case) -> Result<MemorySource, AllocError> {
+    let failing = Vec::from_slice(alloc, case.reads)?;
+    let capture = capture_of(alloc, case.capture)?;
+    Ok(MemorySource::new(capture, 5, failing))
+}
+
+fn is_judged(alloc: Global, case: &Case) -> Result<bool, AllocError> {
+    let mut source = source_of(alloc, case)?;
+    Ok(judge_capture(alloc, &mut source) == case.comes_to)
+}
+
 #[test]
 fn captures_come_to_what_they_should(rt: HostRuntime) -> Result<(), Fail> {
-    let alloc = rt.alloc();
-    for case in CASES {
-        let bytes = capture_of(alloc, case.capture)?;
-        let mut source = MemorySource::new(bytes, 5, Vec::from_slice(alloc, case.reads)?);
-        assert_eq!(rt; judge_capture(alloc, &mut source), case.comes_to);
+    for (at, case) in CASES.iter().enumerate() {
+        assert!(rt; is_judged(rt.alloc(), case)?, "case {at}");
     }
     Ok(())
 }
 
-/// What was illegal stays so.
+/// Clients that join, and what is said of each: what was illegal stays so.
+const JOINS: &[(u32, Verdict)] = &[
+    (1, Verdict::Legal),
+    (3, Verdict::Illegal(Rule::NotDrawn)),
+    (2, Verdict::Illegal(Rule::NotDrawn)),
+];
+
+fn says(judge: &mut Judge, client: u32, verdict: Verdict) -> Result<bool, AllocError> {
+    let join = Entry::Join { client };
+    Ok(judge.next(&join)? == verdict)
+}
+
 #[test]
 fn says_the_same_from_then_on(rt: HostRuntime) -> Result<(), Fail> {
     let mut judge = Judge::new(rt.alloc());
-    let first = Entry::Join { client: 1 };
-    let third = Entry::Join { client: 3 };
-    assert_eq!(rt; judge.next(&first)?, Verdict::Legal);
-    assert_eq!(rt; judge.next(&third)?, Verdict::Illegal(Rule::NotDrawn));
-    assert_eq!(rt;
-        judge.next(&Entry::Join { client: 2 })?,
-        Verdict::Illegal(Rule::NotDrawn)
-    );
+    for &(client, verdict) in JOINS {
+        assert!(rt; says(&mut judge, client, verdict)?, "of {client}");
+    }
     Ok(())
 }

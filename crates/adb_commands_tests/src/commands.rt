@@ -1,7 +1,9 @@
-use adb_commands::*;
+//! Runs over captures, with wrong words and with streams that fail.
+
+use crate::words::words_of;
+use adb_commands::{Status, run_alone};
 use adb_outside::{MemorySink, MemorySource, Text};
 use std::alloc::{AllocError, Global};
-use std::process::Abort;
 use std::test::Fail;
 
 /// What a capture begins with.
@@ -81,7 +83,6 @@ const ANSWERED: &[&[u8]] = &[MAGIC, JOIN, ASK, ANSWER];
 
 /// A run over a capture and so many clients more that join, at which calls its source, its sink and
 /// its note fail, and how it ends: how many bytes of the history go out, to which the joins belong.
-#[derive(Drop)]
 struct Case {
     words: &'static [&'static str],
     capture: &'static [&'static [u8]],
@@ -353,48 +354,96 @@ const CASES: &[Case] = &[
     },
 ];
 
-fn words_of(alloc: Global, words: &[&str]) -> Result<Vec<String>, AllocError> {
-    let mut owned = Vec::new(alloc);
-    for word in words {
-        owned.push(String::from_str(alloc, word)?)?;
-    }
-    Ok(owned)
-}
-
 /// Some records, and behind them those of so many clients that join from the second on.
 fn with_joins(alloc: Global, records: &[&[u8]], joins: u32) -> Result<Text, AllocError> {
     let mut bytes = Text::new(alloc);
+    push_records(&mut bytes, records)?;
+    push_joins(&mut bytes, joins)?;
+    Ok(bytes)
+}
+
+fn push_records(bytes: &mut Text, records: &[&[u8]]) -> Result<(), AllocError> {
     for record in records {
         bytes.push_slice(record)?;
     }
+    Ok(())
+}
+
+fn push_joins(bytes: &mut Text, joins: u32) -> Result<(), AllocError> {
     for client in 2..2 + u64::from(joins) {
         // Its kind, then its number and the length 0 of its data in four bytes each.
         bytes.push_slice(b"J")?;
         bytes.push_slice(&client.to_le_bytes())?;
     }
-    Ok(bytes)
+    Ok(())
 }
 
-/// The run of a case ends as it says.
-fn ends(rt: &impl Abort, alloc: Global, case: &Case) -> Result<(), Fail> {
+/// What a run reads, and what it writes.
+#[derive(Drop)]
+struct Streams {
+    source: MemorySource,
+    sink: MemorySink,
+    note: MemorySink,
+}
+
+impl Streams {
+    fn new(alloc: Global, case: &Case) -> Result<Streams, AllocError> {
+        let source = source_of(alloc, case)?;
+        let sink = failing_sink(alloc, case.writes)?;
+        Ok(Streams {
+            source,
+            sink,
+            note: failing_sink(alloc, case.notes)?,
+        })
+    }
+
+    fn run(&mut self, alloc: Global, words: &[String]) -> Status {
+        run_alone(
+            alloc,
+            words,
+            &mut self.source,
+            &mut self.sink,
+            &mut self.note,
+        )
+    }
+
+    fn hold(&self, history: &[u8], case: &Case) -> bool {
+        history.get(..case.written) == Some(self.sink.bytes()) && self.note.bytes() == case.note
+    }
+}
+
+fn source_of(alloc: Global, case: &Case) -> Result<MemorySource, AllocError> {
+    let failing = Vec::from_slice(alloc, case.reads)?;
+    let capture = with_joins(alloc, case.capture, case.joins)?;
+    Ok(MemorySource::new(capture, 5, failing))
+}
+
+fn failing_sink(alloc: Global, failing: &[u64]) -> Result<MemorySink, AllocError> {
+    Ok(MemorySink::new(alloc, Vec::from_slice(alloc, failing)?))
+}
+
+/// Runs a case. Whether its status is as it says.
+fn ends(alloc: Global, streams: &mut Streams, case: &Case) -> Result<bool, AllocError> {
     let words = words_of(alloc, case.words)?;
-    let bytes = with_joins(alloc, case.capture, case.joins)?;
+    let status = streams.run(alloc, words.as_slice());
+    Ok(status == case.status && status.code() == case.code)
+}
+
+/// Whether what was written is as a case says.
+fn writes(alloc: Global, streams: &Streams, case: &Case) -> Result<bool, AllocError> {
     let history = with_joins(alloc, case.history, case.joins)?;
-    let mut source = MemorySource::new(bytes, 5, Vec::from_slice(alloc, case.reads)?);
-    let mut sink = MemorySink::new(alloc, Vec::from_slice(alloc, case.writes)?);
-    let mut note = MemorySink::new(alloc, Vec::from_slice(alloc, case.notes)?);
-    let status = run_alone(alloc, words.as_slice(), &mut source, &mut sink, &mut note);
-    assert_eq!(rt; status, case.status);
-    assert_eq!(rt; status.code(), case.code);
-    assert_eq!(rt; Some(sink.bytes()), history.as_slice().get(..case.written));
-    assert_eq!(rt; note.bytes(), case.note);
-    Ok(())
+    Ok(streams.hold(history.as_slice(), case))
+}
+
+fn runs(alloc: Global, case: &Case) -> Result<bool, AllocError> {
+    let mut streams = Streams::new(alloc, case)?;
+    Ok(ends(alloc, &mut streams, case)? && writes(alloc, &streams, case)?)
 }
 
 #[test]
 fn replays_wrong_words_and_failing_streams(rt: HostRuntime) -> Result<(), Fail> {
-    for case in CASES {
-        ends(&rt, rt.alloc(), case)?;
+    for (at, case) in CASES.iter().enumerate() {
+        assert!(rt; runs(rt.alloc(), case)?, "case {at}, {:?}", case.words);
     }
     Ok(())
 }

@@ -8,9 +8,14 @@ use std::test::Fail;
 pub fn words_of(alloc: Global, words: &[&str]) -> Result<Vec<String>, AllocError> {
     let mut owned = Vec::new(alloc);
     for word in words {
-        owned.push(String::from_str(alloc, word)?)?;
+        push_word(alloc, &mut owned, word)?;
     }
     Ok(owned)
+}
+
+fn push_word(alloc: Global, owned: &mut Vec<String>, word: &str) -> Result<(), AllocError> {
+    owned.push(String::from_str(alloc, word)?)?;
+    Ok(())
 }
 
 const RIGHT: &[(&[&str], Command)] = &[
@@ -109,22 +114,28 @@ const WRONG: &[&[&str]] = &[
     &["serve"],
 ];
 
+fn are_read(
+    alloc: Global,
+    words: &[&str],
+    read: Result<Command, WordsError>,
+) -> Result<bool, AllocError> {
+    let owned = words_of(alloc, words)?;
+    Ok(read_words(alloc, owned.as_slice()) == read)
+}
+
 #[test]
-fn right_and_wrong_words(rt: HostRuntime) -> Result<(), Fail> {
-    let alloc = rt.alloc();
+fn right_words(rt: HostRuntime) -> Result<(), Fail> {
     for (words, command) in RIGHT {
-        let owned = words_of(alloc, words)?;
-        assert_eq!(rt;
-            read_words(alloc, owned.as_slice()),
-            Ok(*command),
-            "{words:?}"
-        );
+        assert!(rt; are_read(rt.alloc(), words, Ok(*command))?, "{words:?}");
     }
+    Ok(())
+}
+
+#[test]
+fn wrong_words(rt: HostRuntime) -> Result<(), Fail> {
     for words in WRONG {
-        let owned = words_of(alloc, words)?;
-        assert_eq!(rt;
-            read_words(alloc, owned.as_slice()),
-            Err(WordsError::Usage),
+        assert!(rt;
+            are_read(rt.alloc(), words, Err(WordsError::Usage))?,
             "{words:?}"
         );
     }

@@ -122,12 +122,13 @@ const NO_SERVES: &[&[&str]] = &[
     ],
 ];
 
-fn are_texts(texts: &[Text], expected: &[&str]) -> bool {
-    texts.len() == expected.len()
-        && texts
-            .iter()
-            .zip(expected.iter())
-            .all(|(text, word)| text.as_slice() == word.as_bytes())
+fn are_texts(texts: &[Text], words: &[&str]) -> bool {
+    for (text, word) in texts.iter().zip(words) {
+        if text.as_slice() != word.as_bytes() {
+            return false;
+        }
+    }
+    texts.len() == words.len()
 }
 
 fn is_served(serve: &Serve, row: &Served) -> bool {
@@ -147,17 +148,24 @@ fn serves(alloc: Global, row: &Served) -> Result<bool, AllocError> {
 
 fn is_no_serve(alloc: Global, words: &[&str]) -> Result<bool, AllocError> {
     let words = words_of(alloc, words)?;
-    Ok(matches!(read_serve(alloc, words.as_slice()), Err(WordsError::Usage)))
+    Ok(match read_serve(alloc, words.as_slice()) {
+        Ok(_) => false,
+        Err(error) => error == WordsError::Usage,
+    })
 }
 
 #[test]
 fn words_of_a_server(rt: HostRuntime) -> Result<(), Fail> {
-    let alloc = rt.alloc();
     for row in SERVES {
-        assert!(rt; serves(alloc, row)?, "{:?}", row.words);
+        assert!(rt; serves(rt.alloc(), row)?, "{:?}", row.words);
     }
+    Ok(())
+}
+
+#[test]
+fn words_of_no_server(rt: HostRuntime) -> Result<(), Fail> {
     for words in NO_SERVES {
-        assert!(rt; is_no_serve(alloc, words)?, "{words:?}");
+        assert!(rt; is_no_serve(rt.alloc(), words)?, "{words:?}");
     }
     Ok(())
 }

@@ -6,52 +6,35 @@ use adb_words::{Tool, WordsError, read_tool};
 use std::alloc::{AllocError, Global};
 use std::test::Fail;
 
-/// A row of words of a tool, and what they are: the port, a path, a command or the text of a state,
-/// a serial, and a time.
-struct Called {
-    words: &'static [&'static str],
-    port: u16,
-    text: &'static str,
-    serial: Option<&'static str>,
-    mtime: u32,
-}
+/// What a call says: its tool; a path, a command or a state; a serial; and a time.
+type Said<'a> = (&'a str, &'a [u8], &'a [u8], u32);
 
-const CALLS: &[Called] = &[
-    Called {
-        words: &["devices", "--port=1"],
-        port: 1,
-        text: "",
-        serial: None,
-        mtime: 0,
-    },
-    Called {
-        words: &["push", "--mtime", "4294967295", "/a", "--serial=x"],
-        port: 5037,
-        text: "/a",
-        serial: Some("x"),
-        mtime: 4_294_967_295,
-    },
-    Called {
-        words: &["pull", "/a", "--serial", "x"],
-        port: 5037,
-        text: "/a",
-        serial: Some("x"),
-        mtime: 0,
-    },
-    Called {
-        words: &["shell", "--port", "65535", "echo -n hi"],
-        port: 65_535,
-        text: "echo -n hi",
-        serial: None,
-        mtime: 0,
-    },
-    Called {
-        words: &["wait", "x", "--port=7", "unauthorized"],
-        port: 7,
-        text: "unauthorized",
-        serial: Some("x"),
-        mtime: 0,
-    },
+/// Stands for no serial: none has a space.
+const NO_SERIAL: &[u8] = b"no serial";
+
+/// Words, and what they call at which port.
+const CALLS: &[(&[&str], u16, Said<'static>)] = &[
+    (&["devices", "--port=1"], 1, ("devices", b"", NO_SERIAL, 0)),
+    (
+        &["push", "--mtime", "4294967295", "/a", "--serial=x"],
+        5037,
+        ("push", b"/a", b"x", 4_294_967_295),
+    ),
+    (
+        &["pull", "/a", "--serial", "x"],
+        5037,
+        ("pull", b"/a", b"x", 0),
+    ),
+    (
+        &["shell", "--port", "65535", "echo -n hi"],
+        65_535,
+        ("shell", b"echo -n hi", NO_SERIAL, 0),
+    ),
+    (
+        &["wait", "x", "--port=7", "unauthorized"],
+        7,
+        ("wait", b"unauthorized", b"x", 0),
+    ),
 ];
 
 const NO_CALLS: &[&[&str]] = &[
@@ -77,64 +60,55 @@ const NO_CALLS: &[&[&str]] = &[
     &["wait", "x", "device", "y"],
 ];
 
-fn is_text(text: &Text, word: &str) -> bool {
-    text.as_slice() == word.as_bytes()
-}
-
-fn is_wanted(serial: &Option<Text>, word: Option<&str>) -> bool {
-    match (serial, word) {
-        (Some(serial), Some(word)) => is_text(serial, word),
-        (None, None) => true,
-        _ => false,
-    }
-}
-
-fn is_tool(tool: &Tool, row: &Called) -> bool {
-    let Some(name) = row.words.first() else {
-        return false;
-    };
+fn said(tool: &Tool) -> Said<'_> {
     match tool {
-        Tool::Devices => *name == "devices",
+        Tool::Devices => ("devices", b"", NO_SERIAL, 0),
         Tool::Push {
             path,
             mtime,
             serial,
-        } => *name == "push"
-            && is_text(path, row.text)
-            && is_wanted(serial, row.serial)
-            && *mtime == row.mtime,
-        Tool::Pull { path, serial } => *name == "pull"
-            && is_text(path, row.text)
-            && is_wanted(serial, row.serial),
-        Tool::Shell { command, serial } => *name == "shell"
-            && is_text(command, row.text)
-            && is_wanted(serial, row.serial),
-        Tool::Wait { serial, state } => is_text(serial, row.serial.unwrap_or(""))
-            && state_text(*state) == row.text.as_bytes(),
+        } => ("push", path.as_slice(), serial_of(serial), *mtime),
+        Tool::Pull { path, serial } => ("pull", path.as_slice(), serial_of(serial), 0),
+        Tool::Shell { command, serial } => ("shell", command.as_slice(), serial_of(serial), 0),
+        Tool::Wait { serial, state } => ("wait", state_text(*state), serial.as_slice(), 0),
     }
 }
 
-fn calls(alloc: Global, row: &Called) -> Result<bool, AllocError> {
-    let words = words_of(alloc, row.words)?;
+fn serial_of(serial: &Option<Text>) -> &[u8] {
+    match serial {
+        Some(serial) => serial.as_slice(),
+        None => NO_SERIAL,
+    }
+}
+
+fn calls(alloc: Global, words: &[&str], port: u16, says: Said<'_>) -> Result<bool, AllocError> {
+    let words = words_of(alloc, words)?;
     Ok(match read_tool(alloc, words.as_slice()) {
-        Ok(call) => call.port == row.port && is_tool(&call.tool, row),
+        Ok(call) => call.port == port && said(&call.tool) == says,
         Err(_) => false,
     })
 }
 
 fn is_no_call(alloc: Global, words: &[&str]) -> Result<bool, AllocError> {
     let words = words_of(alloc, words)?;
-    Ok(matches!(read_tool(alloc, words.as_slice()), Err(WordsError::Usage)))
+    Ok(match read_tool(alloc, words.as_slice()) {
+        Ok(_) => false,
+        Err(error) => error == WordsError::Usage,
+    })
 }
 
 #[test]
 fn words_of_a_tool(rt: HostRuntime) -> Result<(), Fail> {
-    let alloc = rt.alloc();
-    for row in CALLS {
-        assert!(rt; calls(alloc, row)?, "{:?}", row.words);
+    for &(words, port, says) in CALLS {
+        assert!(rt; calls(rt.alloc(), words, port, says)?, "{words:?}");
     }
+    Ok(())
+}
+
+#[test]
+fn words_of_no_tool(rt: HostRuntime) -> Result<(), Fail> {
     for words in NO_CALLS {
-        assert!(rt; is_no_call(alloc, words)?, "{words:?}");
+        assert!(rt; is_no_call(rt.alloc(), words)?, "{words:?}");
     }
     Ok(())
 }
