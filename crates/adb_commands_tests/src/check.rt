@@ -1,59 +1,39 @@
 //! Judged captures.
 
+use crate::records::push_records;
 use adb_capture::{CaptureError, Entry};
 use adb_check::{Judge, Judgement, Rule, Verdict, judge_capture};
 use adb_outside::{MemorySource, Text};
 use std::alloc::{AllocError, Global};
 use std::test::Fail;
 
-/// What a capture begins with.
-const MAGIC: &[u8] = b"ADBHUB1\n";
-
-/// The first client joins.
-const JOIN: &[u8] = b"J\x01\0\0\0\0\0\0\0";
-
-/// It asks for the version.
-const ASK: &[u8] = b"R\x01\0\0\0\x10\0\0\0000Chost:version";
-
-/// It is answered.
-const ANSWER: &[u8] = b"P\x01\0\0\0\x0c\0\0\0OKAY00040029";
-
-/// It asks for the end.
-const KILL: &[u8] = b"R\x01\0\0\0\x0d\0\0\00009host:kill";
-
-/// A capture, at which calls its source fails, and what its history comes to.
+/// A capture, at which call its source fails (none is 0), and what its history comes to.
 struct Case {
-    capture: &'static [&'static [u8]],
-    reads: &'static [u64],
+    capture: &'static str,
+    reads: u64,
     comes_to: Result<Judgement, CaptureError>,
 }
 
 const CASES: &[Case] = &[
     Case {
-        capture: &[MAGIC],
-        reads: &[],
+        capture: "magic",
+        reads: 0,
         comes_to: Ok(Judgement::Legal { entries: 0 }),
     },
     Case {
-        capture: &[MAGIC, JOIN, ASK, ANSWER],
-        reads: &[],
+        capture: "magic join ask answer",
+        reads: 0,
         comes_to: Ok(Judgement::Legal { entries: 3 }),
     },
     // In two pieces.
     Case {
-        capture: &[
-            MAGIC,
-            JOIN,
-            ASK,
-            b"P\x01\0\0\0\x04\0\0\0OKAY",
-            b"P\x01\0\0\0\x08\0\0\000040029",
-        ],
-        reads: &[],
+        capture: "magic join ask okay second_piece",
+        reads: 0,
         comes_to: Ok(Judgement::Legal { entries: 4 }),
     },
     Case {
-        capture: &[MAGIC, JOIN, ASK, b"P\x01\0\0\0\x0c\0\0\0OKAY00040028"],
-        reads: &[],
+        capture: "magic join ask wrong_answer",
+        reads: 0,
         comes_to: Ok(Judgement::Illegal {
             place: 3,
             rule: Rule::NotDue,
@@ -61,24 +41,24 @@ const CASES: &[Case] = &[
     },
     // A byte more than is due.
     Case {
-        capture: &[MAGIC, JOIN, ASK, b"P\x01\0\0\0\x0d\0\0\0OKAY000400290"],
-        reads: &[],
+        capture: "magic join ask long_answer",
+        reads: 0,
         comes_to: Ok(Judgement::Illegal {
             place: 3,
             rule: Rule::NotDue,
         }),
     },
     Case {
-        capture: &[MAGIC, JOIN, ASK, b"P\x01\0\0\0\0\0\0\0"],
-        reads: &[],
+        capture: "magic join ask empty_answer",
+        reads: 0,
         comes_to: Ok(Judgement::Illegal {
             place: 3,
             rule: Rule::NotDue,
         }),
     },
     Case {
-        capture: &[MAGIC, JOIN, JOIN],
-        reads: &[],
+        capture: "magic join join",
+        reads: 0,
         comes_to: Ok(Judgement::Illegal {
             place: 2,
             rule: Rule::NotDrawn,
@@ -86,8 +66,8 @@ const CASES: &[Case] = &[
     },
     // An empty Put to who never came.
     Case {
-        capture: &[MAGIC, b"P\x01\0\0\0\0\0\0\0"],
-        reads: &[],
+        capture: "magic empty_answer",
+        reads: 0,
         comes_to: Ok(Judgement::Illegal {
             place: 1,
             rule: Rule::NotDrawn,
@@ -95,53 +75,51 @@ const CASES: &[Case] = &[
     },
     // What follows the first bad entry is not looked at.
     Case {
-        capture: &[MAGIC, b"A\x01\0\0\0\x02\0\0\0u ", MAGIC],
-        reads: &[],
+        capture: "magic bad_serial magic",
+        reads: 0,
         comes_to: Ok(Judgement::Illegal {
             place: 1,
             rule: Rule::BadSerial,
         }),
     },
     Case {
-        capture: &[MAGIC, JOIN, KILL, b"P\x01\0\0\0\x04\0\0\0OKAY"],
-        reads: &[],
+        capture: "magic join kill okay",
+        reads: 0,
         comes_to: Ok(Judgement::Legal { entries: 3 }),
     },
     Case {
-        capture: &[MAGIC, JOIN, KILL, JOIN],
-        reads: &[],
+        capture: "magic join kill join",
+        reads: 0,
         comes_to: Ok(Judgement::Illegal {
             place: 3,
             rule: Rule::AfterKill,
         }),
     },
     Case {
-        capture: &[MAGIC, JOIN, KILL, MAGIC],
-        reads: &[],
+        capture: "magic join kill magic",
+        reads: 0,
         comes_to: Err(CaptureError::Truncated { offset: 39 }),
     },
     Case {
-        capture: &[JOIN],
-        reads: &[],
+        capture: "join",
+        reads: 0,
         comes_to: Err(CaptureError::BadMagic),
     },
     Case {
-        capture: &[MAGIC, JOIN],
-        reads: &[3],
+        capture: "magic join",
+        reads: 3,
         comes_to: Err(CaptureError::ReadFault),
     },
 ];
 
-fn capture_of(alloc: Global, records: &[&[u8]]) -> Result<Text, AllocError> {
+fn capture_of(alloc: Global, records: &str) -> Result<Text, AllocError> {
     let mut bytes = Text::new(alloc);
-    for record in records {
-        bytes.push_slice(record)?;
-    }
+    push_records(&mut bytes, records)?;
     Ok(bytes)
 }
 
 fn source_of(alloc: Global, case: &Case) -> Result<MemorySource, AllocError> {
-    let failing = Vec::from_slice(alloc, case.reads)?;
+    let failing = vec![in alloc; case.reads; 1]?;
     let capture = capture_of(alloc, case.capture)?;
     Ok(MemorySource::new(capture, 5, failing))
 }

@@ -6,6 +6,8 @@ mod check;
 #[cfg(test)]
 mod commands;
 #[cfg(test)]
+mod records;
+#[cfg(test)]
 mod words;
 #[cfg(test)]
 mod words_of_serve;

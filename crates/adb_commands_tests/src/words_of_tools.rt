@@ -12,53 +12,48 @@ type Said<'a> = (&'a str, &'a [u8], &'a [u8], u32);
 /// Stands for no serial: none has a space.
 const NO_SERIAL: &[u8] = b"no serial";
 
-/// Words, and what they call at which port.
-const CALLS: &[(&[&str], u16, Said<'static>)] = &[
-    (&["devices", "--port=1"], 1, ("devices", b"", NO_SERIAL, 0)),
+/// Words in a line, and what they call at which port.
+const CALLS: &[(&str, u16, Said<'static>)] = &[
+    ("|devices|--port=1", 1, ("devices", b"", NO_SERIAL, 0)),
     (
-        &["push", "--mtime", "4294967295", "/a", "--serial=x"],
+        "|push|--mtime|4294967295|/a|--serial=x",
         5037,
         ("push", b"/a", b"x", 4_294_967_295),
     ),
+    ("|pull|/a|--serial|x", 5037, ("pull", b"/a", b"x", 0)),
     (
-        &["pull", "/a", "--serial", "x"],
-        5037,
-        ("pull", b"/a", b"x", 0),
-    ),
-    (
-        &["shell", "--port", "65535", "echo -n hi"],
+        "|shell|--port|65535|echo -n hi",
         65_535,
         ("shell", b"echo -n hi", NO_SERIAL, 0),
     ),
     (
-        &["wait", "x", "--port=7", "unauthorized"],
+        "|wait|x|--port=7|unauthorized",
         7,
         ("wait", b"unauthorized", b"x", 0),
     ),
 ];
 
-const NO_CALLS: &[&[&str]] = &[
-    &[],
-    &["serve"],
-    &["devices", "x"],
-    &["devices", "--port=0"],
-    &["devices", "--serial=x"],
-    &["devices", "--help"],
-    &["push"],
-    &["push", ""],
-    &["push", "/a", "/b"],
-    &["push", "/a", "--mtime=4294967296"],
-    &["push", "/a", "--serial=x", "--serial=x"],
-    &["push", "--", "/a"],
-    &["pull", "/a", "--mtime=1"],
-    &["pull", "/a", "--serial="],
-    &["shell", "-x"],
-    &["shell", "a", "--port"],
-    &["wait", "x"],
-    &["wait", "x", "Device"],
-    &["wait", "x y", "device"],
-    &["wait", "x", "device", "y"],
-];
+/// A line each.
+const NO_CALLS: &str = "
+|serve
+|devices|x
+|devices|--port=0
+|devices|--serial=x
+|devices|--help
+|push
+|push|
+|push|/a|/b
+|push|/a|--mtime=4294967296
+|push|/a|--serial=x|--serial=x
+|push|--|/a
+|pull|/a|--mtime=1
+|pull|/a|--serial=
+|shell|-x
+|shell|a|--port
+|wait|x
+|wait|x|Device
+|wait|x y|device
+|wait|x|device|y";
 
 fn said(tool: &Tool) -> Said<'_> {
     match tool {
@@ -81,16 +76,16 @@ fn serial_of(serial: &Option<Text>) -> &[u8] {
     }
 }
 
-fn calls(alloc: Global, words: &[&str], port: u16, says: Said<'_>) -> Result<bool, AllocError> {
-    let words = words_of(alloc, words)?;
+fn calls(alloc: Global, line: &str, port: u16, says: Said<'_>) -> Result<bool, AllocError> {
+    let words = words_of(alloc, line)?;
     Ok(match read_tool(alloc, words.as_slice()) {
         Ok(call) => call.port == port && said(&call.tool) == says,
         Err(_) => false,
     })
 }
 
-fn is_no_call(alloc: Global, words: &[&str]) -> Result<bool, AllocError> {
-    let words = words_of(alloc, words)?;
+fn is_no_call(alloc: Global, line: &str) -> Result<bool, AllocError> {
+    let words = words_of(alloc, line)?;
     Ok(match read_tool(alloc, words.as_slice()) {
         Ok(_) => false,
         Err(error) => error == WordsError::Usage,
@@ -99,16 +94,16 @@ fn is_no_call(alloc: Global, words: &[&str]) -> Result<bool, AllocError> {
 
 #[test]
 fn words_of_a_tool(rt: HostRuntime) -> Result<(), Fail> {
-    for &(words, port, says) in CALLS {
-        assert!(rt; calls(rt.alloc(), words, port, says)?, "{words:?}");
+    for &(line, port, says) in CALLS {
+        assert!(rt; calls(rt.alloc(), line, port, says)?, "{line}");
     }
     Ok(())
 }
 
 #[test]
 fn words_of_no_tool(rt: HostRuntime) -> Result<(), Fail> {
-    for words in NO_CALLS {
-        assert!(rt; is_no_call(rt.alloc(), words)?, "{words:?}");
+    for line in NO_CALLS.split('\n') {
+        assert!(rt; is_no_call(rt.alloc(), line)?, "{line}");
     }
     Ok(())
 }
