@@ -2,6 +2,10 @@
 #![tactic(auto)]
 
 #[cfg(test)]
+mod ends;
+#[cfg(test)]
 mod serves;
 #[cfg(test)]
 mod tools;
+#[cfg(test)]
+mod wants;

@@ -1,11 +1,9 @@
 //! Words of a server, run over a fake yard.
 
-use adb_connections::MemoryDeviceIn;
-use adb_device_reader::Device;
-use adb_fakes::{FakeYard, Kept, SharedOut};
+use crate::ends::{Ends, words_of};
+use adb_fakes::{FakeYard, Kept};
 use adb_outside::{MemorySink, MemorySource, Text};
-use adb_top::{Status, run, wanted};
-use adb_words::WordsError;
+use adb_top::Status;
 use std::alloc::{AllocError, Global};
 use std::sync::Wait;
 use std::test::Fail;
@@ -13,9 +11,6 @@ use std::thread::Threads;
 
 const USAGE: &[u8] =
     b"usage: adbhub replay | gen <seed> <streams> | local <seed> | serve [--port <n>] [--device <serial>] [--connect <port>] [--record] | check | devices | push <path> | pull <path> | shell <command> | wait <serial> <state> | copy <seed>\n";
-
-/// A device of bytes in memory, of which none is plugged in here.
-pub(crate) type FakeDevice<W> = Device<MemoryDeviceIn, SharedOut<W>>;
 
 /// A server at whose door one client asks for the end, and what goes wrong.
 struct Row {
@@ -94,72 +89,63 @@ const ROWS: &[Row] = &[
     },
 ];
 
-pub(crate) fn words_of(alloc: Global, words: &[&str]) -> Result<Vec<String>, AllocError> {
-    let mut owned = Vec::new(alloc);
-    for word in words {
-        owned.push(String::from_str(alloc, word)?)?;
+impl Row {
+    /// The yard, at whose door nobody comes yet.
+    fn yard<W: Threads + Wait + Copy + Send + Sync + Drop + 'static>(
+        &self,
+        rt: W,
+        alloc: Global,
+    ) -> Result<FakeYard<W>, AllocError> {
+        let keeps = Vec::from_slice(alloc, self.keeps)?;
+        let mut yard = FakeYard::new(rt, alloc, Kept::new(rt, alloc, keeps)?)?;
+        if self.deaf {
+            yard.be_deaf();
+        }
+        Ok(yard)
     }
-    Ok(owned)
-}
 
-/// Whether the run of a row ends as it says. Nothing is written to its sink.
-fn ends<W: Threads + Wait + Copy + Send + Sync + Drop + 'static>(
-    rt: W,
-    alloc: Global,
-    row: &Row,
-) -> Result<bool, AllocError> {
-    let kept = Kept::new(rt, alloc, Vec::from_slice(alloc, row.keeps)?)?;
-    let mut yard = FakeYard::new(rt, alloc, kept)?;
-    if row.deaf {
-        yard.be_deaf();
+    /// Nothing comes in, and the writes of the note fail that should.
+    fn ends(&self, alloc: Global) -> Result<Ends, AllocError> {
+        let source = MemorySource::new(Text::new(alloc), 1, Vec::new(alloc));
+        let failing = Vec::from_slice(alloc, self.notes)?;
+        Ok(Ends::new(alloc, source, MemorySink::new(alloc, failing)))
     }
-    let sent = yard.call(b"0009host:kill", Vec::new(alloc), Vec::new(alloc))?;
-    let words = words_of(alloc, row.words)?;
-    let mut source = MemorySource::new(Text::new(alloc), 1, Vec::new(alloc));
-    let mut sink = MemorySink::new(alloc, Vec::new(alloc));
-    let mut note = MemorySink::new(alloc, Vec::from_slice(alloc, row.notes)?);
-    let status = run(
-        rt,
-        alloc,
-        words.as_slice(),
-        &mut source,
-        &mut sink,
-        &mut note,
-        yard,
-        Vec::<FakeDevice<W>>::new(alloc),
-    );
-    let is_answered = sent.holds(b"OKAY") == (row.status == Status::Done);
-    let is_told = note.bytes() == row.note && sink.bytes().is_empty();
-    Ok(status == row.status && is_answered && is_told)
+
+    /// Whether its run over the yard ends as it says. Nothing goes out.
+    fn runs<W: Threads + Wait + Copy + Send + Sync + Drop + 'static>(
+        &self,
+        rt: W,
+        alloc: Global,
+        yard: FakeYard<W>,
+    ) -> Result<bool, AllocError> {
+        let words = words_of(alloc, self.words)?;
+        let mut ends = self.ends(alloc)?;
+        let status = ends.run(rt, alloc, words.as_slice(), yard);
+        Ok(status == self.status && ends.are(b"", self.note))
+    }
+
+    /// Whether its run ends so, and the client is answered where the server is done.
+    fn stands<W: Threads + Wait + Copy + Send + Sync + Drop + 'static>(
+        &self,
+        rt: W,
+        alloc: Global,
+    ) -> Result<bool, AllocError> {
+        let mut yard = self.yard(rt, alloc)?;
+        let sent = yard.call(b"0009host:kill", Vec::new(alloc), Vec::new(alloc))?;
+        let ended = self.runs(rt, alloc, yard)?;
+        Ok(ended && sent.holds(b"OKAY") == (self.status == Status::Done))
+    }
 }
 
 #[test]
 fn servers_end(rt: HostRuntime) -> Result<(), Fail> {
     for row in ROWS {
         assert!(rt;
-            ends(rt, rt.alloc(), row)?,
+            row.stands(rt, rt.alloc())?,
             "{:?} {:?}",
             row.words,
             row.status
         );
     }
-    Ok(())
-}
-
-#[test]
-fn devices_are_wanted(rt: HostRuntime) -> Result<(), Fail> {
-    let alloc = rt.alloc();
-    let words = words_of(alloc, &["serve", "--connect=9", "--device=a", "--device=b"])?;
-    let ports = wanted(alloc, words.as_slice())?;
-    assert_eq!(rt; ports.connects.as_slice(), [9u16].as_slice());
-    let serials: [&[u8]; 2] = [b"a", b"b"];
-    assert_eq!(rt; ports.devices.len(), serials.len());
-    for (serial, expected) in ports.devices.iter().zip(serials.iter()) {
-        assert_eq!(rt; serial.as_slice(), *expected);
-    }
-    let words = words_of(alloc, &["check"])?;
-    assert!(rt; wanted(alloc, words.as_slice())?.devices.is_empty());
-    let words = words_of(alloc, &["serve", "x"])?;
-    assert!(rt; matches!(wanted(alloc, words.as_slice()), Err(WordsError::Usage)));
     Ok(())
 }

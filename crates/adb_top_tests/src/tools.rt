@@ -1,9 +1,9 @@
 //! Words of client tools, run over a fake yard: what a server is asked, and what is told of its answer.
 
-use crate::serves::{FakeDevice, words_of};
+use crate::ends::{Ends, words_of};
 use adb_fakes::{FakeYard, Kept};
 use adb_outside::{MemorySink, MemorySource, Text};
-use adb_top::{Status, run};
+use adb_top::Status;
 use std::alloc::{AllocError, Global};
 use std::sync::Wait;
 use std::test::Fail;
@@ -133,46 +133,54 @@ const ROWS: &[Row] = &[
     },
 ];
 
-/// The source of a row.
-fn source_of(alloc: Global, row: &Row) -> Result<MemorySource, AllocError> {
-    let mut bytes = Vec::new(alloc);
-    bytes.resize(row.given, b'a')?;
-    let failing = Vec::from_slice(alloc, &[row.failing])?;
-    Ok(MemorySource::new(Text::from_vec(bytes), 65_536, failing))
-}
-
-/// Whether the run of a row ends as it says.
-fn ends<W: Threads + Wait + Copy + Send + Sync + Drop + 'static>(
+/// A yard where nobody comes, and which keeps all.
+fn quiet_yard<W: Threads + Wait + Copy + Send + Sync + Drop + 'static>(
     rt: W,
     alloc: Global,
-    row: &Row,
-) -> Result<bool, AllocError> {
-    let kept = Kept::new(rt, alloc, Vec::new(alloc))?;
-    let mut yard = FakeYard::new(rt, alloc, kept)?;
-    let asked = yard.answer(row.port, row.answers)?;
-    let words = words_of(alloc, row.words)?;
-    let mut source = source_of(alloc, row)?;
-    let mut sink = MemorySink::new(alloc, Vec::new(alloc));
-    let mut note = MemorySink::new(alloc, Vec::new(alloc));
-    let status = run(
-        rt,
-        alloc,
-        words.as_slice(),
-        &mut source,
-        &mut sink,
-        &mut note,
-        yard,
-        Vec::<FakeDevice<W>>::new(alloc),
-    );
-    let is_told = sink.bytes() == row.sink && note.bytes() == row.note;
-    Ok(status == row.status && status.code() == row.code && asked.holds(row.asked) && is_told)
+) -> Result<FakeYard<W>, AllocError> {
+    FakeYard::new(rt, alloc, Kept::new(rt, alloc, Vec::new(alloc))?)
+}
+
+impl Row {
+    fn source(&self, alloc: Global) -> Result<MemorySource, AllocError> {
+        let mut bytes = Vec::new(alloc);
+        bytes.resize(self.given, b'a')?;
+        let failing = Vec::from_slice(alloc, &[self.failing])?;
+        Ok(MemorySource::new(Text::from_vec(bytes), 65_536, failing))
+    }
+
+    /// Whether its run over a yard ends as it says, and tells that.
+    fn runs<W: Threads + Wait + Copy + Send + Sync + Drop + 'static>(
+        &self,
+        rt: W,
+        alloc: Global,
+        yard: FakeYard<W>,
+    ) -> Result<bool, AllocError> {
+        let words = words_of(alloc, self.words)?;
+        let note = MemorySink::new(alloc, Vec::new(alloc));
+        let mut ends = Ends::new(alloc, self.source(alloc)?, note);
+        let status = ends.run(rt, alloc, words.as_slice(), yard);
+        Ok(status == self.status && status.code() == self.code && ends.are(self.sink, self.note))
+    }
+
+    /// Whether its run ends so, and the server is asked what it says.
+    fn stands<W: Threads + Wait + Copy + Send + Sync + Drop + 'static>(
+        &self,
+        rt: W,
+        alloc: Global,
+    ) -> Result<bool, AllocError> {
+        let mut yard = quiet_yard(rt, alloc)?;
+        let asked = yard.answer(self.port, self.answers)?;
+        let ended = self.runs(rt, alloc, yard)?;
+        Ok(ended && asked.holds(self.asked))
+    }
 }
 
 #[test]
 fn tools_ask_and_tell(rt: HostRuntime) -> Result<(), Fail> {
     for row in ROWS {
         assert!(rt;
-            ends(rt, rt.alloc(), row)?,
+            row.stands(rt, rt.alloc())?,
             "{:?} {:?}",
             row.words,
             row.status
