@@ -4,6 +4,8 @@
 #[cfg(test)]
 mod asking;
 #[cfg(test)]
+mod ends;
+#[cfg(test)]
 mod heard;
 #[cfg(test)]
 mod live;

@@ -1,10 +1,11 @@
 //! A server with a model device, over sockets and threads, and what its clients are answered.
 
 use crate::asking::{Conversation, Step, converses, is_answered};
+use crate::ends::words_of;
 use crate::heard::Heard;
 use crate::replaying::replays;
 use crate::tools::copies;
-use adb_outside::{MemorySink, MemorySource, Text, read_number};
+use adb_outside::{NeverSink, NeverSource, Text, read_number};
 use adb_serving::start;
 use adb_top::Status;
 use std::alloc::{AllocError, Global};
@@ -14,6 +15,9 @@ use std::sync::Wait;
 use std::test::Fail;
 use std::thread::Threads;
 use std::{io, thread};
+
+/// The words of a server with a model device.
+const SERVE: &[&str] = &["serve", "--port=0", "--device=model-1", "--record"];
 
 /// What the line begins with that says where a server listens.
 const LISTENING: &[u8] = b"adbhub: listening on 127.0.0.1:";
@@ -114,54 +118,74 @@ fn port_in(line: &[u8]) -> Option<u16> {
     port_of(line.strip_prefix(LISTENING)?.strip_suffix(b"\n")?)
 }
 
+/// The port that a forward of any port is bound to, if it is.
+fn forward(stream: &TcpStream) -> io::Result<Option<u16>> {
+    if !is_answered(stream, &FORWARD)? {
+        return Ok(None);
+    }
+    let mut text = [0u8; 9];
+    let mut reading = stream;
+    let count = reading.read(&mut text)?;
+    Ok(port_of(text.get(4..count).unwrap_or(b"")))
+}
+
 /// Whether a forward of any port is bound, and what goes through it comes back.
 fn forwards<W: Net<Listener = TcpListener, Stream = TcpStream>>(
     rt: &W,
     port: u16,
 ) -> io::Result<bool> {
     let stream = TcpStream::connect(rt, ("127.0.0.1", port))?;
-    if !is_answered(&stream, &FORWARD)? {
-        return Ok(false);
-    }
-    let mut text = [0u8; 9];
-    let mut reading = &stream;
-    let count = reading.read(&mut text)?;
-    match port_of(text.get(4..count).unwrap_or(b"")) {
-        Some(bound) => converses(rt, bound, &THROUGH),
+    match forward(&stream)? {
+        Some(bound) => Ok(converses(rt, bound, &THROUGH)),
         None => Ok(false),
     }
 }
 
 /// Whether the device came to be there.
-fn has_device<W: Net<Listener = TcpListener, Stream = TcpStream>>(
-    rt: &W,
-    port: u16,
-) -> io::Result<bool> {
+fn has_device<W: Net<Listener = TcpListener, Stream = TcpStream>>(rt: &W, port: u16) -> bool {
     for _ in 0..TRIES {
-        if converses(rt, port, &DEVICES).unwrap_or(false) {
-            return Ok(true);
+        if converses(rt, port, &DEVICES) {
+            return true;
         }
     }
-    Ok(false)
+    false
 }
 
-/// Whether all conversations are held, and a forward carries.
-fn answers<W: Net<Listener = TcpListener, Stream = TcpStream>>(
-    rt: &W,
-    port: u16,
-) -> io::Result<bool> {
-    if !has_device(rt, port)? {
-        return Ok(false);
-    }
+/// Whether the device is there and all conversations are held.
+fn answers<W: Net<Listener = TcpListener, Stream = TcpStream>>(rt: &W, port: u16) -> bool {
+    let mut so = has_device(rt, port);
     for conversation in CONVERSATIONS {
-        if !converses(rt, port, conversation)? {
-            return Ok(false);
-        }
+        so = so && converses(rt, port, conversation);
     }
-    forwards(rt, port)
+    so
 }
 
-/// Whether clients are answered at the port that a note names; the last asks for the end.
+/// Whether clients and tools are answered at a port, and a forward carries. The last client asks
+/// for the end.
+fn call<
+    W: Net<Listener = TcpListener, Stream = TcpStream>
+        + Threads
+        + Wait
+        + Copy
+        + Send
+        + Sync
+        + Drop
+        + 'static,
+>(rt: W, alloc: Global, port: u16) -> bool {
+    let answered = answers(&rt, port) && forwards(&rt, port).unwrap_or(false);
+    let copied = copies(rt, alloc, port).unwrap_or(false);
+    converses(&rt, port, &KILL) && answered && copied
+}
+
+/// The port that a note names, for whose line it waits.
+fn port_by<W: Wait + Copy + Drop>(note: &Heard<W>) -> Option<u16> {
+    match note.line() {
+        Ok(line) => port_in(line.as_slice()),
+        Err(_) => None,
+    }
+}
+
+/// Whether clients and tools are answered at the port that a note names.
 fn asks<
     W: Net<Listener = TcpListener, Stream = TcpStream>
         + Threads
@@ -171,27 +195,44 @@ fn asks<
         + Sync
         + Drop
         + 'static,
->(rt: &W, alloc: Global, note: &Heard<W>) -> io::Result<bool> {
-    let line = note.line()?;
-    let Some(port) = port_in(line.as_slice()) else {
-        return Ok(false);
-    };
-    let answered = answers(rt, port).unwrap_or(false);
-    let copied = copies(*rt, alloc, port).unwrap_or(false);
-    Ok(converses(rt, port, &KILL)? && answered && copied)
-}
-
-/// Words in memory of their own.
-pub(crate) fn words_of(alloc: Global, words: &[&str]) -> Result<Vec<String>, AllocError> {
-    let mut owned = Vec::new(alloc);
-    for word in words {
-        owned.push(String::from_str(alloc, word)?)?;
+>(rt: W, alloc: Global, note: &Heard<W>) -> bool {
+    match port_by(note) {
+        Some(port) => call(rt, alloc, port),
+        None => false,
     }
-    Ok(owned)
 }
 
-/// Serves, and writes the note and the record where they are heard.
-fn served<
+/// What a server tells, where any thread hears it.
+#[derive(Drop)]
+struct Told<W: Wait + Copy + Drop> {
+    note: Heard<W>,
+    record: Heard<W>,
+}
+
+impl<W: Wait + Copy + Drop> Told<W> {
+    /// Nothing is told.
+    fn new(rt: W, alloc: Global) -> Result<Told<W>, AllocError> {
+        let note = Heard::new(rt, alloc)?;
+        let record = Heard::new(rt, alloc)?;
+        Ok(Told { note, record })
+    }
+
+    /// One more handle of the same.
+    fn handle(&self) -> Result<Told<W>, AllocError> {
+        let note = self.note.handle()?;
+        let record = self.record.handle()?;
+        Ok(Told { note, record })
+    }
+
+    /// Whether the record is of what was done.
+    fn is_of_that(&self, alloc: Global) -> Result<bool, AllocError> {
+        let kept = self.record.bytes()?;
+        replays(alloc, kept.as_slice())
+    }
+}
+
+/// Whether a server ends as it should.
+fn serves<
     W: Net<Listener = TcpListener, Stream = TcpStream>
         + Threads
         + Wait
@@ -200,23 +241,35 @@ fn served<
         + Sync
         + Drop
         + 'static,
->(rt: W, alloc: Global, note: Heard<W>, record: Heard<W>) -> Result<Status, AllocError> {
-    let words = words_of(
-        alloc,
-        &["serve", "--port=0", "--device=model-1", "--record"],
-    )?;
-    let mut note = note;
-    let mut source = MemorySource::new(Text::new(alloc), 1, Vec::new(alloc));
-    let mut sink = MemorySink::new(alloc, Vec::new(alloc));
-    Ok(start(
+>(rt: W, alloc: Global, told: Told<W>) -> bool {
+    let mut note = told.note;
+    let mut source = NeverSource::new(Text::new(alloc), 1);
+    let mut sink = NeverSink::new();
+    let status = start(
         rt,
         alloc,
-        Ok(words),
+        words_of(alloc, SERVE),
         &mut source,
         &mut sink,
         &mut note,
-        record,
-    ))
+        told.record,
+    );
+    status == Status::Done
+}
+
+/// Whether a server ends as it should, and its clients and tools are answered.
+fn meet<
+    W: Net<Listener = TcpListener, Stream = TcpStream>
+        + Threads
+        + Wait
+        + Copy
+        + Send
+        + Sync
+        + Drop
+        + 'static,
+>(rt: W, alloc: Global, told: Told<W>, note: &Heard<W>) -> bool {
+    let (ended, answered) = thread::join(&rt, || serves(rt, alloc, told), || asks(rt, alloc, note));
+    ended && answered
 }
 
 /// Whether a server serves its clients and ends as it should, and its record is of that.
@@ -229,17 +282,10 @@ fn lives<
         + Sync
         + Drop
         + 'static,
->(rt: W, alloc: Global) -> io::Result<bool> {
-    let note = Heard::new(rt, alloc)?;
-    let record = Heard::new(rt, alloc)?;
-    let (telling, keeping) = (note.handle()?, record.handle()?);
-    let (status, answered) = thread::join(
-        &rt,
-        || served(rt, alloc, telling, keeping),
-        || asks(&rt, alloc, &note),
-    );
-    let kept = record.bytes()?;
-    Ok(status? == Status::Done && answered? && replays(alloc, kept.as_slice())?)
+>(rt: W, alloc: Global) -> Result<bool, AllocError> {
+    let told = Told::new(rt, alloc)?;
+    let handle = told.handle()?;
+    Ok(meet(rt, alloc, handle, &told.note) && told.is_of_that(alloc)?)
 }
 
 #[test]

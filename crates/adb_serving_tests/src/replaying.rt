@@ -1,62 +1,96 @@
 //! What a record says that clients were handed.
 
+use crate::ends::Ends;
 use adb_capture::{CaptureReader, Entry};
-use adb_outside::{MemorySink, MemorySource, Text};
-use adb_top::{Status, run_alone};
+use adb_outside::{MemorySource, Text};
+use adb_top::Status;
 use std::alloc::{AllocError, Global};
 
 /// The most clients of a record whose answers are compared.
-const CLIENTS: usize = 32;
+const CLIENTS: u32 = 32;
 
-/// What each client was handed by the entries of a capture, by its number.
-fn handed(alloc: Global, capture: &[u8]) -> Result<Vec<Text>, AllocError> {
-    let mut answers = Vec::new(alloc);
-    for _ in 0..CLIENTS {
-        answers.push(Text::new(alloc))?;
-    }
-    let mut source = MemorySource::new(Text::from_slice(alloc, capture)?, 65_536, Vec::new(alloc));
-    let mut reader = CaptureReader::new(alloc)?;
-    for _ in 0..=capture.len() {
-        let Ok(Some((_, entry))) = reader.next(&mut source) else {
-            break;
-        };
-        if let Entry::Put { client, bytes } = entry {
-            if let Some(answer) = answers.get_mut(client as usize) {
-                answer.push_slice(bytes.parts().rest)?;
-            }
-        }
-    }
-    Ok(answers)
+/// A capture that is read, and what of it was handed to one client.
+#[derive(Drop)]
+struct Reading {
+    source: MemorySource,
+    reader: CaptureReader,
+    client: u32,
+    handed: Text,
 }
 
-/// What a command that reads a capture writes, where it is done.
-fn written(alloc: Global, word: &str, capture: &[u8]) -> Result<Option<Text>, AllocError> {
-    let mut words = Vec::new(alloc);
-    words.push(String::from_str(alloc, word)?)?;
-    let mut source = MemorySource::new(Text::from_slice(alloc, capture)?, 65_536, Vec::new(alloc));
-    let mut sink = MemorySink::new(alloc, Vec::new(alloc));
-    let mut note = MemorySink::new(alloc, Vec::new(alloc));
-    let status = run_alone(alloc, words.as_slice(), &mut source, &mut sink, &mut note);
-    if status == Status::Done {
-        Ok(Some(Text::from_slice(alloc, sink.bytes())?))
-    } else {
-        Ok(None)
+impl Reading {
+    /// Nothing is read yet.
+    fn new(alloc: Global, capture: &[u8], client: u32) -> Result<Reading, AllocError> {
+        let capture = Text::from_slice(alloc, capture)?;
+        Ok(Reading {
+            source: MemorySource::new(capture, 65_536, Vec::new(alloc)),
+            reader: CaptureReader::new(alloc)?,
+            client,
+            handed: Text::new(alloc),
+        })
     }
+
+    /// Reads an entry; whether there is one.
+    fn read(&mut self) -> Result<bool, AllocError> {
+        match self.reader.next(&mut self.source) {
+            Ok(Some((_, entry))) => self.hand(&entry),
+            Ok(None) | Err(_) => Ok(false),
+        }
+    }
+
+    /// Adds what an entry hands to the client, and says that there was one.
+    fn hand(&mut self, entry: &Entry) -> Result<bool, AllocError> {
+        if let Entry::Put { client, bytes } = entry {
+            if *client == self.client {
+                self.handed.push_slice(bytes.parts().rest)?;
+            }
+        }
+        Ok(true)
+    }
+}
+
+/// What a client was handed by the entries of a capture.
+fn handed(alloc: Global, capture: &[u8], client: u32) -> Result<Text, AllocError> {
+    let mut reading = Reading::new(alloc, capture, client)?;
+    for _ in 0..=capture.len() {
+        if !reading.read()? {
+            break;
+        }
+    }
+    Ok(reading.handed)
+}
+
+/// Whether two captures hand a client the same.
+fn hand_the_same(alloc: Global, one: &[u8], other: &[u8], client: u32) -> Result<bool, AllocError> {
+    let first = handed(alloc, one, client)?;
+    Ok(handed(alloc, other, client)?.as_slice() == first.as_slice())
+}
+
+/// Whether two captures hand each client the same.
+fn hand_all_the_same(alloc: Global, one: &[u8], other: &[u8]) -> Result<bool, AllocError> {
+    for client in 0..CLIENTS {
+        if !hand_the_same(alloc, one, other, client)? {
+            return Ok(false);
+        }
+    }
+    Ok(true)
+}
+
+/// Whether a record is judged to be legal.
+fn is_legal(alloc: Global, record: &[u8]) -> Result<bool, AllocError> {
+    let mut ends = Ends::new(alloc, record)?;
+    let status = ends.run_alone(alloc, &["check"]);
+    Ok(status == Status::Done && ends.output().starts_with(b"legal "))
+}
+
+/// Whether the replay of a record hands each client what it was handed.
+fn is_replayed(alloc: Global, record: &[u8]) -> Result<bool, AllocError> {
+    let mut ends = Ends::new(alloc, record)?;
+    let status = ends.run_alone(alloc, &["replay"]);
+    Ok(status == Status::Done && hand_all_the_same(alloc, record, ends.output())?)
 }
 
 /// Whether a record is judged to be legal, and its replay hands each client what it was handed.
 pub fn replays(alloc: Global, record: &[u8]) -> Result<bool, AllocError> {
-    let Some(verdict) = written(alloc, "check", record)? else {
-        return Ok(false);
-    };
-    let Some(replayed) = written(alloc, "replay", record)? else {
-        return Ok(false);
-    };
-    let then = handed(alloc, record)?;
-    let again = handed(alloc, replayed.as_slice())?;
-    let are_same = then
-        .iter()
-        .zip(again.iter())
-        .all(|(one, other)| one.as_slice() == other.as_slice());
-    Ok(verdict.as_slice().starts_with(b"legal ") && are_same)
+    Ok(is_legal(alloc, record)? && is_replayed(alloc, record)?)
 }

@@ -2,13 +2,17 @@
 
 ghost use Rattle.std.specs.Prelude.{◌≤◌, IfOk};
 
-use adb_outside::{Got, MemorySink, MemorySource, NeverSink, Sink, Source, Text, Wrote};
-use adb_serving::{Stream, start};
+use crate::ends::{Ends, words_of};
+use adb_outside::{Got, Sink, Source, Wrote};
+use adb_serving::Stream;
 use adb_top::Status;
 use std::alloc::{AllocError, Global};
 use std::io;
 use std::io::{ErrorKind, Read, Write};
+use std::net::{Net, TcpListener, TcpStream};
+use std::sync::Wait;
 use std::test::Fail;
+use std::thread::Threads;
 
 /// What a call of a fake stream does.
 #[derive(Clone, Copy, Drop)]
@@ -76,86 +80,132 @@ impl Write for &mut Fake {
     }
 }
 
-#[test]
-fn short_interrupted_and_failed_calls(rt: HostRuntime) -> Result<(), Fail> {
-    let reads = [
-        Step::Fails(ErrorKind::Interrupted),
-        Step::Moves(9),
-        Step::Fails(ErrorKind::Other),
-        Step::Moves(1),
-    ];
-    let mut source = Stream::new(Fake::new(rt.alloc(), &reads)?);
-    let mut into = [0; 2];
-    for (want, bytes) in [
-        (Got::Bytes(2), [1, 2]),
-        (Got::Failed, [1, 2]),
-        (Got::Bytes(1), [3, 2]),
-        (Got::End, [3, 2]),
-    ] {
-        assert_eq!(rt; source.read(&mut into), want);
-        assert_eq!(rt; into, bytes);
-    }
+const READS: &[Step] = &[
+    Step::Fails(ErrorKind::Interrupted),
+    Step::Moves(9),
+    Step::Fails(ErrorKind::Other),
+    Step::Moves(1),
+];
 
-    let writes = [
-        Step::Moves(1),
-        Step::Fails(ErrorKind::Interrupted),
-        Step::Moves(9),
-        Step::Moves(1),
-        Step::Fails(ErrorKind::BrokenPipe),
-    ];
-    let mut written = Fake::new(rt.alloc(), &writes)?;
-    let mut sink = Stream::new(&mut written);
-    for (piece, want) in [
-        (b"abc", Wrote::All),
-        (b"def", Wrote::Failed { taken: 1 }),
-        (b"ghi", Wrote::Failed { taken: 0 }),
-    ] {
-        assert_eq!(rt; sink.write(piece), want);
+/// What the reads into two bytes answer, and what these are then.
+const GOT: &[(Got, [u8; 2])] = &[
+    (Got::Bytes(2), [1, 2]),
+    (Got::Failed, [1, 2]),
+    (Got::Bytes(1), [3, 2]),
+    (Got::End, [3, 2]),
+];
+
+#[test]
+fn short_interrupted_and_failed_reads(rt: HostRuntime) -> Result<(), Fail> {
+    let mut source = Stream::new(Fake::new(rt.alloc(), READS)?);
+    let mut into = [0; 2];
+    for &(want, bytes) in GOT {
+        assert!(rt; source.read(&mut into) == want && into == bytes, "{want:?}");
     }
-    drop(sink);
-    assert_eq!(rt; written.kept.as_slice(), b"abcd".as_slice());
     Ok(())
+}
+
+const WRITES: &[Step] = &[
+    Step::Moves(1),
+    Step::Fails(ErrorKind::Interrupted),
+    Step::Moves(9),
+    Step::Moves(1),
+    Step::Fails(ErrorKind::BrokenPipe),
+];
+
+/// Pieces, and what their writes answer.
+const WROTE: &[(&[u8; 3], Wrote)] = &[
+    (b"abc", Wrote::All),
+    (b"def", Wrote::Failed { taken: 1 }),
+    (b"ghi", Wrote::Failed { taken: 0 }),
+];
+
+/// How many writes answer so, up to the first that does not.
+fn count_answered(sink: &mut impl Sink) -> usize {
+    let mut count = 0usize;
+    for &(piece, want) in WROTE {
+        if sink.write(piece) != want {
+            break;
+        }
+        count = count.saturating_add(1);
+    }
+    count
+}
+
+#[test]
+fn short_interrupted_and_failed_writes(rt: HostRuntime) -> Result<(), Fail> {
+    let mut written = Fake::new(rt.alloc(), WRITES)?;
+    let count = count_answered(&mut Stream::new(&mut written));
+    assert!(rt; count == WROTE.len(), "write {count}");
+    assert!(rt; written.kept.as_slice() == b"abcd".as_slice());
+    Ok(())
+}
+
+/// What a run has of the command line.
+enum Line {
+    Word(&'static str),
+    Fails(ErrorKind),
+}
+
+impl Line {
+    fn words(&self, alloc: Global) -> io::Result<Vec<String>> {
+        match self {
+            Line::Word(word) => words_of(alloc, &[*word]),
+            Line::Fails(kind) => Err(io::Error::from(*kind)),
+        }
+    }
+}
+
+/// A run over an empty capture: how it ends, what goes out, and what its note has.
+struct Run {
+    line: Line,
+    status: Status,
+    output: &'static [u8],
+    note: &'static [u8],
+}
+
+const RUNS: &[Run] = &[
+    Run {
+        line: Line::Word("replay"),
+        status: Status::Done,
+        output: b"ADBHUB1\n",
+        note: b"",
+    },
+    Run {
+        line: Line::Fails(ErrorKind::InvalidData),
+        status: Status::Usage,
+        output: b"",
+        note: b"usage: adbhub replay | gen <seed> <streams> | local <seed> | serve [--port <n>] [--device <serial>] [--connect <port>] [--record] | check | devices | push <path> | pull <path> | shell <command> | wait <serial> <state> | copy <seed>\n",
+    },
+    Run {
+        line: Line::Fails(ErrorKind::OutOfMemory),
+        status: Status::OutOfMemory,
+        output: b"",
+        note: b"adbhub: out of memory\n",
+    },
+];
+
+impl Run {
+    fn ends<
+        W: Net<Listener = TcpListener, Stream = TcpStream>
+            + Threads
+            + Wait
+            + Copy
+            + Send
+            + Sync
+            + Drop
+            + 'static,
+    >(&self, rt: W, alloc: Global) -> Result<bool, AllocError> {
+        let mut ends = Ends::new(alloc, b"ADBHUB1\n")?;
+        let status = ends.start(rt, alloc, self.line.words(alloc));
+        Ok(status == self.status && ends.output() == self.output && ends.note() == self.note)
+    }
 }
 
 #[test]
 fn words_of_a_run(rt: HostRuntime) -> Result<(), Fail> {
-    let alloc = rt.alloc();
-    let mut replay = Vec::new(alloc);
-    replay.push(String::from_str(alloc, "replay")?)?;
-    let cases: [(io::Result<Vec<String>>, Status, &[u8], &[u8]); 3] = [
-        (Ok(replay), Status::Done, b"ADBHUB1\n", b""),
-        (
-            Err(io::Error::from(ErrorKind::InvalidData)),
-            Status::Usage,
-            b"",
-            b"usage: adbhub replay | gen <seed> <streams> | local <seed> | serve [--port <n>] [--device <serial>] [--connect <port>] [--record] | check | devices | push <path> | pull <path> | shell <command> | wait <serial> <state> | copy <seed>\n",
-        ),
-        (
-            Err(io::Error::from(ErrorKind::OutOfMemory)),
-            Status::OutOfMemory,
-            b"",
-            b"adbhub: out of memory\n",
-        ),
-    ];
-    for (words, status, history, line) in cases {
-        let capture = Text::from_slice(alloc, b"ADBHUB1\n")?;
-        let mut source = MemorySource::new(capture, 3, Vec::new(alloc));
-        let mut sink = MemorySink::new(alloc, Vec::new(alloc));
-        let mut note = MemorySink::new(alloc, Vec::new(alloc));
-        assert_eq!(rt;
-            start(
-                rt,
-                alloc,
-                words,
-                &mut source,
-                &mut sink,
-                &mut note,
-                NeverSink::new()
-            ),
-            status
-        );
-        assert_eq!(rt; sink.bytes(), history);
-        assert_eq!(rt; note.bytes(), line);
+    for run in RUNS {
+        assert!(rt; run.ends(rt, rt.alloc())?, "{:?}", run.status);
     }
     Ok(())
 }

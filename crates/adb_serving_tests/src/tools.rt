@@ -1,8 +1,6 @@
 //! Client tools, at a server of this machine.
 
-use crate::live::words_of;
-use adb_outside::{MemorySink, MemorySource, NeverSink, Text};
-use adb_serving::start;
+use crate::ends::{Ends, words_of};
 use adb_top::Status;
 use itoa::Buffer;
 use std::alloc::{AllocError, Global};
@@ -13,8 +11,8 @@ use std::thread::Threads;
 /// The file that is copied.
 const FILE: &[u8] = b"pushed and pulled\n";
 
-/// What a tool that is done writes, which is given these bytes.
-fn called<
+/// Whether a tool that is given these bytes is done, and writes those.
+fn tells<
     W: Net<Listener = TcpListener, Stream = TcpStream>
         + Threads
         + Wait
@@ -23,26 +21,10 @@ fn called<
         + Sync
         + Drop
         + 'static,
->(rt: W, alloc: Global, words: &[&str], given: &[u8]) -> Result<Option<Text>, AllocError> {
-    let words = words_of(alloc, words)?;
-    let mut source = MemorySource::new(Text::from_slice(alloc, given)?, 7, Vec::new(alloc));
-    let mut sink = MemorySink::new(alloc, Vec::new(alloc));
-    let mut note = MemorySink::new(alloc, Vec::new(alloc));
-    let never = NeverSink::new();
-    let status = start(
-        rt,
-        alloc,
-        Ok(words),
-        &mut source,
-        &mut sink,
-        &mut note,
-        never,
-    );
-    if status == Status::Done {
-        Ok(Some(Text::from_slice(alloc, sink.bytes())?))
-    } else {
-        Ok(None)
-    }
+>(rt: W, alloc: Global, words: &[&str], given: &[u8], output: &[u8]) -> Result<bool, AllocError> {
+    let mut ends = Ends::new(alloc, given)?;
+    let status = ends.start(rt, alloc, words_of(alloc, words));
+    Ok(status == Status::Done && ends.output() == output)
 }
 
 /// Whether a file that one tool pushes is what another pulls.
@@ -58,12 +40,7 @@ pub(crate) fn copies<
 >(rt: W, alloc: Global, port: u16) -> Result<bool, AllocError> {
     let mut digits = Buffer::new();
     let port = digits.format(port);
-    let pushed = called(rt, alloc, &["push", "/tool", "--port", port], FILE)?;
-    let pulled = called(rt, alloc, &["pull", "/tool", "--port", port], b"")?;
-    match (pushed, pulled) {
-        (Some(told), Some(file)) => {
-            Ok(told.as_slice() == b"pushed 18\n".as_slice() && file.as_slice() == FILE)
-        }
-        _ => Ok(false),
-    }
+    let push = ["push", "/tool", "--port", port];
+    let pull = ["pull", "/tool", "--port", port];
+    Ok(tells(rt, alloc, &push, FILE, b"pushed 18\n")? && tells(rt, alloc, &pull, b"", FILE)?)
 }

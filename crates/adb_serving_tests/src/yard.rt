@@ -18,43 +18,58 @@ fn carries(output: &mut impl PortOut, input: &mut impl PortIn) -> bool {
     output.write(b"ok") == Wrote::All && input.read(&mut into) == Got::Bytes(2) && into == *b"ok"
 }
 
+/// Whether what is written comes in at a door; by the port of a forward, where that is not 0.
+fn comes(door: &mut impl Door, output: &mut impl PortOut, forward: u16) -> bool {
+    match door.accept() {
+        Came::Port(mut input, _) => forward == 0 && carries(output, &mut input),
+        Came::Forward(by, mut input, _) => by == forward && carries(output, &mut input),
+        Came::Closed | Came::Failed => false,
+    }
+}
+
 /// Whether who dials a port comes in at a door; by the port of a forward, where that is not 0.
 fn meets<Y: Yard>(yard: &mut Y, door: &mut Y::Door, port: u16, forward: u16) -> bool {
     if port == 0 {
         return false;
     }
-    let Dialled::Here(_input, mut output) = yard.dial(port) else {
-        return false;
-    };
-    match door.accept() {
-        Came::Port(mut input, _) => forward == 0 && carries(&mut output, &mut input),
-        Came::Forward(by, mut input, _) => by == forward && carries(&mut output, &mut input),
-        Came::Closed | Came::Failed => false,
+    match yard.dial(port) {
+        Dialled::Here(_input, mut output) => comes(door, &mut output, forward),
+        Dialled::Failed => false,
     }
 }
 
-/// Whether a yard's door lets in who dials it and who dials a forward, and closes when its bell
-/// rings; and whether its port cannot be listened on twice.
-fn opens<
-    W: Net<Listener = TcpListener, Stream = TcpStream>
-        + Threads
-        + Wait
-        + Copy
-        + Send
-        + Sync
-        + Drop
-        + 'static,
->(yard: &mut RealYard<W, NeverSink>) -> bool {
-    let Listening::Here(mut door, bell, port) = yard.listen(0) else {
-        return false;
-    };
+/// Whether a yard's door at a port lets in who dials it and who dials a forward; and whether the
+/// port cannot be listened on twice.
+fn lets_in<Y: Yard>(yard: &mut Y, door: &mut Y::Door, port: u16) -> bool {
     let Binding::Bound(forward) = yard.ports().bind(0) else {
         return false;
     };
-    let met = meets(yard, &mut door, port, 0) && meets(yard, &mut door, forward, forward);
-    let deaf = matches!(yard.listen(port), Listening::Failed);
+    meets(yard, door, port, 0)
+        && meets(yard, door, forward, forward)
+        && matches!(yard.listen(port), Listening::Failed)
+}
+
+/// Whether a door closes when its bell rings.
+fn closes(door: &mut impl Door, bell: &impl Bell) -> bool {
     bell.ring();
-    met && deaf && matches!(door.accept(), Came::Closed)
+    matches!(door.accept(), Came::Closed)
+}
+
+/// Whether a yard's door lets in whom it should, and closes.
+fn opens<Y: Yard>(yard: &mut Y) -> bool {
+    match yard.listen(0) {
+        Listening::Here(mut door, bell, port) => {
+            let met = lets_in(yard, &mut door, port);
+            closes(&mut door, &bell) && met
+        }
+        Listening::Failed => false,
+    }
+}
+
+/// What a yard's recorder answers to an entry.
+fn kept<Y: Yard>(yard: &mut Y, wanted: bool) -> Result<(), RecordError> {
+    let entry = Entry::Join { client: 1 };
+    yard.recorder(wanted).keep(&entry)
 }
 
 /// Whether a yard's recorder does as it was wanted, and a second one fails.
@@ -68,12 +83,10 @@ fn records<
         + Drop
         + 'static,
 >(yard: &mut RealYard<W, NeverSink>) -> Result<bool, AllocError> {
-    let entry = Entry::Join { client: 1 };
-    let off = yard.recorder(false).keep(&entry) == Ok(());
-    let on = yard.recorder(true).keep(&entry) == Ok(());
+    let off = kept(yard, false) == Ok(());
+    let on = kept(yard, true) == Ok(());
     yard.helpers()?.finish();
-    let second = yard.recorder(true).keep(&entry) == Err(RecordError::Failed);
-    Ok(off && on && second)
+    Ok(off && on && kept(yard, true) == Err(RecordError::Failed))
 }
 
 #[test]
