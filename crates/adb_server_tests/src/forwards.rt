@@ -10,7 +10,7 @@ use adb_desk_log::{DeskError, Marks};
 use adb_hall::Hall;
 use adb_hub::Handed;
 use adb_one_desk::OneDesk;
-use adb_outside::{Kind, Text};
+use adb_outside::{HandOut, Kind, Text};
 use log::Log;
 use log::sink::Discard;
 use std::alloc::{AllocError, Global};
@@ -103,9 +103,14 @@ fn connects<E: Ledger, M: Ledger, K: Marks>(hall: &mut OneDesk<MemoryRecorder, E
 
 fn hands_out(answer: &Result<Handed, DeskError>, bytes: &[u8]) -> bool {
     match answer {
-        Ok(Handed::Bytes(given)) => given.parts().rest == bytes,
+        Ok(Handed::Bytes(given)) => is_made_of(given, bytes),
         _ => false,
     }
+}
+
+fn is_made_of(given: &HandOut, bytes: &[u8]) -> bool {
+    let parts = given.parts();
+    given.len() == bytes.len() && bytes.starts_with(parts.start) && bytes.ends_with(parts.rest)
 }
 
 #[test]
