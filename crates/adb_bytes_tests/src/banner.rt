@@ -1,19 +1,73 @@
 use adb_banner::{IdentityError, has_feature, read};
 use adb_outside::Identity;
 use std::alloc::{AllocError, Global};
-use std::process::Abort;
 use std::test::Fail;
 
 /// What is to be read: system, serial, product, model, device and features.
 type Texts = [&'static [u8]; 6];
 
-fn has_texts(identity: &Identity, want: Texts) -> bool {
-    identity.system.as_slice() == want[0]
-        && identity.serial.as_slice() == want[1]
-        && identity.product.as_slice() == want[2]
-        && identity.model.as_slice() == want[3]
-        && identity.device.as_slice() == want[4]
-        && identity.features.as_slice() == want[5]
+const NOTHING: Texts = [b""; 6];
+
+/// What stands for the texts of bytes that are no identity.
+const REFUSED: Texts = [b"(refused)"; 6];
+
+fn texts(identity: &Identity) -> [&[u8]; 6] {
+    [
+        identity.system.as_slice(),
+        identity.serial.as_slice(),
+        identity.product.as_slice(),
+        identity.model.as_slice(),
+        identity.device.as_slice(),
+        identity.features.as_slice(),
+    ]
+}
+
+/// Whether bytes are read as these texts, or refused.
+fn is_read(alloc: Global, bytes: &[u8], want: &Texts) -> bool {
+    match read(alloc, bytes) {
+        Ok(identity) => texts(&identity) == *want,
+        Err(error) => error == IdentityError::NotIdentity && *want == REFUSED,
+    }
+}
+
+const IDENTITIES: &[(&[u8], Texts)] = &[
+    (b"::", NOTHING),
+    (
+        b"device::ro.product.model=Pix 3;features=shell_v2;",
+        [b"device", b"", b"", b"Pix 3", b"", b"shell_v2"],
+    ),
+    (
+        b"host:s1:ro.product.name=a;ro.product.model=b;ro.product.device=c;features=d,e",
+        [b"host", b"s1", b"a", b"b", b"c", b"d,e"],
+    ),
+    (b"a:b:c:features=d:e", [b"a", b"b", b"", b"", b"", b""]),
+    (b"::features=a;features=b", [b"", b"", b"", b"", b"", b"b"]),
+    (b"::features=a;features=", NOTHING),
+    (b"::features=a;features", [b"", b"", b"", b"", b"", b"a"]),
+    (b"::features=a=b=c;", [b"", b"", b"", b"", b"", b"a=b=c"]),
+    (b"::features=a:b", [b"", b"", b"", b"", b"", b"a:b"]),
+    (
+        b"::;;=x;features =x; features=x;Features=x;feature=x;featuress=x",
+        NOTHING,
+    ),
+    (b"::features=a\0\0\0", [b"", b"", b"", b"", b"", b"a"]),
+    (b"::features=a\0b;\0", [b"", b"", b"", b"", b"", b"a\0b"]),
+    (
+        b"::features=a;\0features=b",
+        [b"", b"", b"", b"", b"", b"a"],
+    ),
+    (b"", REFUSED),
+    (b"\0\0", REFUSED),
+    (b"device", REFUSED),
+    (b"device:", REFUSED),
+    (b"device\0:", REFUSED),
+];
+
+#[test]
+fn identities_read(rt: HostRuntime) {
+    for row in IDENTITIES {
+        assert!(rt; is_read(rt.alloc(), row.0, &row.1), "{:?}", row.0);
+    }
 }
 
 /// Two colons, letters up to a length, and NULs up to another.
@@ -24,88 +78,38 @@ fn padded(alloc: Global, letters: usize, whole: usize) -> Result<Vec<u8>, AllocE
     Ok(bytes)
 }
 
-/// What stands for the texts of bytes that are no identity.
-const REFUSED: Texts = [b"(refused)"; 6];
-
-/// The texts of an identity of which only the features are there.
-fn featuring(features: &'static [u8]) -> Texts {
-    [b"", b"", b"", b"", b"", features]
-}
-
-/// Whether bytes are read as these texts, or refused.
-fn is_read(alloc: Global, bytes: &[u8], want: Texts) -> bool {
-    match read(alloc, bytes) {
-        Ok(identity) => has_texts(&identity, want),
-        Err(error) => error == IdentityError::NotIdentity && want[0] == REFUSED[0],
-    }
-}
-
-#[test]
-fn identities_read(rt: HostRuntime) {
-    let cases: [(&[u8], Texts); 18] = [
-        (b"::", featuring(b"")),
-        (
-            b"device::ro.product.model=Pix 3;features=shell_v2;",
-            [b"device", b"", b"", b"Pix 3", b"", b"shell_v2"],
-        ),
-        (
-            b"host:s1:ro.product.name=a;ro.product.model=b;ro.product.device=c;features=d,e",
-            [b"host", b"s1", b"a", b"b", b"c", b"d,e"],
-        ),
-        (b"a:b:c:features=d:e", [b"a", b"b", b"", b"", b"", b""]),
-        (b"::features=a;features=b", featuring(b"b")),
-        (b"::features=a;features=", featuring(b"")),
-        (b"::features=a;features", featuring(b"a")),
-        (b"::features=a=b=c;", featuring(b"a=b=c")),
-        (b"::features=a:b", featuring(b"a:b")),
-        (
-            b"::;;=x;features =x; features=x;Features=x;feature=x;featuress=x",
-            featuring(b""),
-        ),
-        (b"::features=a\0\0\0", featuring(b"a")),
-        (b"::features=a\0b;\0", featuring(b"a\0b")),
-        (b"::features=a;\0features=b", featuring(b"a")),
-        (b"", REFUSED),
-        (b"\0\0", REFUSED),
-        (b"device", REFUSED),
-        (b"device:", REFUSED),
-        (b"device\0:", REFUSED),
-    ];
-    for (bytes, want) in cases {
-        assert!(rt; is_read(rt.alloc(), bytes, want), "{bytes:?}");
-    }
-}
-
 #[test]
 fn the_longest_identity(rt: HostRuntime) -> Result<(), Fail> {
-    for (letters, whole, want) in [
-        (32768, 32770, None),
-        (32769, 32769, Some(IdentityError::NotIdentity)),
-    ] {
-        let bytes = padded(rt.alloc(), letters, whole)?;
-        assert_eq!(rt; read(rt.alloc(), &bytes).err(), want, "{letters} {whole}");
-    }
+    let longest = padded(rt.alloc(), 32768, 32770)?;
+    assert!(rt; is_read(rt.alloc(), &longest, &NOTHING));
+    let longer = padded(rt.alloc(), 32769, 32769)?;
+    assert!(rt; is_read(rt.alloc(), &longer, &REFUSED));
     Ok(())
 }
 
-#[test]
-fn features_told_apart(rt: HostRuntime) -> Result<(), Fail> {
-    let alloc = rt.alloc();
-    let Ok(identity) = read(alloc, b"::features=shell_v2,cmd,stat_v2") else {
-        return Err(Fail::from("no identity"));
-    };
-    let cases: [(&[u8], bool); 8] = [
-        (b"shell_v2", true),
-        (b"cmd", true),
-        (b"stat_v2", true),
-        (b"shell", false),
-        (b"v2", false),
-        (b"shell_v2,cmd", false),
-        (b"shell_v2,", false),
-        (b"", false),
-    ];
-    for (name, want) in cases {
-        assert_eq!(rt; has_feature(&identity, name), want, "{name:?}");
+/// Names, and whether they are features of `shell_v2,cmd,stat_v2`.
+const NAMES: &[(&[u8], bool)] = &[
+    (b"shell_v2", true),
+    (b"cmd", true),
+    (b"stat_v2", true),
+    (b"shell", false),
+    (b"v2", false),
+    (b"shell_v2,cmd", false),
+    (b"shell_v2,", false),
+    (b"", false),
+];
+
+/// Whether an identity has a feature; none where no identity is read.
+fn is_feature(alloc: Global, name: &[u8]) -> Option<bool> {
+    match read(alloc, b"::features=shell_v2,cmd,stat_v2") {
+        Ok(identity) => Some(has_feature(&identity, name)),
+        Err(_) => None,
     }
-    Ok(())
+}
+
+#[test]
+fn features_told_apart(rt: HostRuntime) {
+    for &(name, want) in NAMES {
+        assert!(rt; is_feature(rt.alloc(), name) == Some(want), "{name:?}");
+    }
 }

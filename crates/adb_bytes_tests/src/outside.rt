@@ -15,24 +15,28 @@ fn text_is_cut(alloc: Global) -> Result<bool, AllocError> {
     Ok(whole && cut && given.as_slice() == b"host".as_slice())
 }
 
-/// A queue that let go of its first bytes.
-fn halved(alloc: Global) -> Result<ByteQueue, AllocError> {
-    let mut queue = ByteQueue::from_text(Text::from_slice(alloc, b"host:")?);
+/// Lets a queue go of its first bytes, and adds others.
+fn change(queue: &mut ByteQueue) -> Result<(), AllocError> {
     queue.take(5.min(queue.len()));
     queue.push(b"ver")?;
     queue.reserve(4)?;
     queue.push_spare(b"sion");
-    Ok(queue)
+    Ok(())
 }
 
 /// Whether a queue holds what it did not let go of, and nothing once it is cleared.
-fn queue_is_cleared(alloc: Global) -> Result<bool, AllocError> {
-    let mut queue = halved(alloc)?;
+fn holds(queue: &mut ByteQueue) -> bool {
     queue.give_back();
     let held = queue.as_slice() == b"version".as_slice();
     queue.truncate(3);
     queue.clear();
-    Ok(held && queue.is_empty() && ByteQueue::new(alloc).spare() == 0)
+    held && queue.is_empty()
+}
+
+fn queue_is_cleared(alloc: Global) -> Result<bool, AllocError> {
+    let mut queue = ByteQueue::from_text(Text::from_slice(alloc, b"host:")?);
+    change(&mut queue)?;
+    Ok(holds(&mut queue) && ByteQueue::new(alloc).spare() == 0)
 }
 
 #[test]

@@ -3,123 +3,111 @@ use adb_request::*;
 use std::alloc::{AllocError, Global};
 use std::test::Fail;
 
+/// Bytes, the number that they are in hexadecimal digits, and the request that they begin with.
+const CUTS: &[(&[u8], Option<u16>, Found)] = &[
+    (b"", None, Found::More),
+    (b"zzz", None, Found::More),
+    (b"zzzz", None, Found::Malformed),
+    (b"000g", None, Found::Malformed),
+    (b"00 c", None, Found::Malformed),
+    (b"0000", Some(0), Found::Malformed),
+    (b"000C", Some(12), Found::More),
+    (b"FfFf", Some(65535), Found::More),
+    (b"000Chost:versio", None, Found::More),
+    (b"000Chost:version", None, Found::Whole { len: 12 }),
+    (b"000chost:version000c", None, Found::Whole { len: 12 }),
+    (b"ffffshell:", None, Found::More),
+    (b"0001a", None, Found::Whole { len: 1 }),
+];
+
 #[test]
 fn requests_are_cut(rt: HostRuntime) {
-    let cases: [(&[u8], Option<u16>, Found); 13] = [
-        (b"", None, Found::More),
-        (b"zzz", None, Found::More),
-        (b"zzzz", None, Found::Malformed),
-        (b"000g", None, Found::Malformed),
-        (b"00 c", None, Found::Malformed),
-        (b"0000", Some(0), Found::Malformed),
-        (b"000C", Some(12), Found::More),
-        (b"FfFf", Some(65535), Found::More),
-        (b"000Chost:versio", None, Found::More),
-        (b"000Chost:version", None, Found::Whole { len: 12 }),
-        (b"000chost:version000c", None, Found::Whole { len: 12 }),
-        (b"ffffshell:", None, Found::More),
-        (b"0001a", None, Found::Whole { len: 1 }),
-    ];
-    for (bytes, number, found) in cases {
-        assert_eq!(rt;
-            (read_hex4(bytes), cut(bytes)),
-            (number, found),
-            "of {bytes:?}"
-        );
+    for &(bytes, number, found) in CUTS {
+        assert!(rt; read_hex4(bytes) == number, "of {bytes:?}");
+        assert!(rt; cut(bytes) == found, "of {bytes:?}");
     }
-    assert_eq!(rt; hex4(12), *b"000c");
-    assert_eq!(rt; hex4(48879), *b"beef");
+    assert!(rt; hex4(12) == *b"000c" && hex4(48879) == *b"beef");
 }
 
-/// A request in words, as the table below has them.
-fn shown(alloc: Global, request: &Request) -> Result<Text, AllocError> {
+/// Adds a request in words, as the table below has them.
+fn show(request: &Request, out: &mut Text) -> Result<(), AllocError> {
     match request {
-        Request::Version => Text::from_slice(alloc, b"version"),
-        Request::Kill => Text::from_slice(alloc, b"kill"),
-        Request::Devices { long } => with_kind(alloc, b"devices", *long),
-        Request::Track { long } => with_kind(alloc, b"track", *long),
-        Request::Transport { by, tell_id: false } => of(alloc, b"transport", by),
-        Request::Transport { by, tell_id: true } => of(alloc, b"transport and id", by),
-        Request::Serialno(on) => on_which(alloc, b"serialno", on),
-        Request::Devpath(on) => on_which(alloc, b"devpath", on),
-        Request::GetState(on) => on_which(alloc, b"state", on),
-        Request::Features(on) => on_which(alloc, b"features", on),
+        Request::Version => out.push_slice(b"version"),
+        Request::Kill => out.push_slice(b"kill"),
+        Request::Devices { long } => show_list(b"devices", *long, out),
+        Request::Track { long } => show_list(b"track", *long, out),
+        Request::Transport { by, tell_id } => show_transport(by, *tell_id, out),
+        Request::Serialno(on) => show_which(b"serialno", on, out),
+        Request::Devpath(on) => show_which(b"devpath", on, out),
+        Request::GetState(on) => show_which(b"state", on, out),
+        Request::Features(on) => show_which(b"features", on, out),
         Request::Forward {
             on,
             norebind,
             local,
             remote,
-        } => shown_forward(alloc, on, *norebind, *local, remote),
-        Request::BadForward => Text::from_slice(alloc, b"bad forward"),
-        Request::KillForward(port) => {
-            let mut text = Text::from_slice(alloc, b"kill forward ")?;
-            text.push_slice(&hex4(*port))?;
-            Ok(text)
+        } => {
+            show_forward(on, *norebind, out)?;
+            show_ends(*local, remote, out)
         }
-        Request::KillAll => Text::from_slice(alloc, b"kill all"),
-        Request::ListForward => Text::from_slice(alloc, b"list forwards"),
-        Request::Service(service) => {
-            let mut text = Text::from_slice(alloc, b"service ")?;
-            text.push_slice(service.as_slice())?;
-            Ok(text)
-        }
-        Request::UnknownHost => Text::from_slice(alloc, b"unknown"),
+        Request::BadForward => out.push_slice(b"bad forward"),
+        Request::KillForward(port) => show_pair(b"kill forward ", &hex4(*port), out),
+        Request::KillAll => out.push_slice(b"kill all"),
+        Request::ListForward => out.push_slice(b"list forwards"),
+        Request::Service(service) => show_pair(b"service ", service.as_slice(), out),
+        Request::UnknownHost => out.push_slice(b"unknown"),
     }
 }
 
-fn with_kind(alloc: Global, name: &[u8], long: bool) -> Result<Text, AllocError> {
-    let mut text = Text::from_slice(alloc, name)?;
-    if long {
-        text.push_slice(b" long")?;
-    }
-    Ok(text)
+fn show_pair(name: &[u8], text: &[u8], out: &mut Text) -> Result<(), AllocError> {
+    out.push_slice(name)?;
+    out.push_slice(text)
 }
 
-fn of(alloc: Global, name: &[u8], by: &Selector) -> Result<Text, AllocError> {
-    let mut text = Text::from_slice(alloc, name)?;
+fn show_list(name: &[u8], long: bool, out: &mut Text) -> Result<(), AllocError> {
+    let kind: &[u8] = if long { b" long" } else { b"" };
+    show_pair(name, kind, out)
+}
+
+fn show_transport(by: &Selector, tell_id: bool, out: &mut Text) -> Result<(), AllocError> {
+    let id: &[u8] = if tell_id { b" and id" } else { b"" };
+    show_pair(b"transport", id, out)?;
+    show_selector(by, out)
+}
+
+fn show_which(name: &[u8], on: &Which, out: &mut Text) -> Result<(), AllocError> {
+    out.push_slice(name)?;
+    match on {
+        Which::Own => out.push_slice(b" own"),
+        Which::By(by) => show_selector(by, out),
+    }
+}
+
+fn show_selector(by: &Selector, out: &mut Text) -> Result<(), AllocError> {
     match by {
-        Selector::Any => text.push_slice(b" any")?,
-        Selector::Usb => text.push_slice(b" usb")?,
-        Selector::Local => text.push_slice(b" local")?,
+        Selector::Any => out.push_slice(b" any"),
+        Selector::Usb => out.push_slice(b" usb"),
+        Selector::Local => out.push_slice(b" local"),
         Selector::Serial(serial) => {
-            text.push_slice(b" '")?;
-            text.push_slice(serial.as_slice())?;
-            text.push_slice(b"'")?;
+            show_pair(b" '", serial.as_slice(), out)?;
+            out.push_slice(b"'")
         }
         Selector::Id(id) => {
-            text.push_slice(b" #")?;
-            text.push_slice(&hex4((*id >> 16) as u16))?;
-            text.push_slice(&hex4((*id & 65535) as u16))?;
+            show_pair(b" #", &hex4((*id >> 16) as u16), out)?;
+            out.push_slice(&hex4((*id & 65535) as u16))
         }
-    }
-    Ok(text)
-}
-
-fn on_which(alloc: Global, name: &[u8], on: &Which) -> Result<Text, AllocError> {
-    match on {
-        Which::Own => {
-            let mut text = Text::from_slice(alloc, name)?;
-            text.push_slice(b" own")?;
-            Ok(text)
-        }
-        Which::By(by) => of(alloc, name, by),
     }
 }
 
-fn shown_forward(
-    alloc: Global,
-    on: &Which,
-    norebind: bool,
-    local: u16,
-    remote: &Text,
-) -> Result<Text, AllocError> {
+fn show_forward(on: &Which, norebind: bool, out: &mut Text) -> Result<(), AllocError> {
     let name: &[u8] = if norebind { b"new forward" } else { b"forward" };
-    let mut text = on_which(alloc, name, on)?;
-    text.push_slice(b" ")?;
-    text.push_slice(&hex4(local))?;
-    text.push_slice(b" to ")?;
-    text.push_slice(remote.as_slice())?;
-    Ok(text)
+    show_which(name, on, out)
+}
+
+/// Adds the two ends of a forward.
+fn show_ends(local: u16, remote: &Text, out: &mut Text) -> Result<(), AllocError> {
+    show_pair(b" ", &hex4(local), out)?;
+    show_pair(b" to ", remote.as_slice(), out)
 }
 
 /// Each row of the table of requests, each corner of it, and texts that are one byte off. Numbers are
@@ -218,12 +206,23 @@ const MEANINGS: &[(&[u8], &[u8])] = &[
     (b"", b"service "),
 ];
 
+/// Adds what a text means.
+fn add_meaning(alloc: Global, text: &[u8], out: &mut Text) -> Result<(), AllocError> {
+    let request = read(alloc, text)?;
+    show(&request, out)
+}
+
+/// Whether a text means this request.
+fn means(alloc: Global, text: &[u8], meaning: &[u8]) -> Result<bool, AllocError> {
+    let mut words = Text::new(alloc);
+    add_meaning(alloc, text, &mut words)?;
+    Ok(words.as_slice() == meaning)
+}
+
 #[test]
 fn texts_mean_requests(rt: HostRuntime) -> Result<(), Fail> {
     for &(text, meaning) in MEANINGS {
-        let request = read(rt.alloc(), text)?;
-        let words = shown(rt.alloc(), &request)?;
-        assert_eq!(rt; words.as_slice(), meaning, "of {text:?}");
+        assert!(rt; means(rt.alloc(), text, meaning)?, "of {text:?}");
     }
     spelled_is_read();
     Ok(())

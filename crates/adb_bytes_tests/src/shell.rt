@@ -2,10 +2,11 @@
 
 use adb_outside::Text;
 use adb_shell::{ShellError, ShellReader, write_packet};
+use std::alloc::{AllocError, Global};
 use std::test::Fail;
 
 /// One packet of each id.
-const PACKETS: [(u8, &[u8]); 6] = [
+const PACKETS: &[(u8, &[u8])] = &[
     (0, b"in"),
     (1, b"hi\n"),
     (2, b""),
@@ -18,67 +19,109 @@ const PACKETS: [(u8, &[u8]); 6] = [
 const STREAM: &[u8] = b"\x00\x02\x00\x00\x00in\x01\x03\x00\x00\x00hi\n\x02\x00\x00\x00\x00\
 \x03\x01\x00\x00\x00\x07\x04\x00\x00\x00\x00\x05\x09\x00\x00\x0024x80,0x0";
 
-#[test]
-fn packets_are_written_and_come_whole_however_cut(rt: HostRuntime) -> Result<(), Fail> {
-    let mut out = Text::new(rt.alloc());
-    for (id, bytes) in PACKETS {
-        assert!(rt; id <= 5 && bytes.len() <= 9);
-        write_packet(rt.alloc(), id, bytes, &mut out)?;
-    }
-    assert_eq!(rt; out.as_slice(), STREAM);
-    for at in 0..=STREAM.len() {
-        let mut reader = ShellReader::new(rt.alloc());
-        reader.feed(&STREAM[..at])?;
-        reader.feed(&STREAM[at..])?;
-        for (id, bytes) in PACKETS {
-            let packet = reader.next().ok_or("a packet is missing")?;
-            assert_eq!(rt; packet.id, id, "cut at {at}");
-            assert_eq!(rt; packet.bytes.as_slice(), bytes, "cut at {at}");
+/// Adds the packets, as far as they are known and short.
+fn add_packets(alloc: Global, out: &mut Text) -> Result<(), AllocError> {
+    for &(id, bytes) in PACKETS {
+        if id <= 5 && bytes.len() <= 9 {
+            write_packet(alloc, id, bytes, out)?;
         }
-        assert!(rt; reader.next().is_none());
     }
     Ok(())
 }
 
+fn are_written(alloc: Global) -> Result<bool, AllocError> {
+    let mut out = Text::new(alloc);
+    add_packets(alloc, &mut out)?;
+    Ok(out.as_slice() == STREAM)
+}
+
+/// Whether this is the next packet.
+fn is_next(reader: &mut ShellReader, id: u8, bytes: &[u8]) -> bool {
+    match reader.next() {
+        Some(packet) => packet.id == id && packet.bytes.as_slice() == bytes,
+        None => false,
+    }
+}
+
+/// Whether just the packets came.
+fn are_next(reader: &mut ShellReader) -> bool {
+    for &(id, bytes) in PACKETS {
+        if !is_next(reader, id, bytes) {
+            return false;
+        }
+    }
+    reader.next().is_none()
+}
+
+/// Whether the packets come of the stream that is cut in two at this place.
+fn come(alloc: Global, at: usize) -> bool {
+    let (front, back) = STREAM.split_at(at.min(STREAM.len()));
+    let mut reader = ShellReader::new(alloc);
+    let taken = reader.feed(front).is_ok() && reader.feed(back).is_ok();
+    taken && are_next(&mut reader)
+}
+
 #[test]
-fn bad_packets_are_refused(rt: HostRuntime) -> Result<(), Fail> {
-    let cases: [(&[u8], Result<(), ShellError>); 6] = [
-        (
-            b"\x06\x00\x00\x00\x00",
-            Err(ShellError::BadId { offset: 0, id: 6 }),
-        ),
-        (
-            b"\xff\xff\xff\xff\xff",
-            Err(ShellError::BadId { offset: 0, id: 255 }),
-        ),
-        (
-            b"\x01\x02\x00\x00\x00ok\x09\x00\x00\x00\x00",
-            Err(ShellError::BadId { offset: 7, id: 9 }),
-        ),
-        (
-            b"\x00\x01\x00\x10\x00",
-            Err(ShellError::TooLong {
-                offset: 0,
-                length: 1_048_577,
-            }),
-        ),
-        (
-            b"\x04\x00\x00\x00\x00\x02\xff\xff\xff\xff",
-            Err(ShellError::TooLong {
-                offset: 5,
-                length: 4_294_967_295,
-            }),
-        ),
-        (b"\x01\x00\x00\x10\x00", Ok(())),
-    ];
-    for (bytes, answer) in cases {
-        assert!(rt; !bytes.is_empty());
-        let mut reader = ShellReader::new(rt.alloc());
-        reader.feed(&bytes[..bytes.len() - 1])?;
-        assert_eq!(rt; reader.feed(&bytes[bytes.len() - 1..]), answer);
-        assert_eq!(rt; reader.feed(b""), answer);
-        assert_eq!(rt; reader.next().is_some(), bytes.len() > 5);
-        assert!(rt; reader.next().is_none());
+fn packets_are_written_and_come_whole_however_cut(rt: HostRuntime) -> Result<(), Fail> {
+    assert!(rt; are_written(rt.alloc())?);
+    for at in 0..=STREAM.len() {
+        assert!(rt; come(rt.alloc(), at), "cut at {at}");
     }
     Ok(())
+}
+
+/// Bytes, and what the last one is answered.
+type Row = (&'static [u8], Result<(), ShellError>);
+
+const REFUSED: &[Row] = &[
+    (
+        b"\x06\x00\x00\x00\x00",
+        Err(ShellError::BadId { offset: 0, id: 6 }),
+    ),
+    (
+        b"\xff\xff\xff\xff\xff",
+        Err(ShellError::BadId { offset: 0, id: 255 }),
+    ),
+    (
+        b"\x01\x02\x00\x00\x00ok\x09\x00\x00\x00\x00",
+        Err(ShellError::BadId { offset: 7, id: 9 }),
+    ),
+    (
+        b"\x00\x01\x00\x10\x00",
+        Err(ShellError::TooLong {
+            offset: 0,
+            length: 1_048_577,
+        }),
+    ),
+    (
+        b"\x04\x00\x00\x00\x00\x02\xff\xff\xff\xff",
+        Err(ShellError::TooLong {
+            offset: 5,
+            length: 4_294_967_295,
+        }),
+    ),
+    (b"\x01\x00\x00\x10\x00", Ok(())),
+];
+
+/// Whether the last byte is answered so, and all that follows.
+fn refuses(reader: &mut ShellReader, row: &Row) -> bool {
+    let (front, last) = row.0.split_at(row.0.len().saturating_sub(1));
+    let taken = reader.feed(front).is_ok();
+    let answered = reader.feed(last) == row.1;
+    taken && answered && reader.feed(b"") == row.1
+}
+
+/// Whether that is so, and one packet came before at most.
+fn answers(alloc: Global, row: &Row) -> bool {
+    let mut reader = ShellReader::new(alloc);
+    let refused = refuses(&mut reader, row);
+    let came = reader.next().is_some() == (row.0.len() > 5);
+    refused && came && reader.next().is_none()
+}
+
+#[test]
+fn bad_packets_are_refused(rt: HostRuntime) {
+    for row in REFUSED {
+        assert!(rt; answers(rt.alloc(), row), "{:?}", row.0);
+    }
 }

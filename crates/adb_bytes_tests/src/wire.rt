@@ -1,12 +1,11 @@
 //! Packets byte for byte, and streams in pieces.
 
-ghost use Rattle.std.specs.Prelude.{◌<◌, ◌≤◌, length};
+ghost use Rattle.std.specs.Prelude.{◌≤◌, length, IfOk};
 
 use adb_outside::Text;
 use adb_wire::*;
 use bytes::Bytes;
 use std::alloc::{AllocError, Global};
-use std::process::Abort;
 use std::test::Fail;
 
 /// What the server says first: version 0x01000001, 1,048,576 bytes at most, and what it can do.
@@ -39,240 +38,363 @@ const WRONG_SYNC: &[u8] =
 const LONG_WRITE: &[u8] =
     b"WRTE\x07\x00\x00\x00\x01\x00\x00\x00\x01\x00\x10\x00\x00\x00\x00\x00\xa8\xad\xab\xba";
 
-/// The bytes of a packet.
-fn spelled(
-    alloc: Global,
+/// All of that stream but its last byte.
+const CUT_OPEN: &[u8] =
+    b"OPEN\x01\x00\x00\x00\x00\x00\x00\x00\x0e\x00\x00\x00\x00\x00\x00\x00\xb0\xaf\xba\xb1shell:echo hi";
+
+/// A packet, whether its bytes are summed, and how it is spelled.
+#[derive(Clone, Copy, Drop)]
+struct Spelling {
     command: Command,
     args: [u32; 2],
-    payload: &[u8],
+    payload: &'static [u8],
     sums: bool,
-) -> Result<Text, AllocError>
-    requires { length payload.now ≤ MAX_PAYLOAD }
-{
-    let packet = Packet {
-        command,
-        arg0: args[0],
-        arg1: args[1],
-        payload: Bytes::copy_from_slice(alloc, payload)?,
-    };
-    let mut out = Text::new(alloc);
-    frame(alloc, &packet, sums, &mut out)?;
-    Ok(out)
+    bytes: &'static [u8],
 }
 
-/// The first packet of some bytes.
-fn first_in(alloc: Global, bytes: &[u8]) -> Result<Packet, Fail> {
+const SPELLINGS: &[Spelling] = &[
+    Spelling {
+        command: Command::Cnxn,
+        args: [0x0100_0001, 1_048_576],
+        payload: b"host::features=shell_v2",
+        sums: true,
+        bytes: CONNECT,
+    },
+    Spelling {
+        command: Command::Open,
+        args: [1, 0],
+        payload: b"shell:echo hi\x00",
+        sums: false,
+        bytes: OPEN,
+    },
+    Spelling {
+        command: Command::Okay,
+        args: [0x0403_0201, 7],
+        payload: b"",
+        sums: true,
+        bytes: b"OKAY\x01\x02\x03\x04\x07\x00\x00\x00\x00\x00\x00\x00\x00\x00\x00\x00\xb0\xb4\xbe\xa6",
+    },
+    Spelling {
+        command: Command::Wrte,
+        args: [7, 1],
+        payload: b"hi\n",
+        sums: true,
+        bytes: b"WRTE\x07\x00\x00\x00\x01\x00\x00\x00\x03\x00\x00\x00\xdb\x00\x00\x00\xa8\xad\xab\xbahi\n",
+    },
+    Spelling {
+        command: Command::Clse,
+        args: [1, 2],
+        payload: b"",
+        sums: false,
+        bytes: b"CLSE\x01\x00\x00\x00\x02\x00\x00\x00\x00\x00\x00\x00\x00\x00\x00\x00\xbc\xb3\xac\xba",
+    },
+    Spelling {
+        command: Command::Auth,
+        args: [1, 0],
+        payload: b"",
+        sums: false,
+        bytes: b"AUTH\x01\x00\x00\x00\x00\x00\x00\x00\x00\x00\x00\x00\x00\x00\x00\x00\xbe\xaa\xab\xb7",
+    },
+    Spelling {
+        command: Command::Stls,
+        args: [1, 0],
+        payload: b"",
+        sums: false,
+        bytes: b"STLS\x01\x00\x00\x00\x00\x00\x00\x00\x00\x00\x00\x00\x00\x00\x00\x00\xac\xab\xb3\xac",
+    },
+];
+
+/// The packet of a row.
+fn packet_of(alloc: Global, row: &Spelling) -> Result<Packet, AllocError>
+    ensures { IfOk result (λ packet. length packet.payload ≤ length row.now.payload.now) }
+{
+    Ok(Packet {
+        command: row.command,
+        arg0: row.args[0],
+        arg1: row.args[1],
+        payload: Bytes::copy_from_slice(alloc, row.payload)?,
+    })
+}
+
+/// Adds how the packet of a row is spelled; nothing where its payload is too long.
+fn spell(alloc: Global, row: &Spelling, out: &mut Text) -> Result<(), AllocError> {
+    if row.payload.len() > MAX_PAYLOAD as usize {
+        return Ok(());
+    }
+    let packet = packet_of(alloc, row)?;
+    frame(alloc, &packet, row.sums, out)
+}
+
+fn is_spelled(alloc: Global, row: &Spelling) -> Result<bool, AllocError> {
+    let mut out = Text::new(alloc);
+    spell(alloc, row, &mut out)?;
+    Ok(out.as_slice() == row.bytes)
+}
+
+fn says(packet: &Packet, row: &Spelling) -> bool {
+    packet.command == row.command
+        && [packet.arg0, packet.arg1] == row.args
+        && packet.payload.as_slice() == row.payload
+}
+
+/// Whether the next packet is that of a row.
+fn gives(deframer: &mut Deframer, row: &Spelling) -> bool {
+    match deframer.next() {
+        Some(packet) => says(&packet, row),
+        None => false,
+    }
+}
+
+/// Whether the packet of a row is the first in its bytes.
+fn is_first(alloc: Global, row: &Spelling) -> Result<bool, WireError> {
     let mut deframer = Deframer::new(alloc);
-    deframer.feed(bytes)?;
-    Ok(deframer.next().ok_or("no packet")?)
+    deframer.feed(row.bytes)?;
+    Ok(gives(&mut deframer, row))
 }
 
 #[test]
 fn packets_are_spelled(rt: HostRuntime) -> Result<(), Fail> {
-    let rows: [(Command, [u32; 2], bool, &[u8], &[u8]); 7] = [
-        (
-            Command::Cnxn,
-            [0x0100_0001, 1_048_576],
-            true,
-            b"host::features=shell_v2",
-            CONNECT,
-        ),
-        (Command::Open, [1, 0], false, b"shell:echo hi\x00", OPEN),
-        (
-            Command::Okay,
-            [0x0403_0201, 7],
-            true,
-            b"",
-            b"OKAY\x01\x02\x03\x04\x07\x00\x00\x00\x00\x00\x00\x00\x00\x00\x00\x00\xb0\xb4\xbe\xa6",
-        ),
-        (
-            Command::Wrte,
-            [7, 1],
-            true,
-            b"hi\n",
-            b"WRTE\x07\x00\x00\x00\x01\x00\x00\x00\x03\x00\x00\x00\xdb\x00\x00\x00\xa8\xad\xab\xbahi\n",
-        ),
-        (
-            Command::Clse,
-            [1, 2],
-            false,
-            b"",
-            b"CLSE\x01\x00\x00\x00\x02\x00\x00\x00\x00\x00\x00\x00\x00\x00\x00\x00\xbc\xb3\xac\xba",
-        ),
-        (
-            Command::Auth,
-            [1, 0],
-            false,
-            b"",
-            b"AUTH\x01\x00\x00\x00\x00\x00\x00\x00\x00\x00\x00\x00\x00\x00\x00\x00\xbe\xaa\xab\xb7",
-        ),
-        (
-            Command::Stls,
-            [1, 0],
-            false,
-            b"",
-            b"STLS\x01\x00\x00\x00\x00\x00\x00\x00\x00\x00\x00\x00\x00\x00\x00\x00\xac\xab\xb3\xac",
-        ),
-    ];
-    for (command, args, sums, payload, bytes) in rows {
-        assert!(rt; payload.len() <= 1_048_576);
-        let out = spelled(rt.alloc(), command, args, payload, sums)?;
-        assert_eq!(rt; out.as_slice(), bytes);
-        let back = first_in(rt.alloc(), bytes)?;
-        assert_eq!(rt; (back.command, [back.arg0, back.arg1]), (command, args));
-        assert_eq!(rt; back.payload.as_slice(), payload);
+    for row in SPELLINGS {
+        assert!(rt; is_spelled(rt.alloc(), row)?, "{:?}", row.bytes);
+        assert!(rt; is_first(rt.alloc(), row)?, "{:?}", row.bytes);
     }
     Ok(())
 }
 
+const OPEN_HEAD: Head = Head {
+    command: Command::Open,
+    arg0: 1,
+    arg1: 0,
+    length: 14,
+    check: 0,
+};
+
 #[test]
 fn headers_are_spelled(rt: HostRuntime) {
-    let head = Head {
-        command: Command::Open,
-        arg0: 1,
-        arg1: 0,
-        length: 14,
-        check: 0,
-    };
     let mut bytes = [0; HEADER_LEN];
-    header(&head, &mut bytes);
-    assert_eq!(rt; bytes.as_slice(), &OPEN[..24]);
-    assert_eq!(rt; read_header(&bytes), Ok(head));
-    assert_eq!(rt; byte_sum(b"host::features=shell_v2"), 2285);
+    header(&OPEN_HEAD, &mut bytes);
+    assert!(rt; bytes.as_slice() == &OPEN[..24]);
+    assert!(rt; read_header(&bytes) == Ok(OPEN_HEAD));
+    assert!(rt; byte_sum(b"host::features=shell_v2") == 2285);
 }
 
-/// Feeds the stream in pieces of that many bytes. Counts the packets, and keeps the last answer.
-fn packets_in(alloc: Global, stream: &[u8], piece: usize) -> (usize, Result<(), WireError>)
-    requires { 0 < piece }
-{
-    let mut deframer = Deframer::new(alloc);
+/// Parts of a stream, how many packets are in it, and what its last piece is answered.
+#[derive(Clone, Copy, Drop)]
+struct Stream {
+    name: &'static str,
+    parts: [&'static [u8]; 3],
+    count: usize,
+    answer: Result<(), WireError>,
+}
+
+const BAD_SUM: WireError = WireError::BadSum {
+    said: 0xda,
+    is: 0xdb,
+};
+
+const STREAMS: &[Stream] = &[
+    Stream {
+        name: "a new link has no sums",
+        parts: [CONNECT, OPEN, WRITE],
+        count: 3,
+        answer: Ok(()),
+    },
+    Stream {
+        name: "an old link becomes new",
+        parts: [OLD_CONNECT, CONNECT, WRITE],
+        count: 3,
+        answer: Ok(()),
+    },
+    Stream {
+        name: "a packet is not whole",
+        parts: [CONNECT, WRITE, CUT_OPEN],
+        count: 2,
+        answer: Ok(()),
+    },
+    Stream {
+        name: "a wrong sum on an old link",
+        parts: [OLD_CONNECT, WRITE, CONNECT],
+        count: 1,
+        answer: Err(BAD_SUM),
+    },
+    Stream {
+        name: "a wrong sum of who connects",
+        parts: [OPEN, WRONG_CONNECT, OPEN],
+        count: 1,
+        answer: Err(WireError::BadSum { said: 1, is: 2285 }),
+    },
+    Stream {
+        name: "an unknown command",
+        parts: [CONNECT, SYNC, OPEN],
+        count: 1,
+        answer: Err(WireError::Broken(HeadFault::UnknownCommand(0x434e_5953))),
+    },
+    Stream {
+        name: "a wrong magic",
+        parts: [CONNECT, WRONG_SYNC, OPEN],
+        count: 1,
+        answer: Err(WireError::Broken(HeadFault::BadMagic {
+            command: 0x434e_5953,
+            magic: 0xbcb1_a6ad,
+        })),
+    },
+    Stream {
+        name: "a byte too many",
+        parts: [LONG_WRITE, OPEN, OPEN],
+        count: 0,
+        answer: Err(WireError::Broken(HeadFault::TooLong(1_048_577))),
+    },
+];
+
+/// The lengths of the pieces that a stream comes in.
+const PIECES: &[usize] = &[1, 23, 24, 25, 47, 200];
+
+fn add_all(parts: &[&[u8]], stream: &mut Vec<u8>) -> Result<(), AllocError> {
+    for part in parts {
+        stream.extend_from_slice(part)?;
+    }
+    Ok(())
+}
+
+fn joined(alloc: Global, parts: &[&[u8]]) -> Result<Vec<u8>, AllocError> {
+    let mut stream = Vec::new(alloc);
+    add_all(parts, &mut stream)?;
+    Ok(stream)
+}
+
+/// Takes the packets that are whole, and counts them.
+fn take_all(deframer: &mut Deframer) -> usize {
+    let mut count = 0usize;
+    while deframer.next().is_some() {
+        count = count.wrapping_add(1);
+    }
+    count
+}
+
+/// Feeds a stream in pieces of that many bytes. Counts the packets, and keeps the last answer.
+fn feed(deframer: &mut Deframer, stream: &[u8], piece: usize) -> (usize, Result<(), WireError>) {
     let mut answer = Ok(());
     let mut count = 0usize;
-    for bytes in stream.chunks(piece) {
+    for bytes in stream.chunks(piece.max(1)) {
         answer = deframer.feed(bytes);
-        while deframer.next().is_some() {
-            count = count.wrapping_add(1);
-        }
+        count = count.wrapping_add(take_all(deframer));
     }
     (count, answer)
 }
 
+/// Whether a stream is cut as its row says, in pieces of that many bytes.
+fn is_cut(alloc: Global, row: &Stream, piece: usize) -> Result<bool, AllocError> {
+    let stream = joined(alloc, &row.parts)?;
+    let mut deframer = Deframer::new(alloc);
+    Ok(feed(&mut deframer, &stream, piece) == (row.count, row.answer))
+}
+
 #[test]
 fn streams_in_any_pieces(rt: HostRuntime) -> Result<(), Fail> {
-    let old_sync = HeadFault::UnknownCommand(0x434e_5953);
-    let wrong_magic = HeadFault::BadMagic {
-        command: 0x434e_5953,
-        magic: 0xbcb1_a6ad,
-    };
-    let (said, is) = (0xda, 0xdb);
-    let rows: [([&[u8]; 3], usize, Result<(), WireError>); 8] = [
-        ([CONNECT, OPEN, WRITE], 3, Ok(())),
-        ([OLD_CONNECT, CONNECT, WRITE], 3, Ok(())),
-        ([CONNECT, WRITE, &OPEN[..37]], 2, Ok(())),
-        (
-            [OLD_CONNECT, WRITE, CONNECT],
-            1,
-            Err(WireError::BadSum { said, is }),
-        ),
-        (
-            [OPEN, WRONG_CONNECT, OPEN],
-            1,
-            Err(WireError::BadSum { said: 1, is: 2285 }),
-        ),
-        ([CONNECT, SYNC, OPEN], 1, Err(WireError::Broken(old_sync))),
-        (
-            [CONNECT, WRONG_SYNC, OPEN],
-            1,
-            Err(WireError::Broken(wrong_magic)),
-        ),
-        (
-            [LONG_WRITE, OPEN, OPEN],
-            0,
-            Err(WireError::Broken(HeadFault::TooLong(1_048_577))),
-        ),
-    ];
-    for (parts, count, answer) in rows {
-        let mut stream = parts[0].to_vec(rt.alloc())?;
-        stream.extend_from_slice(parts[1])?;
-        stream.extend_from_slice(parts[2])?;
-        for piece in [1, 23, 24, 25, 47, 200] {
-            assert_eq!(rt;
-                packets_in(rt.alloc(), stream.as_slice(), piece),
-                (count, answer)
-            );
+    for row in STREAMS {
+        for &piece in PIECES {
+            assert!(rt; is_cut(rt.alloc(), row, piece)?, "{} by {piece}", row.name);
         }
     }
     Ok(())
+}
+
+fn add_many(stream: &mut Vec<u8>) -> Result<(), AllocError> {
+    for _ in 0..20_000 {
+        add_all(&[OPEN, WRITE], stream)?;
+    }
+    Ok(())
+}
+
+/// How many packets of many come, in pieces of that many bytes.
+fn packets_of_many(alloc: Global, piece: usize) -> Result<usize, AllocError> {
+    let mut stream = Vec::new(alloc);
+    add_many(&mut stream)?;
+    let mut deframer = Deframer::new(alloc);
+    let (count, answer) = feed(&mut deframer, &stream, piece);
+    Ok(if answer.is_ok() { count } else { 0 })
 }
 
 #[test]
 fn a_megabyte_takes_no_long_time(rt: HostRuntime) -> Result<(), Fail> {
-    let mut stream = Vec::new(rt.alloc());
-    for _ in 0..20_000 {
-        stream.extend_from_slice(OPEN)?;
-        stream.extend_from_slice(WRITE)?;
-    }
-    assert_eq!(rt;
-        packets_in(rt.alloc(), stream.as_slice(), 1),
-        (40_000, Ok(()))
-    );
-    assert_eq!(rt;
-        packets_in(rt.alloc(), stream.as_slice(), 65_536),
-        (40_000, Ok(()))
-    );
+    assert!(rt; packets_of_many(rt.alloc(), 1)? == 40_000);
+    assert!(rt; packets_of_many(rt.alloc(), 65_536)? == 40_000);
     Ok(())
+}
+
+/// Pieces of a stream, and how many bytes are missing behind each.
+const MISSING: &[(&[u8], usize)] = &[
+    (
+        b"OPEN\x01\x00\x00\x00\x00\x00\x00\x00\x0e\x00\x00\x00\x00\x00\x00\x00",
+        4,
+    ),
+    (b"\xb0\xaf\xba\xb1shell:echo hi", 1),
+    (b"\x00", 24),
+    (OLD_CONNECT, 24),
+    (
+        b"WRTE\x07\x00\x00\x00\x01\x00\x00\x00\x03\x00\x00\x00\xda\x00\x00\x00\xa8\xad\xab\xbahi",
+        1,
+    ),
+];
+
+/// Whether so many bytes are missing behind a piece.
+fn misses(deframer: &mut Deframer, piece: &[u8], missing: usize) -> bool {
+    deframer.feed(piece).is_ok() && deframer.missing() == missing
 }
 
 #[test]
-fn missing_bytes_are_counted(rt: HostRuntime) -> Result<(), Fail> {
+fn missing_bytes_are_counted(rt: HostRuntime) {
     let mut deframer = Deframer::new(rt.alloc());
-    for (piece, missing) in [
-        (&OPEN[..20], 4),
-        (&OPEN[20..37], 1),
-        (&OPEN[37..], 24),
-        (OLD_CONNECT, 24),
-        (&WRITE[..26], 1),
-    ] {
-        deframer.feed(piece)?;
-        assert_eq!(rt; deframer.missing(), missing);
+    for &(piece, missing) in MISSING {
+        assert!(rt; misses(&mut deframer, piece, missing), "{piece:?}");
     }
-    let (said, is) = (0xda, 0xdb);
-    assert_eq!(rt; deframer.feed(b"\n"), Err(WireError::BadSum { said, is }));
-    assert_eq!(rt; deframer.missing(), usize::MAX);
-    Ok(())
+    assert!(rt; deframer.feed(b"\n") == Err(BAD_SUM));
+    assert!(rt; deframer.missing() == usize::MAX);
 }
 
-/// The slices of a stream that comes in pieces of that many bytes, and what is held then.
-fn slices_in(alloc: Global, stream: &[u8], piece: usize) -> Result<(Vec<Text>, Text), AllocError> {
-    let mut slicer = Slicer::new(alloc)?;
-    let mut slices = Vec::new(alloc);
+/// The slices of a stream.
+const SLICES: &[&[u8]] = &[CONNECT, WRITE, SYNC, LONG_WRITE, OPEN];
+
+/// The stream, at whose end is no whole one.
+const SLICED: &[&[u8]] = &[CONNECT, WRITE, SYNC, LONG_WRITE, OPEN, CUT_OPEN];
+
+/// Gives a slicer pieces of that many bytes until it has a slice. What is left of the stream.
+fn past_slice<'a>(slicer: &mut Slicer, stream: &'a [u8], piece: usize) -> &'a [u8] {
     let mut rest = stream;
     for _ in stream {
         let taken = slicer.take(&rest[..rest.len().min(piece)]);
         rest = &rest[taken..];
-        if let Some(slice) = slicer.whole() {
-            slices.push(Text::from_slice(alloc, slice)?)?;
-            slicer.clear();
+        if slicer.whole().is_some() {
+            return rest;
         }
     }
-    Ok((slices, Text::from_slice(alloc, slicer.held())?))
+    rest
+}
+
+/// Whether a stream in pieces of that many bytes has just these slices.
+fn slices(slicer: &mut Slicer, stream: &[u8], piece: usize) -> bool {
+    let mut rest = stream;
+    for &slice in SLICES {
+        rest = past_slice(slicer, rest, piece);
+        if slicer.whole() != Some(slice) {
+            return false;
+        }
+        slicer.clear();
+    }
+    past_slice(slicer, rest, piece).is_empty() && slicer.whole().is_none()
+}
+
+fn is_sliced(alloc: Global, piece: usize) -> Result<bool, AllocError> {
+    let stream = joined(alloc, SLICED)?;
+    let mut slicer = Slicer::new(alloc)?;
+    Ok(slices(&mut slicer, &stream, piece) && slicer.held() == CUT_OPEN)
 }
 
 #[test]
 fn slices_in_any_pieces(rt: HostRuntime) -> Result<(), Fail> {
-    let parts = [CONNECT, WRITE, SYNC, LONG_WRITE, OPEN, &OPEN[..37]];
-    let mut stream = Vec::new(rt.alloc());
-    for part in parts {
-        stream.extend_from_slice(part)?;
+    for &piece in PIECES {
+        assert!(rt; is_sliced(rt.alloc(), piece)?, "by {piece}");
     }
-    for piece in [1, 23, 24, 25, 47, 200] {
-        let (slices, held) = slices_in(rt.alloc(), stream.as_slice(), piece)?;
-        assert_eq!(rt; slices.len(), 5);
-        for (slice, part) in slices.iter().zip(parts) {
-            assert_eq!(rt; slice.as_slice(), part);
-        }
-        assert_eq!(rt; held.as_slice(), &OPEN[..37]);
-    }
-    assert_eq!(rt; MAX_PACKET, 1_048_600);
+    assert!(rt; MAX_PACKET == 1_048_600);
     Ok(())
 }
