@@ -92,6 +92,11 @@ fn answers(alloc: Global, files: &mut Files, row: &Row) -> Result<bool, AllocErr
     Ok(told && answer == row.1 && is_next(files, row.0, row.3))
 }
 
+/// Whether a file that is too large is refused.
+fn refuses_more(alloc: Global, files: &mut Files) -> Result<bool, AllocError> {
+    Ok(put(alloc, files, b"/a", 268_435_456)? == Err(FileError::NoSpace))
+}
+
 /// Whether a file is gone once it is removed, and its directory with it.
 fn is_removed(files: &mut Files) -> bool {
     let removed = files.remove(b"/d/e") == Ok(());
@@ -100,12 +105,11 @@ fn is_removed(files: &mut Files) -> bool {
 
 #[test]
 fn a_map_of_files(rt: HostRuntime) -> Result<(), Fail> {
-    let alloc = rt.alloc();
-    let mut files = Files::new(alloc);
+    let mut files = Files::new(rt.alloc());
     for row in PATHS {
-        assert!(rt; answers(alloc, &mut files, row)?, "at {:?}", row.0);
+        assert!(rt; answers(rt.alloc(), &mut files, row)?, "at {:?}", row.0);
     }
-    assert!(rt; put(alloc, &mut files, b"/a", 268_435_456)? == Err(FileError::NoSpace));
+    assert!(rt; refuses_more(rt.alloc(), &mut files)?);
     assert!(rt; files.list(b"/")?.len() == 3);
     assert!(rt; is_removed(&mut files));
     Ok(())

@@ -1,7 +1,7 @@
 //! Lines, and what their sessions ask for, write and print, worked out by hand.
 
 use adb_outside::Text;
-use adb_script::{EchoLine, Script, ScriptError, ScriptLine};
+use adb_script::{EchoLine, Script, ScriptError, ScriptLine, SessionLine};
 use std::alloc::{AllocError, Global};
 use std::test::Fail;
 
@@ -54,13 +54,17 @@ fn first_bad(alloc: Global, script: &[u8]) -> u32 {
     }
 }
 
-/// The first line that is refused of a text so many times over, and then another.
-fn long_bad(alloc: Global, row: &(&[u8], usize, &[u8], u32)) -> Result<u32, AllocError> {
-    let mut script = Text::new(alloc);
+fn add_long(row: &(&[u8], usize, &[u8], u32), script: &mut Text) -> Result<(), AllocError> {
     for _ in 0..row.1 {
         script.push_slice(row.0)?;
     }
-    script.push_slice(row.2)?;
+    script.push_slice(row.2)
+}
+
+/// The first line that is refused of a text so many times over, and then another.
+fn long_bad(alloc: Global, row: &(&[u8], usize, &[u8], u32)) -> Result<u32, AllocError> {
+    let mut script = Text::new(alloc);
+    add_long(row, &mut script)?;
     Ok(first_bad(alloc, script.as_slice()))
 }
 
@@ -109,17 +113,40 @@ const PRINTED: &[(&[u8], &[u8], &[u8])] = &[
     (b"shell x", b"\x01\x01\0\0\0a", b""),
 ];
 
-/// Whether a line prints this of what its session was handed.
-fn prints(alloc: Global, line: &[u8], got: &[u8], want: &[u8]) -> Result<bool, AllocError> {
-    let script = Script::read(alloc, line).ok();
-    match script.as_ref().and_then(|script| script.lines().first()) {
-        Some(ScriptLine::Session(session)) => Ok(session.answer(alloc, got)?.as_slice() == want),
-        _ => Ok(false),
+/// The session of a script's first line.
+fn session<'a>(script: &'a Script<'_>) -> Option<&'a SessionLine<'a>> {
+    match script.lines().first() {
+        Some(ScriptLine::Session(session)) => Some(session),
+        _ => None,
+    }
+}
+
+/// Whether a session prints this of what it was handed.
+fn prints(
+    alloc: Global,
+    session: &SessionLine<'_>,
+    got: &[u8],
+    want: &[u8],
+) -> Result<bool, AllocError> {
+    let printed = session.answer(alloc, got)?;
+    Ok(printed.as_slice() == want)
+}
+
+/// Whether the session of a line prints this of what it was handed.
+fn is_printed(alloc: Global, line: &[u8], got: &[u8], want: &[u8]) -> Result<bool, AllocError> {
+    let Ok(script) = Script::read(alloc, line) else {
+        return Ok(false);
+    };
+    match session(&script) {
+        Some(session) => prints(alloc, session, got, want),
+        None => Ok(false),
     }
 }
 
 /// A line, its number, the service that its session asks for, and the text that it writes.
-const ASKED: &[(&[u8], u32, &[u8], &[u8])] = &[
+type Asked = (&'static [u8], u32, &'static [u8], &'static [u8]);
+
+const ASKED: &[Asked] = &[
     (
         b"push /a 3",
         2,
@@ -137,64 +164,71 @@ const ASKED: &[(&[u8], u32, &[u8], &[u8])] = &[
     ),
 ];
 
-/// Whether the session of a line asks for this service.
-fn asks_for(alloc: Global, line: &[u8], want: &[u8]) -> Result<bool, AllocError> {
-    let script = Script::read(alloc, line).ok();
-    match script.as_ref().and_then(|script| script.lines().first()) {
-        Some(ScriptLine::Session(session)) => Ok(session.service(alloc)?.as_slice() == want),
-        _ => Ok(false),
-    }
+/// Whether a session asks for the service of a row.
+fn asks_for(alloc: Global, session: &SessionLine<'_>, row: &Asked) -> Result<bool, AllocError> {
+    let service = session.service(alloc)?;
+    Ok(service.as_slice() == row.2)
 }
 
-/// Whether the session of a line writes this text.
-fn writes(alloc: Global, line: &[u8], number: u32, want: &[u8]) -> Result<bool, AllocError> {
-    let script = Script::read(alloc, line).ok();
-    match script.as_ref().and_then(|script| script.lines().first()) {
-        Some(ScriptLine::Session(session)) => Ok(session.text(alloc, number)?.as_slice() == want),
-        _ => Ok(false),
+/// Whether a session writes the text of a row.
+fn writes(alloc: Global, session: &SessionLine<'_>, row: &Asked) -> Result<bool, AllocError> {
+    let text = session.text(alloc, row.1)?;
+    Ok(text.as_slice() == row.3)
+}
+
+/// Whether the session of a line asks for its service, and writes its text.
+fn is_asked(alloc: Global, row: &Asked) -> Result<bool, AllocError> {
+    let Ok(script) = Script::read(alloc, row.0) else {
+        return Ok(false);
+    };
+    match session(&script) {
+        Some(session) => Ok(asks_for(alloc, session, row)? && writes(alloc, session, row)?),
+        None => Ok(false),
     }
 }
 
 #[test]
-fn sessions(rt: HostRuntime) -> Result<(), Fail> {
-    let alloc = rt.alloc();
+fn sessions_are_printed(rt: HostRuntime) -> Result<(), Fail> {
     for &(line, got, want) in PRINTED {
-        assert!(rt; prints(alloc, line, got, want)?, "line {line:?}");
-    }
-    for &(line, number, service, text) in ASKED {
-        assert!(rt; asks_for(alloc, line, service)?, "line {line:?}");
-        assert!(rt; writes(alloc, line, number, text)?, "line {line:?}");
+        assert!(rt; is_printed(rt.alloc(), line, got, want)?, "line {line:?}");
     }
     Ok(())
 }
 
-/// Whether a stream of an echo of four bytes sends these.
+#[test]
+fn sessions_ask(rt: HostRuntime) -> Result<(), Fail> {
+    for row in ASKED {
+        assert!(rt; is_asked(rt.alloc(), row)?, "line {:?}", row.0);
+    }
+    Ok(())
+}
+
+const ECHO: EchoLine = EchoLine {
+    streams: 64,
+    size: 4,
+};
+
+/// Whether a stream of the echo sends these.
 fn sends(alloc: Global, stream: u32, want: &[u8]) -> Result<bool, AllocError> {
-    let echo = EchoLine {
-        streams: 64,
-        size: 4,
-    };
-    Ok(
-        echo.text(alloc, stream)?.as_slice() == want
-            && echo.is_echoed(stream, want)
-            && !echo.is_echoed(0, want),
-    )
+    let sent = ECHO.text(alloc, stream)?;
+    Ok(sent.as_slice() == want)
 }
 
 /// Whether the echo prints this.
 fn echoes(alloc: Global, want: &[u8]) -> Result<bool, AllocError> {
-    let echo = EchoLine {
-        streams: 64,
-        size: 4,
-    };
-    Ok(echo.answer(alloc)?.as_slice() == want)
+    let printed = ECHO.answer(alloc)?;
+    Ok(printed.as_slice() == want)
 }
+
+/// Streams of the echo, and what each sends.
+const SENT: &[(u32, &[u8])] = &[(2, b"\x02\x03\x04\x05"), (249, b"\xf9\xfa\0\x01")];
 
 #[test]
 fn echo(rt: HostRuntime) -> Result<(), Fail> {
-    let alloc = rt.alloc();
-    assert!(rt; sends(alloc, 2, b"\x02\x03\x04\x05")?);
-    assert!(rt; sends(alloc, 249, b"\xf9\xfa\0\x01")?);
-    assert!(rt; echoes(alloc, b"echo 64 4 ok\n")?);
+    for &(stream, bytes) in SENT {
+        assert!(rt; sends(rt.alloc(), stream, bytes)?, "stream {stream}");
+        assert!(rt; ECHO.is_echoed(stream, bytes) && !ECHO.is_echoed(0, bytes));
+    }
+    assert!(rt; echoes(rt.alloc(), b"echo 64 4 ok\n")?);
     Ok(())
 }

@@ -1,5 +1,7 @@
 //! Each command and each refusal in both modes, and `cat` of its input.
 
+ghost use Rattle.std.specs.Prelude.{◌<◌, ◌^◌, length};
+
 use adb_files::{File, Files};
 use adb_outside::Text;
 use adb_shell_service::ShellService;
@@ -41,18 +43,22 @@ const CASES: &[Case] = &[
     (b"echo\thi", b"", b"echo\thi: not found\n", 127),
 ];
 
-/// The files `/a` and `/d/f`, of two bytes each.
-fn two_files(alloc: Global) -> Result<Files, Fail> {
-    let mut files = Files::new(alloc);
-    for path in [b"/a".as_slice(), b"/d/f"] {
-        let file = File {
-            mode: 33_188,
-            mtime: 1,
-            bytes: Text::from_slice(alloc, b"hi")?,
-        };
-        files.put(path, file)?;
-    }
-    Ok(files)
+/// Puts a file of two bytes.
+fn put_file(alloc: Global, path: &[u8], files: &mut Files) -> Result<(), Fail>
+    requires { length path.now < 2 ^ 32 }
+{
+    let file = File {
+        mode: 33_188,
+        mtime: 1,
+        bytes: Text::from_slice(alloc, b"hi")?,
+    };
+    Ok(files.put(path, file)?)
+}
+
+/// Puts the files `/a` and `/d/f`.
+fn put_two_files(alloc: Global, files: &mut Files) -> Result<(), Fail> {
+    put_file(alloc, b"/a", files)?;
+    put_file(alloc, b"/d/f", files)
 }
 
 /// Adds a packet of fewer than 256 bytes, where there are any.
@@ -70,12 +76,10 @@ fn plain_answer(alloc: Global, case: &Case) -> Result<Text, AllocError> {
     Ok(answer)
 }
 
-fn packet_answer(alloc: Global, case: &Case) -> Result<Text, AllocError> {
-    let mut answer = Text::new(alloc);
-    add_packet(1, case.1, &mut answer)?;
-    add_packet(2, case.2, &mut answer)?;
-    add_packet(3, &[case.3], &mut answer)?;
-    Ok(answer)
+fn add_packets(case: &Case, answer: &mut Text) -> Result<(), AllocError> {
+    add_packet(1, case.1, answer)?;
+    add_packet(2, case.2, answer)?;
+    add_packet(3, &[case.3], answer)
 }
 
 /// Whether a service has ended with this answer.
@@ -101,7 +105,8 @@ fn answers_plainly(alloc: Global, files: &mut Files, case: &Case) -> Result<bool
 }
 
 fn answers_in_packets(alloc: Global, files: &mut Files, case: &Case) -> Result<bool, AllocError> {
-    let answer = packet_answer(alloc, case)?;
+    let mut answer = Text::new(alloc);
+    add_packets(case, &mut answer)?;
     is_answered(alloc, files, true, case.0, answer.as_slice())
 }
 
@@ -109,24 +114,26 @@ fn answers_in_packets(alloc: Global, files: &mut Files, case: &Case) -> Result<b
 fn drops_its_input(alloc: Global, files: &mut Files) -> Result<bool, AllocError> {
     let mut service = ShellService::open(alloc, files, false, b"cat")?;
     service.feed(b"dropped")?;
-    Ok(service.ended() && service.out().is_empty())
+    Ok(has_answered(&service, b""))
+}
+
+/// Whether `rm` removes just the file that it names.
+fn removes(alloc: Global, files: &mut Files) -> Result<bool, AllocError> {
+    let answered = is_answered(alloc, files, false, b"rm /a", b"")?;
+    Ok(answered && files.get(b"/a").is_none() && files.get(b"/d/f").is_some())
 }
 
 #[test]
 fn commands_answer_in_both_modes(rt: HostRuntime) -> Result<(), Fail> {
-    let alloc = rt.alloc();
-    let mut files = two_files(alloc)?;
+    let mut files = Files::new(rt.alloc());
+    put_two_files(rt.alloc(), &mut files)?;
     for case in CASES {
-        assert!(rt; answers_plainly(alloc, &mut files, case)?, "{:?}", case.0);
-        assert!(rt;
-            answers_in_packets(alloc, &mut files, case)?,
-            "{:?}",
-            case.0
-        );
+        let plainly = answers_plainly(rt.alloc(), &mut files, case)?;
+        let in_packets = answers_in_packets(rt.alloc(), &mut files, case)?;
+        assert!(rt; plainly && in_packets, "{:?}", case.0);
     }
-    assert!(rt; drops_its_input(alloc, &mut files)?);
-    assert!(rt; is_answered(alloc, &mut files, false, b"rm /a", b"")?);
-    assert!(rt; files.get(b"/a").is_none() && files.get(b"/d/f").is_some());
+    assert!(rt; drops_its_input(rt.alloc(), &mut files)?);
+    assert!(rt; removes(rt.alloc(), &mut files)?);
     Ok(())
 }
 
@@ -142,33 +149,34 @@ const ENDS: &[(&[u8], &[u8])] = &[
     (b"\0\x01\0\x10\0", b""),
 ];
 
-fn joined(alloc: Global, front: &[u8], back: &[u8]) -> Result<Text, AllocError> {
-    let mut text = Text::from_slice(alloc, front)?;
-    text.push_slice(back)?;
-    Ok(text)
-}
-
-/// The service of ` cat ` in packets, that was fed these a byte at a time.
-fn fed(alloc: Global, packets: &[u8]) -> Result<ShellService, AllocError> {
-    let mut service = ShellService::open(alloc, &mut Files::new(alloc), true, b" cat ")?;
+/// Feeds a service these a byte at a time.
+fn feed(service: &mut ShellService, packets: &[u8]) -> Result<(), AllocError> {
     for piece in packets.chunks(1) {
         service.feed(piece)?;
     }
-    Ok(service)
+    Ok(())
 }
 
-/// Takes the first seven bytes of an answer, and tells how many are left.
-fn left_behind_seven(service: &mut ShellService) -> usize {
-    service.taken(7.min(service.out().len()));
-    service.out().len()
+/// Whether a service has ended, which wrote what `cat` writes and then this.
+fn has_written(service: &ShellService, end: &[u8]) -> bool {
+    let out = service.out();
+    let (front, back) = out.split_at(WRITTEN.len().min(out.len()));
+    service.ended() && front == WRITTEN && back == end
 }
 
+/// Whether just the first seven bytes are gone once they are taken.
+fn gives_seven(service: &mut ShellService) -> bool {
+    let count = service.out().len();
+    service.taken(7.min(count));
+    service.out().len() == count.saturating_sub(7)
+}
+
+/// Whether ` cat ` in packets writes back what it is fed.
 fn is_written_back(alloc: Global, end: &(&[u8], &[u8])) -> Result<bool, AllocError> {
-    let packets = joined(alloc, FED, end.0)?;
-    let answer = joined(alloc, WRITTEN, end.1)?;
-    let mut service = fed(alloc, packets.as_slice())?;
-    let whole = has_answered(&service, answer.as_slice());
-    Ok(whole && left_behind_seven(&mut service) == answer.len().saturating_sub(7))
+    let mut service = ShellService::open(alloc, &mut Files::new(alloc), true, b" cat ")?;
+    feed(&mut service, FED)?;
+    feed(&mut service, end.0)?;
+    Ok(has_written(&service, end.1) && gives_seven(&mut service))
 }
 
 #[test]
@@ -179,16 +187,14 @@ fn input_is_written_back(rt: HostRuntime) -> Result<(), Fail> {
     Ok(())
 }
 
-/// The file `/big`, of 65,537 bytes.
-fn big_file(alloc: Global) -> Result<Files, Fail> {
-    let mut files = Files::new(alloc);
+/// Puts the file `/big`, of 65,537 bytes.
+fn put_big_file(alloc: Global, files: &mut Files) -> Result<(), Fail> {
     let file = File {
         mode: 33_188,
         mtime: 1,
         bytes: Text::from_vec(vec![in alloc; 7; 65_537]?),
     };
-    files.put(b"/big", file)?;
-    Ok(files)
+    Ok(files.put(b"/big", file)?)
 }
 
 /// Whether these are a packet of 65,536 bytes, one of a byte, and the status.
@@ -205,7 +211,8 @@ fn big_file_is_cut(alloc: Global, files: &mut Files) -> Result<bool, AllocError>
 
 #[test]
 fn output_comes_in_packets_of_65_536_bytes(rt: HostRuntime) -> Result<(), Fail> {
-    let mut files = big_file(rt.alloc())?;
+    let mut files = Files::new(rt.alloc());
+    put_big_file(rt.alloc(), &mut files)?;
     assert!(rt; big_file_is_cut(rt.alloc(), &mut files)?);
     Ok(())
 }

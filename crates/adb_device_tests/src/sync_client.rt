@@ -1,7 +1,7 @@
 //! Machines against answers that were worked out by hand, byte by byte.
 
 use adb_outside::Text;
-use adb_sync_client::{List, Pull, Push, Stat, Step};
+use adb_sync_client::{Entries, List, Pull, Push, Stat, Step};
 use std::alloc::{AllocError, Global};
 use std::test::Fail;
 
@@ -15,20 +15,30 @@ fn shown<V: Drop>(step: &Step<V>) -> (char, u64) {
     }
 }
 
-fn pushed(alloc: Global, answer: &[u8]) -> Result<(char, u64), AllocError> {
-    let mut push = Push::new(alloc, b"/n", 420, 5, b"ab")?;
+/// What the last step of a push is that is answered byte by byte.
+fn feed_push(push: &mut Push, answer: &[u8]) -> Result<(char, u64), AllocError> {
     for piece in answer.chunks(1) {
         push.feed(piece)?;
     }
     Ok(shown(&push.feed(b"")?))
 }
 
-fn pulled(alloc: Global, answer: &[u8]) -> Result<(char, u64), AllocError> {
-    let mut pull = Pull::new(alloc, b"/n")?;
+fn pushed(alloc: Global, answer: &[u8]) -> Result<(char, u64), AllocError> {
+    let mut push = Push::new(alloc, b"/n", 420, 5, b"ab")?;
+    feed_push(&mut push, answer)
+}
+
+/// What the last step of a pull is that is answered byte by byte.
+fn feed_pull(pull: &mut Pull, answer: &[u8]) -> Result<(char, u64), AllocError> {
     for piece in answer.chunks(1) {
         pull.feed(piece)?;
     }
     Ok(shown(&pull.feed(b"")?))
+}
+
+fn pulled(alloc: Global, answer: &[u8]) -> Result<(char, u64), AllocError> {
+    let mut pull = Pull::new(alloc, b"/n")?;
+    feed_pull(&mut pull, answer)
 }
 
 /// Answers to a push and to a pull, and what they mean.
@@ -61,15 +71,17 @@ fn answers(rt: HostRuntime) -> Result<(), Fail> {
     Ok(())
 }
 
-/// Whether a pull is done with `abc`.
+fn is_abc(step: &Step<Text>) -> bool {
+    match step {
+        Step::Done(text) => text.as_slice() == b"abc".as_slice(),
+        _ => false,
+    }
+}
+
 fn pulls_abc(alloc: Global) -> Result<bool, AllocError> {
     let mut pull = Pull::new(alloc, b"/n")?;
     let step = pull.feed(b"DATA\x02\0\0\0abDATA\x01\0\0\0cDONE\x09\0\0\0")?;
-    let want: &[u8] = b"abc";
-    Ok(match &step {
-        Step::Done(text) => text.as_slice() == want,
-        _ => false,
-    })
+    Ok(is_abc(&step))
 }
 
 /// Whether a stat is done with the numbers of a file of five bytes.
@@ -82,19 +94,27 @@ fn stats_a_file(alloc: Global) -> Result<bool, AllocError> {
     })
 }
 
-/// Whether a list is done with the one entry `x`.
+/// Whether these are the one entry `x`.
+fn are_x(entries: &Entries) -> bool {
+    match entries.as_slice() {
+        [entry] => entry.name.as_slice() == b"x".as_slice() && entry.size == 5,
+        _ => false,
+    }
+}
+
+/// Whether a list is done with the end that follows its entry, and has just `x`.
+fn ends_with_x(list: &mut List) -> Result<bool, AllocError> {
+    let step = list.feed(b"DONE0123456789abcdef")?;
+    Ok(match &step {
+        Step::Done(entries) => are_x(entries),
+        _ => false,
+    })
+}
+
 fn lists_x(alloc: Global) -> Result<bool, AllocError> {
     let mut list = List::new(alloc, b"/")?;
     list.feed(b"DENT\xa4\x81\0\0\x05\0\0\0\x01\0\0\0\x01\0\0\0x")?;
-    let step = list.feed(b"DONE0123456789abcdef")?;
-    let want: &[u8] = b"x";
-    Ok(match &step {
-        Step::Done(entries) => {
-            let entries = entries.as_slice();
-            entries.len() == 1 && entries[0].name.as_slice() == want && entries[0].size == 5
-        }
-        _ => false,
-    })
+    ends_with_x(&mut list)
 }
 
 #[test]
@@ -115,19 +135,33 @@ fn take_front(push: &mut Push, sent: &mut Text) -> Result<(), AllocError> {
     Ok(())
 }
 
-#[test]
-fn requests(rt: HostRuntime) -> Result<(), Fail> {
-    let alloc = rt.alloc();
-    let mut push = Push::new(alloc, b"/n", 420, 5, b"abc")?;
-    let mut sent = Text::new(alloc);
+/// Takes the first bytes that a push has left until there are none.
+fn take_all(push: &mut Push, sent: &mut Text) -> Result<(), AllocError> {
     for _ in 0..5 {
-        take_front(&mut push, &mut sent)?;
+        take_front(push, sent)?;
     }
-    let want: &[u8] = b"SEND\x06\0\0\0/n,420DATA\x03\0\0\0abcDONE\x05\0\0\0";
-    assert!(rt; sent.as_slice() == want);
-    let mut pull = Pull::new(alloc, b"/n")?;
+    Ok(())
+}
+
+/// Whether a push sends these.
+fn sends(push: &mut Push, alloc: Global, want: &[u8]) -> Result<bool, AllocError> {
+    let mut sent = Text::new(alloc);
+    take_all(push, &mut sent)?;
+    Ok(sent.as_slice() == want)
+}
+
+#[test]
+fn pushes_are_sent(rt: HostRuntime) -> Result<(), Fail> {
+    let mut push = Push::new(rt.alloc(), b"/n", 420, 5, b"abc")?;
+    let want = b"SEND\x06\0\0\0/n,420DATA\x03\0\0\0abcDONE\x05\0\0\0";
+    assert!(rt; sends(&mut push, rt.alloc(), want)?);
+    Ok(())
+}
+
+#[test]
+fn pulls_are_sent(rt: HostRuntime) -> Result<(), Fail> {
+    let mut pull = Pull::new(rt.alloc(), b"/n")?;
     pull.taken(0);
-    let want: &[u8] = b"RECV\x02\0\0\0/n";
-    assert!(rt; pull.out() == want);
+    assert!(rt; pull.out() == b"RECV\x02\0\0\0/n".as_slice());
     Ok(())
 }

@@ -63,15 +63,14 @@ fn file_of(bytes: Text) -> File {
     }
 }
 
-/// The files `/a`, which is empty, and `/d/f` with two bytes, both of the time 1.
-fn two_files(alloc: Global) -> Result<Files, Fail> {
-    let mut files = Files::new(alloc);
+/// Puts the files `/a`, which is empty, and `/d/f` with two bytes, both of the time 1.
+fn put_two_files(alloc: Global, files: &mut Files) -> Result<(), Fail> {
     files.put(b"/a", file_of(Text::new(alloc)))?;
     files.put(b"/d/f", file_of(Text::from_slice(alloc, b"hi")?))?;
-    Ok(files)
+    Ok(())
 }
 
-/// What is asked over `two_files`, one after the other.
+/// What is asked over these files, one after the other.
 const ANSWERS: &[Row<'static>] = &[
     (
         b"STAT\x02\0\0\0/a",
@@ -131,7 +130,8 @@ const ANSWERS: &[Row<'static>] = &[
 
 #[test]
 fn answers_byte_for_byte(rt: HostRuntime) -> Result<(), Fail> {
-    let mut files = two_files(rt.alloc())?;
+    let mut files = Files::new(rt.alloc());
+    put_two_files(rt.alloc(), &mut files)?;
     for row in ANSWERS {
         for &size in SIZES {
             assert!(rt;
@@ -144,23 +144,21 @@ fn answers_byte_for_byte(rt: HostRuntime) -> Result<(), Fail> {
     Ok(())
 }
 
-/// So many bytes, each its place's rest by 251.
-fn bytes_of(alloc: Global, length: usize) -> Result<Text, AllocError> {
-    let mut bytes = Vec::new(alloc);
+/// Adds so many bytes, each its place's rest by 251.
+fn add_bytes(length: usize, bytes: &mut Vec<u8>) -> Result<(), AllocError> {
     for place in 0..length {
         bytes.push((place % 251) as u8)?;
     }
-    Ok(Text::from_vec(bytes))
+    Ok(())
 }
 
-/// Bytes in chunks, between how a request or an answer begins and how it ends.
-fn spell(alloc: Global, head: &[u8], bytes: &[u8], end: &[u8]) -> Result<Text, AllocError> {
-    let mut text = Text::from_slice(alloc, head)?;
+/// Adds bytes in chunks, between how a request or an answer begins and how it ends.
+fn spell(head: &[u8], bytes: &[u8], end: &[u8], text: &mut Text) -> Result<(), AllocError> {
+    text.push_slice(head)?;
     for chunk in bytes.chunks(65_536) {
-        spell_chunk(chunk, &mut text)?;
+        spell_chunk(chunk, text)?;
     }
-    text.push_slice(end)?;
-    Ok(text)
+    text.push_slice(end)
 }
 
 /// Whether the bytes are what `/n` holds.
@@ -171,14 +169,32 @@ fn is_stored(files: &Files, bytes: &[u8]) -> bool {
     }
 }
 
+/// Whether a service over no files answers so, and then `/n` holds the bytes.
+fn stores(alloc: Global, row: &Row, size: usize, bytes: &[u8]) -> Result<bool, AllocError> {
+    let mut files = Files::new(alloc);
+    Ok(answers(alloc, &mut files, row, size)? && is_stored(&files, bytes))
+}
+
 /// Whether bytes that are pushed and pulled in pieces of `size` are stored, and come back.
 fn come_back(alloc: Global, bytes: &[u8], size: usize) -> Result<bool, AllocError> {
     let end = b"DONE\x05\0\0\0RECV\x02\0\0\0/n";
-    let asked = spell(alloc, b"SEND\x06\0\0\0/n,420", bytes, end)?;
-    let answer = spell(alloc, b"OKAY\0\0\0\0", bytes, b"DONE\0\0\0\0")?;
-    let mut files = Files::new(alloc);
-    let row = (asked.as_slice(), answer.as_slice(), false);
-    Ok(answers(alloc, &mut files, &row, size)? && is_stored(&files, bytes))
+    let mut asked = Text::new(alloc);
+    spell(b"SEND\x06\0\0\0/n,420", bytes, end, &mut asked)?;
+    let mut answer = Text::new(alloc);
+    spell(b"OKAY\0\0\0\0", bytes, b"DONE\0\0\0\0", &mut answer)?;
+    stores(
+        alloc,
+        &(asked.as_slice(), answer.as_slice(), false),
+        size,
+        bytes,
+    )
+}
+
+/// Whether so many bytes come back.
+fn length_comes_back(alloc: Global, length: usize, size: usize) -> Result<bool, AllocError> {
+    let mut bytes = Vec::new(alloc);
+    add_bytes(length, &mut bytes)?;
+    come_back(alloc, &bytes, size)
 }
 
 const LENGTHS: &[usize] = &[0, 65_536, 65_537];
@@ -186,9 +202,8 @@ const LENGTHS: &[usize] = &[0, 65_536, 65_537];
 #[test]
 fn pushes_are_pulled(rt: HostRuntime) -> Result<(), Fail> {
     for &length in LENGTHS {
-        let bytes = bytes_of(rt.alloc(), length)?;
         for &size in SIZES {
-            let so = come_back(rt.alloc(), bytes.as_slice(), size)?;
+            let so = length_comes_back(rt.alloc(), length, size)?;
             assert!(rt; so, "{length} bytes by {size}");
         }
     }

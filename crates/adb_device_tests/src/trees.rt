@@ -79,12 +79,16 @@ fn push_of(alloc: Global, script: &[u8], path: &[u8]) -> Result<Text, AllocError
     }
 }
 
+/// Whether this pushes the file of a path of two lines.
+fn is_pushed(alloc: Global, path: &[u8], text: &[u8]) -> Result<bool, AllocError> {
+    let pushed = push_of(alloc, b"/b/y 33188 5 3\n/a 33261 258 0\n", path)?;
+    Ok(pushed.as_slice() == text)
+}
+
 #[test]
 fn named_files_are_pushed(rt: HostRuntime) -> Result<(), Fail> {
-    let alloc = rt.alloc();
     for &(path, text) in PUSHES {
-        let pushed = push_of(alloc, b"/b/y 33188 5 3\n/a 33261 258 0\n", path)?;
-        assert!(rt; pushed.as_slice() == text, "{path:?}");
+        assert!(rt; is_pushed(rt.alloc(), path, text)?, "{path:?}");
     }
     Ok(())
 }
