@@ -25,24 +25,37 @@ enum Host {
 
 const HOSTS: &[Host] = &[Host::Finishes, Host::Leaves, Host::Babbles, Host::IsDeaf];
 
-/// Runs a device without files; whether it ended as such a host makes it end.
-fn runs<W: Wait + Drop>(
-    rt: W,
-    alloc: Global,
-    host: Host,
-    input: &mut PipeIn<W>,
-    output: &mut PipeOut<W>,
-) -> Result<bool, AllocError> {
-    let daemon = Daemon::plain(alloc, Files::new(alloc), 4096)?;
-    let (_daemon, end) = run_device(rt, alloc, daemon, input, output);
-    Ok(match end {
+/// Whether such a host makes a device end so.
+fn is_end_of(end: &DeviceEnd, host: Host) -> bool {
+    match end {
         DeviceEnd::End => host == Host::Finishes,
         DeviceEnd::Lost => host == Host::Leaves,
         DeviceEnd::Refused(chunk) => host == Host::IsDeaf && chunk.len() > 24,
         DeviceEnd::Error(error) => {
             host == Host::Babbles && matches!(error, DaemonError::Broken(_))
         }
-    })
+    }
+}
+
+/// What a device reads and writes.
+#[derive(Drop)]
+struct Wires<W: Wait + Drop> {
+    input: PipeIn<W>,
+    output: PipeOut<W>,
+}
+
+impl<W: Wait + Drop> Wires<W> {
+    /// Runs a device without files. Whether it ended as such a host makes it end.
+    fn run(self, rt: W, alloc: Global, host: Host) -> Result<bool, AllocError> {
+        let daemon = Daemon::plain(alloc, Files::new(alloc), 4096)?;
+        let Wires {
+            mut input,
+            mut output,
+        } = self;
+        let (_daemon, end) = run_device(rt, alloc, daemon, &mut input, &mut output);
+        output.finish();
+        Ok(is_end_of(&end, host))
+    }
 }
 
 /// Whether a device says who it is, and ends.
@@ -64,9 +77,8 @@ fn says_who_it_is(input: &mut impl DeviceIn) -> bool {
 fn act<W: Wait + Drop>(
     host: Host,
     input: PipeDeviceIn<W>,
-    output: PipeDeviceOut<W>,
+    mut output: PipeDeviceOut<W>,
 ) -> Option<PipeDeviceIn<W>> {
-    let mut output = output;
     match host {
         Host::Finishes => output.unplug(),
         Host::Leaves => {}
@@ -78,14 +90,23 @@ fn act<W: Wait + Drop>(
     Some(input)
 }
 
+/// A link to a device, where such a host did its part; the half that it still reads.
+fn link<W: Wait + Copy + Drop>(
+    rt: W,
+    alloc: Global,
+    host: Host,
+) -> Result<(Wires<W>, Option<PipeDeviceIn<W>>), AllocError> {
+    let (to_device, input) = pipe(rt, alloc, 4)?;
+    let (output, from_device) = pipe(rt, alloc, 4)?;
+    let from_device = PipeDeviceIn::new(alloc, from_device);
+    let to_device = PipeDeviceOut::new(alloc, to_device);
+    Ok((Wires { input, output }, act(host, from_device, to_device)))
+}
+
 /// Whether a device ends as such a host makes it end, and the host reads what it said.
 fn ends<W: Wait + Copy + Drop>(rt: W, alloc: Global, host: Host) -> Result<bool, AllocError> {
-    let (to_device, mut from_host) = pipe(rt, alloc, 4)?;
-    let (mut to_host, from_device) = pipe(rt, alloc, 4)?;
-    let input = PipeDeviceIn::new(alloc, from_device);
-    let reading = act(host, input, PipeDeviceOut::new(alloc, to_device));
-    let ended = runs(rt, alloc, host, &mut from_host, &mut to_host)?;
-    to_host.finish();
+    let (wires, reading) = link(rt, alloc, host)?;
+    let ended = wires.run(rt, alloc, host)?;
     Ok(match reading {
         Some(mut input) => ended && says_who_it_is(&mut input),
         None => ended,
@@ -100,11 +121,18 @@ fn devices_end(rt: HostRuntime) -> Result<(), Fail> {
     Ok(())
 }
 
+/// What the host writes to, and what the device reads.
+type Halves<W> = (PipeDeviceOut<W>, PipeIn<W>);
+
+fn halves<W: Wait + Copy + Drop>(rt: W, alloc: Global) -> Result<Halves<W>, AllocError> {
+    let (to_device, from_host) = pipe(rt, alloc, 1)?;
+    Ok((PipeDeviceOut::new(alloc, to_device), from_host))
+}
+
 /// Whether a write to a device that is gone fails, and one to a link that was ended.
 fn write_fails<W: Wait + Copy + Drop>(rt: W, alloc: Global) -> Result<bool, AllocError> {
-    let (to_device, from_host) = pipe(rt, alloc, 1)?;
+    let (mut output, from_host) = halves(rt, alloc)?;
     drop(from_host);
-    let mut output = PipeDeviceOut::new(alloc, to_device);
     let gone = output.write(b"x") == Wrote::Failed { taken: 0 };
     output.unplug();
     Ok(gone && output.write(b"x") == Wrote::Failed { taken: 0 })
@@ -118,8 +146,7 @@ fn writes_fail(rt: HostRuntime) -> Result<(), Fail> {
 
 /// Whether a piece in two parts is one chunk.
 fn joins<W: Wait + Copy + Drop>(rt: W, alloc: Global) -> Result<bool, AllocError> {
-    let (to_device, mut from_host) = pipe(rt, alloc, 1)?;
-    let mut output = PipeDeviceOut::new(alloc, to_device);
+    let (mut output, mut from_host) = halves(rt, alloc)?;
     let put = output.write_both(b"CN", b"XN") == Wrote::All;
     Ok(match from_host.take() {
         Taken::Chunk(chunk) => put && chunk.as_slice() == b"CNXN".as_slice(),

@@ -3,17 +3,25 @@
 use adb_outside::Text;
 use adb_pipe::{PipeIn, PipeOut, Taken, pipe};
 use std::alloc::{AllocError, Global};
-use std::process::Abort;
 use std::sync::Wait;
 use std::test::Fail;
 use std::thread::join;
 
+/// Whether a chunk of these bytes is put.
+fn puts<W: Wait + Drop>(
+    alloc: Global,
+    out: &mut PipeOut<W>,
+    bytes: &[u8],
+) -> Result<bool, AllocError> {
+    let chunk = Text::from_slice(alloc, bytes)?;
+    Ok(out.put(chunk).is_ok())
+}
+
 /// Puts `ab` and `c`, and finishes.
 fn put_both<W: Wait + Drop>(alloc: Global, mut out: PipeOut<W>) -> Result<bool, AllocError> {
-    let first = out.put(Text::from_slice(alloc, b"ab")?).is_ok();
-    let second = out.put(Text::from_slice(alloc, b"c")?).is_ok();
+    let put = puts(alloc, &mut out, b"ab")? && puts(alloc, &mut out, b"c")?;
     out.finish();
-    Ok(first && second)
+    Ok(put)
 }
 
 /// Whether a chunk of these bytes comes next.
@@ -22,6 +30,10 @@ fn gives<W: Wait + Drop>(input: &mut PipeIn<W>, want: &[u8]) -> bool {
         Taken::Chunk(chunk) => chunk.as_slice() == want,
         Taken::End | Taken::Lost => false,
     }
+}
+
+fn is_lost<W: Wait + Drop>(input: &mut PipeIn<W>) -> bool {
+    matches!(input.take(), Taken::Lost)
 }
 
 /// Whether `ab`, `c` and the end come.
@@ -36,23 +48,32 @@ fn handed_over(rt: HostRuntime) -> Result<(), Fail> {
     let (put, taken) = join(&rt, || put_both(alloc, out), || gives_both(&mut input));
     assert!(rt; put? && taken);
     for _ in 0..3 {
-        assert!(rt; matches!(input.take(), Taken::Lost));
+        assert!(rt; is_lost(&mut input));
     }
     Ok(())
 }
 
-#[test]
-fn ends_that_are_gone(rt: HostRuntime) -> Result<(), Fail> {
-    let alloc = rt.alloc();
+/// Whether a chunk comes whose sender is gone, and nothing behind it.
+fn outlives_its_sender<W: Wait + Copy + Drop>(rt: W, alloc: Global) -> Result<bool, AllocError> {
     let (mut out, mut input) = pipe(rt, alloc, 2)?;
-    assert!(rt; out.put(Text::from_slice(alloc, b"x")?).is_ok());
+    let put = puts(alloc, &mut out, b"x")?;
     drop(out);
-    assert!(rt; gives(&mut input, b"x"));
-    assert!(rt; matches!(input.take(), Taken::Lost));
+    Ok(put && gives(&mut input, b"x") && is_lost(&mut input))
+}
+
+/// Whether a chunk is handed back that nobody can take.
+fn is_handed_back<W: Wait + Copy + Drop>(rt: W, alloc: Global) -> Result<bool, AllocError> {
     let (mut out, input) = pipe(rt, alloc, 2)?;
     drop(input);
-    let want: &[u8] = b"y";
-    let back = out.put(Text::from_slice(alloc, want)?);
-    assert!(rt; back.is_err_and(|chunk| chunk.as_slice() == want));
+    Ok(match out.put(Text::from_slice(alloc, b"y")?) {
+        Ok(()) => false,
+        Err(chunk) => chunk.as_slice() == b"y".as_slice(),
+    })
+}
+
+#[test]
+fn ends_that_are_gone(rt: HostRuntime) -> Result<(), Fail> {
+    assert!(rt; outlives_its_sender(rt, rt.alloc())?);
+    assert!(rt; is_handed_back(rt, rt.alloc())?);
     Ok(())
 }

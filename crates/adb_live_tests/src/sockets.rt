@@ -2,26 +2,42 @@
 
 use adb_connections::{DeviceIn, DeviceOut, Plug, PortIn, PortOut};
 use adb_outside::{Got, Wrote};
-use adb_sockets::{Ending, TcpDeviceOut, TcpIn, TcpOut, halves, tcp_device};
-use std::alloc::Global;
+use adb_sockets::{Ending, TcpDeviceIn, TcpDeviceOut, TcpIn, TcpOut, halves, tcp_device};
 use std::io;
 use std::io::Read;
-use std::net::{Net, TcpListener, TcpStream};
+use std::net::{TcpListener, TcpStream};
 use std::test::Fail;
 use std::thread::{join, sleep};
-use std::time::{Clock, Duration};
+use std::time::Duration;
 
-/// A connection to this listener, by its two halves, and its other end.
-fn connection<W: Net<Listener = TcpListener, Stream = TcpStream>>(
-    rt: &W,
-    alloc: Global,
-    listener: &TcpListener,
-    ending: &Ending,
-) -> io::Result<(TcpIn, TcpOut, TcpStream)> {
-    let other = TcpStream::connect(rt, listener.local_addr()?)?;
-    let (stream, _) = listener.accept()?;
-    let (input, output) = halves(alloc, stream, ending)?;
-    Ok((input, output, other))
+/// A listener, and what tells that the server ends.
+#[derive(Drop)]
+struct Bench {
+    listener: TcpListener,
+    ending: Ending,
+}
+
+impl Bench {
+    fn new(rt: HostRuntime) -> io::Result<Bench> {
+        Ok(Bench {
+            listener: TcpListener::bind(&rt, "127.0.0.1:0")?,
+            ending: Ending::new(rt.alloc())?,
+        })
+    }
+
+    /// A connection to the listener, by its two halves, and its other end.
+    fn connection(&self, rt: HostRuntime) -> io::Result<(TcpIn, TcpOut, TcpStream)> {
+        let other = TcpStream::connect(&rt, self.listener.local_addr()?)?;
+        let (stream, _) = self.listener.accept()?;
+        let (input, output) = halves(rt.alloc(), stream, &self.ending)?;
+        Ok((input, output, other))
+    }
+
+    /// A device that is plugged in where the listener listens.
+    fn device(&self, rt: HostRuntime) -> io::Result<(TcpDeviceIn<HostRuntime>, TcpDeviceOut)> {
+        let port = self.listener.local_addr()?.port();
+        Ok(tcp_device(rt, rt.alloc(), port, &self.ending)?)
+    }
 }
 
 /// Whether what is sent comes back, and a port that is closed ends its other half.
@@ -47,41 +63,44 @@ fn gives_up(output: &mut TcpOut, ending: &Ending) -> bool {
 
 #[test]
 fn ports_over_sockets(rt: HostRuntime) -> Result<(), Fail> {
-    let alloc = rt.alloc();
-    let ending = Ending::new(alloc)?;
-    let listener = TcpListener::bind(&rt, "127.0.0.1:0")?;
-    let (mut input, mut output, other) = connection(&rt, alloc, &listener, &ending)?;
+    let bench = Bench::new(rt)?;
+    let (mut input, mut output, other) = bench.connection(rt)?;
     assert!(rt; echoes(&mut input, &mut output, &other)?);
-    let (_input, mut output, _other) = connection(&rt, alloc, &listener, &ending)?;
-    assert!(rt; gives_up(&mut output, &ending));
     Ok(())
 }
 
-/// What plugging in a device gives that listens on a port, and whether it is then written to, and
-/// ends where it is unplugged.
-fn serves<W: Net<Listener = TcpListener, Stream = TcpStream> + Drop>(
-    rt: W,
-    alloc: Global,
-    port: u16,
-    ending: &Ending,
-) -> io::Result<(Plug, bool)> {
-    let (mut input, mut output) = tcp_device(rt, alloc, port, ending)?;
+#[test]
+fn writers_give_up(rt: HostRuntime) -> Result<(), Fail> {
+    let bench = Bench::new(rt)?;
+    let (_input, mut output, _other) = bench.connection(rt)?;
+    assert!(rt; gives_up(&mut output, &bench.ending));
+    Ok(())
+}
+
+/// What plugging in a device gives, and whether it is then written to, and ends where it is
+/// unplugged.
+fn serves(input: &mut impl DeviceIn, output: &mut TcpDeviceOut) -> (Plug, bool) {
     let early = output.write(b"CNXN") == Wrote::Failed { taken: 0 };
     let plug = input.plug();
     let sent = output.write(b"CNXN") == Wrote::All;
     output.unplug();
-    Ok((plug, early && sent && input.read(&mut [0]) == Got::End))
+    (plug, early && sent && input.read(&mut [0]) == Got::End)
 }
 
 #[test]
 fn devices_over_sockets(rt: HostRuntime) -> Result<(), Fail> {
-    let alloc = rt.alloc();
-    let ending = Ending::new(alloc)?;
-    let listener = TcpListener::bind(&rt, "127.0.0.1:0")?;
-    let port = listener.local_addr()?.port();
-    assert!(rt; serves(rt, alloc, port, &ending)? == (Plug::Here, true));
-    drop(listener);
-    assert!(rt; serves(rt, alloc, port, &ending)?.0 == Plug::Never);
+    let bench = Bench::new(rt)?;
+    let (mut input, mut output) = bench.device(rt)?;
+    assert!(rt; serves(&mut input, &mut output) == (Plug::Here, true));
+    Ok(())
+}
+
+#[test]
+fn nobody_listens(rt: HostRuntime) -> Result<(), Fail> {
+    let bench = Bench::new(rt)?;
+    let (mut input, mut output) = bench.device(rt)?;
+    drop(bench);
+    assert!(rt; serves(&mut input, &mut output).0 == Plug::Never);
     Ok(())
 }
 
@@ -103,20 +122,22 @@ fn sends_in_parts(output: &mut TcpDeviceOut) -> bool {
     all
 }
 
-/// Whether just the packets come, to one who begins to read when a write has timed out.
-fn reads_late<W: Net<Listener = TcpListener, Stream = TcpStream> + Clock>(
-    rt: &W,
-    listener: &TcpListener,
-) -> io::Result<bool> {
-    let (stream, _) = listener.accept()?;
-    sleep(rt, Duration::from_millis(1_300));
-    let mut stream = &stream;
+/// Whether the next packet comes whole.
+fn comes(stream: &TcpStream) -> io::Result<bool> {
+    let mut stream = stream;
     let mut start = [0; 24];
     let mut rest = [0; 65_536];
+    stream.read_exact(&mut start)?;
+    stream.read_exact(&mut rest)?;
+    Ok(start == START && rest[0] == 2 && rest[65_535] == 2)
+}
+
+/// Whether the packets come to one who begins to read when a write has timed out.
+fn reads_late(rt: &HostRuntime, listener: &TcpListener) -> io::Result<bool> {
+    let (stream, _) = listener.accept()?;
+    sleep(rt, Duration::from_millis(1_300));
     for _ in 0..PACKETS {
-        stream.read_exact(&mut start)?;
-        stream.read_exact(&mut rest)?;
-        if start != START || rest[0] != 2 || rest[65_535] != 2 {
+        if !comes(&stream)? {
             return Ok(false);
         }
     }
@@ -125,16 +146,13 @@ fn reads_late<W: Net<Listener = TcpListener, Stream = TcpStream> + Clock>(
 
 #[test]
 fn parts_over_sockets(rt: HostRuntime) -> Result<(), Fail> {
-    let alloc = rt.alloc();
-    let ending = Ending::new(alloc)?;
-    let listener = TcpListener::bind(&rt, "127.0.0.1:0")?;
-    let port = listener.local_addr()?.port();
-    let (mut input, mut output) = tcp_device(rt, alloc, port, &ending)?;
+    let bench = Bench::new(rt)?;
+    let (mut input, mut output) = bench.device(rt)?;
     assert!(rt; input.plug() == Plug::Here);
     let (sent, came) = join(
         &rt,
         || sends_in_parts(&mut output),
-        || reads_late(&rt, &listener),
+        || reads_late(&rt, &bench.listener),
     );
     assert!(rt; sent && came?);
     Ok(())

@@ -13,6 +13,29 @@ struct Meeting {
     came: Condvar,
 }
 
+impl Meeting {
+    fn new(alloc: Global) -> Result<Arc<Meeting, Global>, AllocError> {
+        let meeting = Meeting {
+            here: Mutex::new(0),
+            came: Condvar::new(),
+        };
+        Ok(Arc::new(alloc, meeting)?)
+    }
+
+    /// Comes, and waits until so many did.
+    fn meet<W: Wait>(&self, rt: &W, wanted: u64) {
+        let mut here = self.here.lock(rt);
+        *here = here.saturating_add(1);
+        self.came.notify_all();
+        for _ in rt.forever() {
+            if *here >= wanted {
+                return;
+            }
+            here = self.came.wait(rt, here);
+        }
+    }
+}
+
 /// Comes to a meeting, and waits until so many did.
 #[derive(Drop)]
 struct Visitor<W: Wait + Drop> {
@@ -25,45 +48,39 @@ impl<W: Wait + Drop> Job for Visitor<W> {
     ghost done = { λ job. Unit {0} };
 
     fn run(self) {
-        meet(&self.rt, &self.meeting, self.wanted);
+        self.meeting.meet(&self.rt, self.wanted);
     }
 }
 
-fn meet<W: Wait>(rt: &W, meeting: &Meeting, wanted: u64) {
-    let mut here = meeting.here.lock(rt);
-    *here = here.saturating_add(1);
-    meeting.came.notify_all();
-    for _ in rt.forever() {
-        if *here >= wanted {
-            return;
-        }
-        here = meeting.came.wait(rt, here);
-    }
+/// Whether a visitor is sent to a meeting.
+fn is_sent<W: Threads + Wait + Copy + Send + Sync + Drop + 'static>(
+    rt: W,
+    crew: &mut Crew<W, Visitor<W>>,
+    meeting: &Arc<Meeting, Global>,
+    wanted: u64,
+) -> Result<bool, AllocError> {
+    let visitor = Visitor {
+        rt,
+        meeting: Arc::try_clone(meeting)?,
+        wanted,
+    };
+    Ok(crew.spawn(visitor).is_ok())
 }
 
-/// How many of three came to their meeting, where each job waits for so many, and how many of them
-/// came because their job was handed back.
+/// How many of three came to their meeting, where each waits for so many, and how many of them came
+/// because their job was handed back.
 fn met<W: Threads + Wait + Copy + Send + Sync + Drop + 'static>(
     rt: W,
     alloc: Global,
     crew: &mut Crew<W, Visitor<W>>,
     wanted: u64,
 ) -> Result<(u64, u64), AllocError> {
-    let meeting = Meeting {
-        here: Mutex::new(0),
-        came: Condvar::new(),
-    };
-    let meeting = Arc::new(alloc, meeting)?;
+    let meeting = Meeting::new(alloc)?;
     let mut back = 0u64;
     for _ in 0..3 {
-        let job = Visitor {
-            rt,
-            meeting: Arc::try_clone(&meeting)?,
-            wanted,
-        };
-        if crew.spawn(job).is_err() {
+        if !is_sent(rt, crew, &meeting, wanted)? {
             back = back.saturating_add(1);
-            meet(&rt, &meeting, 0);
+            meeting.meet(&rt, 0);
         }
     }
     crew.finish();
@@ -71,15 +88,19 @@ fn met<W: Threads + Wait + Copy + Send + Sync + Drop + 'static>(
     Ok((here, back))
 }
 
+#[test]
+fn inline_crews_run_jobs(rt: HostRuntime) -> Result<(), Fail> {
+    let mut inline = Crew::inline(Vec::from_slice(rt.alloc(), &[2])?);
+    assert!(rt; met(rt, rt.alloc(), &mut inline, 1)? == (3, 1));
+    Ok(())
+}
+
 /// Jobs that wait for each other are done by threads alone, also once threads were ended.
 #[test]
-fn crews_run_jobs(rt: HostRuntime) -> Result<(), Fail> {
-    let alloc = rt.alloc();
-    let mut inline = Crew::inline(Vec::from_slice(alloc, &[2])?);
-    assert!(rt; met(rt, alloc, &mut inline, 1)? == (3, 1));
-    let mut threads = Crew::threads(rt, alloc)?;
+fn crews_of_threads_run_jobs(rt: HostRuntime) -> Result<(), Fail> {
+    let mut threads = Crew::threads(rt, rt.alloc())?;
     for _ in 0..2 {
-        assert!(rt; met(rt, alloc, &mut threads, 3)? == (3, 0));
+        assert!(rt; met(rt, rt.alloc(), &mut threads, 3)? == (3, 0));
     }
     Ok(())
 }
