@@ -8,4 +8,6 @@ mod conversing;
 #[cfg(test)]
 mod frames;
 #[cfg(test)]
+mod jobs;
+#[cfg(test)]
 mod words;

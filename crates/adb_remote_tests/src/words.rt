@@ -1,47 +1,12 @@
 //! Answers that were worked out by hand, in pieces of one byte and whole.
 
-ghost use Rattle.std.specs.Prelude.{◌≤◌, IfOk};
-ghost use Rattle.adb_remote_words.specs.Words.{HasWords};
+ghost use Rattle.std.specs.Prelude.{◌≤◌};
 
-use adb_outside::Text;
+use crate::jobs::{Asks, job};
 use adb_remote_words::{Outcome, Reading, Remote, first_word, second_word};
 use adb_sync_client::Step;
 use std::alloc::{AllocError, Global};
 use std::test::Fail;
-
-/// The jobs of the tables.
-#[derive(Clone, Copy, Debug, PartialEq, Eq)]
-enum Asks {
-    Devices,
-    Push,
-    Pull,
-    Shell,
-    Wait,
-}
-
-/// A job, by its kind.
-fn job(alloc: Global, asks: Asks) -> Result<Remote, AllocError>
-    ensures { IfOk result HasWords }
-{
-    Ok(match asks {
-        Asks::Devices => Remote::Devices,
-        Asks::Push => Remote::Push {
-            path: Text::from_slice(alloc, b"/a")?,
-            mtime: 0,
-            bytes: Text::from_slice(alloc, b"x")?,
-        },
-        Asks::Pull => Remote::Pull {
-            path: Text::from_slice(alloc, b"/a")?,
-        },
-        Asks::Shell => Remote::Shell {
-            command: Text::from_slice(alloc, b"echo hi")?,
-        },
-        Asks::Wait => Remote::Wait {
-            serial: Text::from_slice(alloc, b"x")?,
-            state: Text::from_slice(alloc, b"device")?,
-        },
-    })
-}
 
 /// What an outcome is, in a letter, its length, and its status.
 fn outcome_shown(outcome: &Outcome) -> (char, u64) {
