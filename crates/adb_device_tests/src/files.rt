@@ -103,14 +103,19 @@ fn is_removed(files: &mut Files) -> bool {
     removed && !files.is_directory(b"/d") && files.get(b"/d/e").is_none()
 }
 
+/// Whether that is so, three names are listed then, and one goes.
+fn is_full(alloc: Global, files: &mut Files) -> Result<bool, AllocError> {
+    let refuses = refuses_more(alloc, files)?;
+    let listed = files.list(b"/")?.len() == 3;
+    Ok(refuses && listed && is_removed(files))
+}
+
 #[test]
 fn a_map_of_files(rt: HostRuntime) -> Result<(), Fail> {
     let mut files = Files::new(rt.alloc());
     for row in PATHS {
         assert!(rt; answers(rt.alloc(), &mut files, row)?, "at {:?}", row.0);
     }
-    assert!(rt; refuses_more(rt.alloc(), &mut files)?);
-    assert!(rt; files.list(b"/")?.len() == 3);
-    assert!(rt; is_removed(&mut files));
+    assert!(rt; is_full(rt.alloc(), &mut files)?);
     Ok(())
 }

@@ -78,10 +78,14 @@ fn is_abc(step: &Step<Text>) -> bool {
     }
 }
 
-fn pulls_abc(alloc: Global) -> Result<bool, AllocError> {
-    let mut pull = Pull::new(alloc, b"/n")?;
+fn gives_abc(pull: &mut Pull) -> Result<bool, AllocError> {
     let step = pull.feed(b"DATA\x02\0\0\0abDATA\x01\0\0\0cDONE\x09\0\0\0")?;
     Ok(is_abc(&step))
+}
+
+fn pulls_abc(alloc: Global) -> Result<bool, AllocError> {
+    let mut pull = Pull::new(alloc, b"/n")?;
+    gives_abc(&mut pull)
 }
 
 /// Whether a stat is done with the numbers of a file of five bytes.
@@ -144,24 +148,27 @@ fn take_all(push: &mut Push, sent: &mut Text) -> Result<(), AllocError> {
 }
 
 /// Whether a push sends these.
-fn sends(push: &mut Push, alloc: Global, want: &[u8]) -> Result<bool, AllocError> {
+fn sends(alloc: Global, push: &mut Push, want: &[u8]) -> Result<bool, AllocError> {
     let mut sent = Text::new(alloc);
     take_all(push, &mut sent)?;
     Ok(sent.as_slice() == want)
 }
 
-#[test]
-fn pushes_are_sent(rt: HostRuntime) -> Result<(), Fail> {
-    let mut push = Push::new(rt.alloc(), b"/n", 420, 5, b"abc")?;
-    let want = b"SEND\x06\0\0\0/n,420DATA\x03\0\0\0abcDONE\x05\0\0\0";
-    assert!(rt; sends(&mut push, rt.alloc(), want)?);
-    Ok(())
+fn push_sends(alloc: Global, want: &[u8]) -> Result<bool, AllocError> {
+    let mut push = Push::new(alloc, b"/n", 420, 5, b"abc")?;
+    sends(alloc, &mut push, want)
+}
+
+fn pull_sends(alloc: Global, want: &[u8]) -> Result<bool, AllocError> {
+    let mut pull = Pull::new(alloc, b"/n")?;
+    pull.taken(0);
+    Ok(pull.out() == want)
 }
 
 #[test]
-fn pulls_are_sent(rt: HostRuntime) -> Result<(), Fail> {
-    let mut pull = Pull::new(rt.alloc(), b"/n")?;
-    pull.taken(0);
-    assert!(rt; pull.out() == b"RECV\x02\0\0\0/n".as_slice());
+fn requests(rt: HostRuntime) -> Result<(), Fail> {
+    let pushed = b"SEND\x06\0\0\0/n,420DATA\x03\0\0\0abcDONE\x05\0\0\0";
+    assert!(rt; push_sends(rt.alloc(), pushed)?);
+    assert!(rt; pull_sends(rt.alloc(), b"RECV\x02\0\0\0/n")?);
     Ok(())
 }
