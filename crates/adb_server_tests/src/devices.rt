@@ -76,39 +76,6 @@ pub(crate) fn device<W: Wait + Copy + Send + Sync + Drop + 'static>(
 }
 
 impl Row {
-    fn bytes(&self, alloc: Global) -> Result<Text, AllocError> {
-        let mut bytes = Text::from_slice(alloc, self.bytes)?;
-        bytes.push_slice(self.more)?;
-        Ok(bytes)
-    }
-
-    /// The device, whose first write fails.
-    fn device<W: Wait + Copy + Send + Sync + Drop + 'static>(
-        &self,
-        alloc: Global,
-        sent: Sent<W>,
-    ) -> Result<TestDevice<W>, AllocError> {
-        let output = SharedOut::new(sent, Vec::from_slice(alloc, &[1])?);
-        let bytes = self.bytes(alloc)?;
-        device(alloc, Plug::Here, b"emu1", bytes, output)
-    }
-
-    /// Whether a worker of the device works until it hands its pass back.
-    fn works<W: Wait + Copy + Send + Sync + Drop + 'static, E: Ledger, M: Ledger, K: Marks>(
-        &self,
-        rt: W,
-        alloc: Global,
-        hall: &mut OneDesk<MemoryRecorder, E, M, K>,
-        device: TestDevice<W>,
-    ) -> Result<bool, AllocError> {
-        if self.reads {
-            let packets = Packets::new(alloc)?;
-            Ok(is_read(rt, hall, device, packets))
-        } else {
-            Ok(is_written_to(rt, hall, device))
-        }
-    }
-
     /// Whether what is told of the device is so, and it is unplugged where it was written to.
     pub(crate) fn stands<
         W: Wait + Copy + Send + Sync + Drop + 'static,
@@ -124,54 +91,37 @@ impl Row {
         hall: &mut OneDesk<MemoryRecorder, E, M, K>,
     ) -> Result<bool, AllocError> {
         let sent = Sent::new(rt, alloc)?;
-        let device = self.device(alloc, sent.handle()?)?;
-        let works = self.works(rt, alloc, hall, device)?;
+        let output = SharedOut::new(sent.handle()?, Vec::from_slice(alloc, &[1])?);
+        let mut bytes = Text::from_slice(alloc, self.bytes)?;
+        bytes.push_slice(self.more)?;
+        let device = device(alloc, Plug::Here, b"emu1", bytes, output)?;
+        let works = works(rt, alloc, hall, device, self.reads)?;
         Ok(works && sent.is_closed() != self.reads && is_told(alloc, log, hall, self.told)?)
     }
 }
 
-/// Whether a device is plugged in. It is read until its worker hands the pass back.
-fn is_read<W: Wait + Copy + Send + Sync + Drop + 'static, E: Ledger, M: Ledger, K: Marks>(
-    rt: W,
-    hall: &mut OneDesk<MemoryRecorder, E, M, K>,
-    device: TestDevice<W>,
-    packets: Packets,
-) -> bool {
-    let mut input = device.input;
-    match plug_in(hall, device.kind, device.serial.as_slice(), &mut input) {
-        Plugged::Link { reading, .. } => {
-            let _pass = read_device(rt, hall, &mut input, reading, packets, &OpenGate::new());
-            true
-        }
-        _ => false,
-    }
-}
-
-/// Whether a device is plugged in. It is written to until its worker hands the pass back.
-fn is_written_to<W: Wait + Copy + Send + Sync + Drop + 'static, E: Ledger, M: Ledger, K: Marks>(
-    rt: W,
-    hall: &mut OneDesk<MemoryRecorder, E, M, K>,
-    device: TestDevice<W>,
-) -> bool {
-    let (mut input, mut output) = (device.input, device.output);
-    match plug_in(hall, device.kind, device.serial.as_slice(), &mut input) {
-        Plugged::Link { writing, .. } => {
-            let _pass = write_device(rt, hall, &mut output, writing, &OpenGate::new());
-            true
-        }
-        _ => false,
-    }
-}
-
-/// Whether a row stands. What was told is written to the trace.
-fn is_traced<W: Wait + Copy + Send + Sync + Drop + 'static>(
+/// Has one worker of a device work until it hands its pass back.
+fn works<W: Wait + Copy + Send + Sync + Drop + 'static, E: Ledger, M: Ledger, K: Marks>(
     rt: W,
     alloc: Global,
-    trace: &Writer<Vec<u8>>,
-    row: Row,
+    hall: &mut OneDesk<MemoryRecorder, E, M, K>,
+    device: TestDevice<W>,
+    reads: bool,
 ) -> Result<bool, AllocError> {
-    let log = Logged::new(rt, Level::Debug, trace);
-    stands(rt, alloc, &log, &Case::Device(row))
+    let gate = OpenGate::new();
+    let (mut input, mut output) = (device.input, device.output);
+    match plug_in(hall, device.kind, device.serial.as_slice(), &mut input) {
+        Plugged::Link { reading, writing } => {
+            if reads {
+                let packets = Packets::new(alloc)?;
+                let _pass = read_device(rt, hall, &mut input, reading, packets, &gate);
+            } else {
+                let _pass = write_device(rt, hall, &mut output, writing, &gate);
+            }
+            Ok(true)
+        }
+        _ => Ok(false),
+    }
 }
 
 /// A row that fails shows what was told.
@@ -179,7 +129,8 @@ fn is_traced<W: Wait + Copy + Send + Sync + Drop + 'static>(
 fn devices_are_read_and_written_to(rt: HostRuntime) -> Result<(), Fail> {
     for &row in ROWS {
         let trace = Writer::new(Vec::new(rt.alloc()));
-        let holds = is_traced(rt, rt.alloc(), &trace, row)?;
+        let log = Logged::new(rt, Level::Debug, &trace);
+        let holds = stands(rt, rt.alloc(), &log, &Case::Device(row))?;
         let told = trace.into_inner();
         let told = str::from_utf8(told.as_slice()).unwrap_or("");
         assert!(rt; holds, "{}: {told}", row.name);

@@ -65,10 +65,6 @@ fn tried<W: Wait + Copy + Send + Sync + Drop + 'static, L: Log, E: Ledger, M: Le
     }
 }
 
-fn say(log: &impl Log, lines: &[u8]) {
-    debug!(log; "told {}", str::from_utf8(lines).unwrap_or(""));
-}
-
 /// Whether these lines were told. Those that were are logged.
 pub(crate) fn is_told<L: Log, E: Ledger, M: Ledger, K: Marks>(
     alloc: Global,
@@ -77,6 +73,6 @@ pub(crate) fn is_told<L: Log, E: Ledger, M: Ledger, K: Marks>(
     told: &[u8],
 ) -> Result<bool, AllocError> {
     let lines = lines_of(alloc, hall.recorder().entries())?;
-    say(log, lines.as_slice());
+    debug!(log; "told {}", str::from_utf8(lines.as_slice()).unwrap_or(""));
     Ok(lines.as_slice() == told)
 }
