@@ -1,7 +1,5 @@
 -- A packet that stands alone makes the step of its entry, on a link to which nothing was fed.
-use Rattle.std.proofs.Common.{ℕ, ◌^◌, ◌≡◌, ◌<◌, false, List, [], ◌∷◌, Option, Some, None, refl, sym, ◌∙◌, ap, subst}
-use Rattle.std.specs.List.{All}
-use Rattle.std.proofs.lemmas.List.Elements.{All-cons, All-nil}
+use Rattle.std.proofs.Common.{ℕ, ◌^◌, ◌≡◌, ◌<◌, List, Option, Some, None, refl, sym, ◌∙◌, ap}
 use Rattle.adb_outside.specs.Tables.{at}
 use Rattle.adb_wire.specs.declared.packets.Packet.{Packet}
 use Rattle.adb_wire.specs.Header.{IsBytes}
@@ -12,10 +10,7 @@ use Rattle.adb_hub_tables.specs.declared.ports.Port.{Port}
 use Rattle.adb_hub_tables.specs.declared.tables.Tables.{Tables}
 use Rattle.adb_hub_tables.specs.Tables.{state_of}
 use Rattle.adb_hub_tables.specs.Fit.{IsFit, IsReached, Makes}
-use Rattle.adb_hub_rules.specs.declared.came.Came.{Came}
-use Rattle.adb_hub_rules.specs.Came.{IsCame, packet_of, packets_of}
-use Rattle.adb_hub_links.specs.declared.cutting.Cutting.{Cutting}
-use Rattle.adb_hub_links.specs.Cutting.{IsCutTo, cut_of}
+use Rattle.adb_hub_links.specs.Cutting.{cut_of}
 use Rattle.adb_hub_links.specs.Settling.{LeavesNamed, HasSettled}
 use Rattle.adb_hub_links.specs.Whole.{StandsAlone, IsFreshAt, alone}
 use Rattle.adb_hub_links.proofs.Received.{Comes, piece_leaves, piece_made}
@@ -51,14 +46,3 @@ module _ {link : ℕ} {bytes : List ℕ} {old : Tables} (h : ComesAlone link byt
 
   pub alone_made : (new : Tables) → HasSettled link (alone p) no_bytes old new → Makes (Recv link bytes) old new
   alone_made new settled = piece_made h.comes cut_here refl new settled
-
--- ---- what it is cut to
-pub whole_cut : (p : Packet) (cutting : Cutting) (came : Came) → IsCame came → packet_of came ≡ p
-    → cutting.packets.items ≡ came ∷ [] → cutting.incoming ≡ no_bytes → cutting.broken ≡ false → IsCutTo (alone p) cutting
-whole_cut p cutting came is_came is items new sound = record {
-  came = subst (All IsCame) (sym items) (All-cons IsCame came [] is_came (All-nil IsCame));
-  packets = ap packets_of items ∙ ap (λ (q : Packet). q ∷ []) is;
-  incoming = new;
-  broken = sound;
-  unfed = λ unfed. new;
-}

@@ -11,5 +11,7 @@ mod Settled
 mod Lawful
 mod Received
 mod Waited
+mod OneUp
+mod OnePacket
 mod Wholes
 mod Alone

@@ -53,7 +53,7 @@ module _ (k : ℕ) where
         | inr is ↦ inr is
       ]
 
-same_id : (k l : ℕ) → Some k ≡ Some l → k ≡ l
+pub same_id : (k l : ℕ) → Some k ≡ Some l → k ≡ l
 same_id k l e = cc
 
 pub names_one : (named : Option ℕ) (k : ℕ) (old new : List ℕ) → named ≡ Some k → new ≡ insert_key nat_cmp old k → NamesAlso named old new

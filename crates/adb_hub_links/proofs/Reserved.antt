@@ -9,7 +9,6 @@ use Rattle.adb_hub_rules.specs.Came.{packets_of, slices_in}
 use Rattle.adb_hub_tables.specs.Places.{LinkRoom, ClientRoom}
 use Rattle.adb_hub_tables.specs.Tracked.{IsAmong}
 use Rattle.adb_laws_resting.specs.Named.{granted}
-use Rattle.adb_hub_links.specs.Counting.{count_at, credit_in}
 use Rattle.adb_hub_links.specs.Naming.{AreNamedOn}
 use Rattle.adb_hub_tables.specs.Widening.{WidensClients}
 use Rattle.adb_hub_tables.proofs.Widening.{client_room}
@@ -19,17 +18,17 @@ use Rattle.adb_hub_links.proofs.More.{same_all_writes}
 -- What was reserved, one after another: places of clients, by counts; then what they hold was made ready, in so many writes; then places of the link.
 pub record Reserving (link : ℕ) (packets : List Came) (ids : List ℕ) (middle : List (ℕ × SeenClient)) (t : Tables) : Type 0 where
   pub named : AreNamedOn link (packets_of packets) t.streams.streams ids
-  pub counts : List (ℕ × ℕ)
-  pub counted : (c : ℕ) → count_at (at c counts) ≡ slices_in (packets_of packets) t.streams.streams c
-  pub served : (c : ℕ) → ClientRoom (count_at (at c counts)) (at c middle)
+  pub slices : ℕ → ℕ
+  pub counted : (c : ℕ) → slices c ≡ slices_in (packets_of packets) t.streams.streams c
+  pub served : (c : ℕ) → ClientRoom (slices c) (at c middle)
   pub more : WidensClients middle t.clients.entries
   pub maxdata : ℕ
   pub size : maxdata ≡ maxdata_of link t.devices
-  pub words : List (ℕ × ℕ)
-  pub given : (l : ℕ) → credit_in words l ≡ granted (packets_of packets) l
-  pub cut : (l : ℕ) → IsAmong l ids → IsCutAt (credit_in words l) maxdata (at l t.streams.streams) t.clients.entries
+  pub credit : ℕ → ℕ
+  pub given : (l : ℕ) → credit l ≡ granted (packets_of packets) l
+  pub cut : (l : ℕ) → IsAmong l ids → IsCutAt (credit l) maxdata (at l t.streams.streams) t.clients.entries
   pub writes : ℕ
-  pub written : writes ≡ all_writes (credit_in words) maxdata ids t.streams.streams middle
+  pub written : writes ≡ all_writes credit maxdata ids t.streams.streams middle
   pub room : LinkRoom (writes + length packets) (at link t.links.entries)
 
 pub is_reserved : {link : ℕ} {packets : List Came} {ids : List ℕ} {middle : List (ℕ × SeenClient)} {t : Tables} → Reserving link packets ids middle t
@@ -38,12 +37,12 @@ is_reserved {link} {packets} {ids} {middle} {t} h = record {
   named = h.named;
   clients = λ c.
       subst (λ (n : ℕ). ClientRoom n (at c t.clients.entries)) (h.counted c)
-      (client_room (count_at (at c h.counts)) (at c middle) (at c t.clients.entries) (h.more c) (h.served c));
+      (client_room (h.slices c) (at c middle) (at c t.clients.entries) (h.more c) (h.served c));
   cut = λ l there.
       subst (λ (n : ℕ). IsCutAt (granted (packets_of packets) l) n (at l t.streams.streams) t.clients.entries) h.size
       (subst (λ (n : ℕ). IsCutAt n h.maxdata (at l t.streams.streams) t.clients.entries) (h.given l) (h.cut l there));
   room =
-      let given : credit_in h.words ≡ granted (packets_of packets) = λ i. λ l. h.given l i in
+      let given : h.credit ≡ granted (packets_of packets) = λ i. λ l. h.given l i in
       let same = same_all_writes middle t.clients.entries h.more (granted (packets_of packets)) (maxdata_of link t.devices) ids t.streams.streams in
       let writes =
       h.written

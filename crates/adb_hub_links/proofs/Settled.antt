@@ -7,12 +7,12 @@ use Rattle.adb_stream.specs.Stream.{of_link}
 use Rattle.adb_stream.specs.declared.row.Stream.{Stream}
 use Rattle.adb_wire.specs.Deframing.{Deframing}
 use Rattle.adb_wire.specs.declared.headers.TheConstants.{MAX_PAYLOAD}
-use Rattle.adb_history.specs.Rows.{State}
+use Rattle.adb_history.specs.Rows.{Link, State}
 use Rattle.adb_history.specs.Events.{then_also}
 use Rattle.adb_history.specs.Flow.{up_all}
 use Rattle.adb_history.specs.Links.{maxdata_of}
 use Rattle.adb_history.specs.Machine.{ups}
-use Rattle.adb_history.specs.Packets.{faulty, treat_all}
+use Rattle.adb_history.specs.Packets.{faulty, faulty_on, treat_all}
 use Rattle.adb_hub_rules.specs.declared.came.Came.{Came}
 use Rattle.adb_hub_tables.specs.declared.ports.Port.{Port}
 use Rattle.adb_hub_tables.specs.declared.tables.Tables.{Tables}
@@ -25,19 +25,23 @@ use Rattle.adb_hub_tables.proofs.Staying.{read_then}
 use Rattle.adb_hub_rules.proofs.Taking.{provided_after}
 use Rattle.adb_hub_tables.proofs.Using.{more_room}
 use Rattle.adb_laws_resting.specs.Named.{granted, AllStay, AreNamed}
-use Rattle.adb_hub_links.specs.declared.cutting.Cutting.{Cutting}
-use Rattle.adb_hub_links.specs.Cutting.{cut_in}
+use Rattle.adb_hub_links.specs.Cutting.{cut_with}
 use Rattle.adb_hub_links.specs.Reserving.{all_writes, IsReserved}
 use Rattle.adb_hub_links.specs.Settling.{PutsIncoming, reading, behind, CanSettle, HasSettled}
 use Rattle.adb_hub_links.proofs.Putting.{put_state, put_room, put_provided}
 use Rattle.adb_hub_links.proofs.Readying.{ready_behind}
 
+-- where no byte was wrong nothing changes
+pub no_fault : (o : Option Link) (link : ℕ) (s : State) → (faulty_on o link None s).state ≡ s
+no_fault None link s = refl
+no_fault (Some row) link s = refl
+
 -- What came in was put in its place, and then packets were treated.
-pub record Settling (link : ℕ) (cutting : Cutting) (ids : List ℕ) (old middle new : Tables) : Type 0 where
-  pub can : CanSettle link cutting ids old
-  pub puts : PutsIncoming link cutting.incoming old middle
-  pub takes : Takes link (length cutting.packets.items) (slices_in (packets_of cutting.packets.items) middle.streams.streams) middle new
-  pub state : state_of new ≡ (then_also (treat_all link (packets_of cutting.packets.items) (state_of middle)) (faulty link cutting.incoming.fault)).state
+pub record Settling (link : ℕ) (came : List Came) (incoming : Deframing) (ids : List ℕ) (old middle new : Tables) : Type 0 where
+  pub can : CanSettle link came incoming ids old
+  pub puts : PutsIncoming link incoming old middle
+  pub takes : Takes link (length came) (slices_in (packets_of came) middle.streams.streams) middle new
+  pub state : state_of new ≡ (then_also (treat_all link (packets_of came) (state_of middle)) (faulty link incoming.fault)).state
 
 module _ {link : ℕ} {packets : List Came} {ids : List ℕ} {old : Tables} (reserved : IsReserved link packets ids old) where
   -- the ids are those that the packets name
@@ -70,16 +74,17 @@ module _ {link : ℕ} {packets : List Came} {ids : List ℕ} {old : Tables} (res
         subst (λ (t : Tables). ClientRoom (slices_in (packets_of packets) t.streams.streams c) (at c t.clients.entries)) (sym puts.others)
         (reserved.clients c)
 
-module _ {link : ℕ} {cutting : Cutting} {ids : List ℕ} {old middle new : Tables} (h : Settling link cutting ids old middle new) where
-  behind_is : state_of new ≡ behind link (cut_in cutting) (state_of old)
+module _ {link : ℕ} {came : List Came} {incoming : Deframing} {ids : List ℕ} {old middle new : Tables}
+    (h : Settling link came incoming ids old middle new) where
+  behind_is : state_of new ≡ behind link (cut_with incoming came) (state_of old)
   behind_is =
-      h.state ∙ ap (λ (s : State). (then_also (treat_all link (packets_of cutting.packets.items) s) (faulty link cutting.incoming.fault)).state)
-      (put_state link cutting.incoming old middle h.puts)
+      h.state ∙ ap (λ (s : State). (then_also (treat_all link (packets_of came) s) (faulty link incoming.fault)).state)
+      (put_state link incoming old middle h.puts)
 
   pub provided_behind : IsProvided new
   provided_behind =
-      provided_after link (length cutting.packets.items) (slices_in (packets_of cutting.packets.items) middle.streams.streams) middle new h.takes
-      (put_provided link cutting.incoming old middle h.puts h.can.provided) (room_put h.can.reserved h.puts, places_put h.can.reserved h.puts)
+      provided_after link (length came) (slices_in (packets_of came) middle.streams.streams) middle new h.takes
+      (put_provided link incoming old middle h.puts h.can.provided) (room_put h.can.reserved h.puts, places_put h.can.reserved h.puts)
 
   pub sized_behind : IsSized new
   sized_behind = subst (λ (s : State). (t : ℕ) → maxdata_of t s.devices ≤ MAX_PAYLOAD) (sym behind_is) h.can.leaves.sized
@@ -87,15 +92,15 @@ module _ {link : ℕ} {cutting : Cutting} {ids : List ℕ} {old middle new : Tab
   pub ready_each : IsReadyEach ids new
   ready_each =
       ready_behind h.can.reserved (record {
-        stays = subst (AllStay (granted (packets_of cutting.packets.items)) (state_of old)) (sym behind_is) h.can.leaves.stays;
+        stays = subst (AllStay (granted (packets_of came)) (state_of old)) (sym behind_is) h.can.leaves.stays;
         held = λ c. subst (λ (t : Tables). StaysHeld (at c t.clients.entries) (at c new.clients.entries)) h.puts.others (h.takes.held c);
       })
-      (let all = all_writes (granted (packets_of cutting.packets.items)) (maxdata_of link old.devices) ids old.streams.streams old.clients.entries in
-      h.takes.on_link all (put_room link cutting.incoming old middle h.puts (all + length cutting.packets.items) link h.can.reserved.room))
+      (let all = all_writes (granted (packets_of came)) (maxdata_of link old.devices) ids old.streams.streams old.clients.entries in
+      h.takes.on_link all (put_room link incoming old middle h.puts (all + length came) link h.can.reserved.room))
       provided_behind.links
 
-  read_is : (before : Option Port) (port : Port) → StaysRead (option_map (reading cutting.incoming) before) (Some port)
-      → port.link.incoming ≡ cutting.incoming
+  read_is : (before : Option Port) (port : Port) → StaysRead (option_map (reading incoming) before) (Some port)
+      → port.link.incoming ≡ incoming
   read_is None port read = absurd read
   read_is (Some before) port read = read
 
@@ -104,7 +109,8 @@ module _ {link : ℕ} {cutting : Cutting} {ids : List ℕ} {old middle new : Tab
     reads : (k : ℕ) → StaysRead (at k middle.links.entries) (at k last.links.entries)
     reads k = read_then (at k middle.links.entries) (at k new.links.entries) (at k last.links.entries) (h.takes.read k) (uses.read k)
 
-    pub settled : ((k : ℕ) → CoversUp ids k (state_of new) → state_of last ≡ (up_all k (state_of new)).state) → HasSettled link (cut_in cutting) cutting.incoming old last
+    pub settled : ((k : ℕ) → CoversUp ids k (state_of new) → state_of last ≡ (up_all k (state_of new)).state)
+        → HasSettled link (cut_with incoming came) incoming old last
     settled all = record {
       state =
           all new.streams.drawn

@@ -1,5 +1,5 @@
 -- Of a piece that completes no packet, and of one on a link that is gone.
-use Rattle.std.proofs.Common.{ℕ, ◌≡◌, ◌≢◌, ◌⊎◌, inl, inr, List, [], ◌++◌, Option, Some, None, refl, sym, ◌∙◌, ap, subst}
+use Rattle.std.proofs.Common.{ℕ, ◌≡◌, ◌≢◌, ◌⊎◌, inl, inr, List, [], ◌++◌, Option, None, sym, ◌∙◌, ap, subst}
 use Rattle.std.specs.Prelude.{option_map}
 use Rattle.std.proofs.lemmas.Bool.{cases_eq}
 use Rattle.adb_outside.specs.Tables.{at}
@@ -9,7 +9,7 @@ use Rattle.adb_wire.specs.declared.format.PacketFault.{PacketFault}
 use Rattle.adb_capture.specs.declared.entry.Entry.TheVariants.{Recv}
 use Rattle.adb_history.specs.Rows.{Link, State, to_link}
 use Rattle.adb_history.specs.Events.{then_also}
-use Rattle.adb_history.specs.Packets.{faulty, faulty_on, treat_all, receives_on, with_rest}
+use Rattle.adb_history.specs.Packets.{faulty, treat_all, receives_on, with_rest}
 use Rattle.adb_history.specs.Machine.{step}
 use Rattle.adb_hub_tables.specs.declared.ports.Port.{Port}
 use Rattle.adb_hub_tables.specs.declared.tables.Tables.{Tables}
@@ -23,6 +23,7 @@ use Rattle.adb_hub_links.specs.Cutting.{cut_of}
 use Rattle.adb_hub_links.specs.Settling.{PutsIncoming, reading, waiting, behind}
 use Rattle.adb_hub_links.proofs.Lawful.{behind_piece}
 use Rattle.adb_hub_links.proofs.Putting.{put_state, put_provided}
+use Rattle.adb_hub_links.proofs.Settled.{no_fault}
 use Rattle.adb_hub_links.proofs.Received.{Comes, is_past, shown_past, read_out, cut_same}
 
 -- ---- on a link that is gone
@@ -38,10 +39,6 @@ gone_made link piece old fit reached none =
     }
 
 -- ---- where nothing is completed
-no_fault : (o : Option Link) (link : ℕ) (s : State) → (faulty_on o link None s).state ≡ s
-no_fault None link s = refl
-no_fault (Some row) link s = refl
-
 nothing_behind : (link : ℕ) (c : Deframing) (s : State) → c.given ≡ [] → c.fault ≡ None → behind link c s ≡ to_link link (with_rest c.rest) s
 nothing_behind link c s given sound =
     ap (λ (ps : List Packet). (then_also (treat_all link ps (to_link link (with_rest c.rest) s)) (faulty link c.fault)).state) given

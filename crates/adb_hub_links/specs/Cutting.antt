@@ -1,7 +1,7 @@
 -- What comes in on a link, cut to packets.
-use Rattle.std.specs.Prelude.{ℕ, ◌≡◌, [], ◌∷◌, ◌++◌, false, List, All, Option, Some, None, is_some}
+use Rattle.std.specs.Prelude.{ℕ, ◌≡◌, [], ◌∷◌, ◌++◌, List, All, Option, Some, None, is_some}
 use Rattle.adb_wire.specs.Cutting.{cut_packets}
-use Rattle.adb_wire.specs.Deframing.{Deframing, no_bytes}
+use Rattle.adb_wire.specs.Deframing.{Deframing}
 use Rattle.adb_hub_rules.specs.declared.came.Came.{Came}
 use Rattle.adb_hub_rules.specs.Came.{IsCame, packet_of, packets_of}
 use Rattle.adb_hub_links.specs.declared.cutting.Cutting.{Cutting}
@@ -15,17 +15,12 @@ pub record IsClear (held : Deframing) : Type 0 where
 abbrev pub cut_of : Deframing → List ℕ → Deframing
 cut_of held piece = cut_packets held.reading (held.rest ++ piece)
 
--- What is held behind a cut is that of a link to which nothing was fed, unless it was fed.
-abbrev pub IsNewUnfed : Cutting → Type 0
-IsNewUnfed cutting = cutting.is_fed ≡ false → cutting.incoming ≡ no_bytes
-
 -- The packets of a cut were taken, and what is behind them is held.
 pub record IsCutTo (c : Deframing) (cutting : Cutting) : Type 0 where
   pub came : All IsCame cutting.packets.items
   pub packets : packets_of cutting.packets.items ≡ c.given
   pub incoming : cutting.incoming ≡ record c { given = [] }
   pub broken : cutting.broken ≡ is_some c.fault
-  pub unfed : IsNewUnfed cutting
 
 -- The packet was the first of those that are held.
 pub record IsTaken (old new : Deframing) (taken : Came) : Type 0 where
@@ -47,8 +42,11 @@ pub record HasTaken (old : Deframing) (packets : List Came) (now : Deframing) : 
 pub record IsCutting (cutting : Cutting) : Type 0 where
   pub came : All IsCame cutting.packets.items
   pub broken : cutting.broken ≡ is_some cutting.incoming.fault
-  pub unfed : IsNewUnfed cutting
+
+-- packets that came, and what is held behind them
+abbrev pub cut_with : Deframing → List Came → Deframing
+cut_with incoming came = record incoming { given = packets_of came }
 
 -- what a piece was cut to
 abbrev pub cut_in : Cutting → Deframing
-cut_in cutting = record cutting.incoming { given = packets_of cutting.packets.items }
+cut_in cutting = cut_with cutting.incoming cutting.packets.items

@@ -9,11 +9,11 @@ use Rattle.adb_hub_tables.specs.declared.ports.Port.{Port}
 use Rattle.adb_hub_tables.specs.declared.tables.Tables.{Tables}
 use Rattle.adb_hub_tables.specs.Tables.{state_of}
 use Rattle.adb_hub_tables.specs.Places.{IsProvided, StaysRead}
+use Rattle.adb_hub_rules.specs.declared.came.Came.{Came}
 use Rattle.adb_hub_rules.specs.Sweep.{CoversUp}
 use Rattle.adb_laws_resting.specs.Named.{granted, AllStay, AreNamed}
 use Rattle.adb_laws_resting.specs.Resting.{AllSized}
-use Rattle.adb_hub_links.specs.declared.cutting.Cutting.{Cutting}
-use Rattle.adb_hub_links.specs.Cutting.{IsCutting, cut_in}
+use Rattle.adb_hub_links.specs.Cutting.{cut_with}
 use Rattle.adb_hub_links.specs.Reserving.{IsReserved}
 
 -- a link with something else that came in
@@ -36,12 +36,11 @@ pub record LeavesNamed (link : ℕ) (c : Deframing) (s : State) : Type 0 where
   pub sized : AllSized (behind link c s)
   pub covers : (ids : List ℕ) → AreNamed c.given link s ids → CoversUp ids (behind link c s).drawn (behind link c s)
 
--- What a piece was cut to can be settled without memory.
-pub record CanSettle (link : ℕ) (cutting : Cutting) (ids : List ℕ) (t : Tables) : Type 0 where
-  pub cut : IsCutting cutting
+-- Packets of a link, and what is held behind them, can be settled without memory.
+pub record CanSettle (link : ℕ) (came : List Came) (incoming : Deframing) (ids : List ℕ) (t : Tables) : Type 0 where
   pub provided : IsProvided t
-  pub reserved : IsReserved link cutting.packets.items ids t
-  pub leaves : LeavesNamed link (cut_in cutting) (state_of t)
+  pub reserved : IsReserved link came ids t
+  pub leaves : LeavesNamed link (cut_with incoming came) (state_of t)
 
 -- The packets of a link were treated, and then their fault, the streams that they name went up, and this is held behind them.
 pub record HasSettled (link : ℕ) (c incoming : Deframing) (old new : Tables) : Type 0 where

@@ -44,7 +44,7 @@ fn count_also(
 }
 
 /// The client to which a packet may make something due.
-fn fed_client(streams: &Streams, came: &Came) -> Option<u32>
+pub(crate) fn fed_client(streams: &Streams, came: &Came) -> Option<u32>
     ensures { result ≡ fed_client (packet_of came.now) streams.now.streams }
 {
     match came.head.command {

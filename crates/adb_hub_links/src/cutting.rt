@@ -9,7 +9,6 @@ ghost use Rattle.adb_hub_rules.specs.Came.{IsCame, packet_of, packets_of};
 ghost use Rattle.adb_wire.specs.declared.command.Command.TheVariants.{Cnxn};
 ghost use Rattle.adb_wire.specs.declared.headers.TheConstants.{MAX_PAYLOAD};
 ghost use Rattle.adb_hub_links.specs.Cutting.{IsClear, IsCutTo, TakesNext, cut_of};
-ghost use Rattle.adb_hub_links.specs.Whole.{alone};
 
 use adb_banner::IdentityError;
 use adb_hub_rules::Came;
@@ -19,12 +18,11 @@ use adb_wire::{Command, Deframer, Head, Packet};
 use std::alloc::{AllocError, Global};
 use std::collections::VecDeque;
 
-/// What came in on a link with a piece: the packets, what is held behind them, whether that was fed,
-/// and whether a byte there was wrong.
+/// What came in on a link with a piece: the packets, what is held behind them, and whether a byte
+/// there was wrong.
 #[derive(Drop)]
 pub(crate) struct Cutting {
     pub(crate) incoming: Deframer,
-    pub(crate) is_fed: bool,
     pub(crate) packets: VecDeque<Came>,
     pub(crate) broken: bool,
 }
@@ -38,25 +36,8 @@ impl Cutting {
         let packets = take_all(alloc, &mut incoming)?;
         Ok(Cutting {
             incoming,
-            is_fed: true,
             packets,
             broken,
-        })
-    }
-
-    /// A packet alone, on a link to which nothing was fed.
-    pub(crate) fn whole(alloc: Global, packet: Packet) -> Result<Cutting, AllocError>
-        requires { length packet.payload ≤ MAX_PAYLOAD }
-        ensures { IfOk result (IsCutTo (alone packet)) }
-    {
-        let came = came(alloc, packet)?;
-        let mut packets = VecDeque::new(alloc);
-        packets.push_back(came)?;
-        Ok(Cutting {
-            incoming: Deframer::new(alloc),
-            is_fed: false,
-            packets,
-            broken: false,
         })
     }
 }
@@ -105,7 +86,7 @@ fn next_came(alloc: Global, incoming: &mut Deframer) -> Result<Option<Came>, All
 }
 
 /// A packet that came; its check word was looked at.
-fn came(alloc: Global, packet: Packet) -> Result<Came, AllocError>
+pub(crate) fn came(alloc: Global, packet: Packet) -> Result<Came, AllocError>
     requires { length packet.payload ≤ MAX_PAYLOAD }
     ensures came { IfOk result IsCame }
     ensures packet { IfOk result (λ came. packet_of came ≡ packet) }

@@ -8,6 +8,7 @@ mod cutting;
 mod detaches;
 mod granting;
 mod naming;
+mod one_packet;
 mod preparing;
 mod receiving;
 mod reserving;

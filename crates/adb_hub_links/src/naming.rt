@@ -44,7 +44,7 @@ fn name_also(
 }
 
 /// The stream that a packet names, where it is an OKAY, and that lives and is one of that link.
-fn named_on(streams: &Streams, link: u32, came: &Came) -> Option<u32>
+pub(crate) fn named_on(streams: &Streams, link: u32, came: &Came) -> Option<u32>
     ensures { result ≡ named_on link (packet_of came.now) streams.now.streams }
 {
     let id = came.head.arg1;

@@ -57,7 +57,7 @@ pub(crate) fn prepare_each(
 }
 
 /// Makes ready what the client of a stream holds; adds its writes to those of others.
-fn prepare_also(
+pub(crate) fn prepare_also(
     clients: &mut TouchedMap<Client>,
     stream: Option<Stream>,
     more: usize,

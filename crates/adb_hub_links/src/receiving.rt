@@ -12,7 +12,8 @@ ghost use Rattle.adb_hub_links.specs.Cutting.{IsCutting, cut_in};
 ghost use Rattle.adb_hub_links.specs.Settling.{HasSettled, LeavesNamed};
 ghost use Rattle.adb_hub_links.specs.Whole.{IsFreshAt, alone};
 
-use crate::cutting::{Cutting, with_piece};
+use crate::cutting::{Cutting, came, with_piece};
+use crate::one_packet::{reserve_one, settle_one};
 use crate::reserving::reserve;
 use crate::settling::settle;
 use crate::waiting::wait;
@@ -89,13 +90,16 @@ fn is_fresh(links: &TouchedMap<Port>, link: u32) -> bool
 fn take_alone(tables: &mut Tables, link: u32, packet: Packet) -> Result<(), AllocError>
     requires size { length packet.payload ≤ MAX_PAYLOAD }
     requires fit { IsFit tables.old }
+    requires fresh { IsFreshAt (at link tables.old.links.entries) }
     requires leaves { LeavesNamed link (alone packet) (state_of tables.old) }
     ensures settled { OnOk result
         (HasSettled link (alone packet) no_bytes tables.old tables.new) }
     ensures kept { OnErr result (Keeps tables.old tables.new) }
 {
-    let cutting = Cutting::whole(tables.alloc, packet)?;
-    take(tables, link, cutting)
+    let came = came(tables.alloc, packet)?;
+    let id = reserve_one(tables, link, &came)?;
+    settle_one(tables, link, came, id);
+    Ok(())
 }
 
 /// The packets of a link are treated, with all memory taken before.

@@ -1,15 +1,15 @@
 //! The packets of a link are treated, and the streams that they name go up. It takes no memory.
 
-ghost use Rattle.std.specs.Prelude.{◌≡◌, ◌≢◌, ℕ, false, Some, All, length, is_some, option_map};
+ghost use Rattle.std.specs.Prelude.{◌≡◌, ◌≢◌, ℕ, Some, All, length, is_some, option_map};
 ghost use Rattle.adb_outside.specs.Tables.{at};
-ghost use Rattle.adb_wire.specs.Deframing.{Deframing, no_bytes};
+ghost use Rattle.adb_wire.specs.Deframing.{Deframing};
 ghost use Rattle.adb_wire.specs.declared.format.PacketFault.{PacketFault};
 ghost use Rattle.adb_history.specs.Events.{then_also};
 ghost use Rattle.adb_history.specs.Packets.{faulty, treat_all};
 ghost use Rattle.adb_hub_rules.specs.Came.{IsCame, packets_of, slices_in};
 ghost use Rattle.adb_hub_tables.specs.Places.{ClientRoom, IsProvided, LinkRoom, Takes, Uses};
 ghost use Rattle.adb_hub_tables.specs.Tables.{state_of};
-ghost use Rattle.adb_hub_links.specs.Cutting.{cut_in};
+ghost use Rattle.adb_hub_links.specs.Cutting.{IsCutting, cut_in};
 ghost use Rattle.adb_hub_links.specs.Settling.{CanSettle, HasSettled, reading};
 
 use crate::cutting::Cutting;
@@ -21,29 +21,29 @@ use std::collections::{BTreeSet, VecDeque};
 /// The packets of a link are treated, a byte that was wrong breaks it, and the streams of these
 /// ids are sent up.
 pub(crate) fn settle(tables: &mut Tables, link: u32, cutting: Cutting, ids: &BTreeSet<u32>)
-    requires { CanSettle link cutting ids.now.keys tables.old }
+    requires cut { IsCutting cutting }
+    requires can { CanSettle link cutting.packets.items cutting.incoming ids.now.keys
+        tables.old }
     ensures { HasSettled link (cut_in cutting) cutting.incoming tables.old tables.new }
 {
     let Cutting {
         incoming,
-        is_fed,
         packets,
         broken,
     } = cutting;
-    put_incoming(&mut tables.links, link, incoming, is_fed);
+    put_incoming(&mut tables.links, link, incoming);
     treat(tables, link, packets, broken);
     up_each(tables, ids);
 }
 
-/// Something else came in on a link, which was fed or is new.
-fn put_incoming(links: &mut TouchedMap<Port>, link: u32, incoming: Deframer, is_fed: bool)
-    requires { is_fed ≡ false → incoming ≡ no_bytes }
+/// Something else came in on a link.
+fn put_incoming(links: &mut TouchedMap<Port>, link: u32, incoming: Deframer)
     ensures here { at link links.new.entries
         ≡ option_map (reading incoming) (at link links.old.entries) }
     ensures apart { (k : ℕ) → k ≢ link → at k links.new.entries ≡ at k links.old.entries }
 {
     if let Some(port) = links.get_mut(&link) {
-        port.link.put_incoming(incoming, is_fed);
+        port.link.put_incoming(incoming, true);
     }
 }
 

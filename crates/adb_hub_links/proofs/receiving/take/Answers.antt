@@ -12,12 +12,11 @@ returns-in_err-ids-clause-kept c =
     let new = c.reserve.new.tables in
     on_err c.from_residual.result (Keeps old new) (widened old new c.requires.fit c.reserve.ensures.widens)
 
-pub settle-requires : goal.settle-requires
-settle-requires c =
+pub settle-requires-clause-can : goal.settle-requires-clause-can
+settle-requires-clause-can c =
     let old = c.args.tables.now in
     let new = c.reserve.new.tables in
     record {
-      cut = c.requires.cut;
       provided = widened_provided old new c.reserve.ensures.widens c.requires.fit.provided;
       reserved = c.in_ok-ids.ensures.reserved;
       leaves = subst (LeavesNamed c.args.link (cut_in c.args.cutting)) (sym (widened_state old new c.reserve.ensures.widens)) c.requires.leaves;

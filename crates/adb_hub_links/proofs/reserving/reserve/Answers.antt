@@ -1,6 +1,7 @@
 use Rattle.std.proofs.Common.{ℕ, ◌+◌, ◌≡◌, length, ◌∙◌, ap, subst}
 use Rattle.adb_outside.specs.Tables.{at}
 use Rattle.adb_hub_tables.specs.Places.{LinkRoom}
+use Rattle.adb_hub_links.specs.Counting.{count_at, credit_in}
 use Rattle.adb_hub_links.proofs.Reserved.{is_reserved}
 use Rattle.adb_hub_links.proofs.reserving.reserve.Goals as goal
 
@@ -10,9 +11,9 @@ returns-clause-reserved c =
     c.in_ok-places.ensures ∙ ap (λ (n : ℕ). c.in_ok-writes.writes + n) (c.len.ensures ∙ c.args.packets.now.ok.0) in
     is_reserved (record {
       named = c.in_ok-ids.ensures;
-      words = c.in_ok-given.given.entries;
+      credit = credit_in c.in_ok-given.given.entries;
       given = c.in_ok-given.ensures;
-      counts = c.in_ok-counts.counts.entries;
+      slices = λ (k : ℕ). count_at (at k c.in_ok-counts.counts.entries);
       counted = c.in_ok-counts.ensures;
       served = c.in_ok-reserve_each.ensures.room;
       more = c.prepare_each.ensures.widens;

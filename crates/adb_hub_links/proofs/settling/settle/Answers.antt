@@ -12,7 +12,7 @@ treat-requires-clause-provided c =
     let middle : Tables = record old { links = c.put_incoming.new.links } in
     let puts : PutsIncoming c.args.link c.args.cutting.incoming old middle =
     record { others = refl; here = c.put_incoming.ensures.here; apart = c.put_incoming.ensures.apart } in
-    put_provided c.args.link c.args.cutting.incoming old middle puts c.requires.provided
+    put_provided c.args.link c.args.cutting.incoming old middle puts c.requires.can.provided
 
 pub treat-requires-clause-link : goal.treat-requires-clause-link
 treat-requires-clause-link c =
@@ -20,7 +20,7 @@ treat-requires-clause-link c =
     let middle : Tables = record old { links = c.put_incoming.new.links } in
     let puts : PutsIncoming c.args.link c.args.cutting.incoming old middle =
     record { others = refl; here = c.put_incoming.ensures.here; apart = c.put_incoming.ensures.apart } in
-    room_put c.requires.reserved puts
+    room_put c.requires.can.reserved puts
 
 pub treat-requires-clause-clients : goal.treat-requires-clause-clients
 treat-requires-clause-clients c =
@@ -28,7 +28,7 @@ treat-requires-clause-clients c =
     let middle : Tables = record old { links = c.put_incoming.new.links } in
     let puts : PutsIncoming c.args.link c.args.cutting.incoming old middle =
     record { others = refl; here = c.put_incoming.ensures.here; apart = c.put_incoming.ensures.apart } in
-    places_put c.requires.reserved puts
+    places_put c.requires.can.reserved puts
 
 pub up_each-requires-clause-ready : goal.up_each-requires-clause-ready
 up_each-requires-clause-ready c =
@@ -36,8 +36,8 @@ up_each-requires-clause-ready c =
     let middle : Tables = record old { links = c.put_incoming.new.links } in
     let puts : PutsIncoming c.args.link c.args.cutting.incoming old middle =
     record { others = refl; here = c.put_incoming.ensures.here; apart = c.put_incoming.ensures.apart } in
-    let settling : Settling c.args.link c.args.cutting c.args.ids.now.keys old middle c.treat.new.tables = record {
-      can = c.requires;
+    let settling : Settling c.args.link c.args.cutting.packets.items c.args.cutting.incoming c.args.ids.now.keys old middle c.treat.new.tables = record {
+      can = c.requires.can;
       puts = puts;
       takes = c.treat.ensures.takes;
       state = c.treat.ensures.state (cut_in c.args.cutting) refl c.requires.cut.broken;
@@ -50,8 +50,8 @@ up_each-requires-clause-sized c =
     let middle : Tables = record old { links = c.put_incoming.new.links } in
     let puts : PutsIncoming c.args.link c.args.cutting.incoming old middle =
     record { others = refl; here = c.put_incoming.ensures.here; apart = c.put_incoming.ensures.apart } in
-    let settling : Settling c.args.link c.args.cutting c.args.ids.now.keys old middle c.treat.new.tables = record {
-      can = c.requires;
+    let settling : Settling c.args.link c.args.cutting.packets.items c.args.cutting.incoming c.args.ids.now.keys old middle c.treat.new.tables = record {
+      can = c.requires.can;
       puts = puts;
       takes = c.treat.ensures.takes;
       state = c.treat.ensures.state (cut_in c.args.cutting) refl c.requires.cut.broken;
@@ -64,8 +64,8 @@ up_each-requires-clause-counted c =
     let middle : Tables = record old { links = c.put_incoming.new.links } in
     let puts : PutsIncoming c.args.link c.args.cutting.incoming old middle =
     record { others = refl; here = c.put_incoming.ensures.here; apart = c.put_incoming.ensures.apart } in
-    let settling : Settling c.args.link c.args.cutting c.args.ids.now.keys old middle c.treat.new.tables = record {
-      can = c.requires;
+    let settling : Settling c.args.link c.args.cutting.packets.items c.args.cutting.incoming c.args.ids.now.keys old middle c.treat.new.tables = record {
+      can = c.requires.can;
       puts = puts;
       takes = c.treat.ensures.takes;
       state = c.treat.ensures.state (cut_in c.args.cutting) refl c.requires.cut.broken;
@@ -78,8 +78,8 @@ returns c =
     let middle : Tables = record old { links = c.put_incoming.new.links } in
     let puts : PutsIncoming c.args.link c.args.cutting.incoming old middle =
     record { others = refl; here = c.put_incoming.ensures.here; apart = c.put_incoming.ensures.apart } in
-    let settling : Settling c.args.link c.args.cutting c.args.ids.now.keys old middle c.treat.new.tables = record {
-      can = c.requires;
+    let settling : Settling c.args.link c.args.cutting.packets.items c.args.cutting.incoming c.args.ids.now.keys old middle c.treat.new.tables = record {
+      can = c.requires.can;
       puts = puts;
       takes = c.treat.ensures.takes;
       state = c.treat.ensures.state (cut_in c.args.cutting) refl c.requires.cut.broken;
