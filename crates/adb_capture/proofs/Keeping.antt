@@ -1,7 +1,6 @@
 -- Bytes that are held and bytes that are still to come.
-use Rattle.std.proofs.Common.{ℕ, ◌+◌, ◌≡◌, List, ◌++◌, length, take, drop, Option, Some, sym, ◌∙◌, ap}
+use Rattle.std.proofs.Common.{ℕ, ◌+◌, ◌≡◌, List, ◌++◌, take, drop, Option, Some, ◌∙◌, ap}
 use Rattle.std.specs.Prelude.{option_map}
-use Rattle.std.proofs.Math.Seq.{take-append-add}
 use Rattle.std.proofs.lemmas.List.{append_assoc, take-append-drop}
 use Rattle.adb_outside.specs.Source.{Takes}
 
@@ -12,8 +11,3 @@ keeps_more old held chunk coming after n is t =
     ap (λ a. option_map (λ (rest : List ℕ). held ++ rest) a) t.rest
     ∙ ap Some (ap (λ h. h ++ drop n coming) (is ∙ ap (λ k. old ++ k) t.front)
     ∙ (append_assoc old (take n coming) (drop n coming) ∙ ap (λ k. old ++ k) (take-append-drop n coming)))
-
--- a front that goes past the first of two lists went out
-pub written_past : (out first last : List ℕ) (written : Option (List ℕ)) (n : ℕ) → written ≡ Some ((out ++ first) ++ take n last)
-    → written ≡ Some (out ++ take (length first + n) (first ++ last))
-written_past out first last written n h = h ∙ ap Some (append_assoc out first (take n last) ∙ ap (λ r. out ++ r) (sym (take-append-add first last n)))

@@ -3,7 +3,7 @@ use Rattle.std.proofs.Common.{ℕ, ◌+◌, ◌≡◌, ◌≤◌, Bool, false, L
 use Rattle.std.proofs.lemmas.List.{append_assoc, take-append-le, take-append-drop}
 use Rattle.adb_capture.specs.Records.{magic}
 use Rattle.adb_capture.specs.Recording.{behind_magic, GrowsByFront}
-use Rattle.adb_capture.proofs.Keeping.{written_past}
+use Rattle.adb_outside.proofs.Joined.{written_past}
 
 -- the first record has the magic before it
 first_is : (opened : Bool) (bytes : List ℕ) → opened ≡ false → behind_magic opened bytes ≡ magic ++ bytes

@@ -48,7 +48,7 @@ impl Client {
     ghost use Rattle.adb_client.specs.Lending.{LendsAbout};
 
     /// A client that asks and sent nothing yet, by its number, and whether it came through a
-    /// forward.
+    /// forward. The error is want of memory.
     pub fn new(alloc: Global, number: u32, forwarded: bool) -> Result<Client, AllocError>
         ensures { IfOk result (λ client. client ≡ record {
           about = new_about number forwarded;

@@ -24,7 +24,8 @@ lines-append [] ys = refl
 lines-append (x ∷ xs) ys = ap (λ (ls : List (List ℕ)). x.file.bytes ∷ ls) (lines-append xs ys)
 
 -- none is left behind a path
-pub shows_all : (files : List Entry) (after : List ℕ) (lines : List (List ℕ)) → Shows files after lines → next_path after files ≡ None → lines ≡ kept_lines files
+pub shows_all : (files : List Entry) (after : List ℕ) (lines : List (List ℕ)) → Shows files after lines
+    → next_path after files ≡ None → lines ≡ kept_lines files
 shows_all files after lines s none = go (behind after files) s.split none
   where
     go : (left : List Entry) → s.done ++ left ≡ files → option_map (λ (e : Entry). e.path) (slice_get left 0) ≡ None → lines ≡ kept_lines files

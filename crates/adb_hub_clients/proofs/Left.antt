@@ -96,8 +96,8 @@ module _ (devices : DeviceTable) (forwards : List (ℕ × ForwardRow)) where
       → ((held : List ℕ) → IsAskedBehind old.used (asked_whole request (length piece)) held → ReadsOne devices forwards held old step new)
       → ReadsOne devices forwards piece (first_reading selected) step new
   reads_whole old new selected step request piece is behind reads =
-      subst (λ (old : Reading). (held : List ℕ) → IsAskedBehind old.used (asked_whole request (length piece)) held → ReadsOne devices forwards held old step new)
-      is reads piece behind
+      subst (λ (old : Reading). (held : List ℕ) → IsAskedBehind old.used (asked_whole request (length piece)) held
+      → ReadsOne devices forwards held old step new) is reads piece behind
 
 -- a request is not empty
 pub some_asked : (piece : List ℕ) (request : Request) (n : ℕ) → asked_whole request n ≡ asked_in (drop 0 piece) → 0 < n

@@ -31,6 +31,7 @@ pub record IsAskedWhole (t : Tables) (client : SeenClient) (piece : List ℕ) (p
   pub none : client.held ≡ []
   pub asked : IsWholePlan t.devices t.forwards client.about.selected piece plan
 
+-- the same of a client that may not be there
 abbrev pub PlansWhole : Tables → Option SeenClient → List ℕ → Plan → Type 0
 PlansWhole t None piece plan = ⊥
 PlansWhole t (Some client) piece plan = IsAskedWhole t client piece plan

@@ -1,5 +1,14 @@
--- Whether two parts, one behind the other, are some bytes.
-use Rattle.std.proofs.Common.{rules, ◌≡◌, refl, ◌≤◌, ◌<◌, ◌++◌, length, take, drop, ℕ, false, nat_eq, List, [], ◌∷◌, bytes_eq, ◌&&◌, arith}
+-- Two parts, one behind the other.
+use Rattle.std.proofs.Common.{rules, ◌≡◌, refl, sym, ap, ◌∙◌, ◌≤◌, ◌<◌, ◌+◌, ◌++◌, length, take, drop, ℕ, false, nat_eq}
+use Rattle.std.proofs.Common.{List, [], ◌∷◌, Option, Some, bytes_eq, ◌&&◌, arith}
+use Rattle.std.proofs.Math.Seq.{take-append-add}
+use Rattle.std.proofs.lemmas.List.{append_assoc}
+
+-- a front that goes past the first part went out
+pub written_past : (out start rest : List ℕ) (written : Option (List ℕ)) (n : ℕ) → written ≡ Some ((out ++ start) ++ take n rest)
+    → written ≡ Some (out ++ take (length start + n) (start ++ rest))
+written_past out start rest written n h =
+    h ∙ ap Some (append_assoc out start (take n rest) ∙ ap (λ r. out ++ r) (sym (take-append-add start rest n)))
 
 -- fewer bytes than the first part has are not both
 pub too_few : (start rest bytes : List ℕ) → length bytes < length start → bytes_eq (start ++ rest) bytes ≡ false

@@ -43,11 +43,6 @@ module _ (g : Entry → Entry) (keeps : (e : Entry) → (g e).path ≡ e.path) w
   pub behind-kept : (path : List ℕ) (files : List Entry) → behind path (map g files) ≡ map g (behind path files)
   behind-kept path files = filter-kept (λ p. is_lt (path_cmp path p)) files
 
-  pub without-kept : (path : List ℕ) (files : List Entry) → without path (map g files) ≡ map g (without path files)
-  without-kept path files =
-      ap (λ (es : List Entry). es ++ behind path (map g files)) (before-kept path files)
-      ∙ (ap (λ (es : List Entry). map g (before path files) ++ es) (behind-kept path files) ∙ sym (map-append g (before path files) (behind path files)))
-
   -- a file that becomes another is put where the other is
   pub with_file-kept : (path : List ℕ) (file other : File) (files : List Entry) → g (entry_of path file) ≡ entry_of path other
       → with_file path other (map g files) ≡ map g (with_file path file files)
@@ -93,25 +88,6 @@ module _ (g : Entry → Entry) (keeps : (e : Entry) → (g e).path ≡ e.path) w
       go : (o : Option Entry) → option_map (λ (e : Entry). e.file) (option_map g o) ≡ option_map h (option_map (λ (e : Entry). e.file) o)
       go None = refl
       go (Some e) = ap Some (is e)
-
-  -- the same where it does
-  pub becomes : (path : List ℕ) (file : File) (files : List Entry) → file_at path files ≡ Some file
-      → file_at path (map g files) ≡ Some (g (entry_of path file)).file
-  becomes path file [] is = absurd (let clash : None ≡ Some file = is in cc)
-  becomes path file (e ∷ files) is =
-      ap (λ (p : List ℕ). option_map (λ (x : Entry). x.file) (cond (bytes_eq p path) (Some (g e)) (find (λ (x : Entry). bytes_eq x.path path) (map g files))))
-      (keeps e)
-      ∙ go (bytes_eq e.path path) refl (becomes path file files) is
-    where
-      go : (b : Bool) → bytes_eq e.path path ≡ b → (file_at path files ≡ Some file → file_at path (map g files) ≡ Some (g (entry_of path file)).file)
-          → option_map (λ (x : Entry). x.file) (cond b (Some e) (find (λ (x : Entry). bytes_eq x.path path) files)) ≡ Some file
-          → option_map (λ (x : Entry). x.file) (cond b (Some (g e)) (find (λ (x : Entry). bytes_eq x.path path) (map g files)))
-          ≡ Some (g (entry_of path file)).file
-      go true at more is =
-          let there : e.path ≡ path = (bytes_eq-Decides e.path path).0 at in
-          let same : e.file ≡ file = cc in
-          ap (λ (p : List ℕ). Some (g (entry_of p e.file)).file) there ∙ ap (λ (f : File). Some (g (entry_of path f)).file) same
-      go false at more is = more is
 
   pub next_path-kept : (after : List ℕ) (files : List Entry) → next_path after (map g files) ≡ next_path after files
   next_path-kept after files =

@@ -1,5 +1,5 @@
 use Rattle.std.proofs.Common.{◌++◌}
-use Rattle.adb_capture.proofs.Keeping.{written_past}
+use Rattle.adb_outside.proofs.Joined.{written_past}
 use Rattle.adb_capture.proofs.writer.write_both.Goals as goal
 
 pub returns-in-Failed-write-clause-told : goal.returns-in-Failed-write-clause-told

@@ -1,5 +1,5 @@
 use Rattle.std.proofs.Common.{◌++◌}
-use Rattle.adb_connections.proofs.Parts.{written_past}
+use Rattle.adb_outside.proofs.Joined.{written_past}
 use Rattle.adb_connections.proofs.device.DeviceOut.write_both.Goals as goal
 
 pub returns-in-Failed-write-clause-told : goal.returns-in-Failed-write-clause-told
