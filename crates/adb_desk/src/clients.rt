@@ -140,7 +140,7 @@ impl<R: Recorder, E: Ledger, M: Ledger, K: Marks> Desk<R, E, M, K> {
         }
         match self.hub.join() {
             Err(error) => Err(DeskError::Hub(error)),
-            Ok(client) => match self.log.keep(&Entry::Join { client }, 0) {
+            Ok(client) => match self.log.keep_still(Entry::Join { client }) {
                 Err(error) => Err(error),
                 Ok(()) => Ok(client),
             },
@@ -157,7 +157,7 @@ impl<R: Recorder, E: Ledger, M: Ledger, K: Marks> Desk<R, E, M, K> {
         }
         match self.hub.enter(port) {
             Err(error) => Err(DeskError::Hub(error)),
-            Ok(client) => match self.log.keep(&Entry::Enter { client, port }, 0) {
+            Ok(client) => match self.log.keep_still(Entry::Enter { client, port }) {
                 Err(error) => Err(error),
                 Ok(()) => Ok(client),
             },
@@ -195,7 +195,7 @@ impl<R: Recorder, E: Ledger, M: Ledger, K: Marks> Desk<R, E, M, K> {
         }
         match self.hub.end(client, cause) {
             Err(error) => Err(DeskError::Hub(error)),
-            Ok(life) => match self.log.keep(&Entry::End { client, cause }, 0) {
+            Ok(life) => match self.log.keep_still(Entry::End { client, cause }) {
                 Err(error) => Err(error),
                 Ok(()) => Ok(life),
             },
@@ -212,7 +212,7 @@ impl<R: Recorder, E: Ledger, M: Ledger, K: Marks> Desk<R, E, M, K> {
         }
         match self.hub.bound(client, port) {
             Err(error) => Err(DeskError::Hub(error)),
-            Ok(life) => match self.log.keep(&Entry::Bound { client, port }, 0) {
+            Ok(life) => match self.log.keep_still(Entry::Bound { client, port }) {
                 Err(error) => Err(error),
                 Ok(()) => Ok(life),
             },

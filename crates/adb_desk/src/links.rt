@@ -130,7 +130,7 @@ impl<R: Recorder, E: Ledger, M: Ledger, K: Marks> Desk<R, E, M, K> {
         }
         match self.hub.detach(link, cause) {
             Err(error) => Err(DeskError::Hub(error)),
-            Ok(life) => match self.log.keep(&Entry::Detach { link, cause }, 0) {
+            Ok(life) => match self.log.keep_still(Entry::Detach { link, cause }) {
                 Err(error) => Err(error),
                 Ok(()) => Ok(life),
             },

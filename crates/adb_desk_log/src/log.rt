@@ -147,6 +147,17 @@ impl<R: Recorder, E: Ledger, M: Ledger, K: Marks> Log<R, E, M, K> {
         }
     }
 
+    /// Keeps an entry that moves no byte, as `keep` does.
+    pub fn keep_still(&mut self, entry: Entry) -> Result<(), DeskError>
+        requires going { shut_with self.old ≡ None }
+        requires form { HasRecord entry }
+        requires still { moves entry ≡ 0 }
+        ensures keeps { Keeps self.old entry result self.new }
+        ensures steady { K.steady → result ≢ Err DeskError.RecordFault }
+    {
+        self.keep(&entry, 0)
+    }
+
     /// Keeps the entry of a piece that came, as `keep` does.
     pub fn keep_piece(&mut self, from: Owner, piece: &[u8]) -> Result<(), DeskError>
         requires going { shut_with self.old ≡ None }

@@ -3,14 +3,8 @@ use Rattle.adb_capture.specs.declared.entry.Entry.TheVariants.{End}
 use Rattle.adb_desk.proofs.Staying.{stays_sound}
 use Rattle.adb_desk.proofs.desk.Desk.try_end.Goals as goal
 
-pub invariant_of-self-in-Err-keep : goal.invariant_of-self-in-Err-keep
-invariant_of-self-in-Err-keep g c =
-    stays_sound (record { hub = c.self.inside.hub; log = c.self.inside.log }) (End c.args.client c.args.cause) c.end.new.self c.keep.result c.keep.new.self
-    c.self.invariant (sym c.shut.ensures.shut ∙ c.in_default.is)
-    (λ h lawful. (refl, (c.in-Ok.ensures.ended h lawful).1)) c.keep.ensures.keeps
-
-pub invariant_of-self-in-Ok-keep-14 : goal.invariant_of-self-in-Ok-keep-14
-invariant_of-self-in-Ok-keep-14 g c =
-    stays_sound (record { hub = c.self.inside.hub; log = c.self.inside.log }) (End c.args.client c.args.cause) c.end.new.self c.keep.result c.keep.new.self
-    c.self.invariant (sym c.shut.ensures.shut ∙ c.in_default.is)
-    (λ h lawful. (refl, (c.in-Ok.ensures.ended h lawful).1)) c.keep.ensures.keeps
+pub invariant_of-self-in-Ok : goal.invariant_of-self-in-Ok
+invariant_of-self-in-Ok g c =
+    stays_sound (record { hub = c.self.inside.hub; log = c.self.inside.log }) (End c.args.client c.args.cause) c.end.new.self
+    c.keep_still.result c.keep_still.new.self c.self.invariant (sym c.shut.ensures.shut ∙ c.in_default.is)
+    (λ h lawful. (refl, (c.in-Ok.ensures.ended h lawful).1)) c.keep_still.ensures.keeps

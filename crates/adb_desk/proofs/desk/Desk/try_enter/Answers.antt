@@ -3,22 +3,12 @@ use Rattle.adb_capture.specs.declared.entry.Entry.TheVariants.{Enter}
 use Rattle.adb_desk.proofs.Staying.{stays_sound, came_as}
 use Rattle.adb_desk.proofs.desk.Desk.try_enter.Goals as goal
 
-pub invariant_of-self-in-Err-keep : goal.invariant_of-self-in-Err-keep
-invariant_of-self-in-Err-keep g c =
-    stays_sound (record { hub = c.self.inside.hub; log = c.self.inside.log }) (Enter c.in-Ok.client c.args.port) c.enter.new.self c.keep.result c.keep.new.self
-    c.self.invariant (sym c.shut.ensures.shut ∙ c.in_default.is)
+pub invariant_of-self-in-Ok : goal.invariant_of-self-in-Ok
+invariant_of-self-in-Ok g c =
+    stays_sound (record { hub = c.self.inside.hub; log = c.self.inside.log }) (Enter c.in-Ok.client c.args.port) c.enter.new.self
+    c.keep_still.result c.keep_still.new.self c.self.invariant (sym c.shut.ensures.shut ∙ c.in_default.is)
     (λ h lawful. (
       refl,
       came_as (λ n. Enter n c.args.port) c.in-Ok.client _ c.enter.new.self h
           (c.in-Ok.ensures.entered h lawful).1 (c.in-Ok.ensures.entered h lawful).2,
-    )) c.keep.ensures.keeps
-
-pub invariant_of-self-in-Ok-keep-14 : goal.invariant_of-self-in-Ok-keep-14
-invariant_of-self-in-Ok-keep-14 g c =
-    stays_sound (record { hub = c.self.inside.hub; log = c.self.inside.log }) (Enter c.in-Ok.client c.args.port) c.enter.new.self c.keep.result c.keep.new.self
-    c.self.invariant (sym c.shut.ensures.shut ∙ c.in_default.is)
-    (λ h lawful. (
-      refl,
-      came_as (λ n. Enter n c.args.port) c.in-Ok.client _ c.enter.new.self h
-          (c.in-Ok.ensures.entered h lawful).1 (c.in-Ok.ensures.entered h lawful).2,
-    )) c.keep.ensures.keeps
+    )) c.keep_still.ensures.keeps

@@ -3,22 +3,12 @@ use Rattle.adb_capture.specs.declared.entry.Entry.TheVariants.{Join}
 use Rattle.adb_desk.proofs.Staying.{stays_sound, came_as}
 use Rattle.adb_desk.proofs.desk.Desk.try_join.Goals as goal
 
-pub invariant_of-self-in-Err-keep : goal.invariant_of-self-in-Err-keep
-invariant_of-self-in-Err-keep g c =
-    stays_sound (record { hub = c.self.inside.hub; log = c.self.inside.log }) (Join c.in-Ok.client) c.join.new.self c.keep.result c.keep.new.self
-    c.self.invariant (sym c.shut.ensures.shut ∙ c.in_default.is)
+pub invariant_of-self-in-Ok : goal.invariant_of-self-in-Ok
+invariant_of-self-in-Ok g c =
+    stays_sound (record { hub = c.self.inside.hub; log = c.self.inside.log }) (Join c.in-Ok.client) c.join.new.self
+    c.keep_still.result c.keep_still.new.self c.self.invariant (sym c.shut.ensures.shut ∙ c.in_default.is)
     (λ h lawful. (
       refl,
       came_as Join c.in-Ok.client _ c.join.new.self h
           (c.in-Ok.ensures.joined h lawful).1 (c.in-Ok.ensures.joined h lawful).2,
-    )) c.keep.ensures.keeps
-
-pub invariant_of-self-in-Ok-keep-14 : goal.invariant_of-self-in-Ok-keep-14
-invariant_of-self-in-Ok-keep-14 g c =
-    stays_sound (record { hub = c.self.inside.hub; log = c.self.inside.log }) (Join c.in-Ok.client) c.join.new.self c.keep.result c.keep.new.self
-    c.self.invariant (sym c.shut.ensures.shut ∙ c.in_default.is)
-    (λ h lawful. (
-      refl,
-      came_as Join c.in-Ok.client _ c.join.new.self h
-          (c.in-Ok.ensures.joined h lawful).1 (c.in-Ok.ensures.joined h lawful).2,
-    )) c.keep.ensures.keeps
+    )) c.keep_still.ensures.keeps
