@@ -19,6 +19,16 @@ use std::sync::Wait;
 use std::sync::ledger::Ledger;
 use std::thread::Threads;
 
+/// A client who came: the two halves of its connection, with the passes of its reader and its
+/// writer.
+#[derive(Drop)]
+struct Arrival<E: Ledger, M: Ledger, K: Marks, I: Drop, O: Drop> {
+    input: I,
+    output: O,
+    reading: ClientIn<E, M, K>,
+    writing: ClientOut<E, M, K>,
+}
+
 /// A server that is open: its hall, who runs its jobs, and the bell of its door.
 #[derive(Drop)]
 pub(crate) struct House<
@@ -105,6 +115,27 @@ impl<
         }
     }
 
+    /// Starts the workers of a client who came, each with its port and its pass.
+    fn start_client(
+        &mut self,
+        kits: Kits<W, R, E, M, K, G, BellHandle<B>>,
+        ports: P,
+        arrival: Arrival<E, M, K, I, O>,
+    ) {
+        self.start_reader(Task {
+            kit: kits.reader,
+            pass: arrival.reading,
+            port: arrival.input,
+            aid: ports,
+        });
+        self.start_writer(Task {
+            kit: kits.writer,
+            pass: arrival.writing,
+            port: arrival.output,
+            aid: (),
+        });
+    }
+
     /// Asks the door once, and starts the workers of who comes. One that the hall refuses is
     /// dropped.
     fn take<D: Door<In = I, Out = O>, Y: Yard<Ports = P, Gate = G>>(
@@ -138,33 +169,43 @@ impl<
         ensures lasting { D.lasting door.old → (D.lasting door.new) × (result ≢ Err Served.Done) }
         ensures note { result ≢ Err Served.WriteFault }
     {
+        if let Some(arrival) = self.let_in(door)? {
+            self.start_client(kits, ports, arrival);
+        }
+        Ok(())
+    }
+
+    /// Asks the door once who comes. One that the hall refuses is dropped.
+    fn let_in<D: Door<In = I, Out = O>>(
+        &mut self,
+        door: &mut D,
+    ) -> Result<Option<Arrival<E, M, K, I, O>>, Served>
+        ensures record { K.steady → result ≢ Err Served.RecordFault }
+        ensures door { D.steady door.old → (D.steady door.new) × (result ≢ Err Served.DoorFault) }
+        ensures lasting { D.lasting door.old → (D.lasting door.new) × (result ≢ Err Served.Done) }
+        ensures note { result ≢ Err Served.WriteFault }
+    {
         match admit(&mut self.hall, door) {
             Admitted::Client {
                 input,
                 output,
                 reading,
                 writing,
-            } => {
-                self.start_reader(Task {
-                    kit: kits.reader,
-                    pass: reading,
-                    port: input,
-                    aid: ports,
-                });
-                self.start_writer(Task {
-                    kit: kits.writer,
-                    pass: writing,
-                    port: output,
-                    aid: (),
-                });
-                Ok(())
-            }
+            } => Ok(Some(Arrival {
+                input,
+                output,
+                reading,
+                writing,
+            })),
             Admitted::Closed => Err(Served::Done),
             Admitted::Failed => {
                 self.hall.halt();
                 Err(Served::DoorFault)
             }
-            Admitted::Refused(error) => go_on(&mut self.hall, error),
+            Admitted::Refused(error) => match go_on(&mut self.hall, error) {
+                Ok(()) => Ok(None),
+                Err(served) => Err(served),
+            },
         }
     }
 

@@ -132,10 +132,38 @@ fn plug<
     ensures other { (result ≢ Err Served.DoorFault) × (result ≢ Err Served.Done)
         × (result ≢ Err Served.WriteFault) }
 {
-    let Ok(provision) = provide(rt, alloc, yard, hall, bell, plugged) else {
-        hall.halt();
-        return Err(Served::OutOfMemory);
-    };
+    match provide(rt, alloc, yard, hall, bell, plugged) {
+        Ok(provision) => plug_with(hall, provision, device, plugged),
+        Err(_full) => {
+            hall.halt();
+            Err(Served::OutOfMemory)
+        }
+    }
+}
+
+/// Plugs in a device for which all was made. One that does not come, and one that the hall refuses,
+/// is unplugged.
+fn plug_with<
+    W: Wait + Copy + Drop,
+    R: Recorder,
+    E: Ledger,
+    M: Ledger,
+    K: Marks,
+    G: Drop,
+    B: Drop,
+    X: DeviceIn,
+    Z: DeviceOut,
+>(
+    hall: &mut LockedHall<R, E, M, K, W>,
+    provision: Provision<W, R, E, M, K, G, B>,
+    device: Device<X, Z>,
+    plugged: &mut Vec<Transport<W, R, E, M, K, G, B, X, Z>>,
+) -> Result<(), Served>
+    requires room { vec_len plugged.old < vec_capacity plugged.old }
+    ensures record { K.steady → result ≢ Err Served.RecordFault }
+    ensures other { (result ≢ Err Served.DoorFault) × (result ≢ Err Served.Done)
+        × (result ≢ Err Served.WriteFault) }
+{
     let Device {
         kind,
         serial,
@@ -209,8 +237,7 @@ pub(crate) fn unplug_all<
     Z: DeviceOut,
 >(plugged: Vec<Transport<W, R, E, M, K, G, B, X, Z>>) {
     for device in plugged {
-        let Transport { write, .. } = device;
-        let mut output = write.port;
-        output.unplug();
+        let mut device = device;
+        device.write.port.unplug();
     }
 }
