@@ -11,7 +11,8 @@ use Rattle.adb_commands.specs.declared.status.Status.{Status}
 use Rattle.adb_commands.specs.declared.status.Status.TheVariants.{Done, Usage, ReadFault, WriteFault, BadCapture, OutOfMemory, RecordFault, DoorFault, BadScript, Refused, BadAnswer, PortFault, TooLarge, Illegal}
 
 abbrev pub usage_line : List ℕ
-usage_line = codes "usage: adbhub replay | gen <seed> <streams> | local <seed> | serve [--port <n>] [--device <serial>] [--connect <port>] [--record] | check | devices | push <path> | pull <path> | shell <command> | wait <serial> <state> | copy <seed>\n"
+usage_line = codes "usage: adbhub replay | gen <seed> <streams> | local <seed> | serve [--port <n>] [--device <serial>] [--connect <port>] [--record]"
+    ++ codes " | check | devices | push <path> | pull <path> | shell <command> | wait <serial> <state> | copy <seed>\n"
 
 abbrev pub read_fault_line : List ℕ
 read_fault_line = codes "adbhub: read fault\n"
