@@ -18,7 +18,7 @@ const VERSION: &[u8] = b"000Chost:version";
 const ANSWER: &[u8] = b"OKAY00040029";
 
 /// How a server ended that is wanted to listen on port 5037, if its note says that it does.
-fn served<W: Threads + Wait + Copy + Send + Sync + Drop + 'static>(
+pub(crate) fn served<W: Threads + Wait + Copy + Send + Sync + Drop + 'static>(
     rt: W,
     alloc: Global,
     yard: FakeYard<W>,
@@ -41,16 +41,24 @@ struct Three<W: Wait + Copy + Send + Sync + Drop + 'static> {
     three: Sent<W>,
 }
 
+/// A client comes that sends these bytes.
+fn call<W: Wait + Copy + Send + Sync + Drop + 'static>(
+    alloc: Global,
+    yard: &mut FakeYard<W>,
+    bytes: &[u8],
+) -> Result<Sent<W>, AllocError> {
+    yard.call(bytes, Vec::new(alloc), Vec::new(alloc))
+}
+
 /// Two ask for the version, and the third kills.
 fn three_call<W: Wait + Copy + Send + Sync + Drop + 'static>(
     alloc: Global,
     yard: &mut FakeYard<W>,
 ) -> Result<Three<W>, AllocError> {
-    Ok(Three {
-        one: yard.call(VERSION, Vec::new(alloc), Vec::new(alloc))?,
-        two: yard.call(VERSION, Vec::new(alloc), Vec::new(alloc))?,
-        three: yard.call(b"0009host:kill", Vec::new(alloc), Vec::new(alloc))?,
-    })
+    let one = call(alloc, yard, VERSION)?;
+    let two = call(alloc, yard, VERSION)?;
+    let three = call(alloc, yard, b"0009host:kill")?;
+    Ok(Three { one, two, three })
 }
 
 /// The first is held until the second has its answer, and the third until the first has.
@@ -73,21 +81,36 @@ fn are_answered<W: Wait + Copy + Send + Sync + Drop + 'static>(sent: &Three<W>) 
         && sent.three.is_closed()
 }
 
+/// A yard where nobody comes, and which keeps all.
+fn quiet_yard<W: Wait + Copy + Send + Sync + Drop + 'static>(
+    rt: W,
+    alloc: Global,
+) -> Result<FakeYard<W>, AllocError> {
+    FakeYard::new(rt, alloc, Kept::new(rt, alloc, Vec::new(alloc))?)
+}
+
+/// Whether a server over this yard is done, and rang the bell.
+fn rings<W: Threads + Wait + Copy + Send + Sync + Drop + 'static>(
+    rt: W,
+    alloc: Global,
+    yard: FakeYard<W>,
+) -> Result<bool, AllocError> {
+    let rings = yard.rings()?;
+    Ok(served(rt, alloc, yard, Vec::new(alloc)) == Some(Served::Done) && rings.count() > 0)
+}
+
 /// Whether three clients are answered, one behind the other, or by threads at the same time.
 fn three_are_served<W: Threads + Wait + Copy + Send + Sync + Drop + 'static>(
     rt: W,
     alloc: Global,
     together: bool,
 ) -> Result<bool, AllocError> {
-    let kept = Kept::new(rt, alloc, Vec::new(alloc))?;
-    let mut yard = FakeYard::new(rt, alloc, kept)?;
+    let mut yard = quiet_yard(rt, alloc)?;
     let sent = three_call(alloc, &mut yard)?;
-    let rings = yard.rings()?;
     if together {
         hold(&mut yard, &sent)?;
     }
-    let served = served(rt, alloc, yard, Vec::new(alloc));
-    Ok(served == Some(Served::Done) && are_answered(&sent) && rings.count() > 0)
+    Ok(rings(rt, alloc, yard)? && are_answered(&sent))
 }
 
 /// A server with one client that asks for the version, or with one device, of which something fails.
@@ -157,23 +180,50 @@ const CLIENTS: &[Row] = &[
     },
 ];
 
-/// Whether a server with one client ends as the row says.
-fn client_is_served<W: Threads + Wait + Copy + Send + Sync + Drop + 'static>(
-    rt: W,
-    alloc: Global,
-    row: &Row,
-) -> Result<bool, AllocError> {
-    let kept = Kept::new(rt, alloc, Vec::from_slice(alloc, row.keeps)?)?;
-    let mut yard = FakeYard::new(rt, alloc, kept.handle()?)?;
-    yard.fail_accepts(Vec::from_slice(alloc, row.accepts)?);
-    yard.fail_spawns(Vec::from_slice(alloc, row.spawns)?);
-    let reads = Vec::from_slice(alloc, row.reads)?;
-    let _sent = yard.call(VERSION, reads, Vec::from_slice(alloc, row.writes)?)?;
-    let served = served(rt, alloc, yard, Vec::new(alloc));
-    Ok(served == Some(row.served) && is_told(&kept, row.told)?)
+impl Row {
+    /// The client comes.
+    fn call<W: Wait + Copy + Send + Sync + Drop + 'static>(
+        &self,
+        alloc: Global,
+        yard: &mut FakeYard<W>,
+    ) -> Result<(), AllocError> {
+        let reads = Vec::from_slice(alloc, self.reads)?;
+        let writes = Vec::from_slice(alloc, self.writes)?;
+        let _sent = yard.call(VERSION, reads, writes)?;
+        Ok(())
+    }
+
+    /// The yard where it comes.
+    fn yard<W: Wait + Copy + Send + Sync + Drop + 'static>(
+        &self,
+        rt: W,
+        alloc: Global,
+        kept: Kept<W>,
+    ) -> Result<FakeYard<W>, AllocError> {
+        let mut yard = FakeYard::new(rt, alloc, kept)?;
+        yard.fail_accepts(Vec::from_slice(alloc, self.accepts)?);
+        yard.fail_spawns(Vec::from_slice(alloc, self.spawns)?);
+        self.call(alloc, &mut yard)?;
+        Ok(yard)
+    }
+
+    /// Whether the server ends so, and this is told.
+    fn stands<W: Threads + Wait + Copy + Send + Sync + Drop + 'static>(
+        &self,
+        rt: W,
+        alloc: Global,
+    ) -> Result<bool, AllocError> {
+        let kept = Kept::new(rt, alloc, Vec::from_slice(alloc, self.keeps)?)?;
+        let yard = self.yard(rt, alloc, kept.handle()?)?;
+        let served = served(rt, alloc, yard, Vec::new(alloc));
+        Ok(served == Some(self.served) && is_told(&kept, self.told)?)
+    }
 }
 
-fn is_told<W: Wait + Copy + Drop>(kept: &Kept<W>, told: &[u8]) -> Result<bool, AllocError> {
+pub(crate) fn is_told<W: Wait + Copy + Drop>(
+    kept: &Kept<W>,
+    told: &[u8],
+) -> Result<bool, AllocError> {
     Ok(kept.lines()?.as_slice() == told)
 }
 
@@ -182,7 +232,7 @@ fn deaf_is_told<W: Threads + Wait + Copy + Send + Sync + Drop + 'static>(
     rt: W,
     alloc: Global,
 ) -> Result<bool, AllocError> {
-    let mut yard = FakeYard::new(rt, alloc, Kept::new(rt, alloc, Vec::new(alloc))?)?;
+    let mut yard = quiet_yard(rt, alloc)?;
     yard.be_deaf();
     let mut note = MemorySink::new(alloc, Vec::new(alloc));
     let nobody = Vec::<TestDevice<W>>::new(alloc);
@@ -191,13 +241,17 @@ fn deaf_is_told<W: Threads + Wait + Copy + Send + Sync + Drop + 'static>(
 }
 
 #[test]
+fn three_clients_are_served(rt: HostRuntime) -> Result<(), Fail> {
+    assert!(rt; three_are_served(rt, rt.alloc(), false)?, "one by one");
+    assert!(rt; three_are_served(rt, rt.alloc(), true)?, "together");
+    Ok(())
+}
+
+#[test]
 fn clients_are_served(rt: HostRuntime) -> Result<(), Fail> {
-    let alloc = rt.alloc();
-    assert!(rt; three_are_served(rt, alloc, false)?);
-    assert!(rt; three_are_served(rt, alloc, true)?);
-    assert!(rt; deaf_is_told(rt, alloc)?);
     for row in CLIENTS {
-        assert!(rt; client_is_served(rt, alloc, row)?, "{}", row.name);
+        assert!(rt; row.stands(rt, rt.alloc())?, "{}", row.name);
     }
+    assert!(rt; deaf_is_told(rt, rt.alloc())?);
     Ok(())
 }

@@ -3,7 +3,7 @@
 use crate::over_one_desk::{Case, is_told, stands};
 use adb_capture::MemoryRecorder;
 use adb_connections::{MemoryDeviceIn, OpenGate, Plug};
-use adb_desk_log::Marks;
+use adb_desk_log::{LinkIn, LinkOut, Marks};
 use adb_device_reader::{Device, Packets, Plugged, plug_in, read_device};
 use adb_fakes::{Sent, SharedOut};
 use adb_one_desk::OneDesk;
@@ -76,6 +76,48 @@ pub(crate) fn device<W: Wait + Copy + Send + Sync + Drop + 'static>(
 }
 
 impl Row {
+    fn bytes(&self, alloc: Global) -> Result<Text, AllocError> {
+        let mut bytes = Text::from_slice(alloc, self.bytes)?;
+        bytes.push_slice(self.more)?;
+        Ok(bytes)
+    }
+
+    /// The device, whose first write fails.
+    fn device<W: Wait + Copy + Send + Sync + Drop + 'static>(
+        &self,
+        alloc: Global,
+        sent: Sent<W>,
+    ) -> Result<TestDevice<W>, AllocError> {
+        let output = SharedOut::new(sent, Vec::from_slice(alloc, &[1])?);
+        let bytes = self.bytes(alloc)?;
+        device(alloc, Plug::Here, b"emu1", bytes, output)
+    }
+
+    /// Whether the device is plugged in. One worker of it works until it hands its pass back.
+    fn works<W: Wait + Copy + Send + Sync + Drop + 'static, E: Ledger, M: Ledger, K: Marks>(
+        &self,
+        rt: W,
+        alloc: Global,
+        hall: &mut OneDesk<MemoryRecorder, E, M, K>,
+        device: &mut TestDevice<W>,
+    ) -> Result<bool, AllocError> {
+        let plugged = plug_in(
+            hall,
+            device.kind,
+            device.serial.as_slice(),
+            &mut device.input,
+        );
+        let Some((reading, writing)) = passes(plugged) else {
+            return Ok(false);
+        };
+        if self.reads {
+            read(rt, alloc, hall, &mut device.input, reading)?;
+        } else {
+            let _pass = write_device(rt, hall, &mut device.output, writing, &OpenGate::new());
+        }
+        Ok(true)
+    }
+
     /// Whether what is told of the device is so, and it is unplugged where it was written to.
     pub(crate) fn stands<
         W: Wait + Copy + Send + Sync + Drop + 'static,
@@ -91,37 +133,33 @@ impl Row {
         hall: &mut OneDesk<MemoryRecorder, E, M, K>,
     ) -> Result<bool, AllocError> {
         let sent = Sent::new(rt, alloc)?;
-        let output = SharedOut::new(sent.handle()?, Vec::from_slice(alloc, &[1])?);
-        let mut bytes = Text::from_slice(alloc, self.bytes)?;
-        bytes.push_slice(self.more)?;
-        let device = device(alloc, Plug::Here, b"emu1", bytes, output)?;
-        let works = works(rt, alloc, hall, device, self.reads)?;
+        let mut device = self.device(alloc, sent.handle()?)?;
+        let works = self.works(rt, alloc, hall, &mut device)?;
         Ok(works && sent.is_closed() != self.reads && is_told(alloc, log, hall, self.told)?)
     }
 }
 
-/// Has one worker of a device work until it hands its pass back.
-fn works<W: Wait + Copy + Send + Sync + Drop + 'static, E: Ledger, M: Ledger, K: Marks>(
+/// The passes of a device that has a link.
+fn passes<E: Ledger, M: Ledger, K: Marks>(
+    plugged: Plugged<E, M, K>,
+) -> Option<(LinkIn<E, M, K>, LinkOut<E, M, K>)> {
+    match plugged {
+        Plugged::Link { reading, writing } => Some((reading, writing)),
+        _ => None,
+    }
+}
+
+/// Reads a device until its worker hands the pass back.
+fn read<W: Wait + Copy + Drop, E: Ledger, M: Ledger, K: Marks>(
     rt: W,
     alloc: Global,
     hall: &mut OneDesk<MemoryRecorder, E, M, K>,
-    device: TestDevice<W>,
-    reads: bool,
-) -> Result<bool, AllocError> {
-    let gate = OpenGate::new();
-    let (mut input, mut output) = (device.input, device.output);
-    match plug_in(hall, device.kind, device.serial.as_slice(), &mut input) {
-        Plugged::Link { reading, writing } => {
-            if reads {
-                let packets = Packets::new(alloc)?;
-                let _pass = read_device(rt, hall, &mut input, reading, packets, &gate);
-            } else {
-                let _pass = write_device(rt, hall, &mut output, writing, &gate);
-            }
-            Ok(true)
-        }
-        _ => Ok(false),
-    }
+    input: &mut MemoryDeviceIn,
+    pass: LinkIn<E, M, K>,
+) -> Result<(), AllocError> {
+    let packets = Packets::new(alloc)?;
+    let _pass = read_device(rt, hall, input, pass, packets, &OpenGate::new());
+    Ok(())
 }
 
 /// A row that fails shows what was told.

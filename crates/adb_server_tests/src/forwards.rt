@@ -6,7 +6,7 @@ use adb_binder::MemoryBinder;
 use adb_capture::MemoryRecorder;
 use adb_client_reader::read_client;
 use adb_connections::{MemoryIn, OpenGate};
-use adb_desk_log::{ClientIn, DeskError, Marks};
+use adb_desk_log::{DeskError, Marks};
 use adb_hall::Hall;
 use adb_hub::Handed;
 use adb_one_desk::OneDesk;
@@ -50,6 +50,33 @@ const FORWARDS: &[Forward] = &[
 ];
 
 impl Forward {
+    /// What the client sends.
+    fn port(&self, alloc: Global) -> Result<MemoryIn, AllocError> {
+        let asks = Text::from_slice(alloc, self.asks)?;
+        Ok(MemoryIn::new(asks, 100, Vec::new(alloc)))
+    }
+
+    fn binder(&self, alloc: Global) -> Result<MemoryBinder, AllocError> {
+        let failing = Vec::from_slice(alloc, self.failing)?;
+        Ok(MemoryBinder::new(alloc, 40_000, failing))
+    }
+
+    /// Whether the client is answered so, which is read until its reader hands its pass back.
+    fn is_answered<W: Wait + Copy + Drop, E: Ledger, M: Ledger, K: Marks>(
+        &self,
+        rt: W,
+        hall: &mut OneDesk<MemoryRecorder, E, M, K>,
+        port: &mut MemoryIn,
+        binder: &mut MemoryBinder,
+    ) -> bool {
+        let Ok((reading, writing)) = hall.join() else {
+            return false;
+        };
+        let mut writing = writing;
+        let _pass = read_client(rt, hall, port, reading, binder, &OpenGate::new());
+        hands_out(&hall.put(&mut writing, 100), self.answer)
+    }
+
     /// Whether the client is answered so, and this is told.
     pub(crate) fn stands<W: Wait + Copy + Drop, L: Log, E: Ledger, M: Ledger, K: Marks>(
         &self,
@@ -58,31 +85,10 @@ impl Forward {
         log: &L,
         hall: &mut OneDesk<MemoryRecorder, E, M, K>,
     ) -> Result<bool, AllocError> {
-        if !connects(hall) {
-            return Ok(false);
-        }
-        let Ok((reading, writing)) = hall.join() else {
-            return Ok(false);
-        };
-        let mut writing = writing;
-        self.ask(rt, alloc, hall, reading)?;
-        let answers = hands_out(&hall.put(&mut writing, 100), self.answer);
-        Ok(answers && is_told(alloc, log, hall, self.told)?)
-    }
-
-    /// The client is read until its reader hands its pass back.
-    fn ask<W: Wait + Copy + Drop, E: Ledger, M: Ledger, K: Marks>(
-        &self,
-        rt: W,
-        alloc: Global,
-        hall: &mut OneDesk<MemoryRecorder, E, M, K>,
-        reading: ClientIn<E, M, K>,
-    ) -> Result<(), AllocError> {
-        let mut port = MemoryIn::new(Text::from_slice(alloc, self.asks)?, 100, Vec::new(alloc));
-        let failing = Vec::from_slice(alloc, self.failing)?;
-        let mut binder = MemoryBinder::new(alloc, 40_000, failing);
-        let _pass = read_client(rt, hall, &mut port, reading, &mut binder, &OpenGate::new());
-        Ok(())
+        let mut port = self.port(alloc)?;
+        let mut binder = self.binder(alloc)?;
+        let answered = connects(hall) && self.is_answered(rt, hall, &mut port, &mut binder);
+        Ok(answered && is_told(alloc, log, hall, self.told)?)
     }
 }
 
@@ -110,7 +116,11 @@ fn is_made_of(given: &HandOut, bytes: &[u8]) -> bool {
 #[test]
 fn forwards_are_bound(rt: HostRuntime) -> Result<(), Fail> {
     for &forward in FORWARDS {
-        assert!(rt; stands(rt, rt.alloc(), &Discard, &Case::Forward(forward))?);
+        assert!(rt;
+            stands(rt, rt.alloc(), &Discard, &Case::Forward(forward))?,
+            "{:?}",
+            forward.answer
+        );
     }
     Ok(())
 }

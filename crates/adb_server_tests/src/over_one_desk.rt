@@ -22,6 +22,27 @@ pub(crate) enum Case {
     Forward(Forward),
 }
 
+impl Case {
+    fn stands<
+        W: Wait + Copy + Send + Sync + Drop + 'static,
+        L: Log,
+        E: Ledger,
+        M: Ledger,
+        K: Marks,
+    >(
+        &self,
+        rt: W,
+        alloc: Global,
+        log: &L,
+        hall: &mut OneDesk<MemoryRecorder, E, M, K>,
+    ) -> Result<bool, AllocError> {
+        match self {
+            Case::Device(row) => row.stands(rt, alloc, log, hall),
+            Case::Forward(forward) => forward.stands(rt, alloc, log, hall),
+        }
+    }
+}
+
 /// Whether a case comes out as it says. What was told is logged.
 pub(crate) fn stands<W: Wait + Copy + Send + Sync + Drop + 'static, L: Log>(
     rt: W,
@@ -59,10 +80,11 @@ fn tried<W: Wait + Copy + Send + Sync + Drop + 'static, L: Log, E: Ledger, M: Le
 {
     let recorder = MemoryRecorder::new(alloc, Vec::new(alloc));
     let mut hall = OneDesk::<MemoryRecorder, E, M, K>::new(alloc, recorder, entries, moved, marks);
-    match case {
-        Case::Device(row) => row.stands(rt, alloc, log, &mut hall),
-        Case::Forward(forward) => forward.stands(rt, alloc, log, &mut hall),
-    }
+    case.stands(rt, alloc, log, &mut hall)
+}
+
+fn say(log: &impl Log, lines: &[u8]) {
+    debug!(log; "told {}", str::from_utf8(lines).unwrap_or(""));
 }
 
 /// Whether these lines were told. Those that were are logged.
@@ -73,6 +95,6 @@ pub(crate) fn is_told<L: Log, E: Ledger, M: Ledger, K: Marks>(
     told: &[u8],
 ) -> Result<bool, AllocError> {
     let lines = lines_of(alloc, hall.recorder().entries())?;
-    debug!(log; "told {}", str::from_utf8(lines.as_slice()).unwrap_or(""));
+    say(log, lines.as_slice());
     Ok(lines.as_slice() == told)
 }
