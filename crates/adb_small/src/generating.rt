@@ -1,0 +1,33 @@
+//! Making a load, and writing how much went through.
+
+
+use crate::stop::Stop;
+use crate::texts::push_line;
+use adb_hub::Hub;
+use adb_outside::{Sink, Text, Wrote};
+use adb_run_load::{Totals, run_load};
+use std::alloc::{AllocError, Global};
+
+/// Makes the load of a seed and so many streams in a hub of its own, and writes four lines: how
+/// many streams it has, and how much went through.
+pub fn generate<K: Sink>(alloc: Global, seed: u64, streams: u16, sink: &mut K) -> Result<(), Stop>
+{
+    let mut hub = Hub::new(alloc);
+    let totals = run_load(alloc, &mut hub, seed, u32::from(streams))?;
+    let lines = lines_of(alloc, streams, totals)?;
+    match sink.write(lines.as_slice()) {
+        Wrote::All => Ok(()),
+        Wrote::Failed { taken: _ } => Err(Stop::WriteFault),
+    }
+}
+
+/// The lines of a load.
+fn lines_of(alloc: Global, streams: u16, totals: Totals) -> Result<Text, AllocError>
+{
+    let mut lines = Text::new(alloc);
+    push_line(&mut lines, b"streams ", u64::from(streams))?;
+    push_line(&mut lines, b"up ", totals.up)?;
+    push_line(&mut lines, b"down ", totals.down)?;
+    push_line(&mut lines, b"entries ", totals.entries)?;
+    Ok(lines)
+}
