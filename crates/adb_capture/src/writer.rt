@@ -61,6 +61,23 @@ pub fn append_entry(bytes: &mut ByteQueue, entry: &Entry) -> Result<(), AllocErr
     Ok(())
 }
 
+/// The fewest bytes of a text that is not gathered.
+const LARGE: usize = 16 * 1024;
+
+/// Adds the record of an entry, but for a large text, which is to be written behind it from where it
+/// lies.
+pub fn append_start<'a>(bytes: &mut ByteQueue, entry: &'a Entry) -> Result<&'a [u8], AllocError> {
+    let Spelled { head, rest } = Spelled::of(entry);
+    if rest.len() >= LARGE {
+        bytes.push(head.as_slice())?;
+        return Ok(rest);
+    }
+    bytes.reserve(head.len + rest.len())?;
+    bytes.push_spare(head.as_slice());
+    bytes.push_spare(rest);
+    Ok(&[])
+}
+
 /// Writes a piece, and where it went out another behind it, which may be empty.
 pub(crate) fn write_both<K: Sink>(sink: &mut K, first: &[u8], last: &[u8]) -> Wrote
     requires some { 0 < length first.now }

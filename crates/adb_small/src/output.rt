@@ -2,7 +2,7 @@
 
 
 use crate::stop::Stop;
-use adb_capture::{Entry, append_entry, append_magic};
+use adb_capture::{Entry, append_magic, append_start};
 use adb_outside::{ByteQueue, Sink, Wrote};
 use std::alloc::{AllocError, Global};
 
@@ -28,7 +28,11 @@ impl Output {
     /// Keeps the record of an entry. Where a piece is gathered then it goes out.
     pub fn keep<K: Sink>(&mut self, sink: &mut K, entry: &Entry) -> Result<(), Stop>
     {
-        append_entry(&mut self.gathered, entry)?;
+        let rest = append_start(&mut self.gathered, entry)?;
+        if !rest.is_empty() {
+            self.write_out(sink)?;
+            return write_piece(sink, rest);
+        }
         if self.gathered.len() < PIECE {
             return Ok(());
         }
@@ -47,5 +51,13 @@ impl Output {
             Wrote::All => Ok(()),
             Wrote::Failed { taken: _ } => Err(Stop::WriteFault),
         }
+    }
+}
+
+/// Writes a large text from where it lies.
+fn write_piece<K: Sink>(sink: &mut K, piece: &[u8]) -> Result<(), Stop> {
+    match sink.write(piece) {
+        Wrote::All => Ok(()),
+        Wrote::Failed { taken: _ } => Err(Stop::WriteFault),
     }
 }
