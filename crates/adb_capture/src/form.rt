@@ -5,6 +5,7 @@ ghost use Rattle.adb_capture.specs.Records.{cause_at, port_at, plug_at, entry_at
 ghost use Rattle.adb_capture.specs.Forms.{entry_by};
 
 use crate::entry::Entry;
+use crate::lent::Lent;
 use adb_outside::{Cause, HandOut, Kind, Text};
 use byteorder::{ByteOrder, LittleEndian};
 use std::alloc::{AllocError, Global};
@@ -46,6 +47,40 @@ impl Form {
             b'P' => Some(Form::Put),
             b'S' => Some(Form::Send),
             _ => None,
+        }
+    }
+
+    /// The entry, with its number, whose texts are those of the data, lent.
+    pub(crate) fn lent(self, owner: u32, content: &[u8]) -> Lent<'_> {
+        match self {
+            Form::Join => Lent::Join { client: owner },
+            Form::Enter(port) => Lent::Enter {
+                client: owner,
+                port,
+            },
+            Form::Read => Lent::Read {
+                client: owner,
+                bytes: content,
+            },
+            Form::End(cause) => Lent::End {
+                client: owner,
+                cause,
+            },
+            Form::Bound(port) => Lent::Bound {
+                client: owner,
+                port,
+            },
+            Form::Attach(kind) => Lent::Attach {
+                link: owner,
+                kind,
+                serial: past_first(content),
+            },
+            Form::Recv => Lent::Recv {
+                link: owner,
+                bytes: content,
+            },
+            Form::Detach(cause) => Lent::Detach { link: owner, cause },
+            Form::Put | Form::Send => Lent::HandOut,
         }
     }
 

@@ -11,7 +11,8 @@ use crate::awaiting::{await_record, take_magic};
 use crate::entry::Entry;
 use crate::error::CaptureError;
 use crate::held::Held;
-use crate::record::read;
+use crate::lent::Lent;
+use crate::record::{lend, read};
 use adb_outside::Source;
 use std::alloc::{AllocError, Global};
 use std::marker::Model;
@@ -129,6 +130,44 @@ impl CaptureReader {
             self.remember(*error);
         }
         given
+    }
+
+    /// Reads on until a whole record is held; says how many bytes it has.
+    pub fn await_next<S: Source>(&mut self, source: &mut S) -> Result<Option<usize>, CaptureError> {
+        if let Some(error) = self.failed {
+            return Err(error);
+        }
+        let found = self.await_now(source);
+        if let Err(error) = &found {
+            self.remember(*error);
+        }
+        found
+    }
+
+    fn await_now<S: Source>(&mut self, source: &mut S) -> Result<Option<usize>, CaptureError> {
+        self.open_now(source)?;
+        await_record(&mut self.held, self.offset, source)
+    }
+
+    /// The offset of the next record.
+    pub fn offset(&self) -> u64 {
+        self.offset
+    }
+
+    /// The bytes of the next record, which is held.
+    pub fn bytes(&self, size: usize) -> &[u8] {
+        &self.held.as_slice()[..size]
+    }
+
+    /// The entry of a record that is held.
+    pub fn lend<'a>(&self, bytes: &'a [u8]) -> Lent<'a> {
+        lend(bytes)
+    }
+
+    /// The record is passed over.
+    pub fn pass(&mut self, size: usize) {
+        self.held.skip(size);
+        self.offset += size as u64;
     }
 
     /// Reads the next record, with the magic before it where it was not read yet.

@@ -7,6 +7,7 @@ ghost use Rattle.adb_capture.specs.Records.{record_at, entry_in, is_kind, owner_
 use crate::entry::Entry;
 use crate::error::{FormFault, Why};
 use crate::form::Form;
+use crate::lent::Lent;
 use crate::limits::{HEADER_LEN, MAX_CAPTURE, MAX_DATA};
 use adb_outside::Front;
 use byteorder::{ByteOrder, LittleEndian};
@@ -50,6 +51,15 @@ pub(crate) fn read(alloc: Global, offset: u64, bytes: &[u8]) -> Result<(u64, Ent
     let content = &bytes[HEADER_LEN..];
     match Form::of(bytes[0], content) {
         Some(form) => Ok((offset, form.entry(alloc, owner(bytes), content)?)),
+        None => unreachable!(),
+    }
+}
+
+/// The entry of a whole record, whose texts are lent.
+pub(crate) fn lend(bytes: &[u8]) -> Lent<'_> {
+    let content = &bytes[HEADER_LEN..];
+    match Form::of(bytes[0], content) {
+        Some(form) => form.lent(owner(bytes), content),
         None => unreachable!(),
     }
 }

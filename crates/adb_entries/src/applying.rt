@@ -9,7 +9,7 @@ ghost use Rattle.adb_entries.specs.Machine.{Applies};
 ghost use Rattle.adb_entries.specs.Refused.{applied_as};
 
 use crate::refused::Refused;
-use adb_capture::Entry;
+use adb_capture::{Entry, Lent};
 use adb_history::Reason;
 use adb_hub::{Hub, HubError, Life};
 use adb_outside::Kind;
@@ -32,6 +32,21 @@ pub fn apply(hub: &mut Hub, entry: &Entry) -> Result<(), Refused>
         Entry::Recv { link, bytes } => lived(hub.recv(*link, bytes.as_slice())),
         Entry::Detach { link, cause } => lived(hub.detach(*link, *cause)),
         Entry::Put { .. } | Entry::Send { .. } => Ok(()),
+    }
+}
+
+/// Makes the next entry, whose texts are lent.
+pub fn apply_lent(hub: &mut Hub, entry: Lent<'_>) -> Result<(), Refused> {
+    match entry {
+        Lent::Join { client } => join(hub, client),
+        Lent::Enter { client, port } => enter(hub, client, port),
+        Lent::Read { client, bytes } => lived(hub.read(client, bytes)),
+        Lent::End { client, cause } => lived(hub.end(client, cause)),
+        Lent::Bound { client, port } => lived(hub.bound(client, port)),
+        Lent::Attach { link, kind, serial } => attach(hub, link, kind, serial),
+        Lent::Recv { link, bytes } => lived(hub.recv(link, bytes)),
+        Lent::Detach { link, cause } => lived(hub.detach(link, cause)),
+        Lent::HandOut => Ok(()),
     }
 }
 

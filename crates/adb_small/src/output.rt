@@ -39,6 +39,15 @@ impl Output {
         self.write_out(sink)
     }
 
+    /// Keeps a record that is spelled already.
+    pub fn keep_spelled<K: Sink>(&mut self, sink: &mut K, record: &[u8]) -> Result<(), Stop> {
+        self.gathered.push(record)?;
+        if self.gathered.len() < PIECE {
+            return Ok(());
+        }
+        self.write_out(sink)
+    }
+
     /// Writes what is gathered. Then nothing is, also where the sink failed.
     pub fn write_out<K: Sink>(&mut self, sink: &mut K) -> Result<(), Stop>
     {

@@ -4,8 +4,8 @@
 
 use crate::output::Output;
 use crate::stop::Stop;
-use adb_capture::{CaptureReader, Entry};
-use adb_entries::{apply, hand_next};
+use adb_capture::{CaptureReader, Entry, Lent};
+use adb_entries::{apply_lent, hand_next};
 use adb_history::draining_ends;
 use adb_hub::Hub;
 use adb_outside::{Sink, Source};
@@ -34,43 +34,33 @@ fn replay_records<S: Source, K: Sink>(
 {
     let mut hub = Hub::new(alloc);
     while !hub.is_stopped() {
-        let Some((offset, entry)) = reader.next(source)? else {
+        let Some(size) = reader.await_next(source)? else {
             return Ok(());
         };
-        replay_entry(&mut hub, output, sink, offset, entry)?;
+        replay_record(&mut hub, output, sink, reader, size)?;
+        reader.pass(size);
     }
     Ok(())
 }
 
-/// Replays one record, whose entry is dropped then.
-fn replay_entry<K: Sink>(
-    hub: &mut Hub,
-    output: &mut Output,
-    sink: &mut K,
-    offset: u64,
-    entry: Entry,
-) -> Result<(), Stop>
-{
-    replay_record(hub, output, sink, offset, &entry)
-}
-
-/// Replays one record: its entry is made and kept, and all that is due then is handed out. A
-/// hand-out that was recorded is passed over.
+/// Replays one record.
 fn replay_record<K: Sink>(
     hub: &mut Hub,
     output: &mut Output,
     sink: &mut K,
-    offset: u64,
-    entry: &Entry,
+    reader: &CaptureReader,
+    size: usize,
 ) -> Result<(), Stop>
 {
-    if is_hand_out(entry) {
+    let bytes = reader.bytes(size);
+    let entry = reader.lend(bytes);
+    if matches!(entry, Lent::HandOut) {
         return Ok(());
     }
-    match apply(hub, entry) {
-        Err(why) => Err(Stop::at(offset, why)),
+    match apply_lent(hub, entry) {
+        Err(why) => Err(Stop::at(reader.offset(), why)),
         Ok(()) => {
-            output.keep(sink, entry)?;
+            output.keep_spelled(sink, bytes)?;
             drain(hub, output, sink)
         }
     }
@@ -91,10 +81,4 @@ fn drain<K: Sink>(hub: &mut Hub, output: &mut Output, sink: &mut K) -> Result<()
 fn keep<K: Sink>(output: &mut Output, sink: &mut K, entry: Entry) -> Result<(), Stop>
 {
     output.keep(sink, &entry)
-}
-
-/// Whether an entry is a hand-out.
-fn is_hand_out(entry: &Entry) -> bool
-{
-    matches!(entry, Entry::Put { .. } | Entry::Send { .. })
 }
