@@ -7,8 +7,13 @@ ghost use Rattle.adb_client.specs.Input.{EndsWith};
 use crate::ask::{Asked, ask_in};
 use crate::slices::{behind, first, share};
 use bytes::{Bytes, BytesMut};
-use std::alloc::{AllocError, Global};
+use std::alloc::{AllocError, AllocFailed, Global};
+use std::collections::VecDeque;
 use std::marker::Model;
+use std::mem;
+
+/// The fewest bytes of a piece that is kept in memory of its own.
+const LARGE: usize = 4096;
 
 /// The bytes that are held, one after another. Of a front that was cut ahead there are handles,
 /// made in advance: each becomes a part of it by leaving off bytes at both ends, which takes no
@@ -18,6 +23,10 @@ pub(crate) struct Input {
     alloc: Global,
     front: Bytes,
     handles: Vec<Bytes>,
+    /// Behind the front, each in memory of its own.
+    pieces: VecDeque<Bytes>,
+    in_pieces: usize,
+    /// Behind these.
     rest: BytesMut,
     /// How many bytes of the front can be cut off without memory, and in how many pieces.
     ready: usize,
@@ -45,6 +54,8 @@ impl Input {
             alloc,
             front: Bytes::new(),
             handles: Vec::new(alloc),
+            pieces: VecDeque::new(alloc),
+            in_pieces: 0,
             rest: BytesMut::new(alloc),
             ready: 0,
             cuts: 0,
@@ -55,7 +66,7 @@ impl Input {
     pub(crate) fn len(&self) -> usize
         ensures { result ≡ length self.now.held }
     {
-        self.front.len() + self.rest.len()
+        self.front.len() + self.in_pieces + self.rest.len()
     }
 
     /// Bytes came.
@@ -65,7 +76,27 @@ impl Input {
         }) }
         ensures err { OnErr result (self.new ≡ self.old) }
     {
-        self.rest.extend_from_slice(piece)
+        if piece.len() < LARGE {
+            return self.rest.extend_from_slice(piece);
+        }
+        self.pieces.reserve(2)?;
+        let own = Bytes::copy_from_slice(self.alloc, piece)?;
+        if !self.rest.is_empty() {
+            let rest = mem::replace(&mut self.rest, BytesMut::new(self.alloc));
+            match rest.freeze() {
+                Ok(bytes) => {
+                    self.in_pieces += bytes.len();
+                    self.pieces.push_back_reserved(bytes);
+                }
+                Err(AllocFailed { value }) => {
+                    self.rest = value;
+                    return Err(AllocError);
+                }
+            }
+        }
+        self.in_pieces += own.len();
+        self.pieces.push_back_reserved(own);
+        Ok(())
     }
 
     /// The last `n` bytes are no longer held, and nothing is ready. It takes no memory.
@@ -81,8 +112,48 @@ impl Input {
         self.handles.clear();
         self.ready = 0;
         self.cuts = 0;
-        self.rest.truncate(left.saturating_sub(self.front.len()));
+        let behind = left.saturating_sub(self.front.len());
+        self.rest.truncate(behind.saturating_sub(self.in_pieces));
+        while self.in_pieces > behind {
+            self.cut_back(behind);
+        }
         self.front.truncate(left);
+    }
+
+    /// The last piece goes, or so much of it that so many bytes in pieces stay.
+    fn cut_back(&mut self, stay: usize) {
+        if let Some(mut piece) = self.pieces.pop_back() {
+            let before = self.in_pieces - piece.len();
+            self.in_pieces = before;
+            if before < stay {
+                piece.truncate(stay - before);
+                self.in_pieces = stay;
+                self.pieces.push_back_reserved(piece);
+            }
+        }
+    }
+
+    /// So many bytes behind the front go.
+    fn skip_behind(&mut self, n: usize) {
+        let mut left = n;
+        while left > 0 && self.in_pieces > 0 {
+            left -= self.skip_piece(left);
+        }
+        self.rest.advance(left);
+    }
+
+    /// The first piece goes, or so many bytes of it; says how many.
+    fn skip_piece(&mut self, n: usize) -> usize {
+        let Some(mut piece) = self.pieces.pop_front() else {
+            return n;
+        };
+        let gone = n.min(piece.len());
+        self.in_pieces -= gone;
+        if gone < piece.len() {
+            piece.advance(gone);
+            self.pieces.push_front_reserved(piece);
+        }
+        gone
     }
 
     /// What the bytes ask from a place on.
@@ -91,7 +162,7 @@ impl Input {
         ensures asked { IfOk result (λ asked. asked ≡ asked_in (drop at self.now.held)) }
         ensures within { IfOk result (λ asked. at + asked.len ≤ length self.now.held) }
     {
-        if self.front.is_empty() {
+        if self.front.is_empty() && self.in_pieces == 0 {
             return ask_in(self.alloc, behind(self.rest.as_slice(), at));
         }
         let all = self.joined(self.len())?;
@@ -106,7 +177,14 @@ impl Input {
         let mut all = BytesMut::with_capacity(self.alloc, n)?;
         let some = n.min(self.front.len());
         all.extend_from_slice(first(self.front.as_slice(), some))?;
-        all.extend_from_slice(first(self.rest.as_slice(), n - some))?;
+        let mut left = n - some;
+        for i in 0..self.pieces.len() {
+            let piece = self.pieces[i].as_slice();
+            let part = left.min(piece.len());
+            all.extend_from_slice(first(piece, part))?;
+            left -= part;
+        }
+        all.extend_from_slice(first(self.rest.as_slice(), left))?;
         Ok(all.freeze()?)
     }
 
@@ -120,7 +198,7 @@ impl Input {
     {
         let some = n.min(self.front.len());
         self.front.advance(some);
-        self.rest.advance(n - some);
+        self.skip_behind(n - some);
         self.ready = self.ready.saturating_sub(n);
         self.give_back();
     }
@@ -165,7 +243,13 @@ impl Input {
             return Ok(());
         }
         self.handles.clear();
-        self.front = self.rest.freeze_to(n)?;
+        match self.pieces.pop_front() {
+            Some(piece) => {
+                self.in_pieces -= piece.len();
+                self.front = piece;
+            }
+            None => self.front = self.rest.freeze_to(n)?,
+        }
         Ok(())
     }
 
@@ -180,7 +264,7 @@ impl Input {
         let len = ready.max(before);
         let front = self.share_first(len)?;
         let handles = handles_of(self.alloc, &front, cuts)?;
-        self.rest.advance(len - before);
+        self.skip_behind(len - before);
         self.front = front;
         self.handles = handles;
         self.ready = ready;
