@@ -26,6 +26,9 @@ const FEW_BYTES: usize = 16 * 1024;
 
 const FEW_SLICES: usize = 64;
 
+/// Up to how many slices no room is made for more than are asked for.
+const EXACT: usize = 2;
+
 /// The bytes that are due: bytes of its own, and slices among them, which are shared, with the
 /// places that are reserved for more of both. What was handed out is cut off.
 #[derive(Drop)]
@@ -102,7 +105,11 @@ impl Output {
         if n > (MAX_DUE - self.shared) / MAX_SLICE {
             return Err(AllocError);
         }
-        self.slices.reserve(n)?;
+        if self.slices.len() < EXACT && n <= EXACT {
+            self.slices.reserve_exact(n)?;
+        } else {
+            self.slices.reserve(n)?;
+        }
         self.places = n;
         Ok(())
     }
