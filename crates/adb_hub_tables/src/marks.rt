@@ -34,6 +34,10 @@ pub(crate) struct Marks {
     seen: Seen,
     /// The block that was left without numbers last. It is kept for those who come next.
     spare: Option<u32>,
+    /// The number that was seen alone has its mark of what is due, which is written nowhere yet.
+    late: bool,
+    /// Whether anybody asked for news. As long as nobody did, all numbers that are known are news.
+    told: bool,
 }
 
 impl Model for Marks {
@@ -59,6 +63,8 @@ impl Marks {
             groups: BTreeMap::new(alloc),
             seen: Seen::Nothing,
             spare: None,
+            late: false,
+            told: false,
         }
     }
 
@@ -70,6 +76,22 @@ impl Marks {
         ensures err { OnErr result (self.new.entries ≡ self.old.entries) }
     {
         let high = number / 64;
+        let late = !self.told && matches!(self.seen, Seen::Lack(Kind::Due));
+        if late {
+            words::know(&mut self.groups, high)?;
+            return match words::know_late(&mut self.blocks, number) {
+                Ok(()) => {
+                    self.seen = Seen::Alone(Kind::Due, number);
+                    self.late = true;
+                    Ok(())
+                }
+                Err(error) => {
+                    words::forget(&mut self.groups, high);
+                    Err(error)
+                }
+            };
+        }
+        self.write_late();
         words::know(&mut self.groups, high)?;
         match words::know(&mut self.blocks, number) {
             Ok(()) => {
@@ -93,6 +115,12 @@ impl Marks {
         if is_marked(self.seen, number) {
             return;
         }
+        if !self.told && matches!(self.seen, Seen::Lack(Kind::Due)) {
+            self.seen = Seen::Alone(Kind::Due, number);
+            self.late = true;
+            return;
+        }
+        self.write_late();
         if mark_grouped(&mut self.groups, &mut self.blocks, number) {
             self.seen = once_marked(self.seen, number);
         }
@@ -107,6 +135,15 @@ impl Marks {
         ensures falls { mark which self.old.entries number ≡ 1
             → weight which self.new.entries < weight which self.old.entries }
     {
+        if self.late {
+            if which == Kind::Due && is_marked(self.seen, number) {
+                self.late = false;
+                self.seen = Seen::Lack(Kind::Due);
+                return;
+            }
+            self.write_late();
+        }
+        self.told = self.told || which == Kind::News;
         self.seen = once_unmarked(self.seen, which, number);
         words::unmark(&mut self.blocks, which, number);
     }
@@ -117,6 +154,13 @@ impl Marks {
         ensures fits { number < 2 ^ 32 }
         ensures forgets { Forgets number self.old.entries self.new.entries }
     {
+        if self.late {
+            if is_marked(self.seen, number) {
+                self.late = false;
+            } else {
+                self.write_late();
+            }
+        }
         self.seen = once_forgotten(self.seen, number);
         if words::forget_in(&mut self.blocks, number) {
             let before = mem::replace(&mut self.spare, Some(number / 64));
@@ -129,6 +173,7 @@ impl Marks {
         ensures { self.new.entries ≡ [] }
     {
         self.seen = Seen::Nothing;
+        self.late = false;
         self.spare = None;
         self.blocks.clear();
         self.groups.clear();
@@ -139,10 +184,21 @@ impl Marks {
         ensures { let high = number / 64 in
             self.new.entries ≡ filter (λ block. nat_eq block.0 high) self.old.entries }
     {
+        self.write_late();
         self.seen = Seen::Nothing;
         self.spare = None;
         words::keep_only(&mut self.blocks, number);
         words::keep_only(&mut self.groups, number / 64);
+    }
+
+    /// Writes the mark of the number that was seen alone.
+    fn write_late(&mut self) {
+        if self.late {
+            self.late = false;
+            if let Seen::Alone(_, number) = self.seen {
+                let _ = mark_grouped(&mut self.groups, &mut self.blocks, number);
+            }
+        }
     }
 
     /// The least number that has a mark. It takes no memory.
@@ -161,6 +217,7 @@ impl Marks {
             Seen::Alone(kind, number) if kind == which => return Some(number),
             _ => {}
         }
+        self.write_late();
         while let Some(high) = words::first(&self.groups, which) {
             if let Some(number) = words::first_in(&self.blocks, which, high) {
                 return Some(number);

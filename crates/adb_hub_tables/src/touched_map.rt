@@ -88,8 +88,9 @@ impl<V: Owes> TouchedMap<V> {
         ensures value { option_copied_mut result ≡ at id.now self.old.entries }
         ensures ordered { IsRising self.old.entries }
     {
+        let row = self.rows.get_mut(id)?;
         self.marks.mark(*id);
-        self.rows.get_mut(id)
+        Some(row)
     }
 
     /// The least number of a row to which something is due. It takes no memory, and looks at no row

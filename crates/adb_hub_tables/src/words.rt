@@ -50,6 +50,23 @@ impl Block {
         self.news |= bit;
     }
 
+    /// One number is known, and is news.
+    fn new_late(i: u32) -> Block {
+        let bit = 1u64 << i;
+        Block {
+            places: bit,
+            due: 0,
+            news: bit,
+        }
+    }
+
+    /// A number is known, and is news.
+    fn know_late(&mut self, i: u32) {
+        let bit = 1u64 << i;
+        self.places |= bit;
+        self.news |= bit;
+    }
+
     /// A number that is known has all marks. Whether a word of marks was empty before; `None` where
     /// it is not known.
     fn mark(&mut self, i: u32) -> Option<bool>
@@ -122,6 +139,16 @@ pub(crate) fn know(marks: &mut Words, number: u32) -> Result<(), AllocError>
         return Ok(());
     }
     marks.insert(number / 64, Block::new(number % 64))?;
+    Ok(())
+}
+
+/// A number is known, and is news. After want of memory all is as before.
+pub(crate) fn know_late(marks: &mut Words, number: u32) -> Result<(), AllocError> {
+    if let Some(block) = marks.get_mut(&(number / 64)) {
+        block.know_late(number % 64);
+        return Ok(());
+    }
+    marks.insert(number / 64, Block::new_late(number % 64))?;
     Ok(())
 }
 
