@@ -43,7 +43,8 @@ fn put_incoming(links: &mut TouchedMap<Port>, link: u32, incoming: Deframer)
     ensures apart { (k : ℕ) → k ≢ link → at k links.new.entries ≡ at k links.old.entries }
 {
     if let Some(port) = links.get_mut(&link) {
-        port.link.put_incoming(incoming, true);
+        let is_fed = !incoming.is_fresh();
+        port.link.put_incoming(incoming, is_fed);
     }
 }
 

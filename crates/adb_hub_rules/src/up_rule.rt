@@ -94,23 +94,13 @@ fn send_up(tables: &mut Tables, id: u32, stream: &Stream)
 
 /// What a client holds goes up, as much as the flow of its stream lets go; says what the flow
 /// is then.
-fn send_held(tables: &mut Tables, id: u32, stream: &Stream) -> Flow
-    requires here { at id tables.old.streams.streams ≡ Some stream.now }
-    requires ready { IsReadyToSend stream.now tables.old }
-    requires sized { IsSized tables.old }
-    ensures state { let writes = all_unsent stream.now tables.old in
-        let held = held_at (at stream.now.client tables.old.clients.entries) in
-        state_of tables.new ≡ (all_go_up id stream.now writes
-        (noted id stream.now held writes (state_of tables.old))).state }
-    ensures flow { result
-        ≡ flow_after (all_unsent stream.now tables.old) stream.now.part.flow }
-    ensures uses { (c : ℕ) → Uses stream.now.link (length (all_unsent stream.now tables.old))
-        c 0 tables.old tables.new }
-    ensures others { (c : ℕ) → c ≢ stream.now.client
-        → at c tables.new.clients.entries ≡ at c tables.old.clients.entries }
-{
+fn send_held(tables: &mut Tables, id: u32, stream: &Stream) -> Flow {
     let maxdata = tables.maxdata_of(stream.link);
-    let flow = write_up(tables, id, stream, maxdata);
+    let mut flow = stream.part.flow;
+    if !write_next(tables, id, stream, &mut flow, maxdata) {
+        return flow;
+    }
+    while write_next(tables, id, stream, &mut flow, maxdata) {}
     set_flow(tables, id, stream, &flow);
     flow
 }
@@ -145,21 +135,6 @@ fn is_over(tables: &Tables, client: u32, flow: &Flow) -> bool
         Some(row) => row.held() == 0 && row.about().ended && flow.is_idle(),
         None => false,
     }
-}
-
-/// Writes go up, as many as the flow of a stream lets go; says what the flow is then.
-fn write_up(tables: &mut Tables, id: u32, stream: &Stream, maxdata: usize) -> Flow
-    requires size { maxdata ≤ MAX_PAYLOAD }
-    requires cut { CanSend stream.now maxdata (stream.now.part.flow, tables.old) }
-    requires room { LinkRoom (length (unsent stream.now maxdata
-        (stream.now.part.flow, tables.old))) (at stream.now.link tables.old.links.entries) }
-    ensures sends { Sends id stream.now maxdata (stream.now.part.flow, tables.old)
-        (result, tables.new) }
-    ensures all { unsent stream.now maxdata (result, tables.new) ≡ [] }
-{
-    let mut flow = stream.part.flow;
-    while write_next(tables, id, stream, &mut flow, maxdata) {}
-    flow
 }
 
 /// A write goes up, where the flow of a stream lets one go; says whether one did.

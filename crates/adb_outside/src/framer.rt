@@ -125,6 +125,14 @@ impl<V: Drop, F: Copy, S: Format<V, F>> Framer<S, V, F> {
         }
     }
 
+    /// How the next bytes are read, where nothing is held, no frame is kept and no fault is there.
+    pub fn idle_format(&self) -> Option<S> {
+        if self.held.is_empty() && self.ready.is_empty() && self.fault.is_none() {
+            return Some(self.format);
+        }
+        None
+    }
+
     /// The bytes past the last whole frame.
     pub fn rest(&self) -> &[u8]
         ensures { result.now ≡ self.now.rest }

@@ -106,6 +106,14 @@ impl Deframer {
         }
     }
 
+    /// Whether it is as a new one.
+    pub fn is_fresh(&self) -> bool {
+        match self.framer.idle_format() {
+            Some(format) => !format.sums,
+            None => false,
+        }
+    }
+
     /// Whether the bytes that were fed have a fault.
     pub fn is_broken(&self) -> bool
         ensures { result ≡ is_some self.now.fault }
