@@ -9,6 +9,9 @@ use std::alloc::{AllocError, Global};
 /// The fewest bytes of a piece that goes out before the end.
 const PIECE: usize = 65_536;
 
+/// The fewest bytes of a record that is not gathered.
+const LARGE: usize = 16 * 1024;
+
 /// What is gathered for a sink: behind what went out, the end of what is kept.
 #[derive(Drop)]
 pub struct Output {
@@ -41,6 +44,10 @@ impl Output {
 
     /// Keeps a record that is spelled already.
     pub fn keep_spelled<K: Sink>(&mut self, sink: &mut K, record: &[u8]) -> Result<(), Stop> {
+        if record.len() >= LARGE {
+            self.write_out(sink)?;
+            return write_piece(sink, record);
+        }
         self.gathered.push(record)?;
         if self.gathered.len() < PIECE {
             return Ok(());
