@@ -3,6 +3,5 @@ pub mod Client
 pub mod Parts
 pub mod Lending
 pub mod Input
-pub mod Cutting
 pub mod Output
 pub mod Slices

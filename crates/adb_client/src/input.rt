@@ -1,9 +1,5 @@
 //! What a client sent that is held.
 
-ghost use Rattle.std.specs.Prelude.{◌≡◌, ◌<◌, ◌≤◌, ◌+◌, ◌-◌, ◌++◌, [], ℕ, length, take, drop, max, vec_len, All, IsOk, IfOk, OnOk, OnErr};
-ghost use Rattle.adb_client.specs.Ask.{asked_in};
-ghost use Rattle.adb_client.specs.Input.{EndsWith};
-
 use crate::ask::{Asked, ask_in};
 use crate::slices::{behind, first, share};
 use bytes::{Bytes, BytesMut};
@@ -12,70 +8,154 @@ use std::collections::VecDeque;
 use std::marker::Model;
 use std::mem;
 
-/// The fewest bytes of a piece that is kept in memory of its own.
+/// The fewest bytes of a piece that is kept in memory of its own behind others.
 const LARGE: usize = 4096;
+
+/// The bytes that are held. Where none are nothing is kept.
+#[derive(Drop)]
+pub(crate) struct Input {
+    alloc: Global,
+    held: Option<Box<Held>>,
+    /// How many bytes of the front can be cut off without memory, and in how many pieces.
+    ready: usize,
+    cuts: usize,
+}
 
 /// The bytes that are held, one after another. Of a front that was cut ahead there are handles,
 /// made in advance: each becomes a part of it by leaving off bytes at both ends, which takes no
 /// memory.
 #[derive(Drop)]
-pub(crate) struct Input {
+struct Held {
     alloc: Global,
     front: Bytes,
+    handle: Option<Bytes>,
     handles: Vec<Bytes>,
     /// Behind the front, each in memory of its own.
     pieces: VecDeque<Bytes>,
     in_pieces: usize,
     /// Behind these.
     rest: BytesMut,
-    /// How many bytes of the front can be cut off without memory, and in how many pieces.
-    ready: usize,
-    cuts: usize,
 }
 
 impl Model for Input {
+    ghost use Rattle.std.specs.Prelude.{[]};
     ghost use Rattle.adb_client.specs.Input.{Incoming};
 
     ghost Value = { Incoming };
 
-    ghost use Rattle.adb_client.specs.Cutting.{incoming, IsCut};
-
-    ghost view = { incoming };
-
-    ghost invariant = { IsCut };
+    ghost view = { λ i. record { held = []; ready = i.ready; cuts = i.cuts } };
 }
 
 impl Input {
     /// Nothing is held. It takes no memory.
-    pub(crate) fn new(alloc: Global) -> Input
-        ensures { result ≡ record { held = []; ready = 0; cuts = 0 } }
-    {
+    pub(crate) fn new(alloc: Global) -> Input {
         Input {
             alloc,
-            front: Bytes::new(),
-            handles: Vec::new(alloc),
-            pieces: VecDeque::new(alloc),
-            in_pieces: 0,
-            rest: BytesMut::new(alloc),
+            held: None,
             ready: 0,
             cuts: 0,
         }
     }
 
     /// How many bytes are held.
-    pub(crate) fn len(&self) -> usize
-        ensures { result ≡ length self.now.held }
-    {
-        self.front.len() + self.in_pieces + self.rest.len()
+    pub(crate) fn len(&self) -> usize {
+        match &self.held {
+            Some(held) => held.len(),
+            None => 0,
+        }
     }
 
     /// Bytes came.
-    pub(crate) fn take_in(&mut self, piece: &[u8]) -> Result<(), AllocError>
-        ensures ok { OnOk result (self.new ≡ record self.old {
-          held = self.old.held ++ piece.now;
-        }) }
-        ensures err { OnErr result (self.new ≡ self.old) }
-    {
+    pub(crate) fn take_in(&mut self, piece: &[u8]) -> Result<(), AllocError> {
+        if piece.is_empty() {
+            return Ok(());
+        }
+        if let Some(held) = &mut self.held {
+            return held.take_in(piece);
+        }
+        let front = Bytes::copy_from_slice(self.alloc, piece)?;
+        let held = Held {
+            alloc: self.alloc,
+            front,
+            handle: None,
+            handles: Vec::new(self.alloc),
+            pieces: VecDeque::new(self.alloc),
+            in_pieces: 0,
+            rest: BytesMut::new(self.alloc),
+        };
+        self.held = Some(Box::new(self.alloc, held)?);
+        Ok(())
+    }
+
+    /// The last `n` bytes are no longer held, and nothing is ready. It takes no memory.
+    pub(crate) fn take_back(&mut self, n: usize) {
+        self.ready = 0;
+        self.cuts = 0;
+        let left = self.len() - n;
+        if let Some(held) = &mut self.held {
+            held.keep_first(left);
+        }
+        self.give_back();
+    }
+
+    /// What the bytes ask from a place on.
+    pub(crate) fn ask_from(&self, at: usize) -> Result<Asked, AllocError> {
+        match &self.held {
+            Some(held) => held.ask_from(at),
+            None => ask_in(self.alloc, &[]),
+        }
+    }
+
+    /// The first `n` bytes go. It takes no memory.
+    pub(crate) fn pass_over(&mut self, n: usize) {
+        if let Some(held) = &mut self.held {
+            held.pass_over(n);
+        }
+        self.ready = self.ready.saturating_sub(n);
+        self.give_back();
+    }
+
+    /// Gives back memory that only serves bytes that went.
+    fn give_back(&mut self) {
+        if self.len() == 0 {
+            self.held = None;
+        }
+    }
+
+    /// Makes the first `n` bytes ready at least, in `cuts` pieces at least.
+    pub(crate) fn prepare_cuts(&mut self, n: usize, cuts: usize) -> Result<(), AllocError> {
+        if n <= self.ready && cuts <= self.cuts {
+            return Ok(());
+        }
+        let ready = n.max(self.ready);
+        let most = cuts.max(self.cuts);
+        if let Some(held) = &mut self.held {
+            held.hold_cuts(ready, most)?;
+        }
+        self.ready = ready;
+        self.cuts = most;
+        Ok(())
+    }
+
+    /// The first `n` bytes go as a slice, of those that are ready. It takes no memory.
+    pub(crate) fn cut_ready(&mut self, n: usize) -> Bytes {
+        let mut piece = Bytes::new();
+        if let Some(held) = &mut self.held {
+            piece = held.cut(n);
+        }
+        self.ready -= n;
+        self.cuts -= 1;
+        self.give_back();
+        piece
+    }
+}
+
+impl Held {
+    fn len(&self) -> usize {
+        self.front.len() + self.in_pieces + self.rest.len()
+    }
+
+    fn take_in(&mut self, piece: &[u8]) -> Result<(), AllocError> {
         if piece.len() < LARGE {
             return self.rest.extend_from_slice(piece);
         }
@@ -99,19 +179,9 @@ impl Input {
         Ok(())
     }
 
-    /// The last `n` bytes are no longer held, and nothing is ready. It takes no memory.
-    pub(crate) fn take_back(&mut self, n: usize)
-        requires { n ≤ length self.old.held }
-        ensures { self.new ≡ record {
-          held = take (length self.old.held - n) self.old.held;
-          ready = 0;
-          cuts = 0;
-        } }
-    {
-        let left = self.len() - n;
+    fn keep_first(&mut self, left: usize) {
+        self.handle = None;
         self.handles.clear();
-        self.ready = 0;
-        self.cuts = 0;
         let behind = left.saturating_sub(self.front.len());
         self.rest.truncate(behind.saturating_sub(self.in_pieces));
         while self.in_pieces > behind {
@@ -156,24 +226,16 @@ impl Input {
         gone
     }
 
-    /// What the bytes ask from a place on.
-    pub(crate) fn ask_from(&self, at: usize) -> Result<Asked, AllocError>
-        requires { at ≤ length self.now.held }
-        ensures asked { IfOk result (λ asked. asked ≡ asked_in (drop at self.now.held)) }
-        ensures within { IfOk result (λ asked. at + asked.len ≤ length self.now.held) }
-    {
-        if self.front.is_empty() && self.in_pieces == 0 {
-            return ask_in(self.alloc, behind(self.rest.as_slice(), at));
+    fn ask_from(&self, at: usize) -> Result<Asked, AllocError> {
+        if self.in_pieces == 0 && self.rest.is_empty() {
+            return ask_in(self.alloc, behind(self.front.as_slice(), at));
         }
         let all = self.joined(self.len())?;
         ask_in(self.alloc, behind(all.as_slice(), at))
     }
 
     /// The first `n` bytes, copied into a slice.
-    fn joined(&self, n: usize) -> Result<Bytes, AllocError>
-        requires { n ≤ length self.now.held }
-        ensures { IfOk result (λ bytes. bytes ≡ take n self.now.held) }
-    {
+    fn joined(&self, n: usize) -> Result<Bytes, AllocError> {
         let mut all = BytesMut::with_capacity(self.alloc, n)?;
         let some = n.min(self.front.len());
         all.extend_from_slice(first(self.front.as_slice(), some))?;
@@ -188,60 +250,31 @@ impl Input {
         Ok(all.freeze()?)
     }
 
-    /// The first `n` bytes go. It takes no memory.
-    pub(crate) fn pass_over(&mut self, n: usize)
-        requires { n ≤ length self.old.held }
-        ensures { self.new ≡ record self.old {
-          held = drop n self.old.held;
-          ready = self.old.ready - n;
-        } }
-    {
+    fn pass_over(&mut self, n: usize) {
         let some = n.min(self.front.len());
         self.front.advance(some);
         self.skip_behind(n - some);
-        self.ready = self.ready.saturating_sub(n);
-        self.give_back();
     }
 
-    /// Gives back memory that only serves bytes that went.
-    fn give_back(&mut self)
-        ensures { self.new ≡ self.old }
-    {
+    /// The first `ready` bytes are ready, in `cuts` pieces.
+    fn hold_cuts(&mut self, ready: usize, cuts: usize) -> Result<(), AllocError> {
         if self.front.is_empty() {
-            self.handles = Vec::new(self.alloc);
-            self.front = Bytes::new();
+            self.next_front(ready)?;
         }
-        if self.rest.is_empty() {
-            self.rest = BytesMut::new(self.alloc);
+        let before = self.front.len();
+        if ready > before {
+            let front = self.joined(ready)?;
+            self.skip_behind(ready - before);
+            self.front = front;
         }
+        self.handle = Some(share(&self.front)?);
+        self.handles = handles_of(self.alloc, &self.front, cuts.saturating_sub(1))?;
+        Ok(())
     }
 
-    /// Makes the first `n` bytes ready at least, in `cuts` pieces at least.
-    pub(crate) fn prepare_cuts(&mut self, n: usize, cuts: usize) -> Result<(), AllocError>
-        requires { n ≤ length self.old.held }
-        ensures ok { OnOk result (self.new ≡ record self.old {
-          ready = max n self.old.ready;
-          cuts = max cuts self.old.cuts;
-        }) }
-        ensures err { OnErr result (self.new ≡ self.old) }
-        ensures is_ready { n ≤ self.old.ready → cuts ≤ self.old.cuts → IsOk result }
-    {
-        if n <= self.ready && cuts <= self.cuts {
-            return Ok(());
-        }
-        let ready = n.max(self.ready);
-        self.cut_front(ready)?;
-        self.hold_cuts(ready, cuts.max(self.cuts))
-    }
-
-    /// Where nothing was cut ahead, the first `n` bytes are, with no copy.
-    fn cut_front(&mut self, n: usize) -> Result<(), AllocError>
-        requires { n ≤ length self.old.held }
-        ensures { self.new ≡ self.old }
-    {
-        if !self.front.is_empty() {
-            return Ok(());
-        }
+    /// The next front, where there is none: a piece, or the first bytes of the rest.
+    fn next_front(&mut self, n: usize) -> Result<(), AllocError> {
+        self.handle = None;
         self.handles.clear();
         match self.pieces.pop_front() {
             Some(piece) => {
@@ -253,64 +286,23 @@ impl Input {
         Ok(())
     }
 
-    /// The first `ready` bytes are ready, in `cuts` pieces.
-    fn hold_cuts(&mut self, ready: usize, cuts: usize) -> Result<(), AllocError>
-        requires within { ready ≤ length self.old.held }
-        requires more { self.old.ready ≤ ready }
-        ensures ok { OnOk result (self.new ≡ record self.old { ready = ready; cuts = cuts }) }
-        ensures err { OnErr result (self.new ≡ self.old) }
-    {
-        let before = self.front.len();
-        let len = ready.max(before);
-        let front = self.share_first(len)?;
-        let handles = handles_of(self.alloc, &front, cuts)?;
-        self.skip_behind(len - before);
-        self.front = front;
-        self.handles = handles;
-        self.ready = ready;
-        self.cuts = cuts;
-        Ok(())
-    }
-
-    /// The first `n` bytes as a slice: a part of the front, or a copy where the front has fewer.
-    fn share_first(&self, n: usize) -> Result<Bytes, AllocError>
-        requires { n ≤ length self.now.held }
-        ensures { IfOk result (λ bytes. bytes ≡ take n self.now.held) }
-    {
-        if n <= self.front.len() {
-            self.front.slice(0..n)
-        } else {
-            self.joined(n)
+    fn cut(&mut self, n: usize) -> Bytes {
+        if n == self.front.len() {
+            return mem::replace(&mut self.front, Bytes::new());
         }
-    }
-
-    /// The first `n` bytes go as a slice, of those that are ready. It takes no memory.
-    pub(crate) fn cut_ready(&mut self, n: usize) -> Bytes
-        requires within { n ≤ self.old.ready }
-        requires cut { 0 < self.old.cuts }
-        ensures piece { result ≡ take n self.old.held }
-        ensures rest { self.new ≡ record {
-          held = drop n self.old.held;
-          ready = self.old.ready - n;
-          cuts = self.old.cuts - 1;
-        } }
-    {
-        let handle = self.handles.pop().unwrap_or(Bytes::new());
+        let handle = match self.handles.pop() {
+            Some(handle) => handle,
+            None => mem::replace(&mut self.handle, None).unwrap_or(Bytes::new()),
+        };
         let piece = part(handle, self.front.len(), n);
         self.front.advance(n);
-        self.ready -= n;
-        self.cuts -= 1;
-        self.give_back();
         piece
     }
 }
 
 /// So many handles of a front, all of it.
-fn handles_of(alloc: Global, front: &Bytes, n: usize) -> Result<Vec<Bytes>, AllocError>
-    ensures ends { IfOk result (λ handles. All (EndsWith front.now) handles.items) }
-    ensures len { IfOk result (λ handles. vec_len handles ≡ n) }
-{
-    let mut handles = Vec::with_capacity(alloc, n)?;
+fn handles_of(alloc: Global, front: &Bytes, n: usize) -> Result<Vec<Bytes>, AllocError> {
+    let mut handles = Vec::new(alloc);
     for _ in 0..n {
         handles.push(share(front)?)?;
     }
@@ -318,9 +310,7 @@ fn handles_of(alloc: Global, front: &Bytes, n: usize) -> Result<Vec<Bytes>, Allo
 }
 
 /// The first `n` of a handle's last `len` bytes.
-fn part(handle: Bytes, len: usize, n: usize) -> Bytes
-    ensures { result ≡ take n (drop (length handle - len) handle) }
-{
+fn part(handle: Bytes, len: usize, n: usize) -> Bytes {
     let mut piece = handle;
     piece.advance(piece.len().saturating_sub(len));
     piece.truncate(n);
