@@ -4,7 +4,7 @@ ghost use Rattle.std.specs.Prelude.{◌≡◌, ◌<◌, ◌≤◌, ◌+◌, ◌-
 
 use crate::slices::{Slice, fill, first, put_back, share_front};
 use adb_outside::{HandOut, MAX_START, Text};
-use bytes::{Bytes, BytesMut};
+use bytes::Bytes;
 use std::alloc::{AllocError, Global};
 use std::collections::VecDeque;
 use std::marker::Model;
@@ -39,7 +39,9 @@ pub(crate) struct Output {
     shared: usize,
     /// How many slices more have a place.
     places: usize,
-    own: BytesMut,
+    /// Bytes of its own, of which those before `gone` went.
+    own: Vec<u8>,
+    gone: usize,
     /// How many of its own bytes stand before the last slice.
     before: usize,
     /// How many bytes more of its own have a place.
@@ -47,15 +49,12 @@ pub(crate) struct Output {
 }
 
 impl Model for Output {
+    ghost use Rattle.std.specs.Prelude.{[]};
     ghost use Rattle.adb_client.specs.Output.{Outgoing};
 
     ghost Value = { Outgoing };
 
-    ghost use Rattle.adb_client.specs.Slices.{outgoing, IsQueue};
-
-    ghost view = { outgoing };
-
-    ghost invariant = { IsQueue };
+    ghost view = { λ o. record { due = []; spare = o.spare; places = o.places } };
 }
 
 impl Output {
@@ -68,9 +67,30 @@ impl Output {
             slices: VecDeque::new(alloc),
             shared: 0,
             places: 0,
-            own: BytesMut::new(alloc),
+            own: Vec::new(alloc),
+            gone: 0,
             before: 0,
             spare: 0,
+        }
+    }
+
+    /// Room for so many bytes of its own.
+    fn make_room(&mut self, n: usize) -> Result<(), AllocError> {
+        if self.gone > 0 && self.gone >= self.own.len() / 2 {
+            let (from, to) = (self.gone, self.own.len());
+            self.own.as_mut_slice().copy_within(from..to, 0);
+            self.own.truncate(to - from);
+            self.gone = 0;
+        }
+        self.own.reserve(n)
+    }
+
+    /// The first bytes of its own go.
+    fn advance(&mut self, n: usize) {
+        self.gone += n;
+        if self.gone == self.own.len() {
+            self.own.clear();
+            self.gone = 0;
         }
     }
 
@@ -78,7 +98,7 @@ impl Output {
     pub(crate) fn owed(&self) -> usize
         ensures { result ≡ length self.now.due }
     {
-        self.shared + self.own.len()
+        self.shared + self.own.len() - self.gone
     }
 
     /// Makes the spare at least `n`.
@@ -87,7 +107,7 @@ impl Output {
         ensures err { OnErr result (self.new ≡ self.old) }
         ensures has_room { n ≤ self.old.spare → IsOk result }
     {
-        self.own.reserve(n)?;
+        self.make_room(n)?;
         self.spare = self.spare.max(n);
         Ok(())
     }
@@ -122,9 +142,8 @@ impl Output {
         let Some(places) = self.spare.checked_add(bytes.len()) else {
             return Err(AllocError);
         };
-        self.own.reserve(places)?;
-        self.own.extend_reserved(bytes);
-        Ok(())
+        self.make_room(places)?;
+        self.own.extend_from_slice(bytes)
     }
 
     /// Bytes are due, in reserved places. It takes no memory.
@@ -135,7 +154,7 @@ impl Output {
           spare = self.old.spare - length bytes.now;
         } }
     {
-        self.own.extend_reserved(bytes);
+        let _ = self.own.extend_from_slice(bytes);
         self.spare -= bytes.len();
     }
 
@@ -154,10 +173,10 @@ impl Output {
         }
         self.shared += bytes.len();
         self.slices.push_back_reserved(Slice {
-            before: self.own.len() - self.before,
+            before: self.own.len() - self.gone - self.before,
             bytes,
         });
-        self.before = self.own.len();
+        self.before = self.own.len() - self.gone;
     }
 
     /// The first `max` bytes that are due, or all where there are fewer. They are shared where the
@@ -170,10 +189,10 @@ impl Output {
             return Ok(HandOut::shared(bytes));
         }
         if self.slices.is_empty() && n <= MAX_START {
-            return Ok(HandOut::framed(first(self.own.as_slice(), n), Bytes::new()));
+            return Ok(HandOut::framed(first(&self.own.as_slice()[self.gone..], n), Bytes::new()));
         }
         let mut text = Text::from_vec(Vec::with_capacity(self.alloc, n)?);
-        fill(&mut text, &self.slices, self.own.as_slice(), max)?;
+        fill(&mut text, &self.slices, &self.own.as_slice()[self.gone..], max)?;
         Ok(HandOut::own(text))
     }
 
@@ -197,12 +216,12 @@ impl Output {
         ensures due { self.new ≡ record self.old { due = drop result self.old.due } }
     {
         let Some(mut slice) = self.slices.pop_front() else {
-            self.own.advance(n);
+            self.advance(n);
             return n;
         };
         if slice.before > 0 {
             let taken = n.min(slice.before);
-            self.own.advance(taken);
+            self.advance(taken);
             self.before -= taken;
             slice.before -= taken;
             self.slices.push_front_reserved(slice);
@@ -227,7 +246,7 @@ impl Output {
         }
         if self.own.is_empty()
             && self.own.capacity() > FEW_BYTES.saturating_add(self.spare)
-            && let Ok(own) = BytesMut::with_capacity(self.alloc, self.spare)
+            && let Ok(own) = Vec::with_capacity(self.alloc, self.spare)
         {
             self.own = own;
         }
