@@ -3,7 +3,8 @@
 
 use crate::stop::Stop;
 use adb_capture::{Entry, append_magic, append_start};
-use adb_outside::{ByteQueue, Sink, Wrote};
+use adb_outside::{ByteQueue, HandOut, Parts, Sink, Wrote};
+use byteorder::{ByteOrder, LittleEndian};
 use std::alloc::{AllocError, Global};
 
 /// The fewest bytes of a piece that goes out before the end.
@@ -31,11 +32,46 @@ impl Output {
     /// Keeps the record of an entry. Where a piece is gathered then it goes out.
     pub fn keep<K: Sink>(&mut self, sink: &mut K, entry: &Entry) -> Result<(), Stop>
     {
+        match entry {
+            Entry::Put { client, bytes } => return self.keep_out(sink, b'P', *client, bytes),
+            Entry::Send { link, bytes } => return self.keep_out(sink, b'S', *link, bytes),
+            _ => {}
+        }
         let rest = append_start(&mut self.gathered, entry)?;
         if !rest.is_empty() {
             self.write_out(sink)?;
             return write_piece(sink, rest);
         }
+        if self.gathered.len() < PIECE {
+            return Ok(());
+        }
+        self.write_out(sink)
+    }
+
+    /// Keeps the record of a hand-out.
+    fn keep_out<K: Sink>(
+        &mut self,
+        sink: &mut K,
+        letter: u8,
+        number: u32,
+        bytes: &HandOut,
+    ) -> Result<(), Stop> {
+        let Parts { start, rest } = bytes.parts();
+        let size = start.len() + rest.len();
+        let mut head = [letter, 0, 0, 0, 0, 0, 0, 0, 0];
+        LittleEndian::write_u32(&mut head[1..5], number);
+        LittleEndian::write_u32(&mut head[5..9], size as u32);
+        if rest.len() >= LARGE {
+            self.gathered.reserve(9 + start.len())?;
+            self.gathered.push_spare(&head);
+            self.gathered.push_spare(start);
+            self.write_out(sink)?;
+            return write_piece(sink, rest);
+        }
+        self.gathered.reserve(9 + size)?;
+        self.gathered.push_spare(&head);
+        self.gathered.push_spare(start);
+        self.gathered.push_spare(rest);
         if self.gathered.len() < PIECE {
             return Ok(());
         }
