@@ -43,7 +43,7 @@ fn put_incoming(links: &mut TouchedMap<Port>, link: u32, incoming: Deframer)
     ensures apart { (k : ℕ) → k ≢ link → at k links.new.entries ≡ at k links.old.entries }
 {
     if let Some(port) = links.get_mut(&link) {
-        port.link.put_incoming(incoming, true);
+        port.link.put_incoming(incoming);
     }
 }
 

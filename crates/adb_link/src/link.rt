@@ -1,6 +1,6 @@
 //! A device's link.
 
-ghost use Rattle.std.specs.Prelude.{◌≡◌, ◌<◌, ◌≤◌, ◌++◌, [], List, ℕ, length, take, drop, max, None, true, false, IfOk, OnOk, OnErr, MatchOption};
+ghost use Rattle.std.specs.Prelude.{◌≡◌, ◌<◌, ◌≤◌, ◌++◌, [], List, ℕ, length, take, drop, max, None, true, IfOk, OnOk, OnErr, MatchOption};
 ghost use Rattle.adb_wire.specs.Packet.{head_for, check_of};
 ghost use Rattle.adb_wire.specs.Format.{packet_under};
 ghost use Rattle.adb_wire.specs.Cutting.{cut_packets, goes_with_sum};
@@ -26,15 +26,11 @@ use std::marker::Model;
 pub struct Link {
     alloc: Global,
     incoming: Deframer,
-    /// Whether the deframer was fed: where not, it holds no bytes and looks at no check words.
-    is_fed: bool,
     version: u32,
     outbox: Outbox,
 }
 
 impl Model for Link {
-    ghost use Rattle.std.specs.Prelude.{◌≡◌, false};
-    ghost use Rattle.adb_wire.specs.Deframing.{no_bytes};
     ghost use Rattle.adb_link.specs.Linked.{Linked};
 
     ghost Value = { Linked };
@@ -45,8 +41,6 @@ impl Model for Link {
       due = link.outbox.due;
       spare = link.outbox.spare;
     } };
-
-    ghost invariant = { λ link. link.is_fed ≡ false → link.incoming ≡ no_bytes };
 }
 
 impl Link {
@@ -61,7 +55,6 @@ impl Link {
         Link {
             alloc,
             incoming: Deframer::new(alloc),
-            is_fed: false,
             version: 0,
             outbox: Outbox::new(alloc),
         }
@@ -78,7 +71,6 @@ impl Link {
         ensures taken { OnOk result (Takes self.old.incoming piece.now self.new.incoming) }
         ensures err { OnErr result (self.new ≡ self.old) }
     {
-        self.is_fed = true;
         match self.incoming.feed(piece) {
             Ok(()) => Ok(()),
             Err(WireError::OutOfMemory) => Err(AllocError),
@@ -119,22 +111,19 @@ impl Link {
         self.incoming.with_piece(piece)
     }
 
-    /// Puts that in the place of what comes in, and says whether it was fed; where not, it is one that
-    /// is new. It takes no memory.
-    pub fn put_incoming(&mut self, incoming: Deframer, is_fed: bool)
-        requires { is_fed ≡ false → incoming ≡ no_bytes }
+    /// Puts that in the place of what comes in. It takes no memory.
+    pub fn put_incoming(&mut self, incoming: Deframer)
         ensures { self.new ≡ record self.old { incoming = incoming } }
     {
         self.incoming = incoming;
-        self.is_fed = is_fed;
     }
 
-    /// Whether nothing is known to be held of what comes in, and no check words are looked at there.
-    /// It takes no memory.
+    /// Whether nothing is held of what comes in, and no check words are looked at there. It takes no
+    /// memory.
     pub fn is_fresh(&self) -> bool
         ensures { result ≡ true → self.now.incoming ≡ no_bytes }
     {
-        !self.is_fed
+        self.incoming.is_fresh()
     }
 
     /// A packet of that header and shared payload is due next, with the link's check word in the

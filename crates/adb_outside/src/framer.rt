@@ -1,7 +1,7 @@
 //! Cutting a stream of bytes into frames, in whatever pieces it comes.
 
-ghost use Rattle.std.specs.Prelude.{◌≡◌, ◌++◌, [], List, ℕ, IfOk, length, Option, Some, None, Ok, true, ◌≢◌};
-ghost use Rattle.adb_outside.specs.Framing.{cut, fault_of, answer_of, Takes, Gives, Stands};
+ghost use Rattle.std.specs.Prelude.{◌≡◌, ◌++◌, [], List, ℕ, IfOk, IfSome, length, Option, Some, None, Ok, true, ◌≢◌};
+ghost use Rattle.adb_outside.specs.Framing.{cut, uncut, fault_of, answer_of, Takes, Gives, Stands};
 
 use crate::behind::{Behind, advance};
 use crate::gather::Gather;
@@ -122,6 +122,17 @@ impl<V: Drop, F: Copy, S: Format<V, F>> Framer<S, V, F> {
             held: Gather::new(alloc),
             ready: VecDeque::new(alloc),
             fault: None,
+        }
+    }
+
+    /// How the next bytes are read, where nothing is held and there is no fault. It takes no memory.
+    pub fn idle(&self) -> Option<S>
+        ensures { IfSome result (λ format. self.now ≡ uncut format [] None) }
+    {
+        if self.held.is_empty() && self.ready.is_empty() && self.fault.is_none() {
+            Some(self.format)
+        } else {
+            None
         }
     }
 

@@ -162,7 +162,7 @@ fn takes_packet(link: &mut Link, piece: &[u8], payload: &[u8]) -> Result<bool, A
 {
     let mut incoming = link.with_piece(piece)?;
     let so = is_next(&mut incoming, payload) && link.missing() == 24 && !incoming.is_broken();
-    link.put_incoming(incoming, true);
+    link.put_incoming(incoming);
     Ok(so)
 }
 
@@ -180,7 +180,7 @@ fn waits(link: &mut Link, piece: &[u8], missing: usize) -> Result<bool, AllocErr
 {
     let incoming = link.with_piece(piece)?;
     let so = !incoming.is_broken();
-    link.put_incoming(incoming, true);
+    link.put_incoming(incoming);
     Ok(so && link.missing() == missing)
 }
 
@@ -190,7 +190,7 @@ fn breaks(link: &mut Link, piece: &[u8]) -> Result<bool, AllocError>
 {
     let incoming = link.with_piece(piece)?;
     let so = incoming.is_broken();
-    link.put_incoming(incoming, true);
+    link.put_incoming(incoming);
     Ok(so && link.missing() == usize::MAX)
 }
 

@@ -1,6 +1,6 @@
 //! The packets of a stream that comes in pieces.
 
-ghost use Rattle.std.specs.Prelude.{◌≡◌, ◌≢◌, ◌<◌, ◌≤◌, ◌++◌, [], List, ℕ, length, Some, None, is_some, IfOk, IfSome, MatchOption};
+ghost use Rattle.std.specs.Prelude.{◌≡◌, ◌≢◌, ◌<◌, ◌≤◌, ◌++◌, [], List, ℕ, length, Some, None, true, is_some, IfOk, IfSome, MatchOption};
 ghost use Rattle.adb_wire.specs.declared.headers.TheConstants.{MAX_PAYLOAD};
 
 use crate::format::{PacketFault, PacketFormat};
@@ -103,6 +103,16 @@ impl Deframer {
         match self.framer.fault() {
             None => need(self.framer.rest()),
             Some(_) => usize::MAX,
+        }
+    }
+
+    /// Whether it is as a new one: it holds nothing, and looks at no check words. It takes no memory.
+    pub fn is_fresh(&self) -> bool
+        ensures { result ≡ true → self.now ≡ no_bytes }
+    {
+        match self.framer.idle() {
+            Some(format) => !format.sums,
+            None => false,
         }
     }
 
