@@ -130,7 +130,7 @@ impl Input {
         ensures { self.new ≡ self.old }
     {
         if self.front.is_empty() {
-            self.handles.clear();
+            self.handles = Vec::new(self.alloc);
             self.front = Bytes::new();
         }
         if self.rest.is_empty() {
@@ -226,7 +226,7 @@ fn handles_of(alloc: Global, front: &Bytes, n: usize) -> Result<Vec<Bytes>, Allo
     ensures ends { IfOk result (λ handles. All (EndsWith front.now) handles.items) }
     ensures len { IfOk result (λ handles. vec_len handles ≡ n) }
 {
-    let mut handles = Vec::new(alloc);
+    let mut handles = Vec::with_capacity(alloc, n)?;
     for _ in 0..n {
         handles.push(share(front)?)?;
     }

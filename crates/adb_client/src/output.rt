@@ -1,6 +1,7 @@
 //! What is due to a client.
 
 ghost use Rattle.std.specs.Prelude.{◌≡◌, ◌<◌, ◌≤◌, ◌+◌, ◌-◌, ◌++◌, [], length, take, drop, max, IsOk, IfOk, OnOk, OnErr};
+ghost use Rattle.std.specs.VecDeque.{deque_len, deque_capacity};
 
 use crate::slices::{Slice, fill, first, put_back, share_front};
 use adb_outside::{HandOut, MAX_START, Text};
@@ -25,6 +26,9 @@ const MAX_DUE: usize = 1 << 63;
 const FEW_BYTES: usize = 16 * 1024;
 
 const FEW_SLICES: usize = 64;
+
+/// Up to how many slices there is no room for more than are wanted.
+const EXACT: usize = 2;
 
 /// The bytes that are due: bytes of its own, and slices among them, which are shared, with the
 /// places that are reserved for more of both. What was handed out is cut off.
@@ -102,7 +106,7 @@ impl Output {
         if n > (MAX_DUE - self.shared) / MAX_SLICE {
             return Err(AllocError);
         }
-        self.slices.reserve(n)?;
+        make_room(&mut self.slices, n)?;
         self.places = n;
         Ok(())
     }
@@ -224,5 +228,19 @@ impl Output {
         {
             self.own = own;
         }
+    }
+}
+
+/// Makes room for `n` slices more, where these are few for no others.
+fn make_room(slices: &mut VecDeque<Slice>, n: usize) -> Result<(), AllocError>
+    ensures items { slices.new.items ≡ slices.old.items }
+    ensures len { deque_len slices.new ≡ deque_len slices.old }
+    ensures capacity { deque_capacity slices.old ≤ deque_capacity slices.new }
+    ensures ok { OnOk result (deque_len slices.new + n ≤ deque_capacity slices.new) }
+{
+    if n <= EXACT && slices.len() < EXACT {
+        slices.reserve_exact(n)
+    } else {
+        slices.reserve(n)
     }
 }
