@@ -4,5 +4,7 @@ pub mod Parts
 pub mod Lending
 pub mod Input
 pub mod Cutting
+pub mod Tail
+pub mod Tails
 pub mod Output
 pub mod Slices

@@ -6,6 +6,7 @@ ghost use Rattle.adb_client.specs.Input.{EndsWith};
 
 use crate::ask::{Asked, ask_in};
 use crate::slices::{behind, first, share};
+use crate::tail::Tail;
 use bytes::{Bytes, BytesMut};
 use std::alloc::{AllocError, Global};
 use std::marker::Model;
@@ -18,7 +19,7 @@ pub(crate) struct Input {
     alloc: Global,
     front: Bytes,
     handles: Vec<Bytes>,
-    rest: BytesMut,
+    rest: Tail,
     /// How many bytes of the front can be cut off without memory, and in how many pieces.
     ready: usize,
     cuts: usize,
@@ -45,7 +46,7 @@ impl Input {
             alloc,
             front: Bytes::new(),
             handles: Vec::new(alloc),
-            rest: BytesMut::new(alloc),
+            rest: Tail::new(alloc),
             ready: 0,
             cuts: 0,
         }
@@ -65,7 +66,7 @@ impl Input {
         }) }
         ensures err { OnErr result (self.new ≡ self.old) }
     {
-        self.rest.extend_from_slice(piece)
+        self.rest.push(piece)
     }
 
     /// The last `n` bytes are no longer held, and nothing is ready. It takes no memory.
@@ -91,8 +92,10 @@ impl Input {
         ensures asked { IfOk result (λ asked. asked ≡ asked_in (drop at self.now.held)) }
         ensures within { IfOk result (λ asked. at + asked.len ≤ length self.now.held) }
     {
-        if self.front.is_empty() {
-            return ask_in(self.alloc, behind(self.rest.as_slice(), at));
+        if self.front.is_empty()
+            && let Some(bytes) = self.rest.as_slice()
+        {
+            return ask_in(self.alloc, behind(bytes, at));
         }
         let all = self.joined(self.len())?;
         ask_in(self.alloc, behind(all.as_slice(), at))
@@ -106,7 +109,7 @@ impl Input {
         let mut all = BytesMut::with_capacity(self.alloc, n)?;
         let some = n.min(self.front.len());
         all.extend_from_slice(first(self.front.as_slice(), some))?;
-        all.extend_from_slice(first(self.rest.as_slice(), n - some))?;
+        self.rest.copy_to(n - some, &mut all)?;
         Ok(all.freeze()?)
     }
 
@@ -134,7 +137,7 @@ impl Input {
             self.front = Bytes::new();
         }
         if self.rest.is_empty() {
-            self.rest = BytesMut::new(self.alloc);
+            self.rest = Tail::new(self.alloc);
         }
     }
 
@@ -156,7 +159,7 @@ impl Input {
         self.hold_cuts(ready, cuts.max(self.cuts))
     }
 
-    /// Where nothing was cut ahead, the first `n` bytes are, with no copy.
+    /// Where nothing was cut ahead, the first `n` bytes are, or the first piece, with no copy.
     fn cut_front(&mut self, n: usize) -> Result<(), AllocError>
         requires { n ≤ length self.old.held }
         ensures { self.new ≡ self.old }
@@ -165,7 +168,7 @@ impl Input {
             return Ok(());
         }
         self.handles.clear();
-        self.front = self.rest.freeze_to(n)?;
+        self.front = self.rest.take_front(n)?;
         Ok(())
     }
 

@@ -8,6 +8,7 @@ mod input;
 mod output;
 mod phase;
 mod slices;
+mod tail;
 
 pub use about::{About, Want};
 pub use ask::{Ask, Asked, ask_in};

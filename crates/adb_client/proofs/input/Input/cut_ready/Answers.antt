@@ -24,7 +24,7 @@ returns-clause-piece c =
     let cuts : c.self.inside.cuts ≡ c.args.self.now.cuts = ap (λ (i : Incoming). i.cuts) c.self.view_is in
     let within : c.args.n ≤ length c.self.inside.front = omega (arith, c.self.invariant.ready) in
     let held : take c.args.n c.args.self.now.held ≡ take c.args.n c.self.inside.front =
-    sym (ap (λ (i : Incoming). take c.args.n i.held) c.self.view_is) ∙ take-append-le c.args.n c.self.inside.front c.self.inside.rest.items within
+    sym (ap (λ (i : Incoming). take c.args.n i.held) c.self.view_is) ∙ take-append-le c.args.n c.self.inside.front c.self.inside.rest within
     in
     let handle : c.unwrap_or-handle.result ≡ unwrap_or c.pop.result [] = search rules in
     let none : c.pop.result ≡ None → c.args.n ≡ 0 =

@@ -19,7 +19,7 @@ invariant_of-self c =
 pub returns : goal.returns
 returns c =
     let some : c.min-some.result ≡ min c.args.n (length c.self.inside.front) = search rules in
-    let held : c.self.inside.front ++ c.self.inside.rest.items ≡ c.args.self.now.held = ap (λ (i : Incoming). i.held) c.self.view_is in
+    let held : c.self.inside.front ++ c.self.inside.rest ≡ c.args.self.now.held = ap (λ (i : Incoming). i.held) c.self.view_is in
     let ready : c.self.inside.ready ≡ c.args.self.now.ready = ap (λ (i : Incoming). i.ready) c.self.view_is in
     let cuts : c.self.inside.cuts ≡ c.args.self.now.cuts = ap (λ (i : Incoming). i.cuts) c.self.view_is in
-    cc (drop_some c.self.inside.front c.self.inside.rest.items c.args.n c.min-some.result some)
+    cc (drop_some c.self.inside.front c.self.inside.rest c.args.n c.min-some.result some)

@@ -1,0 +1,247 @@
+//! What a client sent that is held behind a front.
+
+ghost use Rattle.std.specs.Prelude.{◌≡◌, ◌<◌, ◌≤◌, ◌+◌, ◌^◌, ◌++◌, [], ℕ, List, length, take, drop, min, IfOk, IfSome, OnOk, OnErr};
+ghost use Rattle.std.specs.List.{concat};
+ghost use Rattle.std.specs.Bool.{◌==◌};
+ghost use Rattle.std.specs.VecDeque.{deque_len, deque_capacity};
+ghost use Rattle.adb_client.specs.Tail.{Keeps, Goes};
+
+use crate::slices::first;
+use bytes::{Bytes, BytesMut};
+use std::alloc::{AllocError, Global};
+use std::collections::VecDeque;
+use std::marker::Model;
+
+/// The fewest bytes of a piece that is held in memory of its own.
+const LARGE: usize = 4096;
+
+/// How many bytes a tail has at most.
+const MAX_TAIL: usize = isize::MAX as usize;
+
+/// Bytes one after another: pieces, each in memory of its own that is given back when it went, and
+/// behind them what is gathered of short ones. Contracts see the bytes.
+#[derive(Drop)]
+pub(crate) struct Tail {
+    alloc: Global,
+    pieces: VecDeque<Bytes>,
+    /// How many bytes the pieces have.
+    in_pieces: usize,
+    gathered: BytesMut,
+}
+
+impl Model for Tail {
+    ghost use Rattle.std.specs.Prelude.{List, ℕ};
+    ghost use Rattle.adb_client.specs.Tails.{bytes_of, IsTail};
+
+    ghost Value = { List ℕ };
+
+    ghost view = { bytes_of };
+
+    ghost invariant = { IsTail };
+}
+
+impl Tail {
+    /// No bytes. It takes no memory.
+    pub(crate) fn new(alloc: Global) -> Tail
+        ensures { result ≡ [] }
+    {
+        Tail {
+            alloc,
+            pieces: VecDeque::new(alloc),
+            in_pieces: 0,
+            gathered: BytesMut::new(alloc),
+        }
+    }
+
+    pub(crate) fn len(&self) -> usize
+        ensures value { result ≡ length self.now }
+        ensures bound { result < 2 ^ 63 }
+    {
+        self.in_pieces + self.gathered.len()
+    }
+
+    pub(crate) fn is_empty(&self) -> bool
+        ensures { result ≡ (length self.now == 0) }
+    {
+        self.len() == 0
+    }
+
+    /// The bytes, where they lie in one part.
+    pub(crate) fn as_slice(&self) -> Option<&[u8]>
+        ensures { IfSome result (λ bytes. bytes.now ≡ self.now) }
+    {
+        if self.pieces.is_empty() {
+            Some(self.gathered.as_slice())
+        } else {
+            None
+        }
+    }
+
+    /// A piece comes behind. Where all would be too many to count it is want of memory.
+    pub(crate) fn push(&mut self, piece: &[u8]) -> Result<(), AllocError>
+        ensures ok { OnOk result (self.new ≡ self.old ++ piece.now) }
+        ensures err { OnErr result (self.new ≡ self.old) }
+    {
+        if piece.len() > MAX_TAIL - self.len() {
+            return Err(AllocError);
+        }
+        if piece.len() < LARGE {
+            return self.gathered.extend_from_slice(piece);
+        }
+        self.pieces.reserve(2)?;
+        let own = Bytes::copy_from_slice(self.alloc, piece)?;
+        let before = freeze_all(self.alloc, &mut self.gathered)?;
+        self.in_pieces += before.len() + own.len();
+        put_last(&mut self.pieces, before);
+        put_last(&mut self.pieces, own);
+        Ok(())
+    }
+
+    /// The first `n` bytes stay. It takes no memory.
+    pub(crate) fn truncate(&mut self, n: usize)
+        ensures { self.new ≡ take n self.old }
+    {
+        self.gathered.truncate(n.saturating_sub(self.in_pieces));
+        self.in_pieces = keep_first(&mut self.pieces, self.in_pieces, n);
+    }
+
+    /// The first `n` bytes go. It takes no memory.
+    pub(crate) fn advance(&mut self, n: usize)
+        requires { n ≤ length self.old }
+        ensures { self.new ≡ drop n self.old }
+    {
+        let some = n.min(self.in_pieces);
+        pass_over(&mut self.pieces, some);
+        self.in_pieces -= some;
+        self.gathered.advance(n - some);
+    }
+
+    /// The first piece goes as a slice, or where there is none the first `n` bytes do.
+    pub(crate) fn take_front(&mut self, n: usize) -> Result<Bytes, AllocError>
+        requires { n ≤ length self.old }
+        ensures ok { IfOk result (λ bytes. bytes ++ self.new ≡ self.old) }
+        ensures err { OnErr result (self.new ≡ self.old) }
+    {
+        match self.pieces.pop_front() {
+            Some(piece) => {
+                self.in_pieces -= piece.len();
+                Ok(piece)
+            }
+            None => self.gathered.freeze_to(n),
+        }
+    }
+
+    /// Puts a copy of the first `n` bytes behind others.
+    pub(crate) fn copy_to(&self, n: usize, to: &mut BytesMut) -> Result<(), AllocError>
+        requires { n ≤ length self.now }
+        ensures { OnOk result (to.new.items ≡ to.old.items ++ take n self.now) }
+    {
+        let some = n.min(self.in_pieces);
+        copy_first(&self.pieces, some, to)?;
+        to.extend_from_slice(first(self.gathered.as_slice(), n - some))
+    }
+}
+
+/// All that is gathered, as a slice.
+fn freeze_all(alloc: Global, gathered: &mut BytesMut) -> Result<Bytes, AllocError>
+    ensures all { IfOk result (λ bytes. bytes ≡ gathered.old.items) }
+    ensures none { OnOk result (gathered.new.items ≡ []) }
+    ensures err { OnErr result (gathered.new.items ≡ gathered.old.items) }
+{
+    let all = gathered.freeze_to(gathered.len())?;
+    *gathered = BytesMut::new(alloc);
+    Ok(all)
+}
+
+/// Puts a piece behind others, unless it is empty.
+#[tactic(auto, using(crate::proofs::Pieces::concat_last))]
+fn put_last(pieces: &mut VecDeque<Bytes>, piece: Bytes)
+    requires room { deque_len pieces.old < deque_capacity pieces.old }
+    ensures items { concat pieces.new.items ≡ concat pieces.old.items ++ piece }
+    ensures len { deque_len pieces.new ≤ deque_len pieces.old + 1 }
+    ensures capacity { deque_capacity pieces.new ≡ deque_capacity pieces.old }
+{
+    if !piece.is_empty() {
+        pieces.push_back_reserved(piece);
+    }
+}
+
+/// Of pieces with so many bytes the first `n` bytes stay; says how many these are.
+fn keep_first(pieces: &mut VecDeque<Bytes>, len: usize, n: usize) -> usize
+    requires { len ≡ length (concat pieces.old.items) }
+    ensures kept { concat pieces.new.items ≡ take n (concat pieces.old.items) }
+    ensures len { result ≡ min len n }
+{
+    let mut left = len;
+    while left > n {
+        left = drop_last(pieces, left, n);
+    }
+    left
+}
+
+/// The last piece goes, or so much of it that `n` bytes stay; says how many bytes stay.
+fn drop_last(pieces: &mut VecDeque<Bytes>, len: usize, n: usize) -> usize
+    requires counted { len ≡ length (concat pieces.old.items) }
+    requires more { n < len }
+    ensures kept { Keeps n (concat pieces.old.items) (concat pieces.new.items) result }
+    ensures fewer { n < result → deque_len pieces.new < deque_len pieces.old }
+    ensures no_more { deque_len pieces.new ≤ deque_len pieces.old }
+{
+    let Some(piece) = pieces.pop_back() else {
+        return len;
+    };
+    let before = len - piece.len();
+    if before < n {
+        let mut piece = piece;
+        piece.truncate(n - before);
+        pieces.push_back_reserved(piece);
+        return n;
+    }
+    before
+}
+
+/// The first `n` bytes of pieces go.
+fn pass_over(pieces: &mut VecDeque<Bytes>, n: usize)
+    requires { n ≤ length (concat pieces.old.items) }
+    ensures { concat pieces.new.items ≡ drop n (concat pieces.old.items) }
+{
+    let mut left = n;
+    while left > 0 {
+        left = drop_first(pieces, left);
+    }
+}
+
+/// The first piece goes, or the first `n` bytes of it; says how many of `n` bytes are still to go.
+fn drop_first(pieces: &mut VecDeque<Bytes>, n: usize) -> usize
+    requires within { n ≤ length (concat pieces.old.items) }
+    requires some { 0 < n }
+    ensures goes { Goes n (concat pieces.old.items) (concat pieces.new.items) result }
+    ensures fewer { 0 < result → deque_len pieces.new < deque_len pieces.old }
+    ensures no_more { deque_len pieces.new ≤ deque_len pieces.old }
+{
+    let Some(piece) = pieces.pop_front() else {
+        return n;
+    };
+    if piece.len() > n {
+        let mut piece = piece;
+        piece.advance(n);
+        pieces.push_front_reserved(piece);
+        return 0;
+    }
+    n - piece.len()
+}
+
+/// Puts a copy of the first `n` bytes of pieces behind others.
+fn copy_first(pieces: &VecDeque<Bytes>, n: usize, to: &mut BytesMut) -> Result<(), AllocError>
+    requires { n ≤ length (concat pieces.now.items) }
+    ensures { OnOk result (to.new.items ≡ to.old.items ++ take n (concat pieces.now.items)) }
+{
+    let mut left = n;
+    for i in 0..pieces.len() {
+        let piece = pieces[i].as_slice();
+        let some = left.min(piece.len());
+        to.extend_from_slice(first(piece, some))?;
+        left -= some;
+    }
+    Ok(())
+}
