@@ -24,4 +24,4 @@ pub use memory_recorder::MemoryRecorder;
 pub use reader::CaptureReader;
 pub use recorder::{NullRecorder, RecordError, Recorder};
 pub use sink_recorder::SinkRecorder;
-pub use writer::{append_entry, append_magic, write_entry, write_magic};
+pub use writer::{append_entry, append_magic, append_start, write_entry, write_magic};

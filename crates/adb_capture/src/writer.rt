@@ -1,6 +1,6 @@
 //! Writing captures.
 
-ghost use Rattle.std.specs.Prelude.{◌≡◌, ◌<◌, ◌≤◌, ◌+◌, ◌++◌, ◌^◌, ℕ, OnOk, OnErr, length, take};
+ghost use Rattle.std.specs.Prelude.{◌≡◌, ◌<◌, ◌≤◌, ◌+◌, ◌++◌, ◌^◌, ℕ, IfOk, OnOk, OnErr, length, take};
 ghost use Rattle.adb_outside.specs.declared.hand_out.TheConstants.{MAX_START};
 ghost use Rattle.adb_outside.specs.Outside.{Counts};
 ghost use Rattle.adb_outside.specs.Sink.{FitsPiece, TellsWrite, is_failed_write};
@@ -55,8 +55,38 @@ pub fn append_entry(bytes: &mut ByteQueue, entry: &Entry) -> Result<(), AllocErr
     ensures err { OnErr result (bytes.new.bytes ≡ bytes.old.bytes) }
 {
     let Spelled { head, rest } = Spelled::of(entry);
-    bytes.reserve(head.len + rest.len())?;
-    bytes.push_spare(head.as_slice());
+    append_parts(bytes, head.as_slice(), rest)
+}
+
+/// The fewest bytes of a record's end that is not gathered with its start.
+const LARGE: usize = 16 * 1024;
+
+/// Adds the record of an entry, which has at most 2,097,152 bytes of data, but for its end where that
+/// is large, which is given back: it is to be written behind the bytes from where it lies. After want
+/// of memory the bytes are as before.
+pub fn append_start<'a>(bytes: &mut ByteQueue, entry: &'a Entry) -> Result<&'a [u8], AllocError>
+    requires { HasRecord entry.now }
+    ensures ok { IfOk result (λ end. bytes.new.bytes ++ end.now
+        ≡ bytes.old.bytes ++ record_of entry.entry.now) }
+    ensures err { OnErr result (bytes.new.bytes ≡ bytes.old.bytes) }
+{
+    let Spelled { head, rest } = Spelled::of(entry);
+    if rest.len() < LARGE {
+        append_parts(bytes, head.as_slice(), rest)?;
+        return Ok(&[]);
+    }
+    bytes.push(head.as_slice())?;
+    Ok(rest)
+}
+
+/// Adds bytes in two parts. After want of memory the bytes are as before.
+fn append_parts(bytes: &mut ByteQueue, start: &[u8], rest: &[u8]) -> Result<(), AllocError>
+    requires { length start.now + length rest.now < 2 ^ 63 }
+    ensures ok { OnOk result (bytes.new.bytes ≡ bytes.old.bytes ++ (start.now ++ rest.now)) }
+    ensures err { OnErr result (bytes.new.bytes ≡ bytes.old.bytes) }
+{
+    bytes.reserve(start.len() + rest.len())?;
+    bytes.push_spare(start);
     bytes.push_spare(rest);
     Ok(())
 }
