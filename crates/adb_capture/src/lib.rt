@@ -1,17 +1,12 @@
-//! Captures of histories: the entries of a history as records of bytes, read from a source and
-//! written to a sink, and what keeps the entries of a running server.
+//! Captures of histories: the entries of a history as records of bytes, written to a sink, and what
+//! keeps the entries of a running server.
 #![tactic(auto)]
 
-mod awaiting;
 mod entry;
 mod error;
-mod form;
-mod held;
 mod laws;
 mod limits;
 mod memory_recorder;
-mod reader;
-mod record;
 mod recorder;
 mod sink_recorder;
 mod writer;
@@ -19,9 +14,8 @@ mod writer;
 pub use entry::{Entry, Owner};
 pub use error::{CaptureError, FormFault, Why};
 pub use laws::{limits_are, read_is_spelled, records_are_framed, spelled_is_read};
-pub use limits::{MAX_CAPTURE, MAX_DATA};
+pub use limits::{HEADER_LEN, MAX_CAPTURE, MAX_DATA, MAX_READ};
 pub use memory_recorder::MemoryRecorder;
-pub use reader::CaptureReader;
 pub use recorder::{NullRecorder, RecordError, Recorder};
 pub use sink_recorder::SinkRecorder;
-pub use writer::{append_entry, append_magic, append_start, write_entry, write_magic};
+pub use writer::{MAGIC, append_entry, append_magic, append_start, write_entry, write_magic};

@@ -7,10 +7,9 @@ ghost use Rattle.adb_capture.specs.declared.limits.TheConstants.{MAX_DATA};
 ghost use Rattle.adb_capture.specs.Records.{HasRecord, came_from};
 ghost use Rattle.adb_capture.specs.Recording.{TellsRecord, WritesRecord, behind_magic, recorded, is_failed_record};
 
-use crate::awaiting::MAGIC;
 use crate::entry::{Entry, Owner};
 use crate::recorder::{RecordError, Recorder};
-use crate::writer::{Head, Spelled, write_both, write_magic};
+use crate::writer::{Head, MAGIC, Spelled, write_both, write_magic};
 use adb_outside::{Sink, Wrote};
 use std::marker::Model;
 

@@ -9,13 +9,15 @@ ghost use Rattle.adb_capture.specs.declared.writer.TheConstants.{MAX_HEAD};
 ghost use Rattle.adb_capture.specs.Records.{magic, kind_of, record_of, cause_byte, plug_letter, came_from, HasRecord};
 ghost use Rattle.adb_capture.specs.Pieces.{text_of, word_of};
 
-use crate::awaiting::MAGIC;
 use crate::entry::{Entry, Owner};
 use crate::limits::HEADER_LEN;
 use adb_outside::{ByteQueue, Cause, Kind, MAX_START, Parts, Sink, Wrote};
 use byteorder::{ByteOrder, LittleEndian};
 use std::alloc::AllocError;
 use std::marker::Model;
+
+/// The eight bytes that a capture begins with.
+pub const MAGIC: [u8; 8] = *b"ADBHUB1\n";
 
 /// Writes the eight bytes that a capture begins with. It takes no memory.
 pub fn write_magic<K: Sink>(sink: &mut K) -> Wrote

@@ -4,10 +4,11 @@ ghost use Rattle.std.specs.Prelude.{IfOk};
 ghost use Rattle.adb_capture.specs.Records.{HasRecord};
 
 use adb_capture::{
-    CaptureError, CaptureReader, Entry, MemoryRecorder, NullRecorder, Owner, Recorder,
-    SinkRecorder, Why, append_entry, append_magic, limits_are, read_is_spelled, records_are_framed,
-    spelled_is_read, write_entry, write_magic,
+    CaptureError, Entry, MemoryRecorder, NullRecorder, Owner, Recorder, SinkRecorder, Why,
+    append_entry, append_magic, limits_are, read_is_spelled, records_are_framed, spelled_is_read,
+    write_entry, write_magic,
 };
+use adb_capture_reader::CaptureReader;
 use adb_outside::{ByteQueue, Kind, MemorySink, MemorySource, Text, Wrote};
 use std::alloc::{AllocError, Global};
 use std::test::Fail;

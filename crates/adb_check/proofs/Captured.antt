@@ -9,7 +9,7 @@ use Rattle.adb_outside.specs.Framing.{Cut, cut, cut_by}
 use Rattle.adb_outside.proofs.FramingLaws.{cut_first}
 use Rattle.adb_capture.proofs.Fronts.{framing}
 use Rattle.adb_capture.specs.Records.{record_at, entry_in, offset_after}
-use Rattle.adb_capture.specs.Reading.{Reading, ahead, ahead_of, to_give, AnswersNext, GivesRecord, IsRefused, IsMagicRefused}
+use Rattle.adb_capture_reader.specs.Reading.{Reading, ahead, ahead_of, to_give, AnswersNext, GivesRecord, IsRefused, IsMagicRefused}
 use Rattle.adb_capture.specs.Faults.{error_of}
 use Rattle.adb_capture.specs.declared.entry.Entry.{Entry}
 use Rattle.adb_capture.specs.declared.error.FormFault.{FormFault}

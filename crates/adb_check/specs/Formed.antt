@@ -2,7 +2,7 @@
 use Rattle.std.specs.Prelude.{ℕ, List, [], map, reverse, length, Option, Some, None}
 use Rattle.adb_outside.specs.Framing.{Cut, cut}
 use Rattle.adb_capture.specs.Records.{magic, record_at, entry_in, offset_after}
-use Rattle.adb_capture.specs.Reading.{past_magic}
+use Rattle.adb_capture_reader.specs.Reading.{past_magic}
 use Rattle.adb_capture.specs.declared.entry.Entry.{Entry}
 use Rattle.adb_capture.specs.declared.error.FormFault.{FormFault}
 use Rattle.adb_capture.specs.declared.error.CaptureError.TheVariants.{BadMagic}

@@ -2,7 +2,7 @@
 
 ghost use Rattle.std.specs.Prelude.{◌≡◌, ◌∷◌, List, ℕ, Some, IfOk};
 ghost use Rattle.adb_outside.specs.Outside.{Counts};
-ghost use Rattle.adb_capture.specs.Counting.{is_fault};
+ghost use Rattle.adb_capture_reader.specs.Counting.{is_fault};
 ghost use Rattle.adb_history.specs.Machine.{History};
 ghost use Rattle.adb_check.specs.Capture.{JudgesCapture};
 ghost use Rattle.adb_check.specs.Formed.{formed};
@@ -10,7 +10,8 @@ ghost use Rattle.adb_check.specs.Judging.{Judges, Says};
 
 use crate::judge::Judge;
 use crate::verdict::{Rule, Verdict};
-use adb_capture::{CaptureError, CaptureReader, Entry};
+use adb_capture::{CaptureError, Entry};
+use adb_capture_reader::CaptureReader;
 use adb_outside::Source;
 use std::alloc::{AllocError, Global};
 

@@ -6,7 +6,7 @@ use Rattle.std.proofs.lemmas.List.{append_assoc, append-nil, reverse-append, tak
 use Rattle.std.proofs.lemmas.Slice.Eq.{bytes_eq-Decides}
 use Rattle.adb_outside.specs.Bytes.{IsPrefixOf}
 use Rattle.adb_capture.specs.Records.{magic, record_of, records_of}
-use Rattle.adb_capture.specs.Reading.{Reading, ahead, to_give, past_magic, taken_by, IsPart, Opens}
+use Rattle.adb_capture_reader.specs.Reading.{Reading, ahead, to_give, past_magic, taken_by, IsPart, Opens}
 use Rattle.adb_capture.specs.declared.entry.Entry.{Entry}
 use Rattle.adb_capture.specs.declared.error.CaptureError.{CaptureError}
 use Rattle.adb_capture.specs.declared.error.CaptureError.TheVariants as capture

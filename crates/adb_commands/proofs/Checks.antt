@@ -1,6 +1,6 @@
 -- From what a capture was judged to be to the status of the run.
 use Rattle.std.proofs.Common.{ℕ, ◌≡◌, ◌⊎◌, false, List, ◌++◌, take, Option, Some, None, Ok, Err, refl, sym, ◌∙◌, ap, subst, inl, inr}
-use Rattle.adb_capture.specs.Counting.{is_fault}
+use Rattle.adb_capture_reader.specs.Counting.{is_fault}
 use Rattle.adb_capture.specs.declared.error.CaptureError.{CaptureError}
 use Rattle.adb_capture.specs.declared.error.CaptureError.TheVariants as capture
 use Rattle.adb_history.specs.Refusal.{refusal_by}

@@ -7,7 +7,7 @@ use Rattle.adb_outside.specs.declared.framer.Front.{Front}
 use Rattle.adb_outside.specs.declared.framer.Front.TheVariants.{More, Bad}
 use Rattle.adb_capture.proofs.Fronts.{framing}
 use Rattle.adb_capture.specs.Records.{magic, record_at}
-use Rattle.adb_capture.specs.Reading.{ahead, ahead_of, to_give, IsRefused, IsPart, StopsWithin, Reading, taken_by}
+use Rattle.adb_capture_reader.specs.Reading.{ahead, ahead_of, to_give, IsRefused, IsPart, StopsWithin, Reading, taken_by}
 use Rattle.adb_capture.specs.declared.entry.Entry.{Entry}
 use Rattle.adb_capture.specs.declared.error.FormFault.{FormFault}
 use Rattle.adb_capture.specs.declared.error.FormFault.TheVariants as form

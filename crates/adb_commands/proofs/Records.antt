@@ -6,7 +6,7 @@ use Rattle.std.proofs.lemmas.List.{append_assoc, append-nil, length-append, take
 use Rattle.adb_outside.specs.declared.framer.Front.TheVariants.{Whole}
 use Rattle.adb_capture.specs.Records.{entry_in, offset_after, record_at}
 use Rattle.adb_capture.proofs.Fronts.{framing}
-use Rattle.adb_capture.specs.Reading.{ahead_of, AnswersNext, GivesNext, GivesRecord, HoldsLittle}
+use Rattle.adb_capture_reader.specs.Reading.{ahead_of, AnswersNext, GivesNext, GivesRecord, HoldsLittle}
 use Rattle.adb_capture.specs.declared.entry.Entry.{Entry}
 use Rattle.adb_capture.specs.declared.error.CaptureError.{CaptureError}
 use Rattle.adb_history.specs.Machine.{History, state}

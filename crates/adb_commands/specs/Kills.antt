@@ -2,7 +2,7 @@
 use Rattle.std.specs.Prelude.{ℕ, ◌+◌, ◌≡◌, true, false, List, [], ◌++◌, length, Option, Some}
 use Rattle.adb_outside.specs.declared.framer.Front.TheVariants.{Whole}
 use Rattle.adb_capture.specs.Records.{magic, record_at}
-use Rattle.adb_capture.specs.Reading.{HoldsLittle}
+use Rattle.adb_capture_reader.specs.Reading.{HoldsLittle}
 use Rattle.adb_history.specs.Machine.{state}
 use Rattle.adb_history.specs.Drained.{drained_from}
 use Rattle.adb_history.specs.Accepted.{Accepted, accepted, accept_records}

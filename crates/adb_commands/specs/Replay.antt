@@ -2,7 +2,7 @@
 use Rattle.std.specs.Prelude.{ℕ, ◌≡◌, ◌⊎◌, true, false, if◌then◌else◌, List, [], ◌++◌, reverse, Option, Some, None, Result, Ok, Err}
 use Rattle.adb_capture.specs.Records.{magic, records_of}
 use Rattle.adb_capture.specs.declared.entry.Entry.{Entry}
-use Rattle.adb_capture.specs.Reading.{Reading, ahead_of}
+use Rattle.adb_capture_reader.specs.Reading.{Reading, ahead_of}
 use Rattle.adb_history.specs.Machine.{History, state, IsLegal}
 use Rattle.adb_history.specs.Kept.{Kept, IsLawful}
 use Rattle.adb_history.specs.Drained.{next_out, drain_all, drained_after, drained_from}

@@ -3,7 +3,7 @@
 
 ghost use Rattle.std.specs.Prelude.{◌≡◌, ◌≢◌, None, Err, not, true, false};
 ghost use Rattle.adb_outside.specs.Outside.{Counts};
-ghost use Rattle.adb_capture.specs.Reading.{HoldsLittle};
+ghost use Rattle.adb_capture_reader.specs.Reading.{HoldsLittle};
 ghost use Rattle.adb_capture.specs.Records.{HasRecord};
 ghost use Rattle.adb_history.specs.Machine.{History};
 ghost use Rattle.adb_history.specs.Kept.{IsLawful};
@@ -15,7 +15,8 @@ ghost use Rattle.adb_commands.specs.Keeping.{KeepsEntry, CountsReads, IsLoss, is
 
 use crate::output::Output;
 use crate::stop::Stop;
-use adb_capture::{CaptureReader, Entry};
+use adb_capture::Entry;
+use adb_capture_reader::CaptureReader;
 use adb_entries::{apply, hand_next};
 use adb_history::draining_ends;
 use adb_hub::Hub;

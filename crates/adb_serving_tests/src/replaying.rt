@@ -1,7 +1,8 @@
 //! What a record says that clients were handed.
 
 use crate::ends::Ends;
-use adb_capture::{CaptureReader, Entry};
+use adb_capture::Entry;
+use adb_capture_reader::CaptureReader;
 use adb_outside::{MemorySource, Text};
 use adb_top::Status;
 use std::alloc::{AllocError, Global};

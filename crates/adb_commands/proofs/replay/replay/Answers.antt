@@ -1,7 +1,7 @@
 use Rattle.std.proofs.Common.{◌≡◌, false, Err, None, refl, ap, subst}
 use Rattle.std.proofs.lemmas.Result.{err_from_is_err_and}
 use Rattle.adb_outside.specs.Outside.{Counts}
-use Rattle.adb_capture.specs.Reading.{Reading, Opens}
+use Rattle.adb_capture_reader.specs.Reading.{Reading, Opens}
 use Rattle.adb_commands.specs.Keeping.{is_read_fault}
 use Rattle.adb_commands.specs.Replay.{Moment, moment}
 use Rattle.adb_commands.proofs.Outputs.{write_fault_of}

@@ -1,0 +1,4 @@
+pub mod Awaited
+pub mod Giving
+pub mod Keeping
+pub mod Stopping

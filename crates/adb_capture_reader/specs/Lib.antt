@@ -1,0 +1,4 @@
+pub mod Reading
+pub mod Forms
+pub mod Counting
+pub mod Awaiting
