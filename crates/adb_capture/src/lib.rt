@@ -5,6 +5,7 @@
 mod entry;
 mod error;
 mod laws;
+mod lent;
 mod limits;
 mod memory_recorder;
 mod recorder;
@@ -14,6 +15,7 @@ mod writer;
 pub use entry::{Entry, Owner};
 pub use error::{CaptureError, FormFault, Why};
 pub use laws::{limits_are, read_is_spelled, records_are_framed, spelled_is_read};
+pub use lent::Lent;
 pub use limits::{HEADER_LEN, MAX_CAPTURE, MAX_DATA, MAX_READ};
 pub use memory_recorder::MemoryRecorder;
 pub use recorder::{NullRecorder, RecordError, Recorder};
