@@ -40,7 +40,7 @@ fn come(hub: &mut Hub, entry: &Entry) -> Result<Option<Rule>, AllocError>
     if hub.is_stopped() {
         return Ok(Some(Rule::AfterKill));
     }
-    match apply(hub, entry) {
+    match apply(hub, entry.lend()) {
         Ok(()) => Ok(None),
         Err(Refused::Because(reason)) => Ok(rule_of(reason)),
         Err(Refused::OutOfMemory) => Err(AllocError),

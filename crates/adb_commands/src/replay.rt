@@ -106,7 +106,7 @@ fn replay_record<K: Sink>(
     if is_hand_out(entry) {
         return Ok(());
     }
-    match apply(hub, entry) {
+    match apply(hub, entry.lend()) {
         Err(why) => Err(Stop::at(offset, why)),
         Ok(()) => {
             output.keep(sink, entry)?;

@@ -2,6 +2,7 @@
 
 ghost use Rattle.std.specs.Prelude.{◌≡◌, ◌+◌, nat_eq, false, OnErr};
 ghost use Rattle.adb_outside.specs.declared.kinds.Kind.{Kind};
+ghost use Rattle.adb_capture.specs.Lent.{entry_lent};
 ghost use Rattle.adb_capture.specs.declared.entry.Entry.{Entry};
 ghost use Rattle.adb_history.specs.Machine.{History};
 ghost use Rattle.adb_history.specs.Kept.{IsLawful};
@@ -9,29 +10,29 @@ ghost use Rattle.adb_entries.specs.Machine.{Applies};
 ghost use Rattle.adb_entries.specs.Refused.{applied_as};
 
 use crate::refused::Refused;
-use adb_capture::Entry;
+use adb_capture::Lent;
 use adb_history::Reason;
 use adb_hub::{Hub, HubError, Life};
 use adb_outside::Kind;
 
-/// Makes the next entry of the history that a hub holds. A hand-out that was recorded is passed
-/// over. After a refusal, and after want of memory, the hub is as before.
-pub fn apply(hub: &mut Hub, entry: &Entry) -> Result<(), Refused>
+/// Makes the next entry of the history that a hub holds; its bytes are lent. A hand-out that was
+/// recorded is passed over. After a refusal, and after want of memory, the hub is as before.
+pub fn apply(hub: &mut Hub, entry: Lent<'_>) -> Result<(), Refused>
     requires { hub.old.stopped ≡ false }
     ensures applied { (h : History) → IsLawful hub.old h
-        → Applies h entry.now result hub.new }
+        → Applies h (entry_lent entry.entry) result hub.new }
     ensures err { OnErr result (hub.new ≡ hub.old) }
 {
     match entry {
-        Entry::Join { client } => join(hub, *client),
-        Entry::Enter { client, port } => enter(hub, *client, *port),
-        Entry::Read { client, bytes } => lived(hub.read(*client, bytes.as_slice())),
-        Entry::End { client, cause } => lived(hub.end(*client, *cause)),
-        Entry::Bound { client, port } => lived(hub.bound(*client, *port)),
-        Entry::Attach { link, kind, serial } => attach(hub, *link, *kind, serial.as_slice()),
-        Entry::Recv { link, bytes } => lived(hub.recv(*link, bytes.as_slice())),
-        Entry::Detach { link, cause } => lived(hub.detach(*link, *cause)),
-        Entry::Put { .. } | Entry::Send { .. } => Ok(()),
+        Lent::Join { client } => join(hub, client),
+        Lent::Enter { client, port } => enter(hub, client, port),
+        Lent::Read { client, bytes } => lived(hub.read(client, bytes)),
+        Lent::End { client, cause } => lived(hub.end(client, cause)),
+        Lent::Bound { client, port } => lived(hub.bound(client, port)),
+        Lent::Attach { link, kind, serial } => attach(hub, link, kind, serial),
+        Lent::Recv { link, bytes } => lived(hub.recv(link, bytes)),
+        Lent::Detach { link, cause } => lived(hub.detach(link, cause)),
+        Lent::Put { .. } | Lent::Send { .. } => Ok(()),
     }
 }
 

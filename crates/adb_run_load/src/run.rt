@@ -58,7 +58,7 @@ fn make_entry(hub: &mut Hub, count: &mut Count, entry: &Entry) -> Result<(), All
     ensures { (h : History) → IsLawful hub.old h → IsCount h count.old → IsTaken h entry.now
         → Reaches result (drained_after h entry.now) hub.new count.new }
 {
-    match apply(hub, entry) {
+    match apply(hub, entry.lend()) {
         Ok(()) => {
             count.add(entry)?;
             drain(hub, count)
