@@ -1,17 +1,16 @@
 -- What a reader gives of the bytes that it holds and those that are still to come.
-use Rattle.std.proofs.Common.{ℕ, ◌+◌, ◌≡◌, ◌≤◌, List, [], ◌++◌, length, take, drop, Option, Some, None, Result, Ok, Err, false, refl, sym, ◌∙◌, ap}
-use Rattle.std.proofs.Common.{subst, arith}
+use Rattle.std.proofs.Common.{ℕ, ◌+◌, ◌≡◌, ◌≤◌, List, [], ◌++◌, length, take, drop, Option, Some, None, Ok, Err, false, refl, sym, ◌∙◌, ap}
+use Rattle.std.proofs.Common.{arith}
 use Rattle.std.specs.Prelude.{option_map}
 use Rattle.std.proofs.lemmas.List.{length-take-le, take-append-le, drop-append-le}
 use Rattle.adb_outside.specs.declared.framer.Front.TheVariants.{Whole}
-use Rattle.adb_capture.specs.declared.entry.Entry.{Entry}
 use Rattle.adb_capture.specs.declared.error.FormFault.TheVariants as form
 use Rattle.adb_capture.specs.declared.error.CaptureError.{CaptureError}
 use Rattle.adb_capture.specs.declared.error.CaptureError.TheVariants.{BadMagic, BadRecord, Truncated, TooLong, ReadFault, OutOfMemory}
 use Rattle.adb_capture.specs.declared.limits.TheConstants.{MAX_CAPTURE}
 use Rattle.adb_capture.specs.Records.{magic, record_at, entry_in}
-use Rattle.adb_capture_reader.specs.Reading.{Reading, past_magic, to_give, ahead, GivesRecord, GivesNext, IsRefused}
-use Rattle.adb_capture_reader.specs.Awaiting.{HoldsAll, AwaitsRecord}
+use Rattle.adb_capture_reader.specs.Reading.{Reading, past_magic, to_give, ahead, GivesRecord, GivesNext, IsRefused, Moves}
+use Rattle.adb_capture_reader.specs.Awaiting.{AwaitsRecord}
 use Rattle.adb_capture.proofs.Fronts.{whole_tells, whole_stays, whole_alone, bad_stays}
 
 -- a whole record lies within the bytes and the capture
@@ -24,6 +23,10 @@ whole_given offset x y n w same =
     let here : record_at offset (take n y) ≡ Whole n = ap (λ b. record_at offset (take n b)) same ∙ whole_alone offset x n w in
     let len : length (take n y) ≡ n = length-take-le n y (omega (arith, f.0, ap length same)) in
     here ∙ ap Whole (sym len)
+
+-- an offset goes on by a whole record
+pub whole_moves : (offset : ℕ) (x : List ℕ) (n : ℕ) → record_at offset x ≡ Whole n → Moves offset (offset + n)
+whole_moves offset x n w = let t = whole_tells offset x n w in record { on = omega (arith, t.size); within = omega (arith, t.size, t.near) }
 
 -- the magic was the first of the bytes
 pub magic_taken : (old : Reading) (coming held : List ℕ) (after : Option (List ℕ)) → old.opened ≡ false
@@ -41,31 +44,21 @@ pub held_first : (held whole : List ℕ) (after : Option (List ℕ)) → option_
 held_first held whole None h = let e : None ≡ Some whole = h in cc
 held_first held whole (Some rest) h = let e : Some (held ++ rest) ≡ Some whole = h in (rest, refl, cc)
 
--- A record at the front of what was held at an offset was given: the offset behind it, and what is held then.
-pub record Gave (offset : ℕ) (held : List ℕ) : Type 0 where
-  pub size : ℕ
-  pub whole : record_at offset held ≡ Whole size
-  pub given : ℕ × Entry
-  pub is : given ≡ entry_in offset (take size held)
-  pub left : List ℕ
-  pub dropped : left ≡ drop size held
-  pub next : ℕ
-  pub place : next ≡ offset + size
-
--- it is the first of all that is ahead
-pub gives_record : (offset : ℕ) (held bytes : List ℕ) (after : Option (List ℕ)) → option_map (λ rest. held ++ rest) after ≡ Some bytes
-    → (g : Gave offset held) → GivesRecord offset bytes g.given g.next (option_map (λ rest. g.left ++ rest) after)
-gives_record offset held bytes after h g =
+-- the record at the front of what is held is the first of all that is ahead
+pub gives_record : (offset : ℕ) (held bytes : List ℕ) (after : Option (List ℕ)) (size : ℕ) → option_map (λ rest. held ++ rest) after ≡ Some bytes
+    → record_at offset held ≡ Whole size
+    → GivesRecord offset bytes (entry_in offset (take size held)) (offset + size) (option_map (λ rest. drop size held ++ rest) after)
+gives_record offset held bytes after size h whole =
     let f = held_first held bytes after h in
-    let fits = whole_fits offset held g.size g.whole in
-    let same : take g.size bytes ≡ take g.size held = ap (take g.size) f.2 ∙ take-append-le g.size held f.0 fits.0 in
+    let fits = whole_fits offset held size whole in
+    let same : take size bytes ≡ take size held = ap (take size) f.2 ∙ take-append-le size held f.0 fits.0 in
     record {
-      size = g.size;
-      whole = ap (record_at offset) f.2 ∙ whole_stays offset held f.0 g.size g.whole;
-      is = g.is ∙ ap (entry_in offset) (sym same);
-      next_offset_is = g.place ∙ ap (λ n. offset + n) (sym (ap length same ∙ length-take-le g.size held fits.0));
-      rest = ap (λ (a : Option (List ℕ)). option_map (λ (r : List ℕ). g.left ++ r) a) f.1
-          ∙ ap Some (ap (λ b. b ++ f.0) g.dropped ∙ (sym (drop-append-le g.size held f.0 fits.0) ∙ ap (drop g.size) (sym f.2)));
+      size = size;
+      whole = ap (record_at offset) f.2 ∙ whole_stays offset held f.0 size whole;
+      is = ap (entry_in offset) (sym same);
+      next_offset_is = ap (λ n. offset + n) (sym (ap length same ∙ length-take-le size held fits.0));
+      rest = ap (λ (a : Option (List ℕ)). option_map (λ (r : List ℕ). drop size held ++ r) a) f.1
+          ∙ ap Some (sym (drop-append-le size held f.0 fits.0) ∙ ap (drop size) (sym f.2));
     }
 
 -- the end
@@ -87,19 +80,3 @@ gives_refusal offset first held coming after (TooLong at) h is = let f = held_fi
     ∙ bad_stays offset held f.0 (form.TooLong at) is
 gives_refusal offset first held coming after ReadFault h is = tt
 gives_refusal offset first held coming after OutOfMemory h is = tt
-
-pub refusal_given : (offset n : ℕ) (bytes : List ℕ) (result : Result (Option (ℕ × Entry)) CaptureError) (b : Option (List ℕ)) (e : CaptureError)
-    → result ≡ Err e → IsRefused offset bytes e → GivesNext offset bytes result n b
-refusal_given offset n bytes result b e is h = subst (λ (r : Result (Option (ℕ × Entry)) CaptureError). GivesNext offset bytes r n b) (sym is) h
-
-pub awaited_end : (offset : ℕ) (first held : List ℕ) (before : Option (List ℕ)) (x : Option ℕ) → AwaitsRecord offset first before held (Ok x) → x ≡ None
-    → (held ≡ []) × HoldsAll first before held
-awaited_end offset first held before x h e = subst (λ (o : Option ℕ). AwaitsRecord offset first before held (Ok o)) e h
-
-pub awaited_record : (offset : ℕ) (first held : List ℕ) (before : Option (List ℕ)) (x : Option ℕ) (size : ℕ) → AwaitsRecord offset first before held (Ok x)
-    → x ≡ Some size → record_at offset held ≡ Whole size
-awaited_record offset first held before x size h e = subst (λ (o : Option ℕ). AwaitsRecord offset first before held (Ok o)) e h
-
-pub record_given : (offset start next : ℕ) (bytes : List ℕ) (given : ℕ × Entry) (after : Option (List ℕ)) → offset ≡ start
-    → GivesRecord offset bytes given next after → GivesRecord start bytes given next after
-record_given offset start next bytes given after same h = subst (λ (o : ℕ). GivesRecord o bytes given next after) same h

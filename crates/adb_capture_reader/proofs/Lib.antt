@@ -1,4 +1,4 @@
 pub mod Awaited
+pub mod Finding
 pub mod Giving
 pub mod Keeping
-pub mod Stopping

@@ -12,6 +12,11 @@ use Rattle.adb_capture_reader.specs.Counting.{KeepsBytes}
 use Rattle.adb_capture.specs.Records.{magic, record_at}
 use Rattle.adb_capture_reader.specs.Reading.{past_magic}
 
+-- A read brings at least one byte and at most one read's.
+abbrev pub BringsOneRead : Got → Type 0
+BringsOneRead (Bytes n) = (0 < n) × (n ≤ MAX_READ)
+BringsOneRead _ = Unit {0}
+
 -- A read brings at least one byte and at most one read's, behind what was held, or says that no more come.
 abbrev pub ReadsMore : {E : Type 0} → List ℕ → Option (List ℕ) → List ℕ → Result Got E → Type 0
 ReadsMore held_before before held (Ok (Bytes n)) =

@@ -116,3 +116,23 @@ Opens old before new after (Err BadMagic) = (coming : List ℕ) → before ≡ S
 Opens old before new after (Err ReadFault) = (new.opened ≡ false) × StopsWithin old before new after
 Opens old before new after (Err OutOfMemory) = StaysAhead old before new after
 Opens old before new after (Err _) = ⊥
+
+-- a reader once the record at the front of what it holds was passed, which has so many bytes
+abbrev pub passed : ℕ → Reading → Reading
+passed size reader = record reader { offset = reader.offset + size; held = drop size reader.held }
+
+-- the same where a record is held whole: else the reader as it is
+abbrev pub passed_by : Result (Option ℕ) CaptureError → Reading → Reading
+passed_by (Ok (Some size)) reader = passed size reader
+passed_by (Ok None) reader = reader
+passed_by (Err e) reader = reader
+
+-- what a reader gives where that many bytes of a record are held at the front
+abbrev pub given_by : Result (Option ℕ) CaptureError → Reading → Result (Option (ℕ × Entry)) CaptureError
+given_by (Ok (Some size)) reader = Ok (Some (entry_in reader.offset (take size reader.held)))
+given_by (Ok None) reader = Ok None
+given_by (Err e) reader = Err e
+
+-- A call that waits for the next record: once that is passed it is a call for the next entry.
+abbrev pub AwaitsNext : Reading → Option (List ℕ) → Reading → Option (List ℕ) → Result (Option ℕ) CaptureError → Type 0
+AwaitsNext old before new after result = AnswersNext old before (passed_by result new) after (given_by result new)

@@ -1,11 +1,12 @@
 //! What the data of a record are, by its kind.
 
-ghost use Rattle.std.specs.Prelude.{◌≡◌, ◌<◌, ℕ, Some, IfOk, drop, option_map};
+ghost use Rattle.std.specs.Prelude.{◌≡◌, ◌<◌, ◌++◌, ℕ, Some, IfOk, drop, option_map};
+ghost use Rattle.adb_capture.specs.Lent.{entry_lent};
 ghost use Rattle.adb_capture.specs.Records.{cause_at, port_at, plug_at, entry_at};
 ghost use Rattle.adb_capture_reader.specs.Forms.{entry_by};
 
-use adb_capture::Entry;
-use adb_outside::{Cause, HandOut, Kind, Text};
+use adb_capture::{Entry, Lent};
+use adb_outside::{Cause, HandOut, Kind, Parts, Text};
 use byteorder::{ByteOrder, LittleEndian};
 use std::alloc::{AllocError, Global};
 
@@ -46,6 +47,49 @@ impl Form {
             b'P' => Some(Form::Put),
             b'S' => Some(Form::Send),
             _ => None,
+        }
+    }
+
+    /// The entry, with its number and its texts where the data lie.
+    pub(crate) fn lent(self, owner: u32, content: &[u8]) -> Lent<'_>
+        ensures { entry_lent result ≡ entry_by self owner content.now }
+    {
+        match self {
+            Form::Join => Lent::Join { client: owner },
+            Form::Enter(port) => Lent::Enter {
+                client: owner,
+                port,
+            },
+            Form::Read => Lent::Read {
+                client: owner,
+                bytes: content,
+            },
+            Form::End(cause) => Lent::End {
+                client: owner,
+                cause,
+            },
+            Form::Bound(port) => Lent::Bound {
+                client: owner,
+                port,
+            },
+            Form::Attach(kind) => Lent::Attach {
+                link: owner,
+                kind,
+                serial: past_first(content),
+            },
+            Form::Recv => Lent::Recv {
+                link: owner,
+                bytes: content,
+            },
+            Form::Detach(cause) => Lent::Detach { link: owner, cause },
+            Form::Put => Lent::Put {
+                client: owner,
+                bytes: whole(content),
+            },
+            Form::Send => Lent::Send {
+                link: owner,
+                bytes: whole(content),
+            },
         }
     }
 
@@ -95,6 +139,16 @@ impl Form {
                 bytes: HandOut::own(Text::from_slice(alloc, content)?),
             },
         })
+    }
+}
+
+/// Bytes that lie in one part.
+fn whole(content: &[u8]) -> Parts<'_>
+    ensures { result.start.now ++ result.rest.now ≡ content.now }
+{
+    Parts {
+        start: &[],
+        rest: content,
     }
 }
 

@@ -1,32 +1,39 @@
 //! The bytes that were read from a source and not yet taken.
 
-ghost use Rattle.std.specs.Prelude.{◌≡◌, ◌<◌, ◌≤◌, ℕ, List, [], length, take, drop, IfOk};
+ghost use Rattle.std.specs.Prelude.{◌≡◌, ◌<◌, ◌≤◌, ◌+◌, ◌-◌, ℕ, List, [], length, take, drop, slice_range, IfOk, OnOk};
 ghost use Rattle.adb_outside.specs.Outside.{Counts};
+ghost use Rattle.adb_outside.specs.Source.{TellsRead, is_failed_read};
+ghost use Rattle.adb_capture.specs.declared.limits.TheConstants.{MAX_READ};
 ghost use Rattle.adb_capture_reader.specs.Counting.{KeepsBytes, is_failed};
-ghost use Rattle.adb_capture_reader.specs.Awaiting.{ReadsMore};
+ghost use Rattle.adb_capture_reader.specs.Awaiting.{BringsOneRead, ReadsMore};
 
 use adb_capture::MAX_READ;
-use adb_outside::{ByteQueue, Got, Source};
+use adb_outside::{Got, Source};
 use std::alloc::{AllocError, Global};
 use std::marker::Model;
 
-/// The bytes that were read and not yet taken.
+/// How many bytes the buffer has at first.
+const ROOM: usize = 4 * MAX_READ;
+
+/// The bytes that were read and not yet taken: they lie in a buffer, where the source put them.
 #[derive(Drop)]
 pub(crate) struct Held {
-    bytes: ByteQueue,
-    /// What one read gives.
-    chunk: Vec<u8>,
+    buffer: Vec<u8>,
+    start: usize,
+    end: usize,
 }
 
 impl Model for Held {
-    ghost use Rattle.std.specs.Prelude.{◌≡◌, List, ℕ, length};
-    ghost use Rattle.adb_capture.specs.declared.limits.TheConstants.{MAX_READ};
+    ghost use Rattle.std.specs.Prelude.{◌≤◌, List, ℕ, length, take, drop};
 
     ghost Value = { List ℕ };
 
-    ghost view = { λ h. h.bytes.bytes };
+    ghost view = { λ h. drop h.start (take h.end h.buffer.items) };
 
-    ghost invariant = { λ h. length h.chunk.items ≡ MAX_READ };
+    ghost invariant = { λ h. record {
+      ordered : h.start ≤ h.end;
+      within : h.end ≤ length h.buffer.items;
+    } };
 }
 
 impl Held {
@@ -35,15 +42,16 @@ impl Held {
         ensures { IfOk result (λ h. h ≡ []) }
     {
         Ok(Held {
-            bytes: ByteQueue::new(alloc),
-            chunk: vec![in alloc; 0; MAX_READ]?,
+            buffer: vec![in alloc; 0; ROOM]?,
+            start: 0,
+            end: 0,
         })
     }
 
     pub(crate) fn as_slice(&self) -> &[u8]
         ensures { result.now ≡ self.now }
     {
-        self.bytes.as_slice()
+        &self.buffer[self.start..self.end]
     }
 
     /// Takes the first bytes.
@@ -51,7 +59,7 @@ impl Held {
         requires { count ≤ length self.old }
         ensures { self.new ≡ drop count self.old }
     {
-        self.bytes.take(count);
+        self.start += count;
     }
 
     /// Reads more of the source. After want of memory nothing was read.
@@ -60,11 +68,58 @@ impl Held {
         ensures more { ReadsMore self.old (S.left source.old) self.new result }
         ensures counts { Counts S.steady S.faults source.old source.new (is_failed result) }
     {
-        self.bytes.reserve(MAX_READ)?;
-        let got = source.read(&mut self.chunk);
+        let len = self.end - self.start;
+        self.start = make_way(&mut self.buffer, self.start, self.end);
+        self.end = self.start + len;
+        grow(&mut self.buffer, self.end)?;
+        let got = read_behind(&mut self.buffer, self.end, source);
         if let Got::Bytes(count) = got {
-            self.bytes.push_spare(&self.chunk[..count]);
+            self.end += count;
         }
         Ok(got)
     }
+}
+
+/// Moves the bytes that lie from `start` to `end` to the front, where there are none or no read has
+/// room behind them. Says where they start then.
+fn make_way(buffer: &mut Vec<u8>, start: usize, end: usize) -> usize
+    requires ordered { start ≤ end }
+    requires within { end ≤ length buffer.old.items }
+    ensures len { length buffer.new.items ≡ length buffer.old.items }
+    ensures start { result ≤ start }
+    ensures same { drop result (take (result + (end - start)) buffer.new.items)
+        ≡ drop start (take end buffer.old.items) }
+{
+    if start < end && buffer.len() - end >= MAX_READ {
+        return start;
+    }
+    buffer.copy_within(start..end, 0);
+    0
+}
+
+/// Makes room for a read behind the first `end` bytes.
+fn grow(buffer: &mut Vec<u8>, end: usize) -> Result<(), AllocError>
+    requires { end ≤ length buffer.old.items }
+    ensures len { length buffer.old.items ≤ length buffer.new.items }
+    ensures room { OnOk result (end + MAX_READ ≤ length buffer.new.items) }
+    ensures same { take end buffer.new.items ≡ take end buffer.old.items }
+{
+    if buffer.len() - end >= MAX_READ {
+        return Ok(());
+    }
+    let twice = 2 * buffer.len();
+    buffer.resize(twice.max(end + MAX_READ), 0)
+}
+
+/// Reads into the place behind the first `end` bytes.
+fn read_behind<S: Source>(buffer: &mut Vec<u8>, end: usize, source: &mut S) -> Got
+    requires { end + MAX_READ ≤ length buffer.old.items }
+    ensures len { length buffer.new.items ≡ length buffer.old.items }
+    ensures same { take end buffer.new.items ≡ take end buffer.old.items }
+    ensures fits { BringsOneRead result }
+    ensures told { TellsRead (S.left source.old) (S.left source.new)
+        (slice_range buffer.new.items end (end + MAX_READ)) result }
+    ensures counts { Counts S.steady S.faults source.old source.new (is_failed_read result) }
+{
+    source.read(&mut buffer.as_mut_slice()[end..end + MAX_READ])
 }

@@ -1,4 +1,4 @@
-//! Reading captures: the records of a source, one by one, as entries.
+//! Reading captures: the records of a source, one by one, lent or as entries.
 #![tactic(auto)]
 
 mod awaiting;
@@ -8,3 +8,4 @@ mod reader;
 mod record;
 
 pub use reader::CaptureReader;
+pub use record::Record;

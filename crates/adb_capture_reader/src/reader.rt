@@ -1,15 +1,16 @@
 //! Reading captures.
 
-ghost use Rattle.std.specs.Prelude.{◌≡◌, ◌≢◌, ◌≤◌, ◌++◌, ◌+◌, ℕ, List, [], take, drop, Some, None, Ok, Err, IfOk, IfSome, OnOk, OnErr, IsTrue, true, false, option_map};
+ghost use Rattle.std.specs.Prelude.{◌≡◌, ◌≢◌, ◌≤◌, ◌++◌, ◌+◌, ℕ, List, [], take, Some, None, Ok, Err, IfOk, IfSome, OnOk, OnErr, IsTrue, true, false, option_map};
 ghost use Rattle.adb_outside.specs.Outside.{Counts};
 ghost use Rattle.adb_outside.specs.declared.framer.Front.TheVariants.{More, Whole};
 ghost use Rattle.adb_capture_reader.specs.Counting.{KeepsBytes, is_fault};
 ghost use Rattle.adb_capture.specs.Records.{record_at, entry_in, HasRecord};
-ghost use Rattle.adb_capture_reader.specs.Reading.{Opens, AnswersNext, GivesNext, Moves, HoldsFew, HoldsLittle, taken_by};
+ghost use Rattle.adb_capture_reader.specs.Reading.{Opens, AnswersNext, AwaitsNext, GivesNext, Moves, StaysAhead};
+ghost use Rattle.adb_capture_reader.specs.Reading.{HoldsFew, HoldsLittle, taken_by, passed, passed_by, given_by};
 
 use crate::awaiting::{await_record, take_magic};
 use crate::held::Held;
-use crate::record::read;
+use crate::record::{Record, fronts_have_form};
 use adb_capture::{CaptureError, Entry};
 use adb_outside::Source;
 use std::alloc::{AllocError, Global};
@@ -94,6 +95,65 @@ impl CaptureReader {
         opened
     }
 
+    /// Reads on until the next record is held whole, with the magic before it where it was not read
+    /// yet: how many bytes it has, or `None` where the source ends between two records. It stays the
+    /// next record until it is passed. Errors are those of `next`, and stay as those do.
+    pub fn await_next<S: Source>(&mut self, source: &mut S) -> Result<Option<usize>, CaptureError>
+        ensures answers { self.old.failed ≡ None
+            → AwaitsNext self.old (S.left source.old) self.new (S.left source.new) result }
+        ensures whole { IfOk result (λ found. IfSome found (λ size.
+            record_at self.new.offset self.new.held ≡ Whole size)) }
+
+        // Nothing is given yet.
+        ensures ahead { self.old.failed ≡ None → OnOk result ((self.new.offset ≡ self.old.offset)
+            × StaysAhead self.old (S.left source.old) self.new (S.left source.new)) }
+        ensures few { HoldsFew self.new.held }
+        ensures little { HoldsLittle self.old.held
+            → OnOk result (HoldsLittle (passed_by result self.new).held) }
+        ensures ok { OnOk result
+            ((self.old.failed ≡ None) × (self.new.failed ≡ None) × IsTrue self.new.opened) }
+
+        // The count of faults rises at ReadFault, and stands at every other answer.
+        ensures counts { self.old.failed ≡ None
+            → Counts S.steady S.faults source.old source.new (is_fault result) }
+
+        // An error is answered again, and nothing is read; want of memory passes.
+        ensures stays { (e : CaptureError) → self.old.failed ≡ Some e
+            → (result ≡ Err e) × (self.new ≡ self.old) × (source.new ≡ source.old) }
+        ensures keeps { (e : CaptureError) → e ≢ CaptureError.OutOfMemory
+            → result ≡ Err e → self.new.failed ≡ Some e }
+        ensures memory { result ≡ Err CaptureError.OutOfMemory
+            → (self.old.failed ≡ None) × (self.new.failed ≡ None) }
+    {
+        if let Some(error) = self.failed {
+            return Err(error);
+        }
+        match self.advance(source) {
+            Ok(found) => Ok(found),
+            Err(error) => {
+                self.remember(error);
+                Err(error)
+            }
+        }
+    }
+
+    /// The next record, which is held whole and has so many bytes.
+    pub fn first(&self, size: usize) -> Record<'_>
+        requires { record_at self.now.offset self.now.held ≡ Whole size }
+        ensures { result ≡ entry_in self.now.offset (take size self.now.held) }
+    {
+        Record::new(self.offset, &self.held.as_slice()[..size])
+    }
+
+    /// The next record was taken: it is held whole and has so many bytes.
+    pub fn pass(&mut self, size: usize)
+        requires { record_at self.old.offset self.old.held ≡ Whole size }
+        ensures { self.new ≡ passed size self.old }
+    {
+        self.held.skip(size);
+        self.offset += size as u64;
+    }
+
     /// The next entry with the offset of its record's first byte, or `None` where the source ends
     /// between two records; a later call asks the source again. The first call reads the magic.
     ///
@@ -120,28 +180,36 @@ impl CaptureReader {
         ensures memory { result ≡ Err CaptureError.OutOfMemory
             → (self.old.failed ≡ None) × (self.new.failed ≡ None) }
     {
-        if let Some(error) = self.failed {
-            return Err(error);
+        match self.await_next(source) {
+            Err(error) => Err(error),
+            Ok(None) => Ok(None),
+            Ok(Some(size)) => match self.give(size) {
+                Ok(given) => Ok(Some(given)),
+                Err(AllocError) => Err(CaptureError::OutOfMemory),
+            },
         }
-        let given = self.advance(source);
-        if let Err(error) = &given {
-            self.remember(*error);
-        }
-        given
     }
 
-    /// Reads the next record, with the magic before it where it was not read yet.
-    fn advance<S: Source>(&mut self, source: &mut S) -> Result<Option<(u64, Entry)>, CaptureError>
-        ensures answers { AnswersNext self.old (S.left source.old)
+    /// Reads on until the next record is held whole, with the magic before it where it was not read
+    /// yet.
+    fn advance<S: Source>(&mut self, source: &mut S) -> Result<Option<usize>, CaptureError>
+        ensures answers { AwaitsNext self.old (S.left source.old)
             self.new (S.left source.new) result }
+        ensures whole { IfOk result (λ found. IfSome found (λ size.
+            record_at self.new.offset self.new.held ≡ Whole size)) }
+        ensures ahead { OnOk result ((self.new.offset ≡ self.old.offset)
+            × StaysAhead self.old (S.left source.old) self.new (S.left source.new)) }
         ensures few { HoldsFew self.new.held }
-        ensures little { HoldsLittle self.old.held → OnOk result (HoldsLittle self.new.held) }
+        ensures little { HoldsLittle self.old.held
+            → OnOk result (HoldsLittle (passed_by result self.new).held) }
         ensures failed { self.new.failed ≡ self.old.failed }
         ensures ok { OnOk result (self.new.opened ≡ true) }
         ensures counts { Counts S.steady S.faults source.old source.new (is_fault result) }
     {
-        self.open_now(source)?;
-        self.give_next(source)
+        match self.open_now(source) {
+            Ok(()) => self.find_next(source),
+            Err(error) => Err(error),
+        }
     }
 
     /// Takes the magic, where it was not taken yet.
@@ -163,52 +231,45 @@ impl CaptureReader {
         Ok(())
     }
 
-    /// Gives the next record, where the magic was taken.
-    fn give_next<S: Source>(&mut self, source: &mut S) -> Result<Option<(u64, Entry)>, CaptureError>
+    /// Reads on until the next record is held whole, where the magic was taken.
+    fn find_next<S: Source>(&mut self, source: &mut S) -> Result<Option<usize>, CaptureError>
         ensures records { (coming : List ℕ) → S.left source.old ≡ Some coming
-            → GivesNext self.old.offset (self.old.held ++ coming) result self.new.offset
-            (option_map (λ rest. self.new.held ++ rest) (S.left source.new)) }
-        ensures memory { result ≡ Err CaptureError.OutOfMemory
-            → (self.new.offset ≡ self.old.offset)
-            × KeepsBytes self.old.held (S.left source.old) self.new.held (S.left source.new) }
+            → GivesNext self.old.offset (self.old.held ++ coming) (given_by result self.new)
+            (passed_by result self.new).offset
+            (option_map (λ rest. (passed_by result self.new).held ++ rest) (S.left source.new)) }
+        ensures whole { IfOk result (λ found. IfSome found (λ size.
+            record_at self.new.offset self.new.held ≡ Whole size)) }
+        ensures bytes { KeepsBytes self.old.held (S.left source.old)
+            self.new.held (S.left source.new) }
         ensures fault { result ≡ Err CaptureError.ReadFault
-            → (self.new.offset ≡ self.old.offset)
-            × (record_at self.new.offset self.new.held ≡ More)
-            × KeepsBytes self.old.held (S.left source.old) self.new.held (S.left source.new) }
-        ensures form { IfOk result (λ given. IfSome given (λ g. HasRecord g.1)) }
-        ensures moves { IfOk result (λ given. IfSome given
-            (λ g. Moves self.old.offset self.new.offset)) }
+            → record_at self.new.offset self.new.held ≡ More }
+        ensures form { IfOk result (λ found. IfSome found (λ size.
+            HasRecord (entry_in self.new.offset (take size self.new.held)).1)) }
+        ensures moves { IfOk result (λ found. IfSome found (λ size.
+            Moves self.old.offset (self.new.offset + size))) }
         ensures few { HoldsFew self.new.held }
-        ensures little { HoldsLittle self.old.held → OnOk result (HoldsLittle self.new.held) }
-        ensures same { (self.new.opened ≡ self.old.opened) × (self.new.failed ≡ self.old.failed) }
+        ensures little { HoldsLittle self.old.held
+            → OnOk result (HoldsLittle (passed_by result self.new).held) }
+        ensures same { (self.new.offset ≡ self.old.offset) × (self.new.opened ≡ self.old.opened)
+            × (self.new.failed ≡ self.old.failed) }
         ensures counts { Counts S.steady S.faults source.old source.new (is_fault result) }
     {
-        match await_record(&mut self.held, self.offset, source)? {
-            None => Ok(None),
-            Some(size) => match self.give(size) {
-                Ok(given) => Ok(Some(given)),
-                Err(AllocError) => Err(CaptureError::OutOfMemory),
-            },
-        }
+        let found = await_record(&mut self.held, self.offset, source);
+        fronts_have_form(self.held.as_slice());
+        found
     }
 
-    /// Gives the record of that many bytes at the front.
+    /// Gives the record of that many bytes at the front, which is passed then.
     fn give(&mut self, size: usize) -> Result<(u64, Entry), AllocError>
         requires { record_at self.old.offset self.old.held ≡ Whole size }
         ensures given { IfOk result (λ g. g ≡ entry_in self.old.offset (take size self.old.held)) }
-        ensures form { IfOk result (λ g. HasRecord g.1) }
-        ensures ok { OnOk result (self.new ≡ record self.old {
-          offset = self.old.offset + size;
-          held = drop size self.old.held;
-        }) }
-        ensures moves { OnOk result (Moves self.old.offset self.new.offset) }
+        ensures ok { OnOk result (self.new ≡ passed size self.old) }
         ensures err { OnErr result (self.new ≡ self.old) }
     {
-        let bytes = &self.held.as_slice()[..size];
-        let given = read(self.alloc, self.offset, bytes)?;
-        self.held.skip(size);
-        self.offset += size as u64;
-        Ok(given)
+        let offset = self.offset;
+        let entry = self.first(size).copy(self.alloc)?;
+        self.pass(size);
+        Ok((offset, entry))
     }
 
     /// Keeps an error that stays.

@@ -1,14 +1,17 @@
-//! A record at the front of some bytes.
+//! Records: at the front of some bytes, and lent.
 
-ghost use Rattle.std.specs.Prelude.{◌≡◌, ◌≤◌, IfOk, length};
+ghost use Rattle.std.specs.Prelude.{◌≡◌, ◌≤◌, ℕ, IfOk, length, take};
 ghost use Rattle.adb_capture.specs.declared.limits.TheConstants.{HEADER_LEN};
-ghost use Rattle.adb_capture.specs.Records.{record_at, entry_in, is_kind, owner_in, size_in, HasRecord};
+ghost use Rattle.adb_capture.specs.Lent.{entry_lent};
+ghost use Rattle.adb_capture.specs.Records.{record_at, record_of, entry_in, is_kind, owner_in, size_in, HasRecord};
+ghost use Rattle.adb_capture_reader.specs.Forms.{entry_by};
 
 use crate::form::Form;
-use adb_capture::{Entry, FormFault, HEADER_LEN, MAX_CAPTURE, MAX_DATA, Why};
+use adb_capture::{Entry, FormFault, HEADER_LEN, Lent, MAX_CAPTURE, MAX_DATA, Why};
 use adb_outside::Front;
 use byteorder::{ByteOrder, LittleEndian};
 use std::alloc::{AllocError, Global};
+use std::marker::Model;
 
 /// What the bytes at an offset of a capture begin with: a record, or the first of its refusals.
 #[tactic(auto, unfolding(adb_capture::specs::Records::record_at))]
@@ -39,18 +42,111 @@ pub(crate) fn front(offset: u64, bytes: &[u8]) -> Front<FormFault>
     }
 }
 
-/// The entry of a whole record, with the offset of its first byte.
-pub(crate) fn read(alloc: Global, offset: u64, bytes: &[u8]) -> Result<(u64, Entry), AllocError>
+/// A record as it was read, lent from where the read put it. Contracts see the offset of its first
+/// byte and its entry.
+#[derive(Drop)]
+pub struct Record<'a> {
+    offset: u64,
+    bytes: &'a [u8],
+}
+
+impl<'a> Model for Record<'a> {
+    ghost use Rattle.std.specs.Prelude.{◌≡◌, ℕ, length};
+    ghost use Rattle.adb_outside.specs.declared.framer.Front.TheVariants.{Whole};
+    ghost use Rattle.adb_capture.specs.declared.entry.Entry.{Entry};
+    ghost use Rattle.adb_capture.specs.Records.{record_at, entry_in};
+
+    ghost Value = { ℕ × Entry };
+
+    ghost view = { λ r. entry_in r.offset r.bytes.now };
+
+    ghost invariant = { λ r.
+        record_at r.offset r.bytes.now ≡ Whole (length r.bytes.now) };
+}
+
+impl<'a> Record<'a> {
+    /// The record that the bytes are.
+    pub(crate) fn new(offset: u64, bytes: &'a [u8]) -> Record<'a>
+        requires { record_at offset bytes.now ≡ Front.Whole (length bytes.now) }
+        ensures { result ≡ entry_in offset bytes.now }
+    {
+        Record { offset, bytes }
+    }
+
+    /// Where in the capture its first byte is.
+    pub fn offset(&self) -> u64
+        ensures { result ≡ self.now.0 }
+    {
+        self.offset
+    }
+
+    /// Its bytes: as its entry is spelled.
+    pub fn bytes(&self) -> &[u8]
+        ensures { result.now ≡ record_of self.now.1 }
+    {
+        is_spelled(self.offset, self.bytes);
+        self.bytes
+    }
+
+    /// Its entry, which lends the bytes of its text.
+    pub fn entry(&self) -> Lent<'_>
+        ensures is { entry_lent result ≡ self.now.1 }
+        ensures form { HasRecord self.now.1 }
+    {
+        is_spelled(self.offset, self.bytes);
+        let said = read(self.offset, self.bytes);
+        said.form.lent(said.owner, said.content)
+    }
+
+    /// Its entry, with a copy of the bytes of its text.
+    pub fn copy(&self, alloc: Global) -> Result<Entry, AllocError>
+        ensures is { IfOk result (λ e. e ≡ self.now.1) }
+        ensures form { HasRecord self.now.1 }
+    {
+        is_spelled(self.offset, self.bytes);
+        let said = read(self.offset, self.bytes);
+        said.form.entry(alloc, said.owner, said.content)
+    }
+}
+
+/// What a record says: its number, and its data with what they say beside it.
+#[derive(Drop)]
+struct Said<'a> {
+    form: Form,
+    owner: u32,
+    content: &'a [u8],
+}
+
+/// What a whole record says.
+fn read(offset: u64, bytes: &[u8]) -> Said<'_>
     requires { record_at offset bytes.now ≡ Front.Whole (length bytes.now) }
-    ensures entry { IfOk result (λ g. g ≡ entry_in offset bytes.now) }
-    ensures form { IfOk result (λ g. HasRecord g.1) }
+    ensures { (offset, entry_by result.form result.owner result.content.now)
+        ≡ entry_in offset bytes.now }
 {
     let content = &bytes[HEADER_LEN..];
     match Form::of(bytes[0], content) {
-        Some(form) => Ok((offset, form.entry(alloc, owner(bytes), content)?)),
+        Some(form) => Said {
+            form,
+            owner: owner(bytes),
+            content,
+        },
         None => unreachable!(),
     }
 }
+
+/// A record that is read is spelled so, and has one spelling: a law, as a function that does nothing.
+fn is_spelled(offset: u64, bytes: &[u8])
+    requires { record_at offset bytes.now ≡ Front.Whole (length bytes.now) }
+    ensures spelled { bytes.now ≡ record_of (entry_in offset bytes.now).1 }
+    ensures form { HasRecord (entry_in offset bytes.now).1 }
+{}
+
+/// The entry of each whole record at the front of some bytes has a record: a law, as a function that
+/// does nothing.
+pub(crate) fn fronts_have_form(bytes: &[u8])
+    ensures { (offset n : ℕ) → record_at offset bytes.now ≡ Front.Whole n
+        → HasRecord (entry_in offset (take n bytes.now)).1 }
+{}
 
 fn bad(offset: u64, why: Why) -> Front<FormFault>
     ensures { result ≡ Front.Bad (FormFault.BadRecord offset why) }
