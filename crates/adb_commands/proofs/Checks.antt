@@ -10,12 +10,12 @@ use Rattle.adb_check.specs.declared.verdict.Rule.{Rule}
 use Rattle.adb_check.specs.Capture.{IsRefusedAs, JudgesCapture}
 use Rattle.adb_check.specs.Formed.{Formed, formed, history_of}
 use Rattle.adb_commands.specs.Check.{ComesTo, IsReadFor, LosesLine, JudgesSo, WritesSo, ChecksBy, judged_line, illegal_line}
-use Rattle.adb_commands.specs.Keeping.{is_read_fault, is_write_fault}
+use Rattle.adb_replay.specs.Keeping.{is_read_fault, is_write_fault}
 use Rattle.adb_commands.specs.Notes.{EndsIn, IsLineOf}
 use Rattle.adb_commands.specs.Run.{IsCheckLine}
-use Rattle.adb_commands.specs.Stop.{stop_of}
-use Rattle.adb_commands.specs.declared.stop.Stop.{Stop}
-use Rattle.adb_commands.specs.declared.stop.Stop.TheVariants as stop
+use Rattle.adb_replay.specs.Stop.{stop_of}
+use Rattle.adb_replay.specs.declared.stop.Stop.{Stop}
+use Rattle.adb_replay.specs.declared.stop.Stop.TheVariants as stop
 use Rattle.adb_commands.specs.declared.status.Status.{Status}
 use Rattle.adb_commands.specs.declared.status.Status.TheVariants.{Done, Usage, ReadFault, WriteFault, BadCapture, OutOfMemory, RecordFault, DoorFault, BadScript, Refused, BadAnswer, PortFault, TooLarge, Illegal}
 use Rattle.adb_commands.proofs.Loads.{promised, part_out}

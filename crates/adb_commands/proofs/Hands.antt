@@ -5,15 +5,15 @@ use Rattle.adb_history.specs.Accepted.{accepted}
 use Rattle.adb_words.specs.declared.command.Command.{Command}
 use Rattle.adb_words.specs.declared.command.WordsError.{WordsError}
 use Rattle.adb_words.specs.declared.command.WordsError.TheVariants as words
-use Rattle.adb_commands.specs.Keeping.{IsLoss}
+use Rattle.adb_replay.specs.Keeping.{IsLoss}
 use Rattle.adb_commands.specs.Notes.{usage_line, out_of_memory_line, IsJust, IsLineOf, NotesBy}
 use Rattle.adb_commands.specs.Scripts.{IsScriptLine}
-use Rattle.adb_commands.specs.Replay.{EndsAs}
+use Rattle.adb_replay.specs.Replay.{EndsAs}
 use Rattle.adb_commands.specs.Run.{IsAtHand, IsReplayLine, IsCheckLine, IsLoadLine}
 use Rattle.adb_commands.specs.Words.{IsNoCommand, IsReplay, IsCheck, IsOfKind}
 use Rattle.adb_commands.specs.declared.script_kind.ScriptKind.{ScriptKind}
-use Rattle.adb_commands.specs.declared.stop.Stop.{Stop}
-use Rattle.adb_commands.specs.declared.stop.Stop.TheVariants as stop
+use Rattle.adb_replay.specs.declared.stop.Stop.{Stop}
+use Rattle.adb_replay.specs.declared.stop.Stop.TheVariants as stop
 use Rattle.adb_commands.specs.declared.status.Status.{Status}
 use Rattle.adb_commands.specs.declared.status.Status.TheVariants.{Done, Usage, ReadFault, WriteFault, BadCapture, OutOfMemory, RecordFault, DoorFault, BadScript, Refused, BadAnswer, PortFault, TooLarge, Illegal}
 use Rattle.adb_commands.proofs.Lines.{notes_as, notes_of}

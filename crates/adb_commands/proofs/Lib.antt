@@ -1,11 +1,3 @@
-pub mod Outputs
-pub mod Counting
-pub mod Accepting
-pub mod Drains
-pub mod Entries
-pub mod Records
-pub mod RecordEnds
-pub mod Captures
 pub mod Runs
 pub mod Checks
 pub mod Lines

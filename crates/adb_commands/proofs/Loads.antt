@@ -14,11 +14,11 @@ use Rattle.adb_words.specs.Words.{command_of, gen_of, load_of, number_within, ba
 use Rattle.adb_words.specs.declared.command.Command.{Command}
 use Rattle.adb_words.specs.declared.command.Command.TheVariants.{Replay, Check, Gen, Local, Copy}
 use Rattle.adb_words.specs.declared.command.TheConstants.{MAX_STREAMS, MAX_DIGITS}
-use Rattle.adb_commands.specs.Keeping.{HasFront}
+use Rattle.adb_replay.specs.Keeping.{HasFront}
 use Rattle.adb_commands.specs.Loads.{IsPromised, WritesLines, LoadBy, made}
 use Rattle.adb_commands.specs.Notes.{EndsIn}
-use Rattle.adb_commands.specs.declared.stop.Stop.{Stop}
-use Rattle.adb_commands.specs.declared.stop.Stop.TheVariants as stop
+use Rattle.adb_replay.specs.declared.stop.Stop.{Stop}
+use Rattle.adb_replay.specs.declared.stop.Stop.TheVariants as stop
 use Rattle.adb_commands.specs.declared.status.Status.{Status}
 use Rattle.adb_commands.specs.declared.status.Status.TheVariants.{Done, Usage, ReadFault, WriteFault, BadCapture, OutOfMemory, RecordFault, DoorFault, BadScript, Refused, BadAnswer, PortFault, TooLarge, Illegal}
 use Rattle.adb_commands.proofs.Runs.{none_out}

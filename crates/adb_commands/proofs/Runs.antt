@@ -5,12 +5,12 @@ use Rattle.adb_history.specs.Accepted.{Accepted}
 use Rattle.adb_history.specs.declared.refusal.Refusal.{Refusal}
 use Rattle.adb_outside.specs.Outside.{Rises, Counted}
 use Rattle.adb_commands.specs.Notes.{EndsIn}
-use Rattle.adb_commands.specs.Keeping.{HasFront, CountsReads, is_write_fault}
-use Rattle.adb_commands.specs.Replay.{EndsAs}
-use Rattle.adb_commands.specs.Replayed.{WritesText}
+use Rattle.adb_replay.specs.Keeping.{HasFront, CountsReads, is_write_fault}
+use Rattle.adb_replay.specs.Replay.{EndsAs}
+use Rattle.adb_replay.specs.Replayed.{WritesText}
 use Rattle.adb_commands.specs.Run.{WritesBy, EndsBy, CompletesBy}
-use Rattle.adb_commands.specs.declared.stop.Stop.{Stop}
-use Rattle.adb_commands.specs.declared.stop.Stop.TheVariants as stop
+use Rattle.adb_replay.specs.declared.stop.Stop.{Stop}
+use Rattle.adb_replay.specs.declared.stop.Stop.TheVariants as stop
 use Rattle.adb_commands.specs.declared.status.Status.{Status}
 use Rattle.adb_commands.specs.declared.status.Status.TheVariants.{Done, Usage, ReadFault, WriteFault, BadCapture, OutOfMemory, RecordFault, DoorFault, BadScript, Refused, BadAnswer, PortFault, TooLarge, Illegal}
 

@@ -2,7 +2,7 @@
 use Rattle.std.specs.Prelude.{ℕ, ◌≡◌, ◌≢◌, ◌⊎◌, List, Option, String}
 use Rattle.adb_commands.specs.Check.{WritesVerdict, NamesForm, CompletesCheck}
 use Rattle.adb_commands.specs.Faults.{Rose, Stood, IsFaultless}
-use Rattle.adb_commands.specs.Kills.{StopsAtKill}
+use Rattle.adb_replay.specs.Kills.{StopsAtKill}
 use Rattle.adb_commands.specs.Loads.{IsPromised, WritesLoad, made}
 use Rattle.adb_commands.specs.Notes.{WritesNote}
 use Rattle.adb_commands.specs.Run.{WritesHistory, WritesRead, WritesLegal, WritesWhole, EndsCapture, NamesRefusal, Completes, IsUnheard, IsAtHand}

@@ -8,11 +8,11 @@ use Rattle.adb_check.specs.declared.capture.Judgement.TheVariants as judged
 use Rattle.adb_check.specs.FirstBad.{IsFirstBad}
 use Rattle.adb_check.specs.Formed.{Formed, formed, history_of}
 use Rattle.adb_check.specs.Rules.{rule_text}
-use Rattle.adb_commands.specs.Keeping.{HasFront}
+use Rattle.adb_replay.specs.Keeping.{HasFront}
 use Rattle.adb_commands.specs.Loads.{IsPromised, line}
 use Rattle.adb_commands.specs.Notes.{bad_capture_line}
-use Rattle.adb_commands.specs.declared.stop.Stop.{Stop}
-use Rattle.adb_commands.specs.declared.stop.Stop.TheVariants as stop
+use Rattle.adb_replay.specs.declared.stop.Stop.{Stop}
+use Rattle.adb_replay.specs.declared.stop.Stop.TheVariants as stop
 use Rattle.adb_commands.specs.declared.status.Status.{Status}
 use Rattle.adb_commands.specs.declared.status.Status.TheVariants.{Done, Usage, ReadFault, WriteFault, BadCapture, OutOfMemory, RecordFault, DoorFault, BadScript, Refused, BadAnswer, PortFault, TooLarge, Illegal}
 

@@ -1,12 +1,7 @@
-pub mod Stop
-pub mod Kills
-pub mod Replay
-pub mod Keeping
 pub mod Status
 pub mod Words
 pub mod Faults
 pub mod Notes
-pub mod Replayed
 pub mod Run
 pub mod Loads
 pub mod Check

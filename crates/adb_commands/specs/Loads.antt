@@ -9,9 +9,9 @@ use Rattle.adb_load.specs.Load.{load}
 use Rattle.adb_run_load.specs.Totals.{totals_of}
 use Rattle.adb_run_load.specs.declared.totals.Totals.{Totals}
 use Rattle.adb_words.specs.declared.command.TheConstants.{MAX_STREAMS}
-use Rattle.adb_commands.specs.Keeping.{HasFront}
-use Rattle.adb_commands.specs.declared.stop.Stop.{Stop}
-use Rattle.adb_commands.specs.declared.stop.Stop.TheVariants as stop
+use Rattle.adb_replay.specs.Keeping.{HasFront}
+use Rattle.adb_replay.specs.declared.stop.Stop.{Stop}
+use Rattle.adb_replay.specs.declared.stop.Stop.TheVariants as stop
 use Rattle.adb_commands.specs.declared.status.Status.{Status}
 use Rattle.adb_commands.specs.declared.status.Status.TheVariants.{Done, Usage, ReadFault, WriteFault, BadCapture, OutOfMemory, RecordFault, DoorFault, BadScript, Refused, BadAnswer, PortFault, TooLarge, Illegal}
 

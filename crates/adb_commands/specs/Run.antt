@@ -6,10 +6,10 @@ use Rattle.adb_words.specs.Words.{names_command, texts}
 use Rattle.adb_check.specs.Formed.{formed}
 use Rattle.adb_commands.specs.Notes.{bad_capture_line, illegal_history_line}
 use Rattle.adb_commands.specs.Words.{IsNoCommand, IsReplay, IsCheck, IsOfKind, IsScript}
-use Rattle.adb_commands.specs.Keeping.{HasFront}
+use Rattle.adb_replay.specs.Keeping.{HasFront}
 use Rattle.adb_commands.specs.Scripts.{IsScriptLine}
-use Rattle.adb_commands.specs.Replay.{IsReadWhole}
-use Rattle.adb_commands.specs.Replayed.{GrowsSpelled, GrowsWhole, WritesConsumed}
+use Rattle.adb_replay.specs.Replay.{IsReadWhole}
+use Rattle.adb_replay.specs.Replayed.{GrowsSpelled, GrowsWhole, WritesConsumed}
 use Rattle.adb_commands.specs.declared.script_kind.ScriptKind.{ScriptKind}
 use Rattle.adb_commands.specs.declared.status.Status.{Status}
 use Rattle.adb_commands.specs.declared.status.Status.TheVariants.{Done, Usage, ReadFault, WriteFault, BadCapture, OutOfMemory, RecordFault, DoorFault, BadScript, Refused, BadAnswer, PortFault, TooLarge, Illegal}

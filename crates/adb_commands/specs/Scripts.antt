@@ -5,7 +5,7 @@ use Rattle.adb_script.specs.Answers.{script_answers}
 use Rattle.adb_script.specs.Script as asked
 use Rattle.adb_trees.specs.Shown.{copied_lines}
 use Rattle.adb_trees.specs.Trees as named
-use Rattle.adb_commands.specs.Keeping.{HasFront}
+use Rattle.adb_replay.specs.Keeping.{HasFront}
 use Rattle.adb_commands.specs.Notes.{read_fault_line, write_fault_line, out_of_memory_line, bad_script_line, IsJust, IsLineOr}
 use Rattle.adb_commands.specs.declared.script_kind.ScriptKind.{ScriptKind}
 use Rattle.adb_commands.specs.declared.script_kind.ScriptKind.TheVariants as kinds

@@ -4,12 +4,12 @@ ghost use Rattle.std.specs.Prelude.{◌≡◌, ◌<◌, List, ℕ, Some, IfOk, l
 ghost use Rattle.adb_outside.specs.Outside.{Counts};
 ghost use Rattle.adb_check.specs.Formed.{formed};
 ghost use Rattle.adb_commands.specs.Check.{JudgesSo, WritesSo, judged_line, stopped_as};
-ghost use Rattle.adb_commands.specs.Keeping.{is_read_fault, is_write_fault};
+ghost use Rattle.adb_replay.specs.Keeping.{is_read_fault, is_write_fault};
 
-use crate::stop::Stop;
 use crate::texts::{push_line, push_number};
 use adb_check::{Judgement, judge_capture};
 use adb_outside::{Sink, Source, Text, Wrote};
+use adb_replay::Stop;
 use std::alloc::{AllocError, Global};
 
 /// Judges the history of the capture that a source has, and writes a line of what it comes to:

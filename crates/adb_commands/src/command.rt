@@ -3,7 +3,7 @@
 ghost use Rattle.std.specs.Prelude.{◌≡◌, ◌≢◌, ◌⊎◌, ℕ};
 ghost use Rattle.adb_commands.specs.Check.{WritesVerdict, NamesForm, CompletesCheck};
 ghost use Rattle.adb_commands.specs.Faults.{Rose, Stood, IsFaultless};
-ghost use Rattle.adb_commands.specs.Kills.{StopsAtKill};
+ghost use Rattle.adb_replay.specs.Kills.{StopsAtKill};
 ghost use Rattle.adb_commands.specs.Loads.{IsLoadSize, IsPromised, WritesLoad, made};
 ghost use Rattle.adb_commands.specs.Notes.{WritesNote};
 ghost use Rattle.adb_commands.specs.Run.{WritesHistory, WritesRead, WritesLegal, WritesWhole};
@@ -19,12 +19,12 @@ use crate::answering::answer;
 use crate::checking::check;
 use crate::generating::generate;
 use crate::note::{say_illegal, say_out_of_memory, say_stop, say_usage};
-use crate::replay::replay;
 use crate::script_kind::ScriptKind;
 use crate::script_note::say_script_stop;
 use crate::status::Status;
 use adb_check::Judgement;
 use adb_outside::{Sink, Source};
+use adb_replay::replay;
 use adb_words::{Command, WordsError, read_words};
 use std::alloc::Global;
 

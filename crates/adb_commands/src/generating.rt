@@ -2,13 +2,13 @@
 
 ghost use Rattle.std.specs.Prelude.{◌≡◌, ◌<◌, IfOk, length};
 ghost use Rattle.adb_outside.specs.Outside.{Counts};
-ghost use Rattle.adb_commands.specs.Keeping.{IsLoss, is_write_fault};
+ghost use Rattle.adb_replay.specs.Keeping.{IsLoss, is_write_fault};
 ghost use Rattle.adb_commands.specs.Loads.{IsLoadSize, GeneratesLines, lines_of};
 
-use crate::stop::Stop;
 use crate::texts::push_line;
 use adb_hub::Hub;
 use adb_outside::{Sink, Text, Wrote};
+use adb_replay::Stop;
 use adb_run_load::{Totals, run_load};
 use std::alloc::{AllocError, Global};
 

@@ -6,14 +6,11 @@ mod checking;
 mod command;
 mod generating;
 mod note;
-mod output;
-mod replay;
 mod script_input;
 mod script_kind;
 mod script_note;
 mod script_stop;
 mod status;
-mod stop;
 mod texts;
 mod tool_note;
 

@@ -12,10 +12,10 @@ ghost use Rattle.adb_commands.specs.Notes.{record_fault_line, door_fault_line};
 ghost use Rattle.adb_commands.specs.Notes.{IsJust, IsLine, IsLineOf, EndsIn, WritesNote};
 
 use crate::status::Status;
-use crate::stop::Stop;
 use crate::texts::push_number;
 use adb_history::Refusal;
 use adb_outside::{Sink, Text, Wrote};
+use adb_replay::Stop;
 use std::alloc::{AllocError, Global};
 
 /// Tells the note that the words are no command.

@@ -7,7 +7,7 @@ use Rattle.adb_server.specs.Served.{listening_line, Announces, TellsPort, is_wri
 use Rattle.adb_server.specs.declared.server.Served.{Served}
 use Rattle.adb_server.specs.declared.server.Served.TheVariants as served
 use Rattle.adb_words.specs.Serve.{Serving}
-use Rattle.adb_commands.proofs.Counting.{counts_then}
+use Rattle.adb_replay.proofs.Counting.{counts_then}
 use Rattle.adb_commands.specs.Faults.{tells_write_fault}
 use Rattle.adb_commands.specs.Notes.{NotesBy, HasTried, HasFailed, RisesTwice}
 use Rattle.adb_commands.specs.declared.status.Status.{Status}

@@ -1,6 +1,6 @@
 use Rattle.std.proofs.Common.{Bool, sym, subst}
 use Rattle.adb_outside.specs.Outside.{Counts}
-use Rattle.adb_commands.proofs.Counting.{counts_first}
+use Rattle.adb_replay.proofs.Counting.{counts_first}
 use Rattle.adb_commands.proofs.Scripts.{read_as, refuses_all, answers_all, reads_all, read_stop_refuses, read_stop_out, read_stop_writes}
 use Rattle.adb_commands.proofs.answering.answer.Goals as goal
 

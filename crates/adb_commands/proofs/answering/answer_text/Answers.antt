@@ -1,6 +1,6 @@
 use Rattle.std.proofs.Common.{Bool, sym, subst}
 use Rattle.adb_outside.specs.Outside.{Counts}
-use Rattle.adb_commands.proofs.Counting.{counts_first}
+use Rattle.adb_replay.proofs.Counting.{counts_first}
 use Rattle.adb_commands.proofs.Scripts.{lines_lost, run_stop_out, run_stop_reads, run_stop_writes}
 use Rattle.adb_commands.proofs.answering.answer_text.Goals as goal
 

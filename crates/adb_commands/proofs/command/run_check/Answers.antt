@@ -3,10 +3,10 @@ use Rattle.adb_check.specs.declared.capture.Judgement.{Judgement}
 use Rattle.adb_check.specs.Formed.{formed, history_of}
 use Rattle.adb_check.proofs.Places.{no_legal}
 use Rattle.adb_commands.specs.Check.{JudgesSo, WritesSo}
-use Rattle.adb_commands.specs.Keeping.{is_read_fault}
+use Rattle.adb_replay.specs.Keeping.{is_read_fault}
 use Rattle.adb_commands.specs.Notes.{illegal_history_line}
 use Rattle.adb_commands.specs.declared.status.Status.TheVariants.{Done, OutOfMemory, Illegal}
-use Rattle.adb_commands.specs.declared.stop.Stop.{Stop}
+use Rattle.adb_replay.specs.declared.stop.Stop.{Stop}
 use Rattle.adb_commands.proofs.Checks.{checks_by, checks_illegal, check_line}
 use Rattle.adb_commands.proofs.Lines.{notes_as, notes_of}
 use Rattle.adb_commands.proofs.Runs.{write_fault_is}

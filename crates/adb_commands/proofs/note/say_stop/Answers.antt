@@ -2,7 +2,7 @@ use Rattle.std.proofs.Common.{refl, sym, ◌∙◌, subst, inl, inr}
 use Rattle.adb_commands.proofs.Lines.{notes_of}
 use Rattle.adb_commands.specs.Notes.{read_fault_line, write_fault_line, out_of_memory_line, IsLineOf}
 use Rattle.adb_commands.specs.declared.status.Status.TheVariants.{ReadFault, WriteFault, BadCapture, OutOfMemory}
-use Rattle.adb_commands.specs.declared.stop.Stop.{Stop}
+use Rattle.adb_replay.specs.declared.stop.Stop.{Stop}
 use Rattle.adb_commands.proofs.note.say_stop.Goals as goal
 
 pub returns-in-ReadFault-clause-told : goal.returns-in-ReadFault-clause-told

@@ -1,5 +1,5 @@
 use Rattle.std.proofs.Common.{Ok, false, arith}
-use Rattle.adb_commands.proofs.Counting.{counts_then}
+use Rattle.adb_replay.proofs.Counting.{counts_then}
 use Rattle.adb_commands.proofs.ScriptReading.{read_end, read_on, read_within}
 use Rattle.adb_commands.proofs.script_input.read_script.Goals as goal
 

@@ -1,7 +1,7 @@
 use Rattle.std.proofs.Common.{◌≡◌, Some, ap, sym, ◌∙◌, inl, refl}
 use Rattle.adb_words.specs.Serve.{Serving, serving}
 use Rattle.adb_server.specs.declared.server.Served.TheVariants as served
-use Rattle.adb_commands.proofs.Counting.{counts_first}
+use Rattle.adb_replay.proofs.Counting.{counts_first}
 use Rattle.adb_top.proofs.Served.{serves_of}
 use Rattle.adb_top.proofs.serving.run_serve.Goals as goal
 

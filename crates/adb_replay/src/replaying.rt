@@ -1,0 +1,150 @@
+//! Replaying a capture: its entries are made in order, and all that is due is handed out after
+//! each.
+
+ghost use Rattle.std.specs.Prelude.{◌≡◌, ◌≢◌, None, Err, not, true, false};
+ghost use Rattle.adb_outside.specs.Outside.{Counts};
+ghost use Rattle.adb_capture_reader.specs.Reading.{HoldsLittle};
+ghost use Rattle.adb_capture.specs.Records.{HasRecord};
+ghost use Rattle.adb_history.specs.Machine.{History};
+ghost use Rattle.adb_history.specs.Kept.{IsLawful};
+ghost use Rattle.adb_history.specs.Accepted.{is_input};
+ghost use Rattle.adb_entries.specs.Machine.{IsHeld};
+ghost use Rattle.adb_replay.specs.Replay.{IsDrained, Drains, ReplaysEntry, Replays, moment};
+ghost use Rattle.adb_replay.specs.Replayed.{ReplaysCapture};
+ghost use Rattle.adb_replay.specs.Keeping.{KeepsEntry, CountsReads, IsLoss, is_write_fault, is_read_fault};
+
+use crate::output::Output;
+use crate::stop::Stop;
+use adb_capture::Entry;
+use adb_capture_reader::CaptureReader;
+use adb_entries::{apply, hand_next};
+use adb_history::draining_ends;
+use adb_hub::Hub;
+use adb_outside::{Sink, Source};
+use std::alloc::Global;
+
+/// Replays the capture of a source, and writes the whole history to the sink as a capture. Nothing
+/// is written where the magic is bad.
+pub fn replay<S: Source, K: Sink>(alloc: Global, source: &mut S, sink: &mut K) -> Result<(), Stop>
+    ensures replays { ReplaysCapture (S.left source.old) (S.left source.new)
+        (K.written sink.old) (K.written sink.new) result }
+    ensures reads { CountsReads result (Counts S.steady S.faults source.old source.new) }
+    ensures writes { Counts K.steady K.faults sink.old sink.new (is_write_fault result) }
+{
+    let mut reader = CaptureReader::new(alloc)?;
+    reader.open(source)?;
+    let mut output = Output::new(alloc)?;
+    let ended = replay_records(alloc, &mut reader, source, &mut output, sink);
+    output.write_out(sink)?;
+    ended
+}
+
+/// Replays the records of a capture, whose magic was read: all, or those up to a kill.
+fn replay_records<S: Source, K: Sink>(
+    alloc: Global,
+    reader: &mut CaptureReader,
+    source: &mut S,
+    output: &mut Output,
+    sink: &mut K,
+) -> Result<(), Stop>
+    requires sound { reader.old.failed ≡ None }
+    requires opened { reader.old.opened ≡ true }
+    requires few { HoldsLittle reader.old.held }
+    ensures replays { Replays
+        (moment reader.old (S.left source.old) (K.written sink.old, output.old))
+        (moment reader.new (S.left source.new) (K.written sink.new, output.new)) result }
+    ensures reads { Counts S.steady S.faults source.old source.new (is_read_fault result) }
+    ensures writes { Counts K.steady K.faults sink.old sink.new (is_write_fault result) }
+{
+    let mut hub = Hub::new(alloc);
+    while !hub.is_stopped() {
+        let Some((offset, entry)) = reader.next(source)? else {
+            return Ok(());
+        };
+        replay_entry(&mut hub, output, sink, offset, entry)?;
+    }
+    Ok(())
+}
+
+/// Replays one record, whose entry is dropped then.
+fn replay_entry<K: Sink>(
+    hub: &mut Hub,
+    output: &mut Output,
+    sink: &mut K,
+    offset: u64,
+    entry: Entry,
+) -> Result<(), Stop>
+    requires form { HasRecord entry }
+    requires held { IsHeld hub.old }
+    requires running { hub.old.stopped ≡ false }
+    ensures replays { (h : History) → IsDrained hub.old h → ReplaysEntry result offset entry h
+        (K.written sink.old, output.old) (K.written sink.new, output.new) hub.new }
+    ensures source { result ≢ Err Stop.ReadFault }
+    ensures counts { Counts K.steady K.faults sink.old sink.new (is_write_fault result) }
+{
+    replay_record(hub, output, sink, offset, &entry)
+}
+
+/// Replays one record: its entry is made and kept, and all that is due then is handed out. A
+/// hand-out that was recorded is passed over.
+fn replay_record<K: Sink>(
+    hub: &mut Hub,
+    output: &mut Output,
+    sink: &mut K,
+    offset: u64,
+    entry: &Entry,
+) -> Result<(), Stop>
+    requires form { HasRecord entry.now }
+    requires held { IsHeld hub.old }
+    requires running { hub.old.stopped ≡ false }
+    ensures replays { (h : History) → IsDrained hub.old h
+        → ReplaysEntry result offset entry.now h
+        (K.written sink.old, output.old) (K.written sink.new, output.new) hub.new }
+    ensures source { result ≢ Err Stop.ReadFault }
+    ensures counts { Counts K.steady K.faults sink.old sink.new (is_write_fault result) }
+{
+    if is_hand_out(entry) {
+        return Ok(());
+    }
+    match apply(hub, entry.lend()) {
+        Err(why) => Err(Stop::at(offset, why)),
+        Ok(()) => {
+            output.keep(sink, entry)?;
+            drain(hub, output, sink)
+        }
+    }
+}
+
+/// Hands out all that is due, whoever it is due to, and keeps each hand-out. It ends, by the law
+/// `draining_ends`, with nothing due.
+fn drain<K: Sink>(hub: &mut Hub, output: &mut Output, sink: &mut K) -> Result<(), Stop>
+    requires held { IsHeld hub.old }
+    ensures drains { (h : History) → IsLawful hub.old h → Drains result h
+        (K.written sink.old, output.old) (K.written sink.new, output.new) hub.new }
+    ensures loss { IsLoss result }
+    ensures counts { Counts K.steady K.faults sink.old sink.new (is_write_fault result) }
+{
+    draining_ends();
+    while let Some(entry) = hand_next(hub)? {
+        keep(output, sink, entry)?;
+    }
+    Ok(())
+}
+
+/// Keeps an entry, which is dropped then.
+fn keep<K: Sink>(output: &mut Output, sink: &mut K, entry: Entry) -> Result<(), Stop>
+    requires { HasRecord entry }
+    ensures kept { KeepsEntry result entry
+        (K.written sink.old, output.old) (K.written sink.new, output.new) }
+    ensures loss { IsLoss result }
+    ensures counts { Counts K.steady K.faults sink.old sink.new (is_write_fault result) }
+{
+    output.keep(sink, &entry)
+}
+
+/// Whether an entry is a hand-out.
+fn is_hand_out(entry: &Entry) -> bool
+    ensures { result ≡ not (is_input entry.now) }
+{
+    matches!(entry, Entry::Put { .. } | Entry::Send { .. })
+}
