@@ -5,15 +5,6 @@ use Rattle.adb_replay.specs.Keeping.{Out, Keeps, HasFront, KeepsMore, WritesOut,
 use Rattle.adb_replay.specs.declared.stop.Stop.{Stop}
 use Rattle.adb_replay.specs.declared.stop.Stop.TheVariants.{ReadFault, WriteFault, OutOfMemory, Refused}
 
--- a piece is gathered
-pub gathers : (had text piece gathered : List ℕ) (before : Out) → gathered ≡ before.1 ++ piece → Keeps had text before
-    → Keeps had (text ++ piece) (before.0, gathered)
-gathers had text piece gathered before is k = record {
-  growth = k.growth;
-  is = k.is;
-  whole = ap (λ g. k.growth ++ g) is ∙ (sym (append_assoc k.growth before.1 piece) ∙ ap (λ t. t ++ piece) k.whole);
-}
-
 -- nothing is gathered
 pub all_out : (had text : List ℕ) (out : Out) → out.1 ≡ [] → Keeps had text out → out.0 ≡ Some (had ++ text)
 all_out had text out none k =
@@ -41,19 +32,38 @@ goes_out_in_part had text taken before written k told = record {
 pub kept_out : (had text : List ℕ) (out : Out) → out.0 ≡ Some (had ++ text) → out.1 ≡ [] → Keeps had text out
 kept_out had text out is none = record { growth = text; is = is; whole = ap (λ g. text ++ g) none ∙ append-nil text }
 
--- a record is gathered, and what is gathered goes out
-pub piece_out : (had text piece gathered : List ℕ) (before after : Out) (result : Result (Unit {0}) Stop) → gathered ≡ before.1 ++ piece → Keeps had text before
-    → ((had text : List ℕ) → Keeps had text (before.0, gathered) → WritesOut result had text after.0) → IsWriteEnd result → after.1 ≡ []
-    → KeepsMore result had text piece after
-piece_out had text piece gathered before after result is k writes ends none = go result ends
-    (writes had (text ++ piece) (gathers had text piece gathered before is k))
-  where
-    go : (r : Result (Unit {0}) Stop) → IsWriteEnd r → WritesOut r had (text ++ piece) after.0 → KeepsMore r had text piece after
-    go (Ok done) e w = kept_out had (text ++ piece) after w none
-    go (Err ReadFault) e w = e
-    go (Err WriteFault) e w = (w, none)
-    go (Err OutOfMemory) e w = absurd e
-    go (Err (Refused why)) e w = e
+-- ---- two writes, one behind the other
+module _ (had text gathered end : List ℕ) (written : Option (List ℕ)) (k : Keeps had text (written, gathered ++ end)) where
+  -- the front of a text that ends with what is gathered
+  abbrev pub front : List ℕ
+  front = k.growth ++ gathered
+
+  pub front_kept : Keeps had front (written, gathered)
+  front_kept = record { growth = k.growth; is = k.is; whole = refl }
+
+  front_is : front ++ end ≡ text
+  front_is = append_assoc k.growth gathered end ∙ k.whole
+
+  -- it went out, and the end is still to come
+  pub end_kept : (mid : Option (List ℕ)) → mid ≡ Some (had ++ front) → Keeps had text (mid, end)
+  end_kept mid is = record { growth = front; is = is; whole = front_is }
+
+  -- a front of it went out
+  pub front_cut : (mid : Option (List ℕ)) → HasFront had front mid → HasFront had text mid
+  front_cut mid f = record {
+    growth = f.growth;
+    is = f.is;
+    front = (f.front.0 ++ end, sym (append_assoc f.growth f.front.0 end) ∙ (ap (λ t. t ++ end) f.front.1 ∙ front_is));
+  }
+
+-- nothing is left of a text that went out, or a front of it did
+pub kept_or_cut : (had text piece : List ℕ) (after : Out) (result : Result (Unit {0}) Stop) → IsWriteEnd result
+    → WritesOut result had (text ++ piece) after.0 → after.1 ≡ [] → KeepsMore result had text piece after
+kept_or_cut had text piece after (Ok done) e w none = kept_out had (text ++ piece) after w none
+kept_or_cut had text piece after (Err ReadFault) e w none = e
+kept_or_cut had text piece after (Err WriteFault) e w none = (w, none)
+kept_or_cut had text piece after (Err OutOfMemory) e w none = absurd e
+kept_or_cut had text piece after (Err (Refused why)) e w none = e
 
 -- a write failed
 pub write_fault_of : (why : Stop) → IsWriteEnd (Err why) → why ≡ WriteFault

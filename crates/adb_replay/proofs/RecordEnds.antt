@@ -23,6 +23,7 @@ use Rattle.adb_replay.specs.Keeping.{Out, Keeps}
 use Rattle.adb_replay.specs.Kills.{IsKilled, EndsInRecord, ReadsToKill}
 use Rattle.adb_replay.specs.Stop.{stop_of}
 use Rattle.adb_replay.specs.Replay.{capture_of, IsDrained, IsFrontOf, ReplaysEntry, EntryGives, IsReached, Reaches, EndsAs, Moment, IsAhead, Consumes, Replays}
+use Rattle.adb_replay.specs.Replay.{moment}
 use Rattle.adb_replay.specs.declared.stop.Stop.{Stop}
 use Rattle.adb_replay.specs.declared.stop.Stop.TheVariants.{ReadFault, WriteFault, OutOfMemory, Refused}
 use Rattle.adb_entries.proofs.Adding.{drained_adds}
@@ -321,6 +322,20 @@ replaying_lost {first} {holds} t last why running entry r = record {
         let c = came_on t r still (comes r before was) in
         c.refused ∙ (ap (λ w. (accept_by w (is_input t.entry) r.done t.offset t.entry (accept_records t.new.reader.offset c.others)).refused) g.0.because
         ∙ ap (λ n. refused_at n named.reason) (sym g.0.at))
+
+-- Of where the reader stands at the end nothing is said.
+pub read_elsewhere : {first last : Moment} {result : Result (Unit {0}) Stop} (reader : Reading) → Replays first last result
+    → Replays first (moment reader last.left last.out) result
+read_elsewhere reader x = record {
+  whole = x.whole;
+  on = x.on;
+  reaches = x.reaches;
+  ends = x.ends;
+  consumes = λ fault before was.
+      let c = x.consumes fault before was in
+      record { consumed = c.consumed; rest = c.rest; is = c.is; left = c.left; reached = c.reached };
+  stops = x.stops;
+}
 
 -- what a loop over records keeps: how far it has come, and that nothing failed
 pub record GoingOn (first now : Moment) (holds : Kept) (reads writes : Type 0) : Type 0 where

@@ -6,7 +6,7 @@ use Rattle.std.proofs.lemmas.List.{append_assoc, append-nil, length-append, take
 use Rattle.adb_outside.specs.declared.framer.Front.TheVariants.{Whole}
 use Rattle.adb_capture.specs.Records.{entry_in, offset_after, record_at}
 use Rattle.adb_capture.proofs.Fronts.{framing}
-use Rattle.adb_capture_reader.specs.Reading.{ahead_of, AnswersNext, GivesNext, GivesRecord, HoldsLittle}
+use Rattle.adb_capture_reader.specs.Reading.{Reading, ahead_of, AnswersNext, AwaitsNext, GivesNext, GivesRecord, HoldsLittle, passed, passed_by}
 use Rattle.adb_capture.specs.declared.entry.Entry.{Entry}
 use Rattle.adb_capture.specs.declared.error.CaptureError.{CaptureError}
 use Rattle.adb_history.specs.Machine.{History, state}
@@ -104,13 +104,41 @@ starts holds lawful = record { lawful = lawful; rests = refl }
 abbrev pub Gives : Moment → Result (Option (ℕ × Entry)) CaptureError → Moment → Type 0
 Gives now result new = now.reader.failed ≡ None → AnswersNext now.reader now.left new.reader new.left result
 
-pub given_as : (now new : Moment) (a b : Option (ℕ × Entry)) → a ≡ b → Gives now (Ok a) new → Gives now (Ok b) new
-given_as now new a b same gives = subst (λ (o : Option (ℕ × Entry)). Gives now (Ok o) new) same gives
-
 pub given_next : (now new : Moment) (result : Result (Option (ℕ × Entry)) CaptureError) {before : List ℕ} → Gives now result new
     → now.reader.failed ≡ None → IsAhead now before
     → GivesNext now.reader.offset before result new.reader.offset (ahead_of new.reader new.left)
 given_next now new result {before} gives sound was = (gives sound).records before was
+
+-- what a call that waits for the next record says of what is ahead
+abbrev pub Awaits : Moment → Reading → Option (List ℕ) → Result (Option ℕ) CaptureError → Type 0
+Awaits now awaited left result = now.reader.failed ≡ None → AwaitsNext now.reader now.left awaited left result
+
+pub awaits_as : (now : Moment) (awaited : Reading) (left : Option (List ℕ)) (a b : Option ℕ) → a ≡ b → Awaits now awaited left (Ok a)
+    → Awaits now awaited left (Ok b)
+awaits_as now awaited left a b same awaits = subst (λ (o : Option ℕ). Awaits now awaited left (Ok o)) same awaits
+
+-- what the reader says of itself between two moments, where it gave a record
+abbrev pub StandsBetween : Moment → Moment → Type 0
+StandsBetween now new = (now.reader.failed ≡ None) × (new.reader.failed ≡ None) × (new.reader.opened ≡ true)
+
+-- A record that was held whole was given, and passed.
+pub record IsPassed (now new : Moment) (given : ℕ × Entry) : Type 0 where
+  pub gives : Gives now (Ok (Some given)) new
+  pub ready : StandsBetween now new
+  pub few : HoldsLittle new.reader.held
+
+pub passes : (now new : Moment) (awaited : Reading) (found : Option ℕ) (size : ℕ) (given : ℕ × Entry) → found ≡ Some size
+    → given ≡ entry_in awaited.offset (take size awaited.held) → new.reader ≡ passed size awaited → Awaits now awaited new.left (Ok found)
+    → (now.reader.failed ≡ None) × (awaited.failed ≡ None) × (awaited.opened ≡ true) → HoldsLittle (passed_by (Ok found) awaited).held
+    → IsPassed now new given
+passes now new awaited found size given some is past awaits ok little = record {
+  gives = λ sound. subst (λ (r : Reading). AnswersNext now.reader now.left r new.left (Ok (Some given))) (sym past)
+      (subst (λ (p : ℕ × Entry). AnswersNext now.reader now.left (passed size awaited) new.left (Ok (Some p))) (sym is)
+      (awaits_as now awaited new.left found (Some size) some awaits sound));
+  ready = (ok.0, ap (λ (r : Reading). r.failed) past ∙ ok.1, ap (λ (r : Reading). r.opened) past ∙ ok.2);
+  few = subst (λ (r : Reading). HoldsLittle r.held) (sym past)
+      (subst (λ (o : Option ℕ). HoldsLittle (passed_by (Ok o) awaited).held) some little);
+}
 
 -- a record that the reader gave: the moments before and after its replay, its offset, and its entry
 pub record Turn : Type 0 where
@@ -183,10 +211,6 @@ accept_on : (b : Bool) (h : History) (offset : ℕ) (e : Entry) (others : Histor
 accept_on true h offset e others = (refl, refl)
 accept_on false h offset e others = (refl, refl)
 
--- what the reader says of itself where it gave a record
-abbrev pub IsReady : Turn → Type 0
-IsReady t = (t.now.reader.failed ≡ None) × (t.new.reader.failed ≡ None) × (t.new.reader.opened ≡ true)
-
 -- ---- the last record so far
 -- what came so far gives the history that was made
 pub gives_done : (first now : Moment) (done : History) {before : List ℕ} → (c : Came first now done before)
@@ -215,7 +239,7 @@ last_came first t done c g running = record {
 }
 
 -- A record was replayed.
-pub replaying_on : {first : Moment} {holds : Kept} (t : Turn) (new : Kept) → IsReady t → holds.stopped ≡ false
+pub replaying_on : {first : Moment} {holds : Kept} (t : Turn) (new : Kept) → StandsBetween t.now t.new → holds.stopped ≡ false
     → ((h : History) → IsDrained holds h → ReplaysEntry (Ok tt) t.offset t.entry h t.now.out t.new.out new) → HoldsLittle t.new.reader.held
     → Replaying first t.now holds → Replaying first t.new new
 replaying_on {first} {holds} t new ready running entry few r = record {

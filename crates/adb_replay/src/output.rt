@@ -1,18 +1,23 @@
 //! What a replay writes: it is gathered, and goes out in large pieces.
 
-ghost use Rattle.std.specs.Prelude.{◌≡◌, ℕ, List, [], IfOk};
+ghost use Rattle.std.specs.Prelude.{◌≡◌, ◌++◌, ℕ, List, [], IfOk, OnErr};
 ghost use Rattle.adb_outside.specs.Outside.{Counts};
 ghost use Rattle.adb_capture.specs.Records.{HasRecord, magic};
-ghost use Rattle.adb_replay.specs.Keeping.{Keeps, KeepsEntry, WritesOut, IsLoss, IsWriteEnd, is_write_fault};
+ghost use Rattle.adb_replay.specs.Keeping.{Keeps, KeepsEntry, KeepsMore, WritesOut, IsLoss};
+ghost use Rattle.adb_replay.specs.Keeping.{IsWriteEnd, is_write_fault};
 
 use crate::stop::Stop;
-use adb_capture::{Entry, append_entry, append_magic};
+use adb_capture::{Entry, append_magic, append_start};
+use adb_capture_reader::Record;
 use adb_outside::{ByteQueue, Sink, Wrote};
 use std::alloc::{AllocError, Global};
 use std::marker::Model;
 
 /// The fewest bytes of a piece that goes out before the end.
 const PIECE: usize = 65_536;
+
+/// The fewest bytes of a record that is written from where it lies, behind what is gathered.
+const LARGE: usize = PIECE / 4;
 
 /// What is gathered for a sink: behind what went out, the end of what is kept.
 #[derive(Drop)]
@@ -39,7 +44,8 @@ impl Output {
         Ok(Output { gathered })
     }
 
-    /// Keeps the record of an entry. Where a piece is gathered then it goes out.
+    /// Keeps the record of an entry. A large end of it goes out from where it lies, behind what is
+    /// gathered; else what is gathered goes out where it is a piece.
     pub fn keep<K: Sink>(&mut self, sink: &mut K, entry: &Entry) -> Result<(), Stop>
         requires { HasRecord entry.now }
         ensures kept { KeepsEntry result entry.now
@@ -47,11 +53,49 @@ impl Output {
         ensures loss { IsLoss result }
         ensures counts { Counts K.steady K.faults sink.old sink.new (is_write_fault result) }
     {
-        append_entry(&mut self.gathered, entry)?;
-        if self.gathered.len() < PIECE {
+        let end = append_start(&mut self.gathered, entry)?;
+        self.keep_end(sink, end)
+    }
+
+    /// Keeps a record that was read. Where it is large it goes out from where it lies, behind what is
+    /// gathered; else what is gathered goes out where it is a piece.
+    pub fn keep_record<K: Sink>(&mut self, sink: &mut K, record: &Record<'_>) -> Result<(), Stop>
+        ensures kept { KeepsEntry result record.now.1
+            (K.written sink.old, self.old) (K.written sink.new, self.new) }
+        ensures loss { IsLoss result }
+        ensures counts { Counts K.steady K.faults sink.old sink.new (is_write_fault result) }
+    {
+        let end = self.gather(record.bytes())?;
+        self.keep_end(sink, end)
+    }
+
+    /// Gathers bytes, but where they are many, which are given back: they are to be written behind
+    /// what is gathered, from where they lie. After want of memory nothing more is gathered.
+    fn gather<'a>(&mut self, bytes: &'a [u8]) -> Result<&'a [u8], AllocError>
+        ensures ok { IfOk result (λ end. self.new ++ end.now ≡ self.old ++ bytes.entry.now) }
+        ensures err { OnErr result (self.new ≡ self.old) }
+    {
+        if bytes.len() >= LARGE {
+            return Ok(bytes);
+        }
+        self.gathered.push(bytes)?;
+        Ok(&[])
+    }
+
+    /// Keeps the end of a record whose start is gathered: it goes out behind what is gathered, from
+    /// where it lies. Without an end what is gathered goes out where it is a piece.
+    fn keep_end<K: Sink>(&mut self, sink: &mut K, end: &[u8]) -> Result<(), Stop>
+        ensures kept { (had text piece : List ℕ)
+            → Keeps had (text ++ piece) (K.written sink.old, self.old ++ end.now)
+            → KeepsMore result had text piece (K.written sink.new, self.new) }
+        ensures fault { IsWriteEnd result }
+        ensures counts { Counts K.steady K.faults sink.old sink.new (is_write_fault result) }
+    {
+        if end.is_empty() && self.gathered.len() < PIECE {
             return Ok(());
         }
-        self.write_out(sink)
+        self.write_out(sink)?;
+        write_piece(sink, end)
     }
 
     /// Writes what is gathered. Then nothing is, also where the sink failed.
@@ -63,14 +107,25 @@ impl Output {
         ensures fault { IsWriteEnd result }
         ensures counts { Counts K.steady K.faults sink.old sink.new (is_write_fault result) }
     {
-        if self.gathered.is_empty() {
-            return Ok(());
-        }
-        let wrote = sink.write(self.gathered.as_slice());
+        let wrote = write_piece(sink, self.gathered.as_slice());
         self.gathered.clear();
-        match wrote {
-            Wrote::All => Ok(()),
-            Wrote::Failed { taken: _ } => Err(Stop::WriteFault),
-        }
+        wrote
+    }
+}
+
+/// Writes a piece, where it has a byte.
+fn write_piece<K: Sink>(sink: &mut K, piece: &[u8]) -> Result<(), Stop>
+    ensures out { (had text : List ℕ) → Keeps had text (K.written sink.old, piece.now)
+        → WritesOut result had text (K.written sink.new) }
+    ensures nothing { piece.now ≡ [] → sink.new ≡ sink.old }
+    ensures fault { IsWriteEnd result }
+    ensures counts { Counts K.steady K.faults sink.old sink.new (is_write_fault result) }
+{
+    if piece.is_empty() {
+        return Ok(());
+    }
+    match sink.write(piece) {
+        Wrote::All => Ok(()),
+        Wrote::Failed { taken: _ } => Err(Stop::WriteFault),
     }
 }

@@ -4,6 +4,7 @@
 ghost use Rattle.std.specs.Prelude.{◌≡◌, ◌≢◌, None, Err, not, true, false};
 ghost use Rattle.adb_outside.specs.Outside.{Counts};
 ghost use Rattle.adb_capture_reader.specs.Reading.{HoldsLittle};
+ghost use Rattle.adb_capture.specs.Lent.{entry_lent};
 ghost use Rattle.adb_capture.specs.Records.{HasRecord};
 ghost use Rattle.adb_history.specs.Machine.{History};
 ghost use Rattle.adb_history.specs.Kept.{IsLawful};
@@ -11,12 +12,13 @@ ghost use Rattle.adb_history.specs.Accepted.{is_input};
 ghost use Rattle.adb_entries.specs.Machine.{IsHeld};
 ghost use Rattle.adb_replay.specs.Replay.{IsDrained, Drains, ReplaysEntry, Replays, moment};
 ghost use Rattle.adb_replay.specs.Replayed.{ReplaysCapture};
-ghost use Rattle.adb_replay.specs.Keeping.{KeepsEntry, CountsReads, IsLoss, is_write_fault, is_read_fault};
+ghost use Rattle.adb_replay.specs.Keeping.{KeepsEntry, CountsReads, IsLoss};
+ghost use Rattle.adb_replay.specs.Keeping.{is_write_fault, is_read_fault};
 
 use crate::output::Output;
 use crate::stop::Stop;
-use adb_capture::Entry;
-use adb_capture_reader::CaptureReader;
+use adb_capture::{Entry, Lent};
+use adb_capture_reader::{CaptureReader, Record};
 use adb_entries::{apply, hand_next};
 use adb_history::draining_ends;
 use adb_hub::Hub;
@@ -58,58 +60,39 @@ fn replay_records<S: Source, K: Sink>(
 {
     let mut hub = Hub::new(alloc);
     while !hub.is_stopped() {
-        let Some((offset, entry)) = reader.next(source)? else {
+        let Some(size) = reader.await_next(source)? else {
             return Ok(());
         };
-        replay_entry(&mut hub, output, sink, offset, entry)?;
+        replay_record(&mut hub, output, sink, &reader.first(size))?;
+        reader.pass(size);
     }
     Ok(())
 }
 
-/// Replays one record, whose entry is dropped then.
-fn replay_entry<K: Sink>(
-    hub: &mut Hub,
-    output: &mut Output,
-    sink: &mut K,
-    offset: u64,
-    entry: Entry,
-) -> Result<(), Stop>
-    requires form { HasRecord entry }
-    requires held { IsHeld hub.old }
-    requires running { hub.old.stopped ≡ false }
-    ensures replays { (h : History) → IsDrained hub.old h → ReplaysEntry result offset entry h
-        (K.written sink.old, output.old) (K.written sink.new, output.new) hub.new }
-    ensures source { result ≢ Err Stop.ReadFault }
-    ensures counts { Counts K.steady K.faults sink.old sink.new (is_write_fault result) }
-{
-    replay_record(hub, output, sink, offset, &entry)
-}
-
-/// Replays one record: its entry is made and kept, and all that is due then is handed out. A
-/// hand-out that was recorded is passed over.
+/// Replays one record: its entry is made, its bytes are kept, from where they lie, and all that is
+/// due then is handed out. A hand-out that was recorded is passed over.
 fn replay_record<K: Sink>(
     hub: &mut Hub,
     output: &mut Output,
     sink: &mut K,
-    offset: u64,
-    entry: &Entry,
+    record: &Record<'_>,
 ) -> Result<(), Stop>
-    requires form { HasRecord entry.now }
     requires held { IsHeld hub.old }
     requires running { hub.old.stopped ≡ false }
     ensures replays { (h : History) → IsDrained hub.old h
-        → ReplaysEntry result offset entry.now h
+        → ReplaysEntry result record.now.0 record.now.1 h
         (K.written sink.old, output.old) (K.written sink.new, output.new) hub.new }
     ensures source { result ≢ Err Stop.ReadFault }
     ensures counts { Counts K.steady K.faults sink.old sink.new (is_write_fault result) }
 {
+    let entry = record.entry();
     if is_hand_out(entry) {
         return Ok(());
     }
-    match apply(hub, entry.lend()) {
-        Err(why) => Err(Stop::at(offset, why)),
+    match apply(hub, entry) {
+        Err(why) => Err(Stop::at(record.offset(), why)),
         Ok(()) => {
-            output.keep(sink, entry)?;
+            output.keep_record(sink, record)?;
             drain(hub, output, sink)
         }
     }
@@ -143,8 +126,8 @@ fn keep<K: Sink>(output: &mut Output, sink: &mut K, entry: Entry) -> Result<(), 
 }
 
 /// Whether an entry is a hand-out.
-fn is_hand_out(entry: &Entry) -> bool
-    ensures { result ≡ not (is_input entry.now) }
+fn is_hand_out(entry: Lent<'_>) -> bool
+    ensures { result ≡ not (is_input (entry_lent entry.entry)) }
 {
-    matches!(entry, Entry::Put { .. } | Entry::Send { .. })
+    matches!(entry, Lent::Put { .. } | Lent::Send { .. })
 }
