@@ -4,11 +4,11 @@ ghost use Rattle.std.specs.Prelude.{IfOk};
 ghost use Rattle.adb_capture.specs.Records.{HasRecord};
 
 use adb_capture::{
-    CaptureError, Entry, MemoryRecorder, NullRecorder, Owner, Recorder, SinkRecorder, Why,
+    CaptureError, Entry, Lent, MemoryRecorder, NullRecorder, Owner, Recorder, SinkRecorder, Why,
     append_entry, append_magic, limits_are, read_is_spelled, records_are_framed, spelled_is_read,
     write_entry, write_magic,
 };
-use adb_capture_reader::CaptureReader;
+use adb_capture_reader::{CaptureReader, Record};
 use adb_outside::{ByteQueue, Kind, MemorySink, MemorySource, Text, Wrote};
 use std::alloc::{AllocError, Global};
 use std::test::Fail;
@@ -16,24 +16,32 @@ use std::test::Fail;
 /// What an entry says: its kind, its number, what else is no text, and its text.
 type Said<'a> = (&'a str, u32, u16, &'a [u8]);
 
-fn said(entry: &Entry) -> Said<'_> {
+fn said(entry: Lent<'_>) -> Said<'_> {
     match entry {
-        Entry::Join { client } => ("join", *client, 0, b""),
-        Entry::Enter { client, port } => ("enter", *client, *port, b""),
-        Entry::Read { client, bytes } => ("read", *client, 0, bytes.as_slice()),
-        Entry::End { client, cause } => ("end", *client, *cause as u16, b""),
-        Entry::Bound { client, port } => ("bound", *client, *port, b""),
-        Entry::Attach { link, kind, serial } => ("attach", *link, *kind as u16, serial.as_slice()),
-        Entry::Recv { link, bytes } => ("recv", *link, 0, bytes.as_slice()),
-        Entry::Detach { link, cause } => ("detach", *link, *cause as u16, b""),
-        Entry::Put { client, bytes } => ("put", *client, 0, bytes.parts().rest),
-        Entry::Send { link, bytes } => ("send", *link, 0, bytes.parts().rest),
+        Lent::Join { client } => ("join", client, 0, b""),
+        Lent::Enter { client, port } => ("enter", client, port, b""),
+        Lent::Read { client, bytes } => ("read", client, 0, bytes),
+        Lent::End { client, cause } => ("end", client, cause as u16, b""),
+        Lent::Bound { client, port } => ("bound", client, port, b""),
+        Lent::Attach { link, kind, serial } => ("attach", link, kind as u16, serial),
+        Lent::Recv { link, bytes } => ("recv", link, 0, bytes),
+        Lent::Detach { link, cause } => ("detach", link, cause as u16, b""),
+        Lent::Put { client, bytes } => ("put", client, 0, bytes.rest),
+        Lent::Send { link, bytes } => ("send", link, 0, bytes.rest),
     }
 }
 
-fn says(entry: &Entry, want: Said<'_>) -> bool {
+fn says(entry: Lent<'_>, want: Said<'_>) -> bool {
     let (kind, number, word, text) = said(entry);
     kind == want.0 && number == want.1 && word == want.2 && text == want.3
+}
+
+/// Whether a record says this, where it lies in the capture.
+fn is_lent(record: &Record<'_>, want: Said<'_>) -> bool {
+    let Some(rest) = RECORDS.get(record.offset() as usize..) else {
+        return false;
+    };
+    rest.starts_with(record.bytes()) && says(record.entry(), want)
 }
 
 /// A reader before a source.
@@ -66,8 +74,27 @@ impl Bench {
         }
     }
 
+    /// Whether the next record says this where it is lent. It is passed then.
+    fn lends(&mut self, want: Said<'_>) -> bool {
+        match self.reader.await_next(&mut self.source) {
+            Ok(Some(size)) => {
+                let lent = is_lent(&self.reader.first(size), want);
+                self.reader.pass(size);
+                lent
+            }
+            Ok(None) | Err(_) => false,
+        }
+    }
+
     fn is_over(&mut self) -> bool {
         matches!(self.reader.next(&mut self.source), Ok(None))
+    }
+
+    fn lends_none(&mut self, error: CaptureError) -> bool {
+        match self.reader.await_next(&mut self.source) {
+            Err(is) => is == error,
+            Ok(_) => false,
+        }
     }
 
     fn fails(&mut self, error: CaptureError) -> bool {
@@ -103,7 +130,7 @@ impl Copies {
         requires { HasRecord entry.now }
     {
         append_entry(&mut self.queue, entry)?;
-        Ok(write_entry(&mut self.sink, entry) == Wrote::All && says(entry, want))
+        Ok(write_entry(&mut self.sink, entry) == Wrote::All && says(entry.lend(), want))
     }
 
     fn are(&self, capture: &[u8]) -> bool {
@@ -155,6 +182,22 @@ fn records_are_read_and_written(rt: HostRuntime) -> Result<(), Fail> {
     Ok(())
 }
 
+/// Whether the records are lent, their entries say so, and none follows.
+fn are_lent(bench: &mut Bench) -> bool {
+    let mut so = bench.opens();
+    for want in ENTRIES {
+        so = bench.lends(*want) && so;
+    }
+    so && bench.is_over()
+}
+
+#[test]
+fn records_are_lent(rt: HostRuntime) -> Result<(), Fail> {
+    let mut bench = Bench::new(rt.alloc(), RECORDS, &[])?;
+    assert!(rt; are_lent(&mut bench));
+    Ok(())
+}
+
 const TRUNCATED: CaptureError = CaptureError::Truncated { offset: 8 };
 
 const UNKNOWN_KIND: CaptureError = CaptureError::BadRecord {
@@ -192,7 +235,7 @@ const REFUSED: &[(&[u8], CaptureError)] = &[
     (b"ADBHUB1\nX\0\0\0\0\0\0\0", TRUNCATED),
 ];
 
-/// Whether a call answers the error, and the one after it too.
+/// Whether a call that waits for the next record answers the error, and one for the next entry too.
 fn is_refused(
     alloc: Global,
     capture: &[u8],
@@ -200,7 +243,7 @@ fn is_refused(
     error: CaptureError,
 ) -> Result<bool, AllocError> {
     let mut bench = Bench::new(alloc, capture, failing)?;
-    Ok(bench.fails(error) && bench.fails(error))
+    Ok(bench.lends_none(error) && bench.fails(error))
 }
 
 #[test]
@@ -271,7 +314,7 @@ impl Recorders {
     /// Whether all that is kept in memory is what `attach` makes.
     fn are_attached(&self) -> bool {
         for copy in self.memory.entries() {
-            if !says(copy, ("attach", 1, 0, b"abc")) {
+            if !says(copy.lend(), ("attach", 1, 0, b"abc")) {
                 return false;
             }
         }
@@ -332,7 +375,7 @@ fn keeps_both(recorder: &mut impl Recorder) -> bool {
 /// Whether these are the entries of both.
 fn are_both(entries: &[Entry]) -> bool {
     match entries {
-        [a, b] => says(a, ("read", 1, 0, b"ab")) && says(b, ("recv", 2, 0, b"c")),
+        [a, b] => says(a.lend(), ("read", 1, 0, b"ab")) && says(b.lend(), ("recv", 2, 0, b"c")),
         _ => false,
     }
 }
