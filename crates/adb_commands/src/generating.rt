@@ -3,7 +3,8 @@
 ghost use Rattle.std.specs.Prelude.{◌≡◌, ◌<◌, IfOk, length};
 ghost use Rattle.adb_outside.specs.Outside.{Counts};
 ghost use Rattle.adb_replay.specs.Keeping.{IsLoss, is_write_fault};
-ghost use Rattle.adb_commands.specs.Loads.{IsLoadSize, GeneratesLines, lines_of};
+ghost use Rattle.adb_run_load.specs.Totals.{totals_of};
+ghost use Rattle.adb_commands.specs.Loads.{IsLoadSize, GeneratesLines, lines_of, load_lines, made};
 
 use crate::texts::push_line;
 use adb_hub::Hub;
@@ -20,13 +21,30 @@ pub fn generate<K: Sink>(alloc: Global, seed: u64, streams: u16, sink: &mut K) -
     ensures loss { IsLoss result }
     ensures counts { Counts K.steady K.faults sink.old sink.new (is_write_fault result) }
 {
-    let mut hub = Hub::new(alloc);
-    let totals = run_load(alloc, &mut hub, seed, u32::from(streams))?;
-    let lines = lines_of(alloc, streams, totals)?;
+    let lines = load_lines(alloc, seed, streams)?;
     match sink.write(lines.as_slice()) {
         Wrote::All => Ok(()),
         Wrote::Failed { taken: _ } => Err(Stop::WriteFault),
     }
+}
+
+/// The lines of the load of a seed and so many streams.
+fn load_lines(alloc: Global, seed: u64, streams: u16) -> Result<Text, AllocError>
+    requires size { IsLoadSize streams }
+    ensures lines { IfOk result (λ lines. lines ≡ load_lines seed streams) }
+    ensures some { IfOk result (λ lines. 0 < length lines) }
+{
+    let totals = totals_made(alloc, seed, streams)?;
+    lines_of(alloc, streams, totals)
+}
+
+/// Makes that load in a hub of its own, and tells how much went through.
+fn totals_made(alloc: Global, seed: u64, streams: u16) -> Result<Totals, AllocError>
+    requires size { IsLoadSize streams }
+    ensures { IfOk result (λ totals. totals ≡ totals_of (made seed streams)) }
+{
+    let mut hub = Hub::new(alloc);
+    run_load(alloc, &mut hub, seed, u32::from(streams))
 }
 
 /// The lines of a load.
