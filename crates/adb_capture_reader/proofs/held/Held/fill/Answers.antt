@@ -12,7 +12,8 @@ returns-in-Bytes-clause-bytes g c = λ coming told.
     let within : end ≤ length bytes = omega (arith, c.in-Bytes.ensures.len, c.in_ok-grow.ensures.room) in
     let same = ap (drop start) (c.in-Bytes.ensures.same ∙ c.in_ok-grow.ensures.same) ∙ c.make_way-self-inside.ensures.same ∙ c.self.view_is in
     let chunk = slice_range bytes end (end + MAX_READ) in
-    let is = held_more bytes start end c.in-Bytes.count MAX_READ (omega arith) within c.in-Bytes.ensures.fits.1 ∙ ap (λ b. b ++ take c.in-Bytes.count chunk) same in
+    let is = held_more bytes start end c.in-Bytes.count MAX_READ (omega arith) within c.in-Bytes.ensures.fits.1
+    ∙ ap (λ b. b ++ take c.in-Bytes.count chunk) same in
     keeps_more c.args.self.now _ chunk coming _ c.in-Bytes.count is (c.in-Bytes.ensures.told coming told)
 
 pub returns-in-Bytes-clause-more : goal.returns-in-Bytes-clause-more
@@ -24,7 +25,8 @@ returns-in-Bytes-clause-more g c =
     let same = ap (drop start) (c.in-Bytes.ensures.same ∙ c.in_ok-grow.ensures.same) ∙ c.make_way-self-inside.ensures.same ∙ c.self.view_is in
     let chunk = slice_range bytes end (end + MAX_READ) in
     let piece = take c.in-Bytes.count chunk in
-    let is = held_more bytes start end c.in-Bytes.count MAX_READ (omega arith) (omega (arith, within)) c.in-Bytes.ensures.fits.1 ∙ ap (λ b. b ++ piece) same in
+    let is = held_more bytes start end c.in-Bytes.count MAX_READ (omega arith) (omega (arith, within)) c.in-Bytes.ensures.fits.1
+    ∙ ap (λ b. b ++ piece) same in
     let long : c.in-Bytes.count ≤ length chunk = omega (
       arith,
       c.in-Bytes.ensures.fits.1,
