@@ -59,13 +59,13 @@ impl Output {
 
     /// Keeps a record that was read. Where it is large it goes out from where it lies, behind what is
     /// gathered; else what is gathered goes out where it is a piece.
-    pub fn keep_record<K: Sink>(&mut self, sink: &mut K, record: &Record<'_>) -> Result<(), Stop>
-        ensures kept { KeepsEntry result record.now.1
+    pub fn keep_record<K: Sink>(&mut self, sink: &mut K, read: &Record<'_>) -> Result<(), Stop>
+        ensures kept { KeepsEntry result read.now.1
             (K.written sink.old, self.old) (K.written sink.new, self.new) }
         ensures loss { IsLoss result }
         ensures counts { Counts K.steady K.faults sink.old sink.new (is_write_fault result) }
     {
-        let end = self.gather(record.bytes())?;
+        let end = self.gather(read.bytes())?;
         self.keep_end(sink, end)
     }
 

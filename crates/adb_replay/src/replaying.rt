@@ -75,24 +75,24 @@ fn replay_record<K: Sink>(
     hub: &mut Hub,
     output: &mut Output,
     sink: &mut K,
-    record: &Record<'_>,
+    read: &Record<'_>,
 ) -> Result<(), Stop>
     requires held { IsHeld hub.old }
     requires running { hub.old.stopped ≡ false }
     ensures replays { (h : History) → IsDrained hub.old h
-        → ReplaysEntry result record.now.0 record.now.1 h
+        → ReplaysEntry result read.now.0 read.now.1 h
         (K.written sink.old, output.old) (K.written sink.new, output.new) hub.new }
     ensures source { result ≢ Err Stop.ReadFault }
     ensures counts { Counts K.steady K.faults sink.old sink.new (is_write_fault result) }
 {
-    let entry = record.entry();
+    let entry = read.entry();
     if is_hand_out(entry) {
         return Ok(());
     }
     match apply(hub, entry) {
-        Err(why) => Err(Stop::at(record.offset(), why)),
+        Err(why) => Err(Stop::at(read.offset(), why)),
         Ok(()) => {
-            output.keep_record(sink, record)?;
+            output.keep_record(sink, read)?;
             drain(hub, output, sink)
         }
     }
