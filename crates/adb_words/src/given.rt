@@ -3,14 +3,14 @@
 ghost use Rattle.std.specs.Prelude.{◌≡◌, ◌≢◌, ◌⊎◌, [], true, false, Err, IfOk};
 ghost use Rattle.clap.specs.Words.{HasMatchesOf, app_of, fault_of, found_of, is_simple_and_free};
 ghost use Rattle.clap.specs.Words.{with_rule};
-ghost use Rattle.adb_words.specs.Apps.{bare_app, flag_rule, operand_rule, option_rule};
+ghost use Rattle.adb_words.specs.Apps.{bare_app, flag_rule, operand_rule, option_rule, port_only};
 ghost use Rattle.adb_words.specs.Found.{are_known, equals_at, has_name, is_known, is_known_at};
 ghost use Rattle.adb_words.specs.Found.{is_known_option, texts_in, values_found};
 ghost use Rattle.adb_words.specs.Given.{is_one_of};
 ghost use Rattle.adb_words.specs.Words.{texts};
 
 use crate::command::WordsError;
-use crate::operands::{error_of, is_operand};
+use crate::operands::{is_operand, matches_of, named_command};
 use clap::{Arg, ArgAction, ArgMatches, Command};
 use std::alloc::{AllocError, Global};
 
@@ -18,9 +18,14 @@ use std::alloc::{AllocError, Global};
 pub fn bare_command<'a>(alloc: Global, name: &'a str) -> Command<'a>
     ensures { app_of result ≡ bare_app name.entry.now }
 {
-    Command::new(alloc, name)
-        .no_binary_name(true)
-        .disable_help_flag(true)
+    named_command(alloc, name).disable_help_flag(true)
+}
+
+/// A command whose one argument is a port.
+pub fn port_only<'a>(alloc: Global, name: &'a str) -> Result<Command<'a>, AllocError>
+    ensures { IfOk result (λ command. app_of command ≡ port_only name.entry.now) }
+{
+    with_option(alloc, bare_command(alloc, name), "port")
 }
 
 /// A command with one more option that has a value. Each of its uses adds one.
@@ -82,10 +87,7 @@ pub fn given_of<'a>(
     if !are_known(words, options, flags) {
         return Err(WordsError::Usage);
     }
-    match command.try_get_matches_from(words) {
-        Ok(matches) => Ok(matches),
-        Err(error) => Err(error_of(error)),
-    }
+    matches_of(command, words)
 }
 
 /// The values of a name, in the order of the words, or what is handed over for none.

@@ -7,9 +7,9 @@ ghost use Rattle.adb_words.specs.Words.{gen_of, number_within, texts};
 ghost use Rattle.adb_words.specs.Apps.{gen_app};
 
 use crate::command::{Command, MAX_DIGITS, MAX_STREAMS, WordsError};
-use crate::operands::operands_of;
+use crate::operands::{named_command, operands_of, with_word};
 use adb_outside::read_number;
-use clap::{Arg, ArgMatches};
+use clap::ArgMatches;
 use std::alloc::{AllocError, Global};
 
 /// The words of a load, as they were written.
@@ -50,10 +50,8 @@ fn load_words<'a>(alloc: Global, words: &'a [String]) -> Result<Load<'a>, WordsE
 fn load_command<'a>(alloc: Global) -> Result<clap::Command<'a>, AllocError>
     ensures { IfOk result (λ command. app_of command ≡ gen_app) }
 {
-    let seed = Arg::new(alloc, "seed").required(true);
-    let streams = Arg::new(alloc, "streams").required(true);
-    let command = clap::Command::new(alloc, "gen").no_binary_name(true);
-    Ok(command.arg(seed)?.arg(streams)?)
+    let command = with_word(alloc, named_command(alloc, "gen"), "seed")?;
+    with_word(alloc, command, "streams")
 }
 
 /// The words that it found.

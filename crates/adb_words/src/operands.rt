@@ -1,12 +1,34 @@
 //! Words without options, read by a simple command.
 
 ghost use Rattle.std.specs.Prelude.{◌≡◌, ◌≢◌, ◌⊎◌, [], true, false, Err, IfOk};
+ghost use Rattle.adb_words.specs.Apps.{app_named, required};
 ghost use Rattle.adb_words.specs.Words.{are_operands, is_operand, texts};
 ghost use Rattle.clap.specs.Words.{HasMatchesOf, app_of, fault_of, is_simple_and_free, kind_of};
+ghost use Rattle.clap.specs.Words.{with_rule};
 
 use crate::command::WordsError;
 use clap::error::ErrorKind;
-use clap::{ArgMatches, Command, Error};
+use clap::{Arg, ArgMatches, Command, Error};
+use std::alloc::{AllocError, Global};
+
+/// A command without arguments, that is given the words behind its name.
+pub fn named_command<'a>(alloc: Global, name: &'a str) -> Command<'a>
+    ensures { app_of result ≡ app_named name.entry.now }
+{
+    Command::new(alloc, name).no_binary_name(true)
+}
+
+/// A command with one more word, which has to be there.
+pub fn with_word<'a>(
+    alloc: Global,
+    command: Command<'a>,
+    name: &'a str,
+) -> Result<Command<'a>, AllocError>
+    ensures { IfOk result (λ more.
+        app_of more ≡ with_rule (app_of command.entry) (required name.entry.now)) }
+{
+    command.arg(Arg::new(alloc, name).required(true))
+}
 
 /// What a command that has no options makes of words. A word that begins with a hyphen is refused,
 /// `--` among them, which the command itself would take.
@@ -25,6 +47,21 @@ pub fn operands_of<'a>(
     if !are_operands(words) {
         return Err(WordsError::Usage);
     }
+    matches_of(command, words)
+}
+
+/// What a command makes of words.
+pub fn matches_of<'a>(
+    command: Command<'a>,
+    words: &'a [String],
+) -> Result<ArgMatches<'a>, WordsError>
+    requires { is_simple_and_free (app_of command) ≡ true }
+    ensures found { IfOk result (HasMatchesOf (app_of command.entry) (texts words.entry.now)) }
+    ensures taken { IfOk result (λ _.
+        fault_of (app_of command.entry) (texts words.entry.now) ≡ []) }
+    ensures refused { result ≡ Err WordsError.Usage
+        → fault_of (app_of command.entry) (texts words.entry.now) ≢ [] }
+{
     match command.try_get_matches_from(words) {
         Ok(matches) => Ok(matches),
         Err(error) => Err(error_of(error)),
@@ -46,7 +83,7 @@ pub fn is_operand(word: &str) -> bool
 }
 
 /// Why a command refused words.
-pub fn error_of(error: Error) -> WordsError
+fn error_of(error: Error) -> WordsError
     ensures usage { result ≡ WordsError.Usage → kind_of error ≢ ErrorKind.OutOfMemory }
 {
     match error.kind() {

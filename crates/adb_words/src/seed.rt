@@ -8,8 +8,8 @@ ghost use Rattle.adb_words.specs.Apps.{seed_app};
 
 use crate::command::WordsError;
 use crate::load::number_within;
-use crate::operands::operands_of;
-use clap::{Arg, ArgMatches};
+use crate::operands::{named_command, operands_of, with_word};
+use clap::ArgMatches;
 use std::alloc::{AllocError, Global};
 
 /// The seed that the words behind a command's name are.
@@ -41,10 +41,7 @@ fn seed_word<'a>(alloc: Global, name: &'a str, words: &'a [String]) -> Result<&'
 fn seed_command<'a>(alloc: Global, name: &'a str) -> Result<clap::Command<'a>, AllocError>
     ensures { IfOk result (λ command. app_of command ≡ seed_app name.entry.now) }
 {
-    let seed = Arg::new(alloc, "seed").required(true);
-    clap::Command::new(alloc, name)
-        .no_binary_name(true)
-        .arg(seed)
+    with_word(alloc, named_command(alloc, name), "seed")
 }
 
 /// The word that it found.

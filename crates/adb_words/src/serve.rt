@@ -1,16 +1,17 @@
 //! The words of `serve`.
 
-ghost use Rattle.std.specs.Prelude.{◌≡◌, Err, Some, None, IfOk, ok_or, option_map, true};
-ghost use Rattle.clap.specs.Words.{app_of, found_of};
+ghost use Rattle.std.specs.Prelude.{◌≡◌, ◌⊎◌, Err, Some, None, IfOk, codes, ok_or, option_map};
+ghost use Rattle.std.specs.Prelude.{true};
+ghost use Rattle.clap.specs.Words.{app_of, found_of, with_rule};
 ghost use Rattle.adb_words.specs.Words.{number_within, texts};
-ghost use Rattle.adb_words.specs.Apps.{serve_app};
+ghost use Rattle.adb_words.specs.Apps.{option_rule, port_only, serve_app};
 ghost use Rattle.adb_words.specs.Found.{Finds, texts_in, values_found};
 ghost use Rattle.adb_words.specs.Given.{given_in};
 ghost use Rattle.adb_words.specs.Serve.{each_of, flag_of, is_serve, port_of, serial_of};
 ghost use Rattle.adb_words.specs.Serve.{serve_layout, serve_of, served_by, served_in, serving};
 
 use crate::command::{DEFAULT_PORT, MAX_DEVICES, WordsError};
-use crate::given::{bare_command, given_of, values_in, with_flag, with_option};
+use crate::given::{given_of, port_only, values_in, with_flag, with_option};
 use crate::load::number_within;
 use adb_outside::{Text, is_serial};
 use clap::{ArgMatches, Command};
@@ -91,11 +92,24 @@ fn serve_matches<'a>(alloc: Global, words: &'a [String]) -> Result<ArgMatches<'a
 fn serve_command<'a>(alloc: Global) -> Result<Command<'a>, AllocError>
     ensures { IfOk result (λ command. app_of command ≡ serve_app) }
 {
-    let command = bare_command(alloc, "serve");
-    let command = with_option(alloc, command, "port")?;
-    let command = with_option(alloc, command, "device")?;
-    let command = with_option(alloc, command, "connect")?;
-    with_flag(alloc, command, "record")
+    with_flag(alloc, serve_options(alloc)?, "record")
+}
+
+/// Its options that have a value: a port, and what its devices are.
+fn serve_options<'a>(alloc: Global) -> Result<Command<'a>, AllocError>
+    ensures { IfOk result (λ command. app_of command
+        ≡ with_rule (with_rule (port_only (codes "serve")) (option_rule (codes "device")))
+        (option_rule (codes "connect"))) }
+{
+    with_option(alloc, port_and_device(alloc)?, "connect")
+}
+
+/// The first two of them.
+fn port_and_device<'a>(alloc: Global) -> Result<Command<'a>, AllocError>
+    ensures { IfOk result (λ command. app_of command
+        ≡ with_rule (port_only (codes "serve")) (option_rule (codes "device"))) }
+{
+    with_option(alloc, port_only(alloc, "serve")?, "device")
 }
 
 /// The server of the values that were found.
@@ -112,14 +126,26 @@ fn serve_in(alloc: Global, matches: &ArgMatches<'_>) -> Result<Serve, WordsError
     }
     let port = port_in(values_in(&*matches, "port", &[]), 0)?;
     let records = flag_in(values_in(&*matches, "record", &[]))?;
-    let devices = serials_in(alloc, devices)?;
-    let connects = ports_in(alloc, connects)?;
-    let ports = Ports { devices, connects };
+    let ports = devices_in(alloc, devices, connects)?;
     Ok(Serve {
         port,
         records,
         ports,
     })
+}
+
+/// The devices of the texts of `--device` and of `--connect`.
+fn devices_in(alloc: Global, devices: &[&str], connects: &[&str]) -> Result<Ports, WordsError>
+    ensures ok { IfOk result (λ ports.
+        (each_of serial_of (texts_in devices.now) ≡ Some ports.devices.items)
+        × (each_of (number_within 1 65535) (texts_in connects.now) ≡ Some ports.connects.items)) }
+    ensures usage { result ≡ Err WordsError.Usage
+        → (each_of serial_of (texts_in devices.now) ≡ None)
+        ⊎ (each_of (number_within 1 65535) (texts_in connects.now) ≡ None) }
+{
+    let devices = serials_in(alloc, devices)?;
+    let connects = ports_in(alloc, connects)?;
+    Ok(Ports { devices, connects })
 }
 
 /// The port that an option gives at most once: a number from `least` on.

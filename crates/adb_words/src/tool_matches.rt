@@ -1,15 +1,16 @@
 //! What the words behind a tool's name give.
 
-ghost use Rattle.std.specs.Prelude.{◌≡◌, Err, None, IfOk};
-ghost use Rattle.clap.specs.Words.{app_of};
+ghost use Rattle.std.specs.Prelude.{◌≡◌, Err, None, IfOk, codes};
+ghost use Rattle.clap.specs.Words.{app_of, with_rule};
 ghost use Rattle.adb_words.specs.Words.{texts};
-ghost use Rattle.adb_words.specs.Apps.{port_app, push_app, serial_app};
+ghost use Rattle.adb_words.specs.Apps.{option_rule, port_app, port_only, push_app, serial_app};
+ghost use Rattle.adb_words.specs.Apps.{with_serial};
 ghost use Rattle.adb_words.specs.Found.{Finds};
 ghost use Rattle.adb_words.specs.Given.{given_in};
 ghost use Rattle.adb_words.specs.Tools.{layout_named, port_layout, push_layout, serial_layout};
 
 use crate::command::WordsError;
-use crate::given::{bare_command, given_of, with_operands, with_option};
+use crate::given::{given_of, port_only, with_operands, with_option};
 use clap::{ArgMatches, Command};
 use std::alloc::{AllocError, Global};
 
@@ -78,25 +79,34 @@ fn push_matches<'a>(alloc: Global, words: &'a [String]) -> Result<ArgMatches<'a>
 fn port_command<'a>(alloc: Global, name: &'a str) -> Result<Command<'a>, AllocError>
     ensures { IfOk result (λ command. app_of command ≡ port_app name.entry.now) }
 {
-    let command = with_option(alloc, bare_command(alloc, name), "port")?;
-    with_operands(alloc, command, "operand")
+    with_operands(alloc, port_only(alloc, name)?, "operand")
 }
 
 /// The command that reads a port, a serial and operands.
 fn serial_command<'a>(alloc: Global, name: &'a str) -> Result<Command<'a>, AllocError>
     ensures { IfOk result (λ command. app_of command ≡ serial_app name.entry.now) }
 {
-    let command = with_option(alloc, bare_command(alloc, name), "port")?;
-    let command = with_option(alloc, command, "serial")?;
-    with_operands(alloc, command, "operand")
+    with_operands(alloc, port_and_serial(alloc, name)?, "operand")
+}
+
+/// A command whose arguments are a port and a serial.
+fn port_and_serial<'a>(alloc: Global, name: &'a str) -> Result<Command<'a>, AllocError>
+    ensures { IfOk result (λ command. app_of command ≡ with_serial (port_only name.entry.now)) }
+{
+    with_option(alloc, port_only(alloc, name)?, "serial")
 }
 
 /// The command that reads the words of `push`.
 fn push_command<'a>(alloc: Global) -> Result<Command<'a>, AllocError>
     ensures { IfOk result (λ command. app_of command ≡ push_app) }
 {
-    let command = with_option(alloc, bare_command(alloc, "push"), "port")?;
-    let command = with_option(alloc, command, "serial")?;
-    let command = with_option(alloc, command, "mtime")?;
-    with_operands(alloc, command, "operand")
+    with_operands(alloc, push_options(alloc)?, "operand")
+}
+
+/// Its options: a port, a serial and a time.
+fn push_options<'a>(alloc: Global) -> Result<Command<'a>, AllocError>
+    ensures { IfOk result (λ command. app_of command
+        ≡ with_rule (with_serial (port_only (codes "push"))) (option_rule (codes "mtime"))) }
+{
+    with_option(alloc, port_and_serial(alloc, "push")?, "mtime")
 }

@@ -1,13 +1,11 @@
 //! The command that words are.
 
 ghost use Rattle.std.specs.Prelude.{◌≡◌, ◌≢◌, Err, ok_or, option_map, true};
-ghost use Rattle.clap.specs.Words.{app_of};
-ghost use Rattle.adb_words.specs.Apps.{app_named};
 ghost use Rattle.adb_words.specs.Words.{command_of, bare_of, names_command, seed_of, texts};
 
 use crate::command::{Command, WordsError};
 use crate::load::read_load;
-use crate::operands::operands_of;
+use crate::operands::{named_command, operands_of};
 use crate::seed::read_seed;
 use std::alloc::Global;
 
@@ -60,18 +58,11 @@ fn read_bare(
     ensures { result ≢ Err WordsError.OutOfMemory
         → result ≡ ok_or (bare_of command (texts words.now)) WordsError.Usage }
 {
-    match operands_of(bare_command(alloc, name), words) {
+    match operands_of(named_command(alloc, name), words) {
         Ok(matches) => {
             drop(matches);
             Ok(command)
         }
         Err(error) => Err(error),
     }
-}
-
-/// What reads them.
-fn bare_command<'a>(alloc: Global, name: &'a str) -> clap::Command<'a>
-    ensures { app_of result ≡ app_named name.entry.now }
-{
-    clap::Command::new(alloc, name).no_binary_name(true)
 }

@@ -10,7 +10,7 @@ use Rattle.adb_words.proofs.words.read_bare.Goals as goal
 pub returns-in-Ok : goal.returns-in-Ok
 returns-in-Ok c = λ some.
     let words = texts c.args.words.now in
-    let fault = ap (λ (app : App). fault_of app words) (sym c.bare_command.ensures) in
+    let fault = ap (λ (app : App). fault_of app words) (sym c.named_command.ensures) in
     ap (λ ws. ok_or (bare_of c.args.command ws) Usage)
     (sym (bare_taken c.args.name.now words (sym (all_texts c.args.words.now) ∙ c.in-Ok.ensures.taken.0) (fault ∙ c.in-Ok.ensures.taken.1)))
 
@@ -19,5 +19,5 @@ returns-in-Err c =
     let words = texts c.args.words.now in
     refusal c.in-Err.error (bare_of c.args.command words) (λ is. bare_refused c.args.name.now c.args.command words
     (refused_texts c.args.words.now (fault_of (app_named c.args.name.now) words)
-    (subst (λ (app : App). (are_operands c.args.words.now ≡ false) ⊎ (fault_of app words ≢ [])) c.bare_command.ensures
+    (subst (λ (app : App). (are_operands c.args.words.now ≡ false) ⊎ (fault_of app words ≢ [])) c.named_command.ensures
     (c.in-Err.ensures.refused (ap Err is)))))
