@@ -2,14 +2,14 @@
 
 ghost use Rattle.std.specs.Prelude.{◌≡◌, ◌≢◌, Err, false};
 
+use crate::arriving::{Arrival, let_in};
 use crate::plugging::Transport;
-use crate::refusals::go_on;
 use crate::server::Served;
 use adb_binder::Binder;
 use adb_capture::Recorder;
-use adb_client_reader::{Admitted, admit};
 use adb_connections::{Bell, DeviceIn, DeviceOut, Door, Gate, PortIn, PortOut};
-use adb_desk_log::{ClientIn, ClientOut, DeskError, Marks};
+use adb_desk_log::{ClientIn, ClientOut, DeskError, LinkIn, LinkOut, Marks};
+use adb_device_reader::Packets;
 use adb_hall::Hall;
 use adb_locked_hall::LockedHall;
 use adb_spawner::{Crew, Job};
@@ -18,16 +18,6 @@ use adb_yard::Yard;
 use std::sync::Wait;
 use std::sync::ledger::Ledger;
 use std::thread::Threads;
-
-/// A client who came: the two halves of its connection, with the passes of its reader and its
-/// writer.
-#[derive(Drop)]
-struct Arrival<E: Ledger, M: Ledger, K: Marks, I: Drop, O: Drop> {
-    input: I,
-    output: O,
-    reading: ClientIn<E, M, K>,
-    writing: ClientOut<E, M, K>,
-}
 
 /// A server that is open: its hall, who runs its jobs, and the bell of its door.
 #[derive(Drop)]
@@ -65,19 +55,35 @@ impl<
     X: DeviceIn + Send + 'static,
     Z: DeviceOut + Send + 'static,
 > House<W, R, E, M, K, I, O, P, G, B, X, Z> {
-    /// Starts the workers of a device. Where no thread can be had its link is ended, and where that
-    /// is so of the writer it is unplugged within this call.
-    fn start_device(&mut self, device: Transport<W, R, E, M, K, G, BellHandle<B>, X, Z>) {
-        let Transport { read, write } = device;
-        let link = read.pass.number();
-        if let Err(job) = self.crew.spawn(Work::ReadDevice(read)) {
+    /// Starts a device's reader. Where no thread can be had its link is ended.
+    fn start_device_reader(
+        &mut self,
+        task: Task<W, R, E, M, K, G, BellHandle<B>, LinkIn<E, M, K>, X, Packets>,
+    ) {
+        let link = task.pass.number();
+        if let Err(job) = self.crew.spawn(Work::ReadDevice(task)) {
             let _ = self.hall.no_thread_link(link, self.crew.no_thread());
             drop(job);
         }
-        if let Err(job) = self.crew.spawn(Work::WriteDevice(write)) {
+    }
+
+    /// Starts a device's writer. Where no thread can be had its link is ended, and it is unplugged
+    /// within this call.
+    fn start_device_writer(
+        &mut self,
+        task: Task<W, R, E, M, K, G, BellHandle<B>, LinkOut<E, M, K>, Z, ()>,
+    ) {
+        let link = task.pass.number();
+        if let Err(job) = self.crew.spawn(Work::WriteDevice(task)) {
             let _ = self.hall.no_thread_link(link, self.crew.no_thread());
             job.run();
         }
+    }
+
+    /// Starts the workers of a device.
+    fn start_device(&mut self, device: Transport<W, R, E, M, K, G, BellHandle<B>, X, Z>) {
+        self.start_device_reader(device.read);
+        self.start_device_writer(device.write);
     }
 
     /// Starts the workers of devices, in their order.
@@ -169,43 +175,13 @@ impl<
         ensures lasting { D.lasting door.old → (D.lasting door.new) × (result ≢ Err Served.Done) }
         ensures note { result ≢ Err Served.WriteFault }
     {
-        if let Some(arrival) = self.let_in(door)? {
-            self.start_client(kits, ports, arrival);
-        }
-        Ok(())
-    }
-
-    /// Asks the door once who comes. One that the hall refuses is dropped.
-    fn let_in<D: Door<In = I, Out = O>>(
-        &mut self,
-        door: &mut D,
-    ) -> Result<Option<Arrival<E, M, K, I, O>>, Served>
-        ensures record { K.steady → result ≢ Err Served.RecordFault }
-        ensures door { D.steady door.old → (D.steady door.new) × (result ≢ Err Served.DoorFault) }
-        ensures lasting { D.lasting door.old → (D.lasting door.new) × (result ≢ Err Served.Done) }
-        ensures note { result ≢ Err Served.WriteFault }
-    {
-        match admit(&mut self.hall, door) {
-            Admitted::Client {
-                input,
-                output,
-                reading,
-                writing,
-            } => Ok(Some(Arrival {
-                input,
-                output,
-                reading,
-                writing,
-            })),
-            Admitted::Closed => Err(Served::Done),
-            Admitted::Failed => {
-                self.hall.halt();
-                Err(Served::DoorFault)
+        match let_in(&mut self.hall, door) {
+            Ok(Some(arrival)) => {
+                self.start_client(kits, ports, arrival);
+                Ok(())
             }
-            Admitted::Refused(error) => match go_on(&mut self.hall, error) {
-                Ok(()) => Ok(None),
-                Err(served) => Err(served),
-            },
+            Ok(None) => Ok(()),
+            Err(served) => Err(served),
         }
     }
 

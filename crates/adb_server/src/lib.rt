@@ -1,6 +1,7 @@
 //! The server: who comes at its door is admitted, and two workers serve each client and each device.
 #![tactic(auto)]
 
+mod arriving;
 mod house;
 mod listening;
 mod plugging;

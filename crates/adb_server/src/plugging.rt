@@ -164,26 +164,43 @@ fn plug_with<
     ensures other { (result ≢ Err Served.DoorFault) × (result ≢ Err Served.Done)
         × (result ≢ Err Served.WriteFault) }
 {
-    let Device {
-        kind,
-        serial,
-        input,
-        output,
-    } = device;
-    let (mut input, mut output) = (input, output);
-    match plug_in(hall, kind, serial.as_slice(), &mut input) {
-        Plugged::Link { reading, writing } => {
-            let halves = (input, output);
-            plugged.push_reserved(connect(provision, halves, reading, writing));
+    let mut device = device;
+    match link_up(hall, &mut device) {
+        Ok(Some((reading, writing))) => {
+            plugged.push_reserved(connect(provision, device, reading, writing));
             Ok(())
         }
+        Ok(None) => Ok(()),
+        Err(served) => Err(served),
+    }
+}
+
+/// Gives a device a link. One that does not come, and one that the hall refuses, is unplugged.
+fn link_up<E: Ledger, M: Ledger, K: Marks, H: Hall<E, M, K>, X: DeviceIn, Z: DeviceOut>(
+    hall: &mut H,
+    device: &mut Device<X, Z>,
+) -> Result<Option<(LinkIn<E, M, K>, LinkOut<E, M, K>)>, Served>
+    ensures record { K.steady → result ≢ Err Served.RecordFault }
+    ensures other { (result ≢ Err Served.DoorFault) × (result ≢ Err Served.Done)
+        × (result ≢ Err Served.WriteFault) }
+{
+    match plug_in(
+        hall,
+        device.kind,
+        device.serial.as_slice(),
+        &mut device.input,
+    ) {
+        Plugged::Link { reading, writing } => Ok(Some((reading, writing))),
         Plugged::Refused(error) => {
-            output.unplug();
-            go_on(hall, error)
+            device.output.unplug();
+            match go_on(hall, error) {
+                Ok(()) => Ok(None),
+                Err(served) => Err(served),
+            }
         }
         Plugged::Never | Plugged::Failed => {
-            output.unplug();
-            Ok(())
+            device.output.unplug();
+            Ok(None)
         }
     }
 }
@@ -197,28 +214,27 @@ fn connect<
     K: Marks,
     G: Drop,
     B: Drop,
-    X: Drop,
-    Z: Drop,
+    X: DeviceIn,
+    Z: DeviceOut,
 >(
     provision: Provision<W, R, E, M, K, G, B>,
-    halves: (X, Z),
+    device: Device<X, Z>,
     reading: LinkIn<E, M, K>,
     writing: LinkOut<E, M, K>,
 ) -> Transport<W, R, E, M, K, G, B, X, Z> {
-    let (input, output) = halves;
     let Provision { kits, packets } = provision;
     let Kits { reader, writer } = kits;
     Transport {
         read: Task {
             kit: reader,
             pass: reading,
-            port: input,
+            port: device.input,
             aid: packets,
         },
         write: Task {
             kit: writer,
             pass: writing,
-            port: output,
+            port: device.output,
             aid: (),
         },
     }

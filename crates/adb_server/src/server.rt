@@ -16,10 +16,10 @@ use adb_desk_log::{ALL_PARTS, Marks};
 use adb_device_reader::Device;
 use adb_locked_hall::LockedHall;
 use adb_outside::Sink;
-use adb_spawner::Crew;
+use adb_spawner::{Crew, Job};
 use adb_work::BellHandle;
 use adb_yard::{Listening, Staff, Yard};
-use std::alloc::Global;
+use std::alloc::{AllocError, Global};
 use std::marker::Brand;
 use std::sync::Wait;
 use std::sync::ledger::{Blank, Ledger};
@@ -70,7 +70,7 @@ pub fn serve<
     ensures counts { Counts N.steady N.faults note.old note.new (is_write_fault result) }
 {
     let mut yard = yard;
-    let Listening::Here(door, bell, here) = yard.listen(port) else {
+    let Listening::Here(mut door, bell, here) = yard.listen(port) else {
         return Served::DoorFault;
     };
     if let Err(served) = announce(alloc, note, here) {
@@ -95,8 +95,8 @@ pub fn serve<
     >(
         rt,
         alloc,
-        yard,
-        door,
+        &mut yard,
+        &mut door,
         bell,
         recorder,
         devices,
@@ -125,8 +125,8 @@ fn serve_with<
 >(
     rt: W,
     alloc: Global,
-    yard: Y,
-    door: D,
+    yard: &mut Y,
+    door: &mut D,
     bell: B,
     recorder: R,
     devices: Vec<Device<X, Z>>,
@@ -143,11 +143,10 @@ fn serve_with<
     requires fresh { (R.faults recorder ≡ 0) × IsFresh (R.told recorder) }
     requires steady { K.steady → R.steady recorder }
     ensures record { K.steady → result ≢ Served.RecordFault }
-    ensures door { D.steady door → result ≢ Served.DoorFault }
-    ensures lasting { D.lasting door → result ≢ Served.Done }
+    ensures door { D.steady door.old → result ≢ Served.DoorFault }
+    ensures lasting { D.lasting door.old → result ≢ Served.Done }
     ensures note { result ≢ Served.WriteFault }
 {
-    let mut yard = yard;
     let hall = LockedHall::<R, E, M, K, W>::new(rt, alloc, recorder, entries, moved, marks);
     let Ok(mut hall) = hall else {
         return Served::OutOfMemory;
@@ -156,15 +155,7 @@ fn serve_with<
         return Served::OutOfMemory;
     };
     let mut plugged = Vec::new(alloc);
-    let refused = plug_all(
-        rt,
-        alloc,
-        &mut yard,
-        &mut hall,
-        &bell,
-        devices,
-        &mut plugged,
-    );
+    let refused = plug_all(rt, alloc, yard, &mut hall, &bell, devices, &mut plugged);
     serve_all::<W, R, E, M, K, I, O, P, G, B, X, Z, D, Y>(
         rt, alloc, yard, door, bell, hall, plugged, refused,
     )
@@ -190,8 +181,8 @@ fn serve_all<
 >(
     rt: W,
     alloc: Global,
-    yard: Y,
-    door: D,
+    yard: &mut Y,
+    door: &mut D,
     bell: BellHandle<B>,
     hall: LockedHall<R, E, M, K, W>,
     plugged: Vec<Transport<W, R, E, M, K, G, BellHandle<B>, X, Z>>,
@@ -199,16 +190,12 @@ fn serve_all<
 ) -> Served
     ensures record { (K.steady → refused ≢ Err Served.RecordFault)
         → K.steady → result ≢ Served.RecordFault }
-    ensures door { D.steady door → refused ≢ Err Served.DoorFault → result ≢ Served.DoorFault }
-    ensures lasting { D.lasting door → refused ≢ Err Served.Done → result ≢ Served.Done }
+    ensures door { D.steady door.old → refused ≢ Err Served.DoorFault
+        → result ≢ Served.DoorFault }
+    ensures lasting { D.lasting door.old → refused ≢ Err Served.Done → result ≢ Served.Done }
     ensures note { refused ≢ Err Served.WriteFault → result ≢ Served.WriteFault }
 {
-    let (mut yard, mut door) = (yard, door);
-    let crew = match yard.staff() {
-        Staff::Threads => Crew::threads(rt, alloc),
-        Staff::Inline { failing } => Ok(Crew::inline(failing)),
-    };
-    let Ok(crew) = crew else {
+    let Ok(crew) = crew_of(rt, alloc, yard.staff()) else {
         unplug_all(plugged);
         return Served::OutOfMemory;
     };
@@ -219,10 +206,22 @@ fn serve_all<
         bell,
     };
     house.start_devices(plugged);
-    let served = house.serve(&mut yard, &mut door, refused);
+    let served = house.serve(yard, door, refused);
     if house.close() {
         Served::RecordFault
     } else {
         served
+    }
+}
+
+/// Who runs the jobs of a server.
+fn crew_of<W: Threads + Wait + Copy + Send + Sync + Drop + 'static, J: Job + Send + Drop + 'static>(
+    rt: W,
+    alloc: Global,
+    staff: Staff,
+) -> Result<Crew<W, J>, AllocError> {
+    match staff {
+        Staff::Threads => Crew::threads(rt, alloc),
+        Staff::Inline { failing } => Ok(Crew::inline(failing)),
     }
 }
