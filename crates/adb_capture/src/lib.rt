@@ -20,4 +20,6 @@ pub use limits::{HEADER_LEN, MAX_CAPTURE, MAX_DATA, MAX_READ};
 pub use memory_recorder::MemoryRecorder;
 pub use recorder::{NullRecorder, RecordError, Recorder};
 pub use sink_recorder::SinkRecorder;
-pub use writer::{MAGIC, append_entry, append_magic, append_start, write_entry, write_magic};
+pub use writer::{
+    LARGE, MAGIC, append_entry, append_magic, append_start, write_entry, write_magic,
+};

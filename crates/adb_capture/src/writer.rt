@@ -60,8 +60,9 @@ pub fn append_entry(bytes: &mut ByteQueue, entry: &Entry) -> Result<(), AllocErr
     append_parts(bytes, head.as_slice(), rest)
 }
 
-/// The fewest bytes of a record's end that is not gathered with its start.
-const LARGE: usize = 16 * 1024;
+/// The fewest bytes of a record's end that is written from where it lies, and not gathered with its
+/// start: from there on a write of its own costs less than the copy.
+pub const LARGE: usize = 16 * 1024;
 
 /// Adds the record of an entry, which has at most 2,097,152 bytes of data, but for its end where that
 /// is large, which is given back: it is to be written behind the bytes from where it lies. After want

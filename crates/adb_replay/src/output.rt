@@ -7,17 +7,14 @@ ghost use Rattle.adb_replay.specs.Keeping.{Keeps, KeepsEntry, KeepsMore, WritesO
 ghost use Rattle.adb_replay.specs.Keeping.{IsWriteEnd, is_write_fault};
 
 use crate::stop::Stop;
-use adb_capture::{Entry, append_magic, append_start};
+use adb_capture::{Entry, LARGE, append_magic, append_start};
 use adb_capture_reader::Record;
 use adb_outside::{ByteQueue, Sink, Wrote};
 use std::alloc::{AllocError, Global};
 use std::marker::Model;
 
 /// The fewest bytes of a piece that goes out before the end.
-const PIECE: usize = 65_536;
-
-/// The fewest bytes of a record that is written from where it lies, behind what is gathered.
-const LARGE: usize = PIECE / 4;
+const PIECE: usize = 4 * LARGE;
 
 /// What is gathered for a sink: behind what went out, the end of what is kept.
 #[derive(Drop)]
