@@ -1,10 +1,14 @@
 //! The calls of workers: one section each, in which the desk is called once.
 
+ghost use Rattle.std.specs.Prelude.{◌≡◌, true};
+ghost use Rattle.adb_hall.specs.Passes.{or_marked};
+
 use crate::locked_hall::LockedHall;
-use adb_bells::{Pair, Side};
+use adb_bells::{Bells, Pair, Side};
 use adb_capture::Recorder;
+use adb_desk::Desk;
 use adb_desk_log::{
-    ClientIn, ClientOut, DeskError, LinkIn, LinkOut, Marks, marks_error, marks_life,
+    ClientIn, ClientOut, DeskError, LinkIn, LinkOut, Mark, Marks, marks_error, marks_life,
 };
 use adb_hall::{Hall, section};
 use adb_hub::{Handed, HubError, Life, Owner, Room, Whole};
@@ -28,12 +32,8 @@ impl<R: Recorder, E: Ledger, M: Ledger, K: Marks, W: Wait + Copy + Drop> Hall<E,
         let mut guard = self.shared.locked.lock(&self.rt);
         let locked = &mut *guard;
         let answer = section::join(&mut locked.desk);
-        if let Ok((reading, _)) = &answer {
-            locked.bells.put_up(Owner::Client(reading.number()), pair);
-        }
-        if let Some(mark) = &mut self.mark {
-            section::mark_handle(&mut locked.desk, mark, marks_error(&answer));
-        }
+        mark_own(&mut locked.desk, &mut self.mark, marks_error(&answer));
+        put_up(&mut locked.bells, client_of(&answer), pair);
         self.shared.leave(guard);
         answer
     }
@@ -45,12 +45,8 @@ impl<R: Recorder, E: Ledger, M: Ledger, K: Marks, W: Wait + Copy + Drop> Hall<E,
         let mut guard = self.shared.locked.lock(&self.rt);
         let locked = &mut *guard;
         let answer = section::enter(&mut locked.desk, port);
-        if let Ok((reading, _)) = &answer {
-            locked.bells.put_up(Owner::Client(reading.number()), pair);
-        }
-        if let Some(mark) = &mut self.mark {
-            section::mark_handle(&mut locked.desk, mark, marks_error(&answer));
-        }
+        mark_own(&mut locked.desk, &mut self.mark, marks_error(&answer));
+        put_up(&mut locked.bells, client_of(&answer), pair);
         self.shared.leave(guard);
         answer
     }
@@ -66,12 +62,8 @@ impl<R: Recorder, E: Ledger, M: Ledger, K: Marks, W: Wait + Copy + Drop> Hall<E,
         let mut guard = self.shared.locked.lock(&self.rt);
         let locked = &mut *guard;
         let answer = section::attach(&mut locked.desk, kind, serial);
-        if let Ok((reading, _)) = &answer {
-            locked.bells.put_up(Owner::Link(reading.number()), pair);
-        }
-        if let Some(mark) = &mut self.mark {
-            section::mark_handle(&mut locked.desk, mark, marks_error(&answer));
-        }
+        mark_own(&mut locked.desk, &mut self.mark, marks_error(&answer));
+        put_up(&mut locked.bells, link_of(&answer), pair);
         self.shared.leave(guard);
         answer
     }
@@ -217,9 +209,7 @@ impl<R: Recorder, E: Ledger, M: Ledger, K: Marks, W: Wait + Copy + Drop> Hall<E,
         let mut guard = self.shared.locked.lock(&self.rt);
         let locked = &mut *guard;
         let answer = section::strand_client(&mut locked.desk, client);
-        if let Some(mark) = &mut self.mark {
-            section::mark_handle(&mut locked.desk, mark, marks_life(&answer));
-        }
+        mark_own(&mut locked.desk, &mut self.mark, marks_life(&answer));
         self.shared.leave(guard);
         answer
     }
@@ -228,9 +218,7 @@ impl<R: Recorder, E: Ledger, M: Ledger, K: Marks, W: Wait + Copy + Drop> Hall<E,
         let mut guard = self.shared.locked.lock(&self.rt);
         let locked = &mut *guard;
         let answer = section::strand_link(&mut locked.desk, link);
-        if let Some(mark) = &mut self.mark {
-            section::mark_handle(&mut locked.desk, mark, marks_life(&answer));
-        }
+        mark_own(&mut locked.desk, &mut self.mark, marks_life(&answer));
         self.shared.leave(guard);
         answer
     }
@@ -239,9 +227,7 @@ impl<R: Recorder, E: Ledger, M: Ledger, K: Marks, W: Wait + Copy + Drop> Hall<E,
         let mut guard = self.shared.locked.lock(&self.rt);
         let locked = &mut *guard;
         let answer = section::over(&mut locked.desk);
-        if let Some(mark) = &mut self.mark {
-            section::mark_handle(&mut locked.desk, mark, answer.is_some());
-        }
+        mark_own(&mut locked.desk, &mut self.mark, answer.is_some());
         answer
     }
 
@@ -249,5 +235,48 @@ impl<R: Recorder, E: Ledger, M: Ledger, K: Marks, W: Wait + Copy + Drop> Hall<E,
         let mut guard = self.shared.locked.lock(&self.rt);
         section::halt(&mut guard.desk);
         self.shared.leave(guard);
+    }
+}
+
+/// Marks a handle that has a mark, where the answer of its call is marked.
+fn mark_own<R: Recorder, E: Ledger, M: Ledger, K: Marks>(
+    desk: &mut Desk<R, E, M, K>,
+    mark: &mut Option<Mark<K>>,
+    marked: bool,
+)
+    requires { marked ≡ true → desk.old.log.alarm ≡ true }
+    ensures mark { mark.new ≡ or_marked marked mark.old }
+    ensures same { desk.new ≡ desk.old }
+{
+    if let Some(mark) = mark {
+        section::mark_handle(desk, mark, marked);
+    }
+}
+
+/// Puts up the bells of who came. Where nobody did they are dropped.
+fn put_up(bells: &mut Bells, came: Option<Owner>, pair: Pair) {
+    match came {
+        Some(owner) => bells.put_up(owner, pair),
+        None => drop(pair),
+    }
+}
+
+/// The client who came.
+fn client_of<E: Ledger, M: Ledger, K: Marks>(
+    answer: &Result<(ClientIn<E, M, K>, ClientOut<E, M, K>), DeskError>,
+) -> Option<Owner> {
+    match answer {
+        Ok((reading, _)) => Some(Owner::Client(reading.number())),
+        Err(_) => None,
+    }
+}
+
+/// The link of the device that was plugged in.
+fn link_of<E: Ledger, M: Ledger, K: Marks>(
+    answer: &Result<(LinkIn<E, M, K>, LinkOut<E, M, K>), DeskError>,
+) -> Option<Owner> {
+    match answer {
+        Ok((reading, _)) => Some(Owner::Link(reading.number())),
+        Err(_) => None,
     }
 }
