@@ -29,20 +29,11 @@ pub fn tell_answer(
         What::Push { size: len, mtime } => {
             let content = content(alloc, len)?;
             let machine = Push::new(alloc, ask.path, MODE, mtime, content.as_slice())?;
-            tell_push(line, &exchange(alloc, machine, files, size)?, len)?;
+            push(alloc, machine, files, size, line, len)?;
         }
-        What::Pull => {
-            let machine = Pull::new(alloc, ask.path)?;
-            tell_pull(line, &exchange(alloc, machine, files, size)?)?;
-        }
-        What::Stat => {
-            let machine = Stat::new(alloc, ask.path)?;
-            tell_stat(line, &exchange(alloc, machine, files, size)?)?;
-        }
-        What::List => {
-            let machine = List::new(alloc, ask.path)?;
-            tell_list(line, &exchange(alloc, machine, files, size)?)?;
-        }
+        What::Pull => pull(alloc, Pull::new(alloc, ask.path)?, files, size, line)?,
+        What::Stat => stat(alloc, Stat::new(alloc, ask.path)?, files, size, line)?,
+        What::List => list(alloc, List::new(alloc, ask.path)?, files, size, line)?,
     }
     line.push_slice(b"\n")
 }
@@ -56,6 +47,18 @@ fn content(alloc: Global, len: usize) -> Result<Vec<u8>, AllocError> {
     Ok(bytes)
 }
 
+fn push(
+    alloc: Global,
+    machine: Push,
+    files: &mut Files,
+    size: usize,
+    line: &mut Text,
+    len: usize,
+) -> Result<(), AllocError> {
+    let step = exchange(alloc, machine, files, size)?;
+    tell_push(line, &step, len)
+}
+
 fn tell_push(line: &mut Text, step: &Step<()>, len: usize) -> Result<(), AllocError> {
     match step {
         Step::Done(()) => {
@@ -64,6 +67,17 @@ fn tell_push(line: &mut Text, step: &Step<()>, len: usize) -> Result<(), AllocEr
         }
         other => tell_other(line, other),
     }
+}
+
+fn pull(
+    alloc: Global,
+    machine: Pull,
+    files: &mut Files,
+    size: usize,
+    line: &mut Text,
+) -> Result<(), AllocError> {
+    let step = exchange(alloc, machine, files, size)?;
+    tell_pull(line, &step)
 }
 
 /// Its size, and the sum of its bytes.
@@ -78,11 +92,33 @@ fn tell_pull(line: &mut Text, step: &Step<Text>) -> Result<(), AllocError> {
     }
 }
 
+fn stat(
+    alloc: Global,
+    machine: Stat,
+    files: &mut Files,
+    size: usize,
+    line: &mut Text,
+) -> Result<(), AllocError> {
+    let step = exchange(alloc, machine, files, size)?;
+    tell_stat(line, &step)
+}
+
 fn tell_stat(line: &mut Text, step: &Step<StatValue>) -> Result<(), AllocError> {
     match step {
         Step::Done(told) => tell_numbers(line, b" ", told.mode, told.size, told.mtime),
         other => tell_other(line, other),
     }
+}
+
+fn list(
+    alloc: Global,
+    machine: List,
+    files: &mut Files,
+    size: usize,
+    line: &mut Text,
+) -> Result<(), AllocError> {
+    let step = exchange(alloc, machine, files, size)?;
+    tell_list(line, &step)
 }
 
 /// How many entries there are, and each of them.

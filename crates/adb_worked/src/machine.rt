@@ -67,16 +67,45 @@ impl<V: PathValue> Machine for PathAsk<V> {
 /// What a request comes to, where bytes go either way in pieces of at most `size`.
 pub fn exchange<M: Machine>(
     alloc: Global,
-    mut machine: M,
+    machine: M,
     files: &mut Files,
     size: usize,
 ) -> Result<Step<M::Value>, AllocError> {
-    let mut service = SyncService::new(alloc);
+    let (mut machine, mut service) = (machine, SyncService::new(alloc));
+    converse(&mut machine, &mut service, files, size)
+}
+
+fn converse<M: Machine>(
+    machine: &mut M,
+    service: &mut SyncService,
+    files: &mut Files,
+    size: usize,
+) -> Result<Step<M::Value>, AllocError> {
+    ask(machine, service, files, size)?;
+    hear(machine, service, size)
+}
+
+/// Gives the service the whole request.
+fn ask<M: Machine>(
+    machine: &mut M,
+    service: &mut SyncService,
+    files: &mut Files,
+    size: usize,
+) -> Result<(), AllocError> {
     for _ in 0..u64::MAX {
-        if machine.give(&mut service, files, size)? == 0 {
+        if machine.give(service, files, size)? == 0 {
             break;
         }
     }
+    Ok(())
+}
+
+/// Takes the whole answer, behind a piece of it without bytes.
+fn hear<M: Machine>(
+    machine: &mut M,
+    service: &mut SyncService,
+    size: usize,
+) -> Result<Step<M::Value>, AllocError> {
     let mut step = machine.take(b"")?;
     for _ in 0..u64::MAX {
         let piece = front_of(service.out(), size);

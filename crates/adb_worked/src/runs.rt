@@ -14,28 +14,9 @@ use std::alloc::{AllocError, Global};
 pub fn replay_told(alloc: Global, capture: &[u8], piece: usize) -> Result<Text, AllocError>
     requires { 1 ≤ piece }
 {
-    let words = [String::from_str(alloc, "replay")?];
-    let bytes = Text::from_slice(alloc, capture)?;
-    let mut source = MemorySource::new(bytes, piece, Vec::new(alloc));
-    let mut sink = MemorySink::new(alloc, Vec::new(alloc));
-    let mut note = MemorySink::new(alloc, Vec::new(alloc));
-    let status = run_alone(alloc, &words, &mut source, &mut sink, &mut note);
-    let mut told = spell(alloc, status, note.bytes(), sink.bytes())?;
-    if !is_legal(alloc, sink.bytes())? {
-        told.push_slice(b"not legal\n")?;
-    }
-    Ok(told)
-}
-
-/// Whether a capture is that of a legal history, or nothing of one.
-fn is_legal(alloc: Global, capture: &[u8]) -> Result<bool, AllocError> {
-    if capture.is_empty() {
-        return Ok(true);
-    }
-    let bytes = Text::from_slice(alloc, capture)?;
-    let mut source = MemorySource::new(bytes, capture.len(), Vec::new(alloc));
-    let judged = judge_capture(alloc, &mut source);
-    Ok(matches!(judged, Ok(Judgement::Legal { .. })))
+    let mut words = Vec::new(alloc);
+    words.push(String::from_str(alloc, "replay")?)?;
+    run(alloc, words.as_slice(), capture, piece, true)
 }
 
 /// Runs words over a capture whose source gives at most `piece` bytes a call, and tells the status,
@@ -48,12 +29,61 @@ pub fn run_told(
 ) -> Result<Text, AllocError>
     requires { 1 ≤ piece }
 {
+    run(alloc, words, capture, piece, false)
+}
+
+fn run(
+    alloc: Global,
+    words: &[String],
+    capture: &[u8],
+    piece: usize,
+    is_judged: bool,
+) -> Result<Text, AllocError>
+    requires { 1 ≤ piece }
+{
     let bytes = Text::from_slice(alloc, capture)?;
     let mut source = MemorySource::new(bytes, piece, Vec::new(alloc));
+    run_over(alloc, words, &mut source, is_judged)
+}
+
+fn run_over(
+    alloc: Global,
+    words: &[String],
+    source: &mut MemorySource,
+    is_judged: bool,
+) -> Result<Text, AllocError> {
     let mut sink = MemorySink::new(alloc, Vec::new(alloc));
     let mut note = MemorySink::new(alloc, Vec::new(alloc));
-    let status = run_alone(alloc, words, &mut source, &mut sink, &mut note);
-    spell(alloc, status, note.bytes(), sink.bytes())
+    let status = run_alone(alloc, words, source, &mut sink, &mut note);
+    tell(alloc, status, note.bytes(), sink.bytes(), is_judged)
+}
+
+fn tell(
+    alloc: Global,
+    status: Status,
+    note: &[u8],
+    written: &[u8],
+    is_judged: bool,
+) -> Result<Text, AllocError> {
+    let mut told = spell(alloc, status, note, written)?;
+    if is_judged && !is_legal(alloc, written)? {
+        told.push_slice(b"not legal\n")?;
+    }
+    Ok(told)
+}
+
+/// Whether a capture is that of a legal history, or nothing of one.
+fn is_legal(alloc: Global, capture: &[u8]) -> Result<bool, AllocError> {
+    if capture.is_empty() {
+        return Ok(true);
+    }
+    let bytes = Text::from_slice(alloc, capture)?;
+    let mut source = MemorySource::new(bytes, capture.len(), Vec::new(alloc));
+    Ok(judges_legal(alloc, &mut source))
+}
+
+fn judges_legal(alloc: Global, source: &mut MemorySource) -> bool {
+    matches!(judge_capture(alloc, source), Ok(Judgement::Legal { .. }))
 }
 
 /// A line of the status, the note, an empty line and what was written.
