@@ -19,11 +19,11 @@ pub trait Ringing: Drop {
 
 /// A handle of the bell of a door.
 #[derive(Drop)]
-pub struct BellHandle<B: Bell> {
+pub struct BellHandle<B: Drop> {
     bell: Arc<B, Global>,
 }
 
-impl<B: Bell> BellHandle<B> {
+impl<B: Drop> BellHandle<B> {
     /// The first handle of a bell, which it keeps in memory of its own.
     pub fn new(alloc: Global, bell: B) -> Result<BellHandle<B>, AllocError> {
         Ok(BellHandle {
@@ -103,7 +103,7 @@ pub fn make_kits<
     M: Ledger,
     K: Marks,
     G: Drop,
-    B: Bell,
+    B: Drop,
 >(
     rt: W,
     gates: (G, G),
@@ -117,7 +117,7 @@ pub fn make_kits<
     })
 }
 
-fn make_kit<W: Wait + Copy + Drop, R: Recorder, E: Ledger, M: Ledger, K: Marks, G: Drop, B: Bell>(
+fn make_kit<W: Wait + Copy + Drop, R: Recorder, E: Ledger, M: Ledger, K: Marks, G: Drop, B: Drop>(
     rt: W,
     gate: G,
     hall: &LockedHall<R, E, M, K, W>,
