@@ -2,6 +2,8 @@
 #![tactic(auto)]
 
 #[cfg(test)]
+mod cases;
+#[cfg(test)]
 mod locked_hall;
 #[cfg(test)]
 mod one_desk;

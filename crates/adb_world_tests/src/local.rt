@@ -3,11 +3,9 @@
 ghost use Rattle.adb_local.specs.Running.{IsNew};
 
 use adb_local::run_script;
-use adb_outside::Text;
-use adb_script::ScriptError;
+use adb_script::{Line, ScriptError};
 use adb_world::World;
 use std::alloc::{AllocError, Global};
-use std::test::Fail;
 
 /// Scripts, and what they are answered.
 const SCRIPTS: &[(&[u8], &[u8])] = &[
@@ -34,58 +32,73 @@ const REFUSED: &[(&[u8], u32)] = &[
     (b"stat /\nlist / /\n", 2),
 ];
 
-/// All the answer lines of a script in a new world, or the number of a line that is refused.
-fn answers(alloc: Global, script: &[u8], seed: u64, all: &mut Text) -> Result<u32, AllocError> {
-    let mut world = World::new(alloc)?;
-    run(alloc, &mut world, script, seed, all)
+/// Whether the lines of an answer are these.
+fn are(lines: &[Line], want: &[u8]) -> bool {
+    let mut left = want;
+    for line in lines {
+        match left.strip_prefix(line.text.as_slice()) {
+            Some(rest) => left = rest,
+            None => return false,
+        }
+    }
+    left.is_empty()
 }
 
-/// The same in a world that is new.
-fn run(
+/// Whether a script in a new world is answered so, or this line of it is refused, where that is not
+/// 0.
+fn gives(
     alloc: Global,
     world: &mut World,
     script: &[u8],
     seed: u64,
-    all: &mut Text,
-) -> Result<u32, AllocError>
+    want: &[u8],
+    bad: u32,
+) -> Result<bool, AllocError>
     requires { IsNew world.old }
 {
     match run_script(alloc, world, script, seed) {
-        Ok(lines) => {
-            for line in lines.iter() {
-                all.push_slice(line.text.as_slice())?;
-            }
-            Ok(0)
-        }
-        Err(ScriptError::BadLine { line }) => Ok(line),
+        Ok(lines) => Ok(bad == 0 && are(lines.as_slice(), want)),
+        Err(ScriptError::BadLine { line }) => Ok(line == bad),
         Err(ScriptError::OutOfMemory) => Err(AllocError),
     }
 }
 
-/// Whether a script is answered so.
-fn is_answered(alloc: Global, script: &[u8], seed: u64, want: &[u8]) -> Result<bool, AllocError> {
-    let mut all = Text::new(alloc);
-    let bad = answers(alloc, script, seed, &mut all)?;
-    Ok(bad == 0 && all.as_slice() == want)
+fn gives_in_new(
+    alloc: Global,
+    script: &[u8],
+    seed: u64,
+    want: &[u8],
+    bad: u32,
+) -> Result<bool, AllocError> {
+    let mut world = World::new(alloc)?;
+    gives(alloc, &mut world, script, seed, want, bad)
 }
 
-#[test]
-fn scripts_are_answered(rt: HostRuntime) -> Result<(), Fail> {
-    let alloc = rt.alloc();
-    for seed in 1..21 {
-        for &(script, want) in SCRIPTS {
-            assert!(rt;
-                is_answered(alloc, script, seed, want)?,
-                "script {script:?}, seed {seed}"
-            );
+fn all_are_answered(alloc: Global, seed: u64) -> Result<bool, AllocError> {
+    for &(script, want) in SCRIPTS {
+        if !gives_in_new(alloc, script, seed, want, 0)? {
+            return Ok(false);
         }
     }
-    for &(script, want) in REFUSED {
-        let mut none = Text::new(alloc);
-        assert!(rt;
-            answers(alloc, script, 1, &mut none)? == want && none.is_empty(),
-            "script {script:?}"
-        );
+    Ok(true)
+}
+
+/// The first seed at which a script is not answered so.
+pub fn scripts_are_answered(alloc: Global) -> Result<Option<usize>, AllocError> {
+    for seed in 1..21 {
+        if !all_are_answered(alloc, seed as u64)? {
+            return Ok(Some(seed));
+        }
     }
-    Ok(())
+    Ok(None)
+}
+
+/// The first row whose line is not refused.
+pub fn bad_lines_are_refused(alloc: Global) -> Result<Option<usize>, AllocError> {
+    for (at, &(script, bad)) in REFUSED.iter().enumerate() {
+        if !gives_in_new(alloc, script, 1, b"", bad)? {
+            return Ok(Some(at));
+        }
+    }
+    Ok(None)
 }
