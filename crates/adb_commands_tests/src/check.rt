@@ -1,9 +1,8 @@
 //! Judged captures.
 
-use crate::records::push_records;
+use crate::records::source_of;
 use adb_capture::{CaptureError, Entry};
 use adb_check::{Judge, Judgement, Rule, Verdict, judge_capture};
-use adb_outside::{MemorySource, Text};
 use std::alloc::{AllocError, Global};
 use std::test::Fail;
 
@@ -112,20 +111,8 @@ const CASES: &[Case] = &[
     },
 ];
 
-fn capture_of(alloc: Global, records: &str) -> Result<Text, AllocError> {
-    let mut bytes = Text::new(alloc);
-    push_records(&mut bytes, records)?;
-    Ok(bytes)
-}
-
-fn source_of(alloc: Global, case: &Case) -> Result<MemorySource, AllocError> {
-    let failing = vec![in alloc; case.reads; 1]?;
-    let capture = capture_of(alloc, case.capture)?;
-    Ok(MemorySource::new(capture, 5, failing))
-}
-
 fn is_judged(alloc: Global, case: &Case) -> Result<bool, AllocError> {
-    let mut source = source_of(alloc, case)?;
+    let mut source = source_of(alloc, case.capture, 0, case.reads)?;
     Ok(judge_capture(alloc, &mut source) == case.comes_to)
 }
 
@@ -144,16 +131,31 @@ const JOINS: &[(u32, Verdict)] = &[
     (2, Verdict::Illegal(Rule::NotDrawn)),
 ];
 
-fn says(judge: &mut Judge, client: u32, verdict: Verdict) -> Result<bool, AllocError> {
+fn said(judge: &mut Judge, client: u32) -> Result<Verdict, AllocError> {
     let join = Entry::Join { client };
-    Ok(judge.next(&join)? == verdict)
+    judge.next(&join)
+}
+
+/// How many of them are judged so, up to the first that is not.
+fn count_judged(judge: &mut Judge) -> Result<usize, AllocError> {
+    let mut count = 0usize;
+    for &(client, verdict) in JOINS {
+        if said(judge, client)? != verdict {
+            break;
+        }
+        count = count.saturating_add(1);
+    }
+    Ok(count)
+}
+
+fn count_joins(alloc: Global) -> Result<usize, AllocError> {
+    let mut judge = Judge::new(alloc);
+    count_judged(&mut judge)
 }
 
 #[test]
 fn says_the_same_from_then_on(rt: HostRuntime) -> Result<(), Fail> {
-    let mut judge = Judge::new(rt.alloc());
-    for &(client, verdict) in JOINS {
-        assert!(rt; says(&mut judge, client, verdict)?, "of {client}");
-    }
+    let count = count_joins(rt.alloc())?;
+    assert!(rt; count == JOINS.len(), "join {count}");
     Ok(())
 }

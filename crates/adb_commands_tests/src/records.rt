@@ -1,7 +1,7 @@
 //! Records of captures, by their names.
 
-use adb_outside::Text;
-use std::alloc::AllocError;
+use adb_outside::{MemorySource, Text};
+use std::alloc::{AllocError, Global};
 
 const RECORDS: &[(&str, &[u8])] = &[
     // What a capture begins with.
@@ -83,10 +83,33 @@ fn record(name: &str) -> &'static [u8] {
     b""
 }
 
-/// Adds the records of a line, whose names stand between spaces.
-pub fn push_records(bytes: &mut Text, line: &str) -> Result<(), AllocError> {
+/// The records of a line, whose names stand between spaces, and behind them those of so many clients
+/// that join from the second on.
+pub fn capture_of(alloc: Global, line: &str, joins: u32) -> Result<Text, AllocError> {
+    let mut bytes = Text::new(alloc);
     for name in line.split(' ') {
         bytes.push_slice(record(name))?;
     }
+    push_joins(&mut bytes, joins)?;
+    Ok(bytes)
+}
+
+fn push_joins(bytes: &mut Text, joins: u32) -> Result<(), AllocError> {
+    for client in 2..2 + u64::from(joins) {
+        // Its kind, then its number and the length 0 of its data in four bytes each.
+        bytes.push_slice(b"J")?;
+        bytes.push_slice(&client.to_le_bytes())?;
+    }
     Ok(())
+}
+
+/// A capture in pieces of five bytes, of such records. Its read of this number, counted from 1, fails.
+pub fn source_of(
+    alloc: Global,
+    line: &str,
+    joins: u32,
+    read: u64,
+) -> Result<MemorySource, AllocError> {
+    let failing = Vec::from_slice(alloc, &[read])?;
+    Ok(MemorySource::new(capture_of(alloc, line, joins)?, 5, failing))
 }

@@ -1,46 +1,19 @@
-//! Right and wrong words of a server.
+//! Words of a server.
 
-use crate::words::words_of;
 use adb_outside::Text;
-use adb_words::{Serve, WordsError, read_serve};
-use std::alloc::{AllocError, Global};
-use std::test::Fail;
+use adb_words::{Serve, read_serve};
+use std::alloc::Global;
 
-/// Words of `serve` in a line, and what they are: its devices are in a line too.
-struct Served {
-    words: &'static str,
-    port: u16,
-    records: bool,
-    devices: &'static str,
-    connects: &'static [u16],
+/// What words of `serve` say: the devices are in a line, each behind a bar.
+pub struct Server {
+    pub port: u16,
+    pub records: bool,
+    pub devices: &'static str,
+    pub connects: &'static [u16],
 }
 
-const SERVES: &[Served] = &[
-    Served {
-        words: "|serve",
-        port: 5037,
-        records: false,
-        devices: "",
-        connects: &[],
-    },
-    Served {
-        words: "|serve|--device=a=b|--connect|05555|--record|--device|emu1|--port=0|--connect=1",
-        port: 0,
-        records: true,
-        devices: "|a=b|emu1",
-        connects: &[5555, 1],
-    },
-    Served {
-        words: "|serve|--port|65535|--device=1|--device=2|--device=3|--device=4|--device=5|--device=6|--device=7|--device=8|--device=9|--device=10|--device=11|--device=12|--device=13|--device=14|--device=15|--connect=65535",
-        port: 65_535,
-        records: false,
-        devices: "|1|2|3|4|5|6|7|8|9|10|11|12|13|14|15",
-        connects: &[65_535],
-    },
-];
-
-/// A line each.
-const NO_SERVES: &str = "
+/// Words that are none of `serve`, a line each.
+pub const NO_SERVES: &str = "
 |replay
 |Serve
 |serve|x
@@ -81,41 +54,19 @@ fn are_texts(texts: &[Text], line: &str) -> bool {
     words.next().is_none()
 }
 
-fn is_served(serve: &Serve, row: &Served) -> bool {
-    serve.port == row.port
-        && serve.records == row.records
-        && are_texts(serve.ports.devices.as_slice(), row.devices)
-        && serve.ports.connects.as_slice() == row.connects
-}
-
-fn serves(alloc: Global, row: &Served) -> Result<bool, AllocError> {
-    let words = words_of(alloc, row.words)?;
-    Ok(match read_serve(alloc, words.as_slice()) {
-        Ok(serve) => is_served(&serve, row),
-        Err(_) => false,
-    })
-}
-
-fn is_no_serve(alloc: Global, line: &str) -> Result<bool, AllocError> {
-    let words = words_of(alloc, line)?;
-    Ok(match read_serve(alloc, words.as_slice()) {
-        Ok(_) => false,
-        Err(error) => error == WordsError::Usage,
-    })
-}
-
-#[test]
-fn words_of_a_server(rt: HostRuntime) -> Result<(), Fail> {
-    for row in SERVES {
-        assert!(rt; serves(rt.alloc(), row)?, "{}", row.words);
+impl Server {
+    fn is(&self, serve: &Serve) -> bool {
+        serve.port == self.port
+            && serve.records == self.records
+            && are_texts(serve.ports.devices.as_slice(), self.devices)
+            && serve.ports.connects.as_slice() == self.connects
     }
-    Ok(())
-}
 
-#[test]
-fn words_of_no_server(rt: HostRuntime) -> Result<(), Fail> {
-    for line in NO_SERVES.split('\n') {
-        assert!(rt; is_no_serve(rt.alloc(), line)?, "{line}");
+    /// Whether these words say so.
+    pub fn is_read(&self, alloc: Global, words: &[String]) -> bool {
+        match read_serve(alloc, words) {
+            Ok(serve) => self.is(&serve),
+            Err(_) => false,
+        }
     }
-    Ok(())
 }

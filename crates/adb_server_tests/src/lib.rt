@@ -2,8 +2,6 @@
 #![tactic(auto)]
 
 #[cfg(test)]
-mod clients;
-#[cfg(test)]
 mod devices;
 #[cfg(test)]
 mod forwards;
@@ -11,3 +9,5 @@ mod forwards;
 mod over_one_desk;
 #[cfg(test)]
 mod served;
+#[cfg(test)]
+mod three;

@@ -29,21 +29,15 @@ pub fn is_answered(stream: &TcpStream, step: &Step) -> io::Result<bool> {
     Ok(&heard[..count] == step.hears)
 }
 
-/// Whether the other end has closed, and nothing is left to read.
-pub fn is_closed(stream: &TcpStream) -> io::Result<bool> {
-    let mut stream = stream;
-    let mut heard = [0u8; 1];
-    Ok(stream.read(&mut heard)? == 0)
-}
-
-/// Whether the server at the other end holds a conversation.
+/// Whether the server at the other end holds a conversation, and has closed where that ends it.
 fn holds(stream: &TcpStream, conversation: &Conversation) -> io::Result<bool> {
     for step in conversation.steps {
         if !is_answered(stream, step)? {
             return Ok(false);
         }
     }
-    Ok(!conversation.ends || is_closed(stream)?)
+    let mut stream = stream;
+    Ok(!conversation.ends || stream.read(&mut [0u8; 1])? == 0)
 }
 
 /// Whether the server at a port holds a conversation.

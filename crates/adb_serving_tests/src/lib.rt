@@ -4,7 +4,7 @@
 #[cfg(test)]
 mod asking;
 #[cfg(test)]
-mod ends;
+mod cases;
 #[cfg(test)]
 mod heard;
 #[cfg(test)]
@@ -12,8 +12,8 @@ mod live;
 #[cfg(test)]
 mod replaying;
 #[cfg(test)]
-mod starting;
+mod runs;
 #[cfg(test)]
-mod tools;
+mod streams;
 #[cfg(test)]
 mod yard;

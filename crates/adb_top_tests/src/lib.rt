@@ -1,11 +1,10 @@
-//! The top call over fakes: how a server ends, and what its note then has.
+//! The top call over fakes: how a server ends, what a client tool asks and tells, and which devices
+//! are wanted.
 #![tactic(auto)]
 
 #[cfg(test)]
-mod ends;
-#[cfg(test)]
-mod serves;
-#[cfg(test)]
-mod tools;
+mod runs;
 #[cfg(test)]
 mod wants;
+#[cfg(test)]
+mod words;

@@ -1,40 +1,52 @@
 //! The devices that words of a server ask for.
 
-use crate::ends::words_of;
+use crate::words::words_of;
 use adb_outside::Text;
 use adb_top::wanted;
 use adb_words::{Ports, WordsError};
 use std::alloc::{AllocError, Global};
 use std::test::Fail;
 
-/// Words, and the ports and the serials of the devices that they ask for.
+/// Words, whether they are a command, and the ports and the serials of the devices that they ask
+/// for: each serial stands behind a bar.
 struct Row {
-    words: &'static [&'static str],
+    words: &'static str,
+    right: bool,
     connects: &'static [u16],
-    devices: &'static [&'static [u8]],
+    devices: &'static str,
 }
 
 const ROWS: &[Row] = &[
     Row {
-        words: &["serve", "--connect=9", "--device=a", "--device=b"],
+        words: "serve|--connect=9|--device=a|--device=b",
+        right: true,
         connects: &[9],
-        devices: &[b"a", b"b"],
+        devices: "|a|b",
     },
     Row {
-        words: &["check"],
+        words: "check",
+        right: true,
         connects: &[],
-        devices: &[],
+        devices: "",
+    },
+    Row {
+        words: "serve|x",
+        right: false,
+        connects: &[],
+        devices: "",
     },
 ];
 
 /// Whether these are the serials.
-fn are(serials: &[Text], wants: &[&[u8]]) -> bool {
-    for (serial, want) in serials.iter().zip(wants.iter()) {
-        if serial.as_slice() != *want {
-            return false;
+fn are(serials: &[Text], wants: &str) -> bool {
+    let mut wants = wants.split('|').skip(1);
+    for serial in serials {
+        match wants.next() {
+            Some(want) if serial.as_slice() == want.as_bytes() => {}
+            _ => return false,
         }
     }
-    serials.len() == wants.len()
+    wants.next().is_none()
 }
 
 impl Row {
@@ -45,24 +57,17 @@ impl Row {
     fn stands(&self, alloc: Global) -> Result<bool, AllocError> {
         let words = words_of(alloc, self.words)?;
         match wanted(alloc, words.as_slice()) {
-            Ok(ports) => Ok(self.is_of(&ports)),
-            Err(WordsError::Usage) => Ok(false),
+            Ok(ports) => Ok(self.right && self.is_of(&ports)),
+            Err(WordsError::Usage) => Ok(!self.right),
             Err(WordsError::OutOfMemory) => Err(AllocError),
         }
     }
 }
 
-/// Whether words are no command.
-fn are_refused(alloc: Global, words: &[&str]) -> Result<bool, AllocError> {
-    let words = words_of(alloc, words)?;
-    Ok(matches!(wanted(alloc, words.as_slice()), Err(WordsError::Usage)))
-}
-
 #[test]
 fn devices_are_wanted(rt: HostRuntime) -> Result<(), Fail> {
     for row in ROWS {
-        assert!(rt; row.stands(rt.alloc())?, "{:?}", row.words);
+        assert!(rt; row.stands(rt.alloc())?, "{}", row.words);
     }
-    assert!(rt; are_refused(rt.alloc(), &["serve", "x"])?);
     Ok(())
 }
