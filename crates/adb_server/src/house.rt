@@ -4,7 +4,7 @@ ghost use Rattle.std.specs.Prelude.{◌≢◌, ◌<◌, Err, OnOk, vec_len, vec_
 
 use crate::arriving::{Arrival, Linked, let_in, link_up};
 use crate::server::Served;
-use crate::workers::{Jobs, Pair, start};
+use crate::workers::{Jobs, Pair, start, start_all};
 use adb_connections::{DeviceIn, DeviceOut, Door};
 use adb_desk_log::{DeskError, Marks};
 use adb_device_reader::{Device, Packets};
@@ -53,9 +53,7 @@ pub(crate) fn serve_all<
 {
     let mut plugged = Vec::new(alloc);
     let refused = plug_all(alloc, jobs, hall, yard, devices, &mut plugged);
-    for pair in plugged {
-        start(crew, hall, pair);
-    }
+    start_all(crew, hall, plugged);
     let served = match refused {
         Ok(()) => take_all(rt, jobs, crew, hall, yard, door),
         Err(served) => served,

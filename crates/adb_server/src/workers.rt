@@ -166,6 +166,20 @@ pub(crate) fn start<
     }
 }
 
+/// Starts the workers of devices, in their order.
+pub(crate) fn start_all<
+    W: Threads + Wait + Copy + Send + Sync + Drop + 'static,
+    J: Job + Send + Drop + 'static,
+    E: Ledger,
+    M: Ledger,
+    K: Marks,
+    H: Hall<E, M, K>,
+>(crew: &mut Crew<W, J>, hall: &mut H, plugged: Vec<Pair<J>>) {
+    for pair in plugged {
+        start(crew, hall, pair);
+    }
+}
+
 /// Ends the input of a client or a device for whose worker no thread can be had.
 fn strand<E: Ledger, M: Ledger, K: Marks, H: Hall<E, M, K>>(
     hall: &mut H,
