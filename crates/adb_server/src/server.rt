@@ -9,7 +9,9 @@ ghost use Rattle.adb_server.specs.Served.{Announces, is_write_fault};
 use crate::house::serve_all;
 use crate::listening::announce;
 use crate::workers::{Workers, crew_of};
-use adb_connections::{DeviceIn, DeviceOut, Door};
+use adb_binder::Binder;
+use adb_capture::Recorder;
+use adb_connections::{Bell, DeviceIn, DeviceOut, Door, Gate, PortIn, PortOut};
 use adb_desk_log::{ALL_PARTS, Marks};
 use adb_device_reader::Device;
 use adb_locked_hall::LockedHall;
@@ -74,7 +76,22 @@ pub fn serve<
         return served;
     }
     let recorder = yard.recorder(wanted);
-    serve_with::<W, Brand, Brand, Brand, X, Z, Y>(
+    serve_with::<
+        W,
+        Y::Keeper,
+        Brand,
+        Brand,
+        Brand,
+        <Y::Door as Door>::In,
+        <Y::Door as Door>::Out,
+        Y::Ports,
+        Y::Gate,
+        Y::Bell,
+        X,
+        Z,
+        Y::Door,
+        Y,
+    >(
         rt,
         alloc,
         &mut yard,
@@ -91,19 +108,26 @@ pub fn serve<
 /// Serves at a door, over ledgers of its own.
 fn serve_with<
     W: Threads + Wait + Copy + Send + Sync + Drop + 'static,
+    R: Recorder + Send + 'static,
     E: Ledger + Send + Sync + 'static,
     M: Ledger + Send + Sync + 'static,
     K: Marks + Send + Sync + 'static,
+    I: PortIn + Send + Drop + 'static,
+    O: PortOut + Send + Drop + 'static,
+    P: Binder + Send + Drop + 'static,
+    G: Gate + Send + Drop + 'static,
+    B: Bell,
     X: DeviceIn + Send + 'static,
     Z: DeviceOut + Send + 'static,
-    Y: Yard + 'static,
+    D: Door<In = I, Out = O>,
+    Y: Yard<Ports = P, Gate = G>,
 >(
     rt: W,
     alloc: Global,
     yard: &mut Y,
-    door: &mut Y::Door,
-    bell: Y::Bell,
-    recorder: Y::Keeper,
+    door: &mut D,
+    bell: B,
+    recorder: R,
     devices: Vec<Device<X, Z>>,
     entries: Blank,
     moved: Blank,
@@ -115,11 +139,11 @@ fn serve_with<
         × (moved.parts ≡ ALL_PARTS) }
     requires marks { (marks.name ≡ K.name) × (marks.parts ≡ K.parts)
         × (marks.parts ≡ ALL_PARTS) }
-    requires fresh { (Y.Keeper.faults recorder ≡ 0) × IsFresh (Y.Keeper.told recorder) }
-    requires steady { K.steady → Y.Keeper.steady recorder }
+    requires fresh { (R.faults recorder ≡ 0) × IsFresh (R.told recorder) }
+    requires steady { K.steady → R.steady recorder }
     ensures record { K.steady → result ≢ Served.RecordFault }
-    ensures door { Y.Door.steady door.old → result ≢ Served.DoorFault }
-    ensures lasting { Y.Door.lasting door.old → result ≢ Served.Done }
+    ensures door { D.steady door.old → result ≢ Served.DoorFault }
+    ensures lasting { D.lasting door.old → result ≢ Served.Done }
     ensures note { result ≢ Served.WriteFault }
 {
     let Ok(bell) = BellHandle::new(alloc, bell) else {
@@ -128,7 +152,7 @@ fn serve_with<
     let Ok(mut crew) = crew_of(rt, alloc, yard.staff()) else {
         return Served::OutOfMemory;
     };
-    let hall = LockedHall::<Y::Keeper, E, M, K, W>::new(rt, alloc, recorder, entries, moved, marks);
+    let hall = LockedHall::<R, E, M, K, W>::new(rt, alloc, recorder, entries, moved, marks);
     let Ok(mut hall) = hall else {
         return Served::OutOfMemory;
     };
