@@ -1,8 +1,7 @@
 //! What is tried, each by itself.
 
 use crate::locked_hall::{rings_by_brand, serves_by_brand};
-use crate::one_desk;
-use crate::one_desk::holds;
+use crate::one_desk::{Case as Tried, holds};
 use std::alloc::{AllocError, Global};
 use std::sync::Wait;
 use std::test::Fail;
@@ -35,10 +34,10 @@ impl Case {
         alloc: Global,
     ) -> Result<bool, AllocError> {
         match self {
-            Case::AnswersAndCounts => holds(alloc, one_desk::Case::Counts),
-            Case::HoldsSoMuch => holds(alloc, one_desk::Case::Holds),
-            Case::FreesByADevice => holds(alloc, one_desk::Case::Frees),
-            Case::IsShutByItsRecorder => holds(alloc, one_desk::Case::Shuts),
+            Case::AnswersAndCounts => holds(alloc, Tried::Counts),
+            Case::HoldsSoMuch => holds(alloc, Tried::Holds),
+            Case::FreesByADevice => holds(alloc, Tried::Frees),
+            Case::IsShutByItsRecorder => holds(alloc, Tried::Shuts),
             Case::WakesWhomItConcerns => rings_by_brand(alloc),
             Case::ServesTwoThreads => serves_by_brand(rt, alloc),
         }

@@ -48,13 +48,11 @@ fn counts_what_it_moved<E: Ledger, M: Ledger, K: Marks>(
     hall.entries() == Some(3) && hall.moved() == Some(28)
 }
 
-/// A client is answered, and what it moved is counted.
 fn answers_and_counts<E: Ledger, M: Ledger, K: Marks>(
     hall: &mut OneDesk<MemoryRecorder, E, M, K>,
+    mut reading: ClientIn<E, M, K>,
+    mut writing: ClientOut<E, M, K>,
 ) -> bool {
-    let Ok((mut reading, mut writing)) = hall.join() else {
-        return false;
-    };
     let answered = asks_version(hall, &mut reading, &mut writing);
     counts_what_it_moved(hall, reading, writing) && answered
 }
@@ -137,27 +135,27 @@ pub enum Case {
     Shuts,
 }
 
-/// Tries a case with the pass of the first client's reader.
-fn holds_of_a_reader<E: Ledger, M: Ledger, K: Marks>(
+/// Tries a case with the passes of the first client.
+fn holds_of_a_client<E: Ledger, M: Ledger, K: Marks>(
     hall: &mut OneDesk<MemoryRecorder, E, M, K>,
     case: Case,
     piece: &[u8],
 ) -> bool {
-    let Ok((mut reading, _writing)) = hall.join() else {
+    let Ok((mut reading, writing)) = hall.join() else {
         return false;
     };
     match case {
-        Case::Counts => false,
+        Case::Counts => answers_and_counts(hall, reading, writing),
         Case::Holds => holds_so_much(hall, &mut reading, piece),
         Case::Frees => frees_by_a_device(hall, &mut reading, piece),
         Case::Shuts => is_shut_by_its_recorder(hall, &mut reading),
     }
 }
 
-/// Tries a case over a recorder.
+/// Tries a case over a recorder that fails at the calls of these numbers.
 fn tried<E: Ledger, M: Ledger, K: Marks>(
     alloc: Global,
-    recorder: MemoryRecorder,
+    failing: Vec<u64>,
     case: Case,
     piece: &[u8],
     entries: Blank,
@@ -172,17 +170,15 @@ fn tried<E: Ledger, M: Ledger, K: Marks>(
         × (marks.parts ≡ ALL_PARTS) }
     requires unsteady { K.steady → ⊥ }
 {
+    let recorder = MemoryRecorder::new(alloc, failing);
     let mut hall = OneDesk::<MemoryRecorder, E, M, K>::new(alloc, recorder, entries, moved, marks);
-    match case {
-        Case::Counts => answers_and_counts(&mut hall),
-        _ => holds_of_a_reader(&mut hall, case, piece),
-    }
+    holds_of_a_client(&mut hall, case, piece)
 }
 
-fn tried_by_brand(alloc: Global, recorder: MemoryRecorder, case: Case, piece: &[u8]) -> bool {
+fn tried_by_brand(alloc: Global, failing: Vec<u64>, case: Case, piece: &[u8]) -> bool {
     tried::<Brand, Brand, Brand>(
         alloc,
-        recorder,
+        failing,
         case,
         piece,
         Blank::new(ALL_PARTS),
@@ -191,16 +187,16 @@ fn tried_by_brand(alloc: Global, recorder: MemoryRecorder, case: Case, piece: &[
     )
 }
 
-/// A recorder that fails at its second call where the case is that it fails.
-fn recorder(alloc: Global, case: Case) -> Result<MemoryRecorder, AllocError> {
-    let failing = match case {
-        Case::Shuts => Vec::from_slice(alloc, &[2])?,
-        _ => Vec::new(alloc),
-    };
-    Ok(MemoryRecorder::new(alloc, failing))
+/// The calls at which the recorder fails.
+fn failing(alloc: Global, case: Case) -> Result<Vec<u64>, AllocError> {
+    match case {
+        Case::Shuts => Vec::from_slice(alloc, &[2]),
+        Case::Counts | Case::Holds | Case::Frees => Ok(Vec::new(alloc)),
+    }
 }
 
 pub fn holds(alloc: Global, case: Case) -> Result<bool, AllocError> {
+    let failing = failing(alloc, case)?;
     let piece = vec![in alloc; b'f'; MAX_HELD + 1]?;
-    Ok(tried_by_brand(alloc, recorder(alloc, case)?, case, &piece))
+    Ok(tried_by_brand(alloc, failing, case, &piece))
 }

@@ -127,6 +127,10 @@ fn ends<W: Wait + Copy + Drop>(
     Ok(desk.ask(rt, alloc, &job, port) == want)
 }
 
+fn has_written(sink: &MemorySink, want: &[u8]) -> bool {
+    sink.bytes() == want
+}
+
 fn row_holds<W: Wait + Copy + Drop>(
     rt: W,
     alloc: Global,
@@ -136,8 +140,8 @@ fn row_holds<W: Wait + Copy + Drop>(
 ) -> Result<bool, AllocError> {
     Ok(
         ends(rt, alloc, row.0, port, desk, row.2)?
-            && desk.sink.bytes() == row.3
-            && desk.note.bytes() == row.4,
+            && has_written(&desk.sink, row.3)
+            && has_written(&desk.note, row.4),
     )
 }
 

@@ -4,6 +4,7 @@ ghost use Rattle.std.specs.Prelude.{◌≤◌, length, IfSome};
 ghost use Rattle.adb_remote_words.specs.Words.{HasWords};
 
 use crate::jobs::{Asks, Port, job, outcome_shown};
+use adb_connections::MemoryOut;
 use adb_outside::Text;
 use adb_remote::{Outcome, Remote, RemoteError, converse};
 use adb_remote_words::MAX_WORD;
@@ -108,13 +109,18 @@ const ROWS: &[Row] = &[
     ),
 ];
 
+/// Whether this was written to a port.
+fn has_written(output: &MemoryOut, want: &[u8]) -> bool {
+    output.bytes() == want
+}
+
 fn row_holds<W: Wait + Copy + Drop>(
     rt: W,
     alloc: Global,
     row: &Row,
     port: &mut Port,
 ) -> Result<bool, AllocError> {
-    Ok(goes(rt, alloc, row.0, None, port, row.3)? && port.output.bytes() == row.2)
+    Ok(goes(rt, alloc, row.0, None, port, row.3)? && has_written(&port.output, row.2))
 }
 
 /// Whether a conversation goes so in pieces of that many bytes.
