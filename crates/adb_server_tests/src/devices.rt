@@ -1,11 +1,10 @@
 //! A device is read in pieces, and one to which no write goes is unplugged.
 
-use adb_capture::MemoryRecorder;
-use adb_connections::{MemoryDeviceIn, OpenGate, Plug};
+use adb_connections::{DeviceIn, MemoryDeviceIn, OpenGate, Plug};
 use adb_desk_log::Marks;
 use adb_device_reader::{Packets, Plugged, plug_in, read_device};
 use adb_fakes::{Sent, SharedOut};
-use adb_one_desk::OneDesk;
+use adb_hall::Hall;
 use adb_outside::{Kind, Text};
 use adb_writers::write_device;
 use std::alloc::{AllocError, Global};
@@ -34,18 +33,18 @@ impl Sends {
     }
 
     /// Whether the device is plugged in. One worker of it works until it hands its pass back.
-    fn works<W: Wait + Copy + Send + Sync + Drop + 'static, E: Ledger, M: Ledger, K: Marks>(
-        &self,
-        rt: W,
-        alloc: Global,
-        hall: &mut OneDesk<MemoryRecorder, E, M, K>,
-        output: &mut SharedOut<W>,
-    ) -> Result<bool, AllocError> {
+    fn works<
+        W: Wait + Copy + Send + Sync + Drop + 'static,
+        E: Ledger,
+        M: Ledger,
+        K: Marks,
+        H: Hall<E, M, K>,
+    >(&self, rt: W, alloc: Global, hall: &mut H, sent: &Sent<W>) -> Result<bool, AllocError> {
         let mut input = self.input(alloc)?;
         if self.reads {
             reads(rt, alloc, hall, &mut input)
         } else {
-            Ok(writes(rt, hall, &mut input, output))
+            writes(rt, alloc, hall, &mut input, sent)
         }
     }
 
@@ -55,25 +54,19 @@ impl Sends {
         E: Ledger,
         M: Ledger,
         K: Marks,
-    >(
-        &self,
-        rt: W,
-        alloc: Global,
-        hall: &mut OneDesk<MemoryRecorder, E, M, K>,
-    ) -> Result<bool, AllocError> {
+        H: Hall<E, M, K>,
+    >(&self, rt: W, alloc: Global, hall: &mut H) -> Result<bool, AllocError> {
         let sent = Sent::new(rt, alloc)?;
-        let failing = Vec::from_slice(alloc, &[1])?;
-        let mut output = SharedOut::new(sent.handle()?, failing);
-        Ok(self.works(rt, alloc, hall, &mut output)? && sent.is_closed() != self.reads)
+        Ok(self.works(rt, alloc, hall, &sent)? && sent.is_closed() != self.reads)
     }
 }
 
 /// Plugs a device in and reads it.
-fn reads<W: Wait + Copy + Drop, E: Ledger, M: Ledger, K: Marks>(
+fn reads<W: Wait + Copy + Drop, E: Ledger, M: Ledger, K: Marks, H: Hall<E, M, K>, I: DeviceIn>(
     rt: W,
     alloc: Global,
-    hall: &mut OneDesk<MemoryRecorder, E, M, K>,
-    input: &mut MemoryDeviceIn,
+    hall: &mut H,
+    input: &mut I,
 ) -> Result<bool, AllocError> {
     let packets = Packets::new(alloc)?;
     match plug_in(hall, Kind::Usb, b"emu1", input) {
@@ -85,18 +78,22 @@ fn reads<W: Wait + Copy + Drop, E: Ledger, M: Ledger, K: Marks>(
     }
 }
 
-/// Plugs a device in and writes to it.
-fn writes<W: Wait + Copy + Send + Sync + Drop + 'static, E: Ledger, M: Ledger, K: Marks>(
-    rt: W,
-    hall: &mut OneDesk<MemoryRecorder, E, M, K>,
-    input: &mut MemoryDeviceIn,
-    output: &mut SharedOut<W>,
-) -> bool {
+/// Plugs a device in and writes to it, where the first write fails.
+fn writes<
+    W: Wait + Copy + Send + Sync + Drop + 'static,
+    E: Ledger,
+    M: Ledger,
+    K: Marks,
+    H: Hall<E, M, K>,
+    I: DeviceIn,
+>(rt: W, alloc: Global, hall: &mut H, input: &mut I, sent: &Sent<W>) -> Result<bool, AllocError> {
+    let failing = Vec::from_slice(alloc, &[1])?;
+    let mut output = SharedOut::new(sent.handle()?, failing);
     match plug_in(hall, Kind::Usb, b"emu1", input) {
         Plugged::Link { writing, .. } => {
-            let _pass = write_device(rt, hall, output, writing, &OpenGate::new());
-            true
+            let _pass = write_device(rt, hall, &mut output, writing, &OpenGate::new());
+            Ok(true)
         }
-        _ => false,
+        _ => Ok(false),
     }
 }

@@ -1,14 +1,12 @@
 //! A forward whose port is bound, or cannot be.
 
 use crate::devices::CNXN;
-use adb_binder::MemoryBinder;
-use adb_capture::MemoryRecorder;
+use adb_binder::{Binder, MemoryBinder};
 use adb_client_reader::read_client;
-use adb_connections::{MemoryIn, OpenGate};
+use adb_connections::{MemoryIn, OpenGate, PortIn};
 use adb_desk_log::{DeskError, Marks};
 use adb_hall::Hall;
 use adb_hub::Handed;
-use adb_one_desk::OneDesk;
 use adb_outside::{Kind, Text};
 use std::alloc::{AllocError, Global};
 use std::sync::Wait;
@@ -25,13 +23,15 @@ pub(crate) struct Forward {
 
 impl Forward {
     /// Whether the client is answered so, which is read until its reader hands its pass back.
-    fn is_answered<W: Wait + Copy + Drop, E: Ledger, M: Ledger, K: Marks>(
-        &self,
-        rt: W,
-        hall: &mut OneDesk<MemoryRecorder, E, M, K>,
-        port: &mut MemoryIn,
-        binder: &mut MemoryBinder,
-    ) -> bool {
+    fn is_answered<
+        W: Wait + Copy + Drop,
+        E: Ledger,
+        M: Ledger,
+        K: Marks,
+        H: Hall<E, M, K>,
+        I: PortIn,
+        B: Binder,
+    >(&self, rt: W, hall: &mut H, port: &mut I, binder: &mut B) -> bool {
         let Ok((reading, mut writing)) = hall.join() else {
             return false;
         };
@@ -40,11 +40,11 @@ impl Forward {
     }
 
     /// Whether the client of a device is answered so.
-    pub(crate) fn stands<W: Wait + Copy + Drop, E: Ledger, M: Ledger, K: Marks>(
+    pub(crate) fn stands<W: Wait + Copy + Drop, E: Ledger, M: Ledger, K: Marks, H: Hall<E, M, K>>(
         &self,
         rt: W,
         alloc: Global,
-        hall: &mut OneDesk<MemoryRecorder, E, M, K>,
+        hall: &mut H,
     ) -> Result<bool, AllocError> {
         let asks = Text::from_slice(alloc, self.asks)?;
         let failing = Vec::from_slice(alloc, &[self.failing])?;
@@ -55,7 +55,7 @@ impl Forward {
 }
 
 /// A device is plugged in, and its connection is there.
-fn connects<E: Ledger, M: Ledger, K: Marks>(hall: &mut OneDesk<MemoryRecorder, E, M, K>) -> bool {
+fn connects<E: Ledger, M: Ledger, K: Marks, H: Hall<E, M, K>>(hall: &mut H) -> bool {
     let Ok((mut link, _writing)) = hall.attach(Kind::Usb, b"emu1") else {
         return false;
     };

@@ -5,7 +5,7 @@ ghost use Rattle.std.specs.Prelude.{◌≤◌};
 use crate::runs::words_of;
 use adb_capture::Entry;
 use adb_capture_reader::CaptureReader;
-use adb_outside::{MemorySink, MemorySource, Text};
+use adb_outside::{MemorySink, MemorySource, Sink, Source, Text};
 use adb_top::{Status, run_alone};
 use std::alloc::{AllocError, Global};
 
@@ -33,7 +33,7 @@ fn hand(entry: &Entry, client: u32, handed: &mut Text) -> Result<bool, AllocErro
 /// Reads an entry, and adds what it hands to a client; whether there is one.
 fn read(
     reader: &mut CaptureReader,
-    source: &mut MemorySource,
+    source: &mut impl Source,
     client: u32,
     handed: &mut Text,
 ) -> Result<bool, AllocError> {
@@ -84,7 +84,7 @@ fn is_done(
     alloc: Global,
     command: &str,
     record: &[u8],
-    sink: &mut MemorySink,
+    sink: &mut impl Sink,
 ) -> Result<bool, AllocError> {
     let Ok(words) = words_of(alloc, &[command]) else {
         return Err(AllocError);

@@ -4,7 +4,7 @@ use crate::words::words_of;
 use adb_connections::MemoryDeviceIn;
 use adb_device_reader::Device;
 use adb_fakes::{FakeYard, Kept, Sent, SharedOut};
-use adb_outside::{MemorySink, MemorySource, Text};
+use adb_outside::{MemorySink, MemorySource, Sink, Source, Text};
 use adb_top::{Status, run};
 use std::alloc::{AllocError, Global};
 use std::sync::Wait;
@@ -257,9 +257,9 @@ impl Row {
         rt: W,
         alloc: Global,
         words: &[String],
-        source: &mut MemorySource,
-        sink: &mut MemorySink,
-        note: &mut MemorySink,
+        source: &mut impl Source,
+        sink: &mut impl Sink,
+        note: &mut impl Sink,
     ) -> Result<bool, AllocError> {
         let kept = Kept::new(rt, alloc, Vec::from_slice(alloc, &[self.keep])?)?;
         let Ok(mut yard) = FakeYard::new(rt, alloc, kept) else {
@@ -278,7 +278,7 @@ impl Row {
         rt: W,
         alloc: Global,
         words: &[String],
-        source: &mut MemorySource,
+        source: &mut impl Source,
     ) -> Result<bool, AllocError> {
         let failing = Vec::from_slice(alloc, &[self.tell])?;
         let mut note = MemorySink::new(alloc, failing);
