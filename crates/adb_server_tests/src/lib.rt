@@ -2,6 +2,8 @@
 #![tactic(auto)]
 
 #[cfg(test)]
+mod clients;
+#[cfg(test)]
 mod devices;
 #[cfg(test)]
 mod forwards;
@@ -9,5 +11,3 @@ mod forwards;
 mod over_one_desk;
 #[cfg(test)]
 mod served;
-#[cfg(test)]
-mod three;

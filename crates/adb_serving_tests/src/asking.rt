@@ -29,15 +29,21 @@ pub fn is_answered(stream: &TcpStream, step: &Step) -> io::Result<bool> {
     Ok(&heard[..count] == step.hears)
 }
 
-/// Whether the server at the other end holds a conversation, and has closed where that ends it.
+/// Whether the other end has closed, and nothing is left to read.
+pub fn is_closed(stream: &TcpStream) -> io::Result<bool> {
+    let mut stream = stream;
+    let mut heard = [0u8; 1];
+    Ok(stream.read(&mut heard)? == 0)
+}
+
+/// Whether the server at the other end holds a conversation.
 fn holds(stream: &TcpStream, conversation: &Conversation) -> io::Result<bool> {
     for step in conversation.steps {
         if !is_answered(stream, step)? {
             return Ok(false);
         }
     }
-    let mut stream = stream;
-    Ok(!conversation.ends || stream.read(&mut [0u8; 1])? == 0)
+    Ok(!conversation.ends || is_closed(stream)?)
 }
 
 /// Whether the server at a port holds a conversation.

@@ -4,7 +4,7 @@
 #[cfg(test)]
 mod asking;
 #[cfg(test)]
-mod cases;
+mod ends;
 #[cfg(test)]
 mod heard;
 #[cfg(test)]
@@ -12,8 +12,8 @@ mod live;
 #[cfg(test)]
 mod replaying;
 #[cfg(test)]
-mod runs;
+mod starting;
 #[cfg(test)]
-mod streams;
+mod tools;
 #[cfg(test)]
 mod yard;

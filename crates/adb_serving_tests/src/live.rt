@@ -1,9 +1,10 @@
 //! A server with a model device, over sockets and threads, and what its clients are answered.
 
 use crate::asking::{Conversation, Step, converses, is_answered};
+use crate::ends::words_of;
 use crate::heard::Heard;
 use crate::replaying::replays;
-use crate::runs::{copies, words_of};
+use crate::tools::copies;
 use adb_outside::{NeverSink, NeverSource, Text, read_number};
 use adb_serving::start;
 use adb_top::Status;
@@ -11,6 +12,7 @@ use std::alloc::{AllocError, Global};
 use std::io::Read;
 use std::net::{Net, TcpListener, TcpStream};
 use std::sync::Wait;
+use std::test::Fail;
 use std::thread::Threads;
 use std::{io, thread};
 
@@ -175,7 +177,15 @@ fn call<
     converses(&rt, port, &KILL) && answered && copied
 }
 
-/// Whether clients and tools are answered at the port that a note names, for whose line it waits.
+/// The port that a note names, for whose line it waits.
+fn port_by<W: Wait + Copy + Drop>(note: &Heard<W>) -> Option<u16> {
+    match note.line() {
+        Ok(line) => port_in(line.as_slice()),
+        Err(_) => None,
+    }
+}
+
+/// Whether clients and tools are answered at the port that a note names.
 fn asks<
     W: Net<Listener = TcpListener, Stream = TcpStream>
         + Threads
@@ -186,12 +196,38 @@ fn asks<
         + Drop
         + 'static,
 >(rt: W, alloc: Global, note: &Heard<W>) -> bool {
-    let Ok(line) = note.line() else {
-        return false;
-    };
-    match port_in(line.as_slice()) {
+    match port_by(note) {
         Some(port) => call(rt, alloc, port),
         None => false,
+    }
+}
+
+/// What a server tells, where any thread hears it.
+#[derive(Drop)]
+struct Told<W: Wait + Copy + Drop> {
+    note: Heard<W>,
+    record: Heard<W>,
+}
+
+impl<W: Wait + Copy + Drop> Told<W> {
+    /// Nothing is told.
+    fn new(rt: W, alloc: Global) -> Result<Told<W>, AllocError> {
+        let note = Heard::new(rt, alloc)?;
+        let record = Heard::new(rt, alloc)?;
+        Ok(Told { note, record })
+    }
+
+    /// One more handle of the same.
+    fn handle(&self) -> Result<Told<W>, AllocError> {
+        let note = self.note.handle()?;
+        let record = self.record.handle()?;
+        Ok(Told { note, record })
+    }
+
+    /// Whether the record is of what was done.
+    fn is_of_that(&self, alloc: Global) -> Result<bool, AllocError> {
+        let kept = self.record.bytes()?;
+        replays(alloc, kept.as_slice())
     }
 }
 
@@ -205,16 +241,23 @@ fn serves<
         + Sync
         + Drop
         + 'static,
->(rt: W, alloc: Global, note: Heard<W>, record: Heard<W>) -> bool {
-    let mut note = note;
+>(rt: W, alloc: Global, told: Told<W>) -> bool {
+    let mut note = told.note;
     let mut source = NeverSource::new(Text::new(alloc), 1);
     let mut sink = NeverSink::new();
-    let words = words_of(alloc, SERVE);
-    let status = start(rt, alloc, words, &mut source, &mut sink, &mut note, record);
+    let status = start(
+        rt,
+        alloc,
+        words_of(alloc, SERVE),
+        &mut source,
+        &mut sink,
+        &mut note,
+        told.record,
+    );
     status == Status::Done
 }
 
-/// Whether a server ends as it should, its clients and tools are answered, and its record is of that.
+/// Whether a server ends as it should, and its clients and tools are answered.
 fn meet<
     W: Net<Listener = TcpListener, Stream = TcpStream>
         + Threads
@@ -224,19 +267,13 @@ fn meet<
         + Sync
         + Drop
         + 'static,
->(rt: W, alloc: Global, note: &Heard<W>, record: &Heard<W>) -> Result<bool, AllocError> {
-    let noted = note.handle()?;
-    let recorded = record.handle()?;
-    let (ended, answered) = thread::join(
-        &rt,
-        || serves(rt, alloc, noted, recorded),
-        || asks(rt, alloc, note),
-    );
-    Ok(ended && answered && replays(alloc, record.bytes()?.as_slice())?)
+>(rt: W, alloc: Global, told: Told<W>, note: &Heard<W>) -> bool {
+    let (ended, answered) = thread::join(&rt, || serves(rt, alloc, told), || asks(rt, alloc, note));
+    ended && answered
 }
 
 /// Whether a server serves its clients and ends as it should, and its record is of that.
-pub fn lives<
+fn lives<
     W: Net<Listener = TcpListener, Stream = TcpStream>
         + Threads
         + Wait
@@ -246,7 +283,13 @@ pub fn lives<
         + Drop
         + 'static,
 >(rt: W, alloc: Global) -> Result<bool, AllocError> {
-    let note = Heard::new(rt, alloc)?;
-    let record = Heard::new(rt, alloc)?;
-    meet(rt, alloc, &note, &record)
+    let told = Told::new(rt, alloc)?;
+    let handle = told.handle()?;
+    Ok(meet(rt, alloc, handle, &told.note) && told.is_of_that(alloc)?)
+}
+
+#[test]
+fn a_server_serves(rt: HostRuntime) -> Result<(), Fail> {
+    assert!(rt; lives(rt, rt.alloc())?);
+    Ok(())
 }

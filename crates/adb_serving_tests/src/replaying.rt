@@ -1,72 +1,70 @@
 //! What a record says that clients were handed.
 
-ghost use Rattle.std.specs.Prelude.{◌≤◌};
-
-use crate::runs::words_of;
+use crate::ends::Ends;
 use adb_capture::Entry;
 use adb_capture_reader::CaptureReader;
-use adb_outside::{MemorySink, MemorySource, Sink, Source, Text};
-use adb_top::{Status, run_alone};
+use adb_outside::{MemorySource, Text};
+use adb_top::Status;
 use std::alloc::{AllocError, Global};
 
 /// The most clients of a record whose answers are compared.
 const CLIENTS: u32 = 32;
 
-/// These bytes, in pieces of so many.
-fn source_of(alloc: Global, bytes: &[u8], piece: usize) -> Result<MemorySource, AllocError>
-    requires { 1 ≤ piece }
-{
-    let bytes = Text::from_slice(alloc, bytes)?;
-    Ok(MemorySource::new(bytes, piece, Vec::new(alloc)))
+/// A capture that is read, and what of it was handed to one client.
+#[derive(Drop)]
+struct Reading {
+    source: MemorySource,
+    reader: CaptureReader,
+    client: u32,
+    handed: Text,
 }
 
-/// Adds what an entry hands to a client, and says that there was one.
-fn hand(entry: &Entry, client: u32, handed: &mut Text) -> Result<bool, AllocError> {
-    if let Entry::Put { client: to, bytes } = entry {
-        if *to == client {
-            handed.push_slice(bytes.parts().rest)?;
+impl Reading {
+    /// Nothing is read yet.
+    fn new(alloc: Global, capture: &[u8], client: u32) -> Result<Reading, AllocError> {
+        let capture = Text::from_slice(alloc, capture)?;
+        Ok(Reading {
+            source: MemorySource::new(capture, 65_536, Vec::new(alloc)),
+            reader: CaptureReader::new(alloc)?,
+            client,
+            handed: Text::new(alloc),
+        })
+    }
+
+    /// Reads an entry; whether there is one.
+    fn read(&mut self) -> Result<bool, AllocError> {
+        match self.reader.next(&mut self.source) {
+            Ok(Some((_, entry))) => self.hand(&entry),
+            Ok(None) | Err(_) => Ok(false),
         }
     }
-    Ok(true)
-}
 
-/// Reads an entry, and adds what it hands to a client; whether there is one.
-fn read(
-    reader: &mut CaptureReader,
-    source: &mut impl Source,
-    client: u32,
-    handed: &mut Text,
-) -> Result<bool, AllocError> {
-    match &reader.next(source) {
-        Ok(Some((_, entry))) => hand(entry, client, handed),
-        Ok(None) | Err(_) => Ok(false),
+    /// Adds what an entry hands to the client, and says that there was one.
+    fn hand(&mut self, entry: &Entry) -> Result<bool, AllocError> {
+        if let Entry::Put { client, bytes } = entry {
+            if *client == self.client {
+                self.handed.push_slice(bytes.parts().rest)?;
+            }
+        }
+        Ok(true)
     }
 }
 
-/// Adds what a client was handed by the entries of a capture.
-fn hand_all(
-    alloc: Global,
-    capture: &[u8],
-    client: u32,
-    handed: &mut Text,
-) -> Result<(), AllocError> {
-    let mut reader = CaptureReader::new(alloc)?;
-    let mut source = source_of(alloc, capture, 65_536)?;
+/// What a client was handed by the entries of a capture.
+fn handed(alloc: Global, capture: &[u8], client: u32) -> Result<Text, AllocError> {
+    let mut reading = Reading::new(alloc, capture, client)?;
     for _ in 0..=capture.len() {
-        if !read(&mut reader, &mut source, client, handed)? {
+        if !reading.read()? {
             break;
         }
     }
-    Ok(())
+    Ok(reading.handed)
 }
 
 /// Whether two captures hand a client the same.
 fn hand_the_same(alloc: Global, one: &[u8], other: &[u8], client: u32) -> Result<bool, AllocError> {
-    let mut first = Text::new(alloc);
-    hand_all(alloc, one, client, &mut first)?;
-    let mut second = Text::new(alloc);
-    hand_all(alloc, other, client, &mut second)?;
-    Ok(second.as_slice() == first.as_slice())
+    let first = handed(alloc, one, client)?;
+    Ok(handed(alloc, other, client)?.as_slice() == first.as_slice())
 }
 
 /// Whether two captures hand each client the same.
@@ -79,32 +77,21 @@ fn hand_all_the_same(alloc: Global, one: &[u8], other: &[u8]) -> Result<bool, Al
     Ok(true)
 }
 
-/// Whether a command over a record is done, whose output goes to a sink.
-fn is_done(
-    alloc: Global,
-    command: &str,
-    record: &[u8],
-    sink: &mut impl Sink,
-) -> Result<bool, AllocError> {
-    let Ok(words) = words_of(alloc, &[command]) else {
-        return Err(AllocError);
-    };
-    let mut source = source_of(alloc, record, 3)?;
-    let mut note = MemorySink::new(alloc, Vec::new(alloc));
-    let status = run_alone(alloc, words.as_slice(), &mut source, sink, &mut note);
-    Ok(status == Status::Done)
-}
-
 /// Whether a record is judged to be legal.
 fn is_legal(alloc: Global, record: &[u8]) -> Result<bool, AllocError> {
-    let mut verdict = MemorySink::new(alloc, Vec::new(alloc));
-    let done = is_done(alloc, "check", record, &mut verdict)?;
-    Ok(done && verdict.bytes().starts_with(b"legal "))
+    let mut ends = Ends::new(alloc, record)?;
+    let status = ends.run_alone(alloc, &["check"]);
+    Ok(status == Status::Done && ends.output().starts_with(b"legal "))
+}
+
+/// Whether the replay of a record hands each client what it was handed.
+fn is_replayed(alloc: Global, record: &[u8]) -> Result<bool, AllocError> {
+    let mut ends = Ends::new(alloc, record)?;
+    let status = ends.run_alone(alloc, &["replay"]);
+    Ok(status == Status::Done && hand_all_the_same(alloc, record, ends.output())?)
 }
 
 /// Whether a record is judged to be legal, and its replay hands each client what it was handed.
 pub fn replays(alloc: Global, record: &[u8]) -> Result<bool, AllocError> {
-    let mut history = MemorySink::new(alloc, Vec::new(alloc));
-    let done = is_legal(alloc, record)? && is_done(alloc, "replay", record, &mut history)?;
-    Ok(done && hand_all_the_same(alloc, record, history.bytes())?)
+    Ok(is_legal(alloc, record)? && is_replayed(alloc, record)?)
 }

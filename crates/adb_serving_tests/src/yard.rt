@@ -9,6 +9,7 @@ use adb_yard::{Dialled, Listening, Staff, Yard};
 use std::alloc::{AllocError, Global};
 use std::net::{Net, TcpListener, TcpStream};
 use std::sync::Wait;
+use std::test::Fail;
 use std::thread::Threads;
 
 /// Whether two bytes that are written at one end are read at the other.
@@ -19,9 +20,9 @@ fn carries(output: &mut impl PortOut, input: &mut impl PortIn) -> bool {
 
 /// Whether what is written comes in at a door; by the port of a forward, where that is not 0.
 fn comes(door: &mut impl Door, output: &mut impl PortOut, forward: u16) -> bool {
-    match &mut door.accept() {
-        Came::Port(input, _) => forward == 0 && carries(output, input),
-        Came::Forward(by, input, _) => *by == forward && carries(output, input),
+    match door.accept() {
+        Came::Port(mut input, _) => forward == 0 && carries(output, &mut input),
+        Came::Forward(by, mut input, _) => by == forward && carries(output, &mut input),
         Came::Closed | Came::Failed => false,
     }
 }
@@ -31,8 +32,8 @@ fn meets<Y: Yard>(yard: &mut Y, door: &mut Y::Door, port: u16, forward: u16) -> 
     if port == 0 {
         return false;
     }
-    match &mut yard.dial(port) {
-        Dialled::Here(_input, output) => comes(door, output, forward),
+    match yard.dial(port) {
+        Dialled::Here(_input, mut output) => comes(door, &mut output, forward),
         Dialled::Failed => false,
     }
 }
@@ -48,13 +49,18 @@ fn lets_in<Y: Yard>(yard: &mut Y, door: &mut Y::Door, port: u16) -> bool {
         && matches!(yard.listen(port), Listening::Failed)
 }
 
-/// Whether a yard's door lets in whom it should, and closes when its bell rings.
+/// Whether a door closes when its bell rings.
+fn closes(door: &mut impl Door, bell: &impl Bell) -> bool {
+    bell.ring();
+    matches!(door.accept(), Came::Closed)
+}
+
+/// Whether a yard's door lets in whom it should, and closes.
 fn opens<Y: Yard>(yard: &mut Y) -> bool {
-    match &mut yard.listen(0) {
-        Listening::Here(door, bell, port) => {
-            let met = lets_in(yard, door, *port);
-            bell.ring();
-            matches!(door.accept(), Came::Closed) && met
+    match yard.listen(0) {
+        Listening::Here(mut door, bell, port) => {
+            let met = lets_in(yard, &mut door, port);
+            closes(&mut door, &bell) && met
         }
         Listening::Failed => false,
     }
@@ -83,17 +89,12 @@ fn records<
     Ok(off && on && kept(yard, true) == Err(RecordError::Failed))
 }
 
-/// Whether a yard of this machine gives what it is asked.
-pub fn gives<
-    W: Net<Listener = TcpListener, Stream = TcpStream>
-        + Threads
-        + Wait
-        + Copy
-        + Send
-        + Sync
-        + Drop
-        + 'static,
->(rt: W, alloc: Global) -> Result<bool, AllocError> {
+#[test]
+fn a_yard_gives_what_it_is_asked(rt: HostRuntime) -> Result<(), Fail> {
+    let alloc: Global = rt.alloc();
     let mut yard = RealYard::new(rt, alloc, Ending::new(alloc)?, NeverSink::new())?;
-    Ok(opens(&mut yard) && records(&mut yard)? && matches!(yard.staff(), Staff::Threads))
+    assert!(rt; opens(&mut yard));
+    assert!(rt; records(&mut yard)?);
+    assert!(rt; matches!(yard.staff(), Staff::Threads));
+    Ok(())
 }

@@ -1,10 +1,11 @@
-//! The top call over fakes: how a server ends, what a client tool asks and tells, and which devices
-//! are wanted.
+//! The top call over fakes: how a server ends, and what its note then has.
 #![tactic(auto)]
 
 #[cfg(test)]
-mod runs;
+mod ends;
+#[cfg(test)]
+mod serves;
+#[cfg(test)]
+mod tools;
 #[cfg(test)]
 mod wants;
-#[cfg(test)]
-mod words;

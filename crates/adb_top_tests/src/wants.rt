@@ -1,52 +1,40 @@
 //! The devices that words of a server ask for.
 
-use crate::words::words_of;
+use crate::ends::words_of;
 use adb_outside::Text;
 use adb_top::wanted;
 use adb_words::{Ports, WordsError};
 use std::alloc::{AllocError, Global};
 use std::test::Fail;
 
-/// Words, whether they are a command, and the ports and the serials of the devices that they ask
-/// for: each serial stands behind a bar.
+/// Words, and the ports and the serials of the devices that they ask for.
 struct Row {
-    words: &'static str,
-    right: bool,
+    words: &'static [&'static str],
     connects: &'static [u16],
-    devices: &'static str,
+    devices: &'static [&'static [u8]],
 }
 
 const ROWS: &[Row] = &[
     Row {
-        words: "serve|--connect=9|--device=a|--device=b",
-        right: true,
+        words: &["serve", "--connect=9", "--device=a", "--device=b"],
         connects: &[9],
-        devices: "|a|b",
+        devices: &[b"a", b"b"],
     },
     Row {
-        words: "check",
-        right: true,
+        words: &["check"],
         connects: &[],
-        devices: "",
-    },
-    Row {
-        words: "serve|x",
-        right: false,
-        connects: &[],
-        devices: "",
+        devices: &[],
     },
 ];
 
 /// Whether these are the serials.
-fn are(serials: &[Text], wants: &str) -> bool {
-    let mut wants = wants.split('|').skip(1);
-    for serial in serials {
-        match wants.next() {
-            Some(want) if serial.as_slice() == want.as_bytes() => {}
-            _ => return false,
+fn are(serials: &[Text], wants: &[&[u8]]) -> bool {
+    for (serial, want) in serials.iter().zip(wants.iter()) {
+        if serial.as_slice() != *want {
+            return false;
         }
     }
-    wants.next().is_none()
+    serials.len() == wants.len()
 }
 
 impl Row {
@@ -57,17 +45,24 @@ impl Row {
     fn stands(&self, alloc: Global) -> Result<bool, AllocError> {
         let words = words_of(alloc, self.words)?;
         match wanted(alloc, words.as_slice()) {
-            Ok(ports) => Ok(self.right && self.is_of(&ports)),
-            Err(WordsError::Usage) => Ok(!self.right),
+            Ok(ports) => Ok(self.is_of(&ports)),
+            Err(WordsError::Usage) => Ok(false),
             Err(WordsError::OutOfMemory) => Err(AllocError),
         }
     }
 }
 
+/// Whether words are no command.
+fn are_refused(alloc: Global, words: &[&str]) -> Result<bool, AllocError> {
+    let words = words_of(alloc, words)?;
+    Ok(matches!(wanted(alloc, words.as_slice()), Err(WordsError::Usage)))
+}
+
 #[test]
 fn devices_are_wanted(rt: HostRuntime) -> Result<(), Fail> {
     for row in ROWS {
-        assert!(rt; row.stands(rt.alloc())?, "{}", row.words);
+        assert!(rt; row.stands(rt.alloc())?, "{:?}", row.words);
     }
+    assert!(rt; are_refused(rt.alloc(), &["serve", "x"])?);
     Ok(())
 }
