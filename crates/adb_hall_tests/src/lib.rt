@@ -2,8 +2,6 @@
 #![tactic(auto)]
 
 #[cfg(test)]
-mod cases;
-#[cfg(test)]
 mod locked_hall;
 #[cfg(test)]
 mod one_desk;

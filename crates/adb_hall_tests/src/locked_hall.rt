@@ -15,6 +15,7 @@ use std::alloc::{AllocError, Global};
 use std::marker::Brand;
 use std::sync::Wait;
 use std::sync::ledger::{Blank, Ledger};
+use std::test::Fail;
 use std::thread;
 use std::thread::Threads;
 
@@ -32,10 +33,11 @@ fn joins_and_waits<E: Ledger, M: Ledger, K: Marks>(
     alloc: Global,
     locked: &mut Locked<NullRecorder, E, M, K>,
 ) -> Result<bool, AllocError> {
+    let pair = Pair::new(alloc)?;
     let Ok(client) = locked.desk.join() else {
         return Ok(false);
     };
-    waits(&mut locked.bells, Owner::Client(client), Pair::new(alloc)?);
+    waits(&mut locked.bells, Owner::Client(client), pair);
     Ok(true)
 }
 
@@ -51,7 +53,6 @@ fn all_wait<E: Ledger, M: Ledger, K: Marks>(
     Ok(true)
 }
 
-/// Of how many bells it rings.
 fn rung<E: Ledger, M: Ledger, K: Marks>(locked: &mut Locked<NullRecorder, E, M, K>) -> usize {
     locked.ring().len()
 }
@@ -132,23 +133,6 @@ fn serves_a_client<
     counts_what_it_moved(readers, writers, reading, writing) && served
 }
 
-fn all_are_rung<E: Ledger, M: Ledger, K: Marks>(
-    alloc: Global,
-    locked: &mut Locked<NullRecorder, E, M, K>,
-) -> Result<bool, AllocError> {
-    Ok(all_wait(alloc, locked)? && rings_for_whom_it_concerns(locked))
-}
-
-fn serves_by_two_handles<
-    E: Ledger + Send + Sync + 'static,
-    M: Ledger + Send + Sync + 'static,
-    K: Marks + Send + Sync + 'static,
-    W: Threads + Wait + Copy + Send + Sync + Drop + 'static,
->(rt: W, writers: &mut LockedHall<NullRecorder, E, M, K, W>) -> Result<bool, AllocError> {
-    let mut readers = writers.handle()?;
-    Ok(serves_a_client(rt, &mut readers, writers))
-}
-
 fn rings<E: Ledger, M: Ledger, K: Marks>(
     alloc: Global,
     entries: Blank,
@@ -168,7 +152,7 @@ fn rings<E: Ledger, M: Ledger, K: Marks>(
         bells: Bells::new(alloc),
         is_over: false,
     };
-    all_are_rung(alloc, &mut locked)
+    Ok(all_wait(alloc, &mut locked)? && rings_for_whom_it_concerns(&mut locked))
 }
 
 fn serves<
@@ -188,11 +172,11 @@ fn serves<
     let mut writers = LockedHall::<NullRecorder, E, M, K, W>::new(
         rt, alloc, recorder, entries, moved, marks,
     )?;
-    serves_by_two_handles(rt, &mut writers)
+    let mut readers = writers.handle()?;
+    Ok(serves_a_client(rt, &mut readers, &mut writers))
 }
 
-/// Whether those who wait are woken where something concerns them.
-pub fn rings_by_brand(alloc: Global) -> Result<bool, AllocError> {
+fn rings_by_brand(alloc: Global) -> Result<bool, AllocError> {
     rings::<Brand, Brand, Brand>(
         alloc,
         Blank::new(ALL_PARTS),
@@ -201,8 +185,7 @@ pub fn rings_by_brand(alloc: Global) -> Result<bool, AllocError> {
     )
 }
 
-/// Whether a writer in one thread is handed what a reader in another asks for.
-pub fn serves_by_brand<W: Threads + Wait + Copy + Send + Sync + Drop + 'static>(
+fn serves_by_brand<W: Threads + Wait + Copy + Send + Sync + Drop + 'static>(
     rt: W,
     alloc: Global,
 ) -> Result<bool, AllocError> {
@@ -213,4 +196,17 @@ pub fn serves_by_brand<W: Threads + Wait + Copy + Send + Sync + Drop + 'static>(
         Blank::new(ALL_PARTS),
         Blank::new(ALL_PARTS),
     )
+}
+
+#[test]
+fn wakes_whom_it_concerns(rt: HostRuntime) -> Result<(), Fail> {
+    assert!(rt; rings_by_brand(rt.alloc())?);
+    Ok(())
+}
+
+#[test]
+fn serves_two_threads(rt: HostRuntime) -> Result<(), Fail> {
+    let alloc = rt.alloc();
+    assert!(rt; serves_by_brand(rt, alloc)?);
+    Ok(())
 }

@@ -12,6 +12,7 @@ use adb_outside::{Cause, HandOut, Kind};
 use std::alloc::{AllocError, Global};
 use std::marker::Brand;
 use std::sync::ledger::{Blank, Ledger};
+use std::test::Fail;
 
 /// Whether these bytes were handed out.
 pub fn hands_out(answer: &Result<Handed, DeskError>, bytes: &[u8]) -> bool {
@@ -60,21 +61,21 @@ fn answers_and_counts<E: Ledger, M: Ledger, K: Marks>(
 /// What is more than may be held is refused for now, and no entry is made.
 fn holds_so_much<E: Ledger, M: Ledger, K: Marks>(
     hall: &mut OneDesk<MemoryRecorder, E, M, K>,
-    reading: &mut ClientIn<E, M, K>,
+    mut reading: ClientIn<E, M, K>,
     piece: &[u8],
 ) -> bool {
-    hall.read(reading, &piece[..piece.len().min(MAX_HELD + 1)]) == Err(DeskError::Later)
+    hall.read(&mut reading, &piece[..piece.len().min(MAX_HELD + 1)]) == Err(DeskError::Later)
         && hall.recorder().entries().len() == 1
-        && hall.room(reading) == Ok(Room::Bytes(MAX_HELD))
+        && hall.room(&mut reading) == Ok(Room::Bytes(MAX_HELD))
 }
 
 /// A recorder that fails shuts the hall: every later call has that answer.
 fn is_shut_by_its_recorder<E: Ledger, M: Ledger, K: Marks>(
     hall: &mut OneDesk<MemoryRecorder, E, M, K>,
-    reading: &mut ClientIn<E, M, K>,
+    mut reading: ClientIn<E, M, K>,
 ) -> bool {
-    hall.read(reading, b"x") == Err(DeskError::RecordFault)
-        && hall.end(reading, Cause::Eof) == Err(DeskError::RecordFault)
+    hall.read(&mut reading, b"x") == Err(DeskError::RecordFault)
+        && hall.end(&mut reading, Cause::Eof) == Err(DeskError::RecordFault)
         && hall.over() == Some(DeskError::RecordFault)
 }
 
@@ -117,18 +118,19 @@ fn frees_what_goes_up<E: Ledger, M: Ledger, K: Marks>(
 /// Tries what a device's answer makes of what is held.
 fn frees_by_a_device<E: Ledger, M: Ledger, K: Marks>(
     hall: &mut OneDesk<MemoryRecorder, E, M, K>,
-    reading: &mut ClientIn<E, M, K>,
+    mut reading: ClientIn<E, M, K>,
     piece: &[u8],
 ) -> bool {
     let Ok((mut link, _sender)) = hall.attach(Kind::Usb, b"emu1") else {
         return false;
     };
-    fills_a_stream(hall, &mut link, reading, piece) && frees_what_goes_up(hall, &mut link, reading)
+    fills_a_stream(hall, &mut link, &mut reading, piece)
+        && frees_what_goes_up(hall, &mut link, &mut reading)
 }
 
 /// What is tried.
 #[derive(Clone, Copy, Drop)]
-pub enum Case {
+enum Case {
     Counts,
     Holds,
     Frees,
@@ -141,27 +143,26 @@ fn holds_of_a_client<E: Ledger, M: Ledger, K: Marks>(
     case: Case,
     piece: &[u8],
 ) -> bool {
-    let Ok((mut reading, writing)) = hall.join() else {
+    let Ok((reading, writing)) = hall.join() else {
         return false;
     };
     match case {
         Case::Counts => answers_and_counts(hall, reading, writing),
-        Case::Holds => holds_so_much(hall, &mut reading, piece),
-        Case::Frees => frees_by_a_device(hall, &mut reading, piece),
-        Case::Shuts => is_shut_by_its_recorder(hall, &mut reading),
+        Case::Holds => holds_so_much(hall, reading, piece),
+        Case::Frees => frees_by_a_device(hall, reading, piece),
+        Case::Shuts => is_shut_by_its_recorder(hall, reading),
     }
 }
 
 /// Tries a case over a recorder that fails at the calls of these numbers.
 fn tried<E: Ledger, M: Ledger, K: Marks>(
     alloc: Global,
-    failing: Vec<u64>,
+    failing: &[u64],
     case: Case,
-    piece: &[u8],
     entries: Blank,
     moved: Blank,
     marks: Blank,
-) -> bool
+) -> Result<bool, AllocError>
     requires entries { (entries.name ≡ E.name) × (entries.parts ≡ E.parts)
         × (entries.parts ≡ ALL_PARTS) }
     requires moved { (moved.name ≡ M.name) × (moved.parts ≡ M.parts)
@@ -170,33 +171,35 @@ fn tried<E: Ledger, M: Ledger, K: Marks>(
         × (marks.parts ≡ ALL_PARTS) }
     requires unsteady { K.steady → ⊥ }
 {
-    let recorder = MemoryRecorder::new(alloc, failing);
+    let piece = vec![in alloc; b'f'; MAX_HELD + 1]?;
+    let recorder = MemoryRecorder::new(alloc, Vec::from_slice(alloc, failing)?);
     let mut hall = OneDesk::<MemoryRecorder, E, M, K>::new(alloc, recorder, entries, moved, marks);
-    holds_of_a_client(&mut hall, case, piece)
+    Ok(holds_of_a_client(&mut hall, case, &piece))
 }
 
-fn tried_by_brand(alloc: Global, failing: Vec<u64>, case: Case, piece: &[u8]) -> bool {
+fn holds(alloc: Global, failing: &[u64], case: Case) -> Result<bool, AllocError> {
     tried::<Brand, Brand, Brand>(
         alloc,
         failing,
         case,
-        piece,
         Blank::new(ALL_PARTS),
         Blank::new(ALL_PARTS),
         Blank::new(ALL_PARTS),
     )
 }
 
-/// The calls at which the recorder fails.
-fn failing(alloc: Global, case: Case) -> Result<Vec<u64>, AllocError> {
-    match case {
-        Case::Shuts => Vec::from_slice(alloc, &[2]),
-        Case::Counts | Case::Holds | Case::Frees => Ok(Vec::new(alloc)),
-    }
-}
+/// The calls at which the recorder fails, and what is tried.
+const CASES: &[(&[u64], Case)] = &[
+    (&[], Case::Counts),
+    (&[], Case::Holds),
+    (&[], Case::Frees),
+    (&[2], Case::Shuts),
+];
 
-pub fn holds(alloc: Global, case: Case) -> Result<bool, AllocError> {
-    let failing = failing(alloc, case)?;
-    let piece = vec![in alloc; b'f'; MAX_HELD + 1]?;
-    Ok(tried_by_brand(alloc, failing, case, &piece))
+#[test]
+fn answers_keeps_and_counts(rt: HostRuntime) -> Result<(), Fail> {
+    for (at, (failing, case)) in CASES.iter().enumerate() {
+        assert!(rt; holds(rt.alloc(), failing, *case)?, "case {at}");
+    }
+    Ok(())
 }

@@ -4,8 +4,6 @@
 #[cfg(test)]
 mod asking;
 #[cfg(test)]
-mod cases;
-#[cfg(test)]
 mod conversing;
 #[cfg(test)]
 mod frames;

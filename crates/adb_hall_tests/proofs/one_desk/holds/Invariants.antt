@@ -1,4 +1,4 @@
-use Rattle.adb_hall_tests.proofs.one_desk.tried_by_brand.Given as goal
+use Rattle.adb_hall_tests.proofs.one_desk.holds.Given as goal
 
 abbrev pub ghosts-tried-E-Ledger : goal.ghosts-tried-E-Ledger
 ghosts-tried-E-Ledger a = record { name = a.entries.name; parts = a.entries.parts }
