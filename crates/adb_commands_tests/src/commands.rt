@@ -3,7 +3,7 @@
 use crate::records::{capture_of, source_of};
 use crate::words::words_of;
 use adb_commands::{Status, run_alone};
-use adb_outside::{MemorySink, Source};
+use adb_outside::{MemorySink, MemorySource};
 use std::alloc::{AllocError, Global};
 use std::test::Fail;
 
@@ -208,7 +208,7 @@ impl Row {
         &self,
         alloc: Global,
         words: &[String],
-        source: &mut impl Source,
+        source: &mut MemorySource,
         history: &[u8],
     ) -> Result<bool, AllocError> {
         let notes = Vec::from_slice(alloc, self.notes)?;
