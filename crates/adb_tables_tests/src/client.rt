@@ -6,8 +6,15 @@ use adb_client::{Ask, Client, MAX_SLICE};
 use adb_outside::HandOut;
 use adb_request::Request;
 use bytes::Bytes;
-use std::alloc::AllocError;
-use std::test::Fail;
+use std::alloc::{AllocError, Global};
+
+/// What is tried, each with a new client.
+#[derive(Clone, Copy, Debug, Drop)]
+pub enum Case {
+    RequestsAreTakenOff,
+    WhatIsHeldIsCut,
+    WhatIsDueIsHandedOut,
+}
 
 /// What is asked, in a word.
 fn word(ask: &Ask) -> &'static [u8] {
@@ -45,13 +52,13 @@ fn asks(client: &mut Client, row: &Asks) -> Result<bool, AllocError> {
     Ok(asked(client)? == row.1 && client.held() == row.2)
 }
 
-#[test]
-fn requests_are_taken_off(rt: HostRuntime) -> Result<(), Fail> {
-    let mut client = Client::new(rt.alloc(), 7, true)?;
-    for row in ASKS {
-        assert!(rt; asks(&mut client, row)?, "at {:?}", row.0);
+fn are_taken_off(client: &mut Client) -> Result<Option<usize>, AllocError> {
+    for (at, row) in ASKS.iter().enumerate() {
+        if !asks(client, row)? {
+            return Ok(Some(at));
+        }
     }
-    Ok(())
+    Ok(None)
 }
 
 /// A change of what is held.
@@ -104,13 +111,13 @@ fn cuts(client: &mut Client, row: &Changes) -> Result<bool, AllocError> {
     Ok(off.as_slice() == row.1 && client.held() == row.2)
 }
 
-#[test]
-fn what_is_held_is_cut(rt: HostRuntime) -> Result<(), Fail> {
-    let mut client = Client::new(rt.alloc(), 1, false)?;
-    for row in CHANGES {
-        assert!(rt; cuts(&mut client, row)?, "{:?} off, {} held", row.1, row.2);
+fn is_cut(client: &mut Client) -> Result<Option<usize>, AllocError> {
+    for (at, row) in CHANGES.iter().enumerate() {
+        if !cuts(client, row)? {
+            return Ok(Some(at));
+        }
     }
-    Ok(())
+    Ok(None)
 }
 
 /// A change of what is due.
@@ -164,12 +171,31 @@ fn is_made_of(front: &HandOut, bytes: &[u8]) -> bool {
     front.len() == bytes.len() && bytes.starts_with(parts.start) && bytes.ends_with(parts.rest)
 }
 
-#[test]
-fn what_is_due_is_handed_out(rt: HostRuntime) -> Result<(), Fail> {
-    assert!(rt; MAX_SLICE == 1_048_576);
-    let mut client = Client::new(rt.alloc(), 1, false)?;
-    for row in DEBTS {
-        assert!(rt; owes(&mut client, row)?, "{:?} of {}", row.1, row.2);
+fn is_handed_out(client: &mut Client) -> Result<Option<usize>, AllocError> {
+    if MAX_SLICE != 1_048_576 {
+        return Ok(Some(0));
     }
-    Ok(())
+    for (at, row) in DEBTS.iter().enumerate() {
+        if !owes(client, row)? {
+            return Ok(Some(at));
+        }
+    }
+    Ok(None)
+}
+
+fn fault_with(client: &mut Client, case: Case) -> Result<Option<usize>, AllocError> {
+    match case {
+        Case::RequestsAreTakenOff => are_taken_off(client),
+        Case::WhatIsHeldIsCut => is_cut(client),
+        Case::WhatIsDueIsHandedOut => is_handed_out(client),
+    }
+}
+
+pub fn first_fault(alloc: Global, case: Case) -> Result<Option<usize>, AllocError> {
+    let (id, is_local) = match case {
+        Case::RequestsAreTakenOff => (7, true),
+        Case::WhatIsHeldIsCut | Case::WhatIsDueIsHandedOut => (1, false),
+    };
+    let mut client = Client::new(alloc, id, is_local)?;
+    fault_with(&mut client, case)
 }

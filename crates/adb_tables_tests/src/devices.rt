@@ -38,12 +38,16 @@ pub fn plug(alloc: Global, registry: &mut Registry, device: &Device) -> Result<(
     Ok(())
 }
 
-pub fn plugged(alloc: Global, devices: &[Device]) -> Result<Registry, AttachError> {
-    let mut registry = Registry::new(alloc);
+/// Plugs in all of them, one after the other.
+pub fn plug_all(
+    alloc: Global,
+    registry: &mut Registry,
+    devices: &[Device],
+) -> Result<(), AttachError> {
     for device in devices {
-        plug(alloc, &mut registry, device)?;
+        plug(alloc, registry, device)?;
     }
-    Ok(registry)
+    Ok(())
 }
 
 fn identity(alloc: Global, names: &Names) -> Result<Identity, AllocError>

@@ -2,8 +2,14 @@
 
 use adb_forward::{ForwardError, Forwards};
 use adb_outside::MAX_SERIAL;
-use std::alloc::AllocError;
-use std::test::Fail;
+use std::alloc::{AllocError, Global};
+
+/// What is tried, each over no forwards at first.
+#[derive(Clone, Copy, Debug, Drop)]
+pub enum Case {
+    Listed,
+    Refused,
+}
 
 #[derive(Clone, Copy)]
 enum Act {
@@ -84,16 +90,13 @@ fn lists(forwards: &Forwards, list: &[u8]) -> Result<bool, AllocError> {
     Ok(listed.as_slice() == list)
 }
 
-#[test]
-fn listed(rt: HostRuntime) -> Result<(), Fail> {
-    let mut forwards = Forwards::new(rt.alloc());
-    for &(act, list) in ACTS {
-        assert!(rt;
-            acts(&mut forwards, act) && lists(&forwards, list)?,
-            "{list:?}"
-        );
+fn are_listed(forwards: &mut Forwards) -> Result<Option<usize>, AllocError> {
+    for (at, row) in ACTS.iter().enumerate() {
+        if !acts(forwards, row.0) || !lists(forwards, row.1)? {
+            return Ok(Some(at));
+        }
     }
-    Ok(())
+    Ok(None)
 }
 
 /// Whether as many rows are put as there may be.
@@ -125,16 +128,23 @@ const PUTS: &[Put] = &[
     (64, &[b'r'; 512], false, Ok(())),
 ];
 
-fn puts(forwards: &mut Forwards, put: Put) -> bool {
-    let (local, remote, norebind, answer) = put;
-    forwards.put(local, 2, &[b'r'; 64], remote, norebind) == answer
+/// The first of the rows that is not answered so by the full table.
+fn are_refused(forwards: &mut Forwards) -> Option<usize> {
+    if !is_filled(forwards) {
+        return Some(0);
+    }
+    for (at, put) in PUTS.iter().enumerate() {
+        if forwards.put(put.0, 2, &[b'r'; 64], put.1, put.2) != put.3 {
+            return Some(at);
+        }
+    }
+    None
 }
 
-#[test]
-fn refused(rt: HostRuntime) {
-    let mut forwards = Forwards::new(rt.alloc());
-    assert!(rt; is_filled(&mut forwards));
-    for &put in PUTS {
-        assert!(rt; puts(&mut forwards, put), "{} {:?}", put.0, put.1);
+pub fn first_fault(alloc: Global, case: Case) -> Result<Option<usize>, AllocError> {
+    let mut forwards = Forwards::new(alloc);
+    match case {
+        Case::Listed => are_listed(&mut forwards),
+        Case::Refused => Ok(are_refused(&mut forwards)),
     }
 }

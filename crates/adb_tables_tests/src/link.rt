@@ -7,7 +7,14 @@ use adb_outside::{Parts, Text};
 use adb_wire::{Command, Deframer, Head};
 use bytes::Bytes;
 use std::alloc::{AllocError, Global};
-use std::test::Fail;
+
+/// What is tried, each over a new link.
+#[derive(Clone, Copy, Debug, Drop)]
+pub enum Case {
+    CheckWordsFollowTheLastConnect,
+    AConnectGoesOutWithItsSum,
+    APieceIsCutBesideWhatIsHeld,
+}
 
 /// What the server says first, with the sum of its payload.
 const CONNECT: &[&[u8]] = &[
@@ -48,30 +55,29 @@ fn head(command: Command, length: u32) -> Head
 /// The most bytes that are handed out at once.
 const MOST: usize = 5;
 
-fn handed_out(alloc: Global, link: &mut Link) -> Result<Text, AllocError> {
+/// Hands out all that is due. Whether it is those packets.
+fn are_due(alloc: Global, link: &mut Link, packets: &[&[u8]]) -> Result<bool, AllocError> {
     let mut out = Text::new(alloc);
-    for _ in 0..link.owed() {
-        hand_out(link, &mut out)?;
-    }
-    Ok(out)
+    hand_out(link, &mut out)?;
+    Ok(are_joined(out.as_slice(), packets) && link.owed() == 0)
 }
 
 fn hand_out(link: &mut Link, out: &mut Text) -> Result<(), AllocError> {
-    let piece = link.front(MOST)?;
-    push(out, piece.parts())?;
-    link.hand(link.owed().min(MOST));
+    for _ in 0..link.owed() {
+        add_front(link, out)?;
+        link.hand(link.owed().min(MOST));
+    }
     Ok(())
 }
 
-fn push(out: &mut Text, parts: Parts<'_>) -> Result<(), AllocError> {
-    out.push_slice(parts.start)?;
-    out.push_slice(parts.rest)
+fn add_front(link: &Link, out: &mut Text) -> Result<(), AllocError> {
+    let piece = link.front(MOST)?;
+    add(out, piece.parts())
 }
 
-/// Hands out all that is due. Whether it is those packets.
-fn are_due(alloc: Global, link: &mut Link, packets: &[&[u8]]) -> Result<bool, AllocError> {
-    let out = handed_out(alloc, link)?;
-    Ok(are_joined(out.as_slice(), packets) && link.owed() == 0)
+fn add(out: &mut Text, parts: Parts<'_>) -> Result<(), AllocError> {
+    out.push_slice(parts.start)?;
+    out.push_slice(parts.rest)
 }
 
 /// Whether the bytes are those parts, one behind the other.
@@ -128,14 +134,6 @@ const BETWEEN_VERSIONS: &[&[u8]] = &[
     WRITE,
 ];
 
-#[test]
-fn check_words_follow_the_last_cnxn(rt: HostRuntime) -> Result<(), Fail> {
-    let mut link = Link::new(rt.alloc());
-    owe_between_versions(&mut link)?;
-    assert!(rt; are_due(rt.alloc(), &mut link, BETWEEN_VERSIONS)?);
-    Ok(())
-}
-
 fn owe_connect(link: &mut Link) -> Result<(), AllocError> {
     let head = Head {
         command: Command::Cnxn,
@@ -145,14 +143,6 @@ fn owe_connect(link: &mut Link) -> Result<(), AllocError> {
         check: 0,
     };
     link.owe_slice(&head, Bytes::from_static(b"host::features=shell_v2"))
-}
-
-#[test]
-fn a_cnxn_goes_out_with_its_sum(rt: HostRuntime) -> Result<(), Fail> {
-    let mut link = Link::new(rt.alloc());
-    owe_connect(&mut link)?;
-    assert!(rt; are_due(rt.alloc(), &mut link, CONNECT)?);
-    Ok(())
 }
 
 /// A piece comes in that is a packet. Whether that has this payload, and the link is whole then.
@@ -201,9 +191,23 @@ fn is_cut(link: &mut Link) -> Result<bool, AllocError>
     Ok(takes_packet(link, OLD_DEVICE, b"device::")? && waits(link, start, 1)? && breaks(link, end)?)
 }
 
-#[test]
-fn a_piece_is_cut_beside_what_is_held(rt: HostRuntime) -> Result<(), Fail> {
-    let mut link = Link::new(rt.alloc());
-    assert!(rt; is_cut(&mut link)?);
-    Ok(())
+fn holds_over(alloc: Global, link: &mut Link, case: Case) -> Result<bool, AllocError>
+    requires { link.old.incoming.fault ≡ None }
+{
+    match case {
+        Case::CheckWordsFollowTheLastConnect => {
+            owe_between_versions(link)?;
+            are_due(alloc, link, BETWEEN_VERSIONS)
+        }
+        Case::AConnectGoesOutWithItsSum => {
+            owe_connect(link)?;
+            are_due(alloc, link, CONNECT)
+        }
+        Case::APieceIsCutBesideWhatIsHeld => is_cut(link),
+    }
+}
+
+pub fn holds(alloc: Global, case: Case) -> Result<bool, AllocError> {
+    let mut link = Link::new(alloc);
+    holds_over(alloc, &mut link, case)
 }

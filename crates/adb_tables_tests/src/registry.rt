@@ -1,10 +1,20 @@
 //! What no clause says: lists as they are printed, and each call and refusal once.
 
-use crate::devices::{Device, Names, Says, plug, plugged};
+use crate::cases::fault_unless;
+use crate::devices::{Device, Names, Says, plug, plug_all};
 use adb_outside::{Kind, Selector, Text};
 use adb_registry::{AttachError, Refusal, Registry};
 use std::alloc::{AllocError, Global};
-use std::test::Fail;
+
+/// What is tried, each over a registry without devices at first.
+#[derive(Clone, Copy, Debug, Drop)]
+pub enum Case {
+    SerialsAreRefused,
+    AttachedAndDetached,
+    Listed,
+    NoneChosen,
+    Chosen,
+}
 
 /// The longest serial.
 const LONGEST: &[u8] = &[b'!'; 64];
@@ -19,15 +29,13 @@ fn refuses(registry: &mut Registry, serial: &[u8], error: AttachError) -> bool {
     registry.attach(Kind::Usb, serial) == Err(error)
 }
 
-#[test]
-fn serials_are_refused(rt: HostRuntime) {
-    let mut registry = Registry::new(rt.alloc());
-    for serial in NO_SERIALS {
-        assert!(rt;
-            refuses(&mut registry, serial, AttachError::BadSerial),
-            "{serial:?}"
-        );
+fn serials_are_refused(registry: &mut Registry) -> Option<usize> {
+    for (at, serial) in NO_SERIALS.iter().enumerate() {
+        if !refuses(registry, serial, AttachError::BadSerial) {
+            return Some(at);
+        }
     }
+    None
 }
 
 /// Whether as many devices are attached as there may be, and not one more.
@@ -51,14 +59,6 @@ fn is_replaced(registry: &mut Registry) -> bool {
 fn is_cleared(registry: &mut Registry) -> bool {
     registry.clear();
     registry.row(129).is_none() && attaches(registry, b"~", 130)
-}
-
-#[test]
-fn attached_and_detached(rt: HostRuntime) {
-    let mut registry = Registry::new(rt.alloc());
-    assert!(rt; is_filled(&mut registry));
-    assert!(rt; is_replaced(&mut registry));
-    assert!(rt; is_cleared(&mut registry));
 }
 
 const LISTED: &[Device] = &[
@@ -120,15 +120,9 @@ fn lists_long(registry: &Registry) -> Result<bool, AllocError> {
     Ok(list.as_slice() == LONG_LIST)
 }
 
-fn lists(registry: &Registry) -> Result<bool, AllocError> {
+fn lists(alloc: Global, registry: &mut Registry) -> Result<bool, AttachError> {
+    plug_all(alloc, registry, LISTED)?;
     Ok(lists_short(registry)? && lists_long(registry)?)
-}
-
-#[test]
-fn listed(rt: HostRuntime) -> Result<(), Fail> {
-    let registry = plugged(rt.alloc(), LISTED)?;
-    assert!(rt; lists(&registry)?);
-    Ok(())
 }
 
 /// The ways to choose a device: the serial is `emu1`, and the id 3.
@@ -263,23 +257,37 @@ fn choose(alloc: Global, registry: &Registry, choices: &[Choice]) -> Result<bool
     Ok(true)
 }
 
-#[test]
-fn none_chosen(rt: HostRuntime) -> Result<(), Fail> {
-    let registry = Registry::new(rt.alloc());
-    assert!(rt; choose(rt.alloc(), &registry, OF_NONE)?);
-    Ok(())
-}
-
 fn stands(alloc: Global, registry: &mut Registry, stage: &Stage) -> Result<bool, AttachError> {
     plug(alloc, registry, &stage.device)?;
     Ok(choose(alloc, registry, stage.choices)?)
 }
 
-#[test]
-fn chosen(rt: HostRuntime) -> Result<(), Fail> {
-    let mut registry = Registry::new(rt.alloc());
+fn stages_stand(alloc: Global, registry: &mut Registry) -> Result<Option<usize>, AttachError> {
     for (at, stage) in STAGES.iter().enumerate() {
-        assert!(rt; stands(rt.alloc(), &mut registry, stage)?, "stage {at}");
+        if !stands(alloc, registry, stage)? {
+            return Ok(Some(at));
+        }
     }
-    Ok(())
+    Ok(None)
+}
+
+fn fault_over(
+    alloc: Global,
+    registry: &mut Registry,
+    case: Case,
+) -> Result<Option<usize>, AttachError> {
+    Ok(match case {
+        Case::SerialsAreRefused => serials_are_refused(registry),
+        Case::AttachedAndDetached => {
+            fault_unless(is_filled(registry) && is_replaced(registry) && is_cleared(registry))
+        }
+        Case::Listed => fault_unless(lists(alloc, registry)?),
+        Case::NoneChosen => fault_unless(choose(alloc, registry, OF_NONE)?),
+        Case::Chosen => stages_stand(alloc, registry)?,
+    })
+}
+
+pub fn first_fault(alloc: Global, case: Case) -> Result<Option<usize>, AttachError> {
+    let mut registry = Registry::new(alloc);
+    fault_over(alloc, &mut registry, case)
 }

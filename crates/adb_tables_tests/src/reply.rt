@@ -1,14 +1,21 @@
 //! How requests are answered over a few registries, and what is no more than it may be.
 
-use crate::devices::{Device, Names, Says, plugged};
-use adb_forward::{ForwardError, Forwards};
+use crate::devices::{Device, Names, Says, plug_all};
+use crate::requests::Table;
+use adb_forward::Forwards;
 use adb_outside::Kind;
 use adb_registry::{AttachError, Registry};
 use adb_reply::{Answer, Next, replies_begin_right, reply, texts_carry_their_length};
 use adb_request::read;
 use std::alloc::{AllocError, Global};
-use std::process::Abort;
-use std::test::Fail;
+
+/// What is tried, each over no forwards at first.
+#[derive(Clone, Copy, Debug, Drop)]
+pub enum Case {
+    ForwardsAreLimited,
+    ServicesAreLimited,
+    Asked(Table),
+}
 
 pub const NONE: usize = 0;
 
@@ -90,7 +97,7 @@ fn said(next: &Next) -> Said<'_> {
 
 /// How many of the devices are plugged in, which is selected, the request, its reply, and what
 /// follows.
-pub type Case = (
+pub type Row = (
     usize,
     Option<u32>,
     &'static [u8],
@@ -98,65 +105,58 @@ pub type Case = (
     Said<'static>,
 );
 
-fn put(forwards: &mut Forwards, local: u16) -> Result<(), ForwardError> {
-    forwards.put(local, 1, b"emu1", b"tcp:80", true)
+fn put(forwards: &mut Forwards, local: u16) -> bool {
+    forwards.put(local, 1, b"emu1", b"tcp:80", true) == Ok(())
 }
 
-fn one_forward(alloc: Global) -> Result<Forwards, ForwardError> {
-    let mut forwards = Forwards::new(alloc);
-    put(&mut forwards, 40000)?;
-    Ok(forwards)
-}
-
-fn full_forwards(alloc: Global) -> Result<Forwards, ForwardError> {
-    let mut forwards = one_forward(alloc)?;
-    for local in 1..64 {
-        put(&mut forwards, local)?;
-    }
-    Ok(forwards)
-}
-
-fn answer_to(
-    alloc: Global,
-    registry: &Registry,
-    forwards: &Forwards,
-    selected: Option<u32>,
-    text: &[u8],
-) -> Result<Answer, AllocError> {
-    let request = read(alloc, text)?;
-    reply(alloc, registry, forwards, selected, &request)
-}
-
-fn is_that(answer: &Answer, bytes: &[u8], says: Said<'_>) -> bool {
+fn is_that(answer: Answer, bytes: &[u8], says: Said<'_>) -> bool {
     answer.bytes.as_slice() == bytes && said(&answer.next) == says
 }
 
+/// Whether the request of a row has its reply.
 fn answers(
     alloc: Global,
     registry: &Registry,
     forwards: &Forwards,
-    case: &Case,
+    row: &Row,
 ) -> Result<bool, AllocError> {
-    let answer = answer_to(alloc, registry, forwards, case.1, case.2)?;
-    Ok(is_that(&answer, case.3, case.4))
+    let request = read(alloc, row.2)?;
+    let answer = reply(alloc, registry, forwards, row.1, &request)?;
+    Ok(is_that(answer, row.3, row.4))
 }
 
-fn is_answered(alloc: Global, forwards: &Forwards, case: &Case) -> Result<bool, AttachError> {
-    let registry = plugged(alloc, devices(case.0))?;
-    Ok(answers(alloc, &registry, forwards, case)?)
+/// Whether that is so, over the devices of the row.
+fn answers_over(
+    alloc: Global,
+    registry: &mut Registry,
+    forwards: &Forwards,
+    row: &Row,
+) -> Result<bool, AttachError> {
+    plug_all(alloc, registry, devices(row.0))?;
+    Ok(answers(alloc, registry, forwards, row)?)
 }
 
-/// Each of the cases has its reply, where port 40000 is forwarded to `tcp:80` of the first device.
-pub fn are_answered(rt: &impl Abort, alloc: Global, cases: &[Case]) -> Result<(), Fail> {
-    let forwards = one_forward(alloc)?;
-    for case in cases {
-        assert!(rt; is_answered(alloc, &forwards, case)?, "{:?}", case.2);
+fn is_answered(alloc: Global, forwards: &Forwards, row: &Row) -> Result<bool, AttachError> {
+    let mut registry = Registry::new(alloc);
+    answers_over(alloc, &mut registry, forwards, row)
+}
+
+/// The first of the rows that does not have its reply.
+fn are_answered(
+    alloc: Global,
+    forwards: &Forwards,
+    rows: &[Row],
+) -> Result<Option<usize>, AttachError> {
+    for (at, row) in rows.iter().enumerate() {
+        if !is_answered(alloc, forwards, row)? {
+            return Ok(Some(at));
+        }
     }
-    Ok(())
+    Ok(None)
 }
 
 /// The table of forwards is full in each case.
-const FULL_CASES: &[Case] = &[
+const OVER_FULL: &[Row] = &[
     (
         ONE,
         None,
@@ -187,51 +187,53 @@ const FULL_CASES: &[Case] = &[
     ),
 ];
 
-#[test]
-fn forwards_are_limited(rt: HostRuntime) -> Result<(), Fail> {
-    let forwards = full_forwards(rt.alloc())?;
-    for case in FULL_CASES {
-        assert!(rt; is_answered(rt.alloc(), &forwards, case)?, "{:?}", case.2);
-    }
-    Ok(())
-}
+/// As long as a service may be, and longer by one. It takes its text and a NUL in one packet.
+const SERVICE: &[u8] = &[b'a'; 4095];
 
-/// How long a service is, its reply, and what follows in a word, with its number. It takes its text
-/// and a NUL in one packet.
-type Service = (usize, &'static [u8], &'static str, u32);
+const LONG_SERVICE: &[u8] = &[b'a'; 4096];
 
-const SERVICES: &[Service] = &[
-    (4095, b"", "open", 1),
-    (4096, b"FAIL0015service name too long", "close", 0),
+const SERVICES: &[Row] = &[
+    (ONE, Some(1), SERVICE, b"", ("open", 1, SERVICE)),
+    (
+        ONE,
+        Some(1),
+        LONG_SERVICE,
+        b"FAIL0015service name too long",
+        CLOSE,
+    ),
 ];
 
-fn answer_to_service(alloc: Global, registry: &Registry, len: usize) -> Result<Answer, AllocError> {
-    let service = vec![in alloc; b'a'; len]?;
-    let forwards = Forwards::new(alloc);
-    answer_to(alloc, registry, &forwards, Some(1), service.as_slice())
-}
-
-fn is_for(answer: &Answer, service: &Service) -> bool {
-    let (word, number, _) = said(&answer.next);
-    answer.bytes.as_slice() == service.1 && word == service.2 && number == service.3
-}
-
-fn serves(alloc: Global, registry: &Registry, service: &Service) -> Result<bool, AllocError> {
-    let answer = answer_to_service(alloc, registry, service.0)?;
-    Ok(is_for(&answer, service))
-}
-
-#[test]
-fn services_are_limited(rt: HostRuntime) -> Result<(), Fail> {
-    let registry = plugged(rt.alloc(), devices(ONE))?;
-    for service in SERVICES {
-        assert!(rt;
-            serves(rt.alloc(), &registry, service)?,
-            "{} bytes",
-            service.0
-        );
+/// Forwards port 40000 to `tcp:80` of the first device, and ports from 1, until there are so many.
+fn is_filled(forwards: &mut Forwards, count: u16) -> bool {
+    if count == 0 {
+        return true;
     }
-    Ok(())
+    let mut so = put(forwards, 40000);
+    for local in 1..count {
+        so = put(forwards, local) && so;
+    }
+    so
+}
+
+fn fault_with(
+    alloc: Global,
+    forwards: &mut Forwards,
+    case: Case,
+) -> Result<Option<usize>, AttachError> {
+    let (count, rows) = match case {
+        Case::ServicesAreLimited => (0, SERVICES),
+        Case::ForwardsAreLimited => (64, OVER_FULL),
+        Case::Asked(table) => (1, table.rows()),
+    };
+    if !is_filled(forwards, count) {
+        return Ok(Some(0));
+    }
+    are_answered(alloc, forwards, rows)
+}
+
+pub fn first_fault(alloc: Global, case: Case) -> Result<Option<usize>, AttachError> {
+    let mut forwards = Forwards::new(alloc);
+    fault_with(alloc, &mut forwards, case)
 }
 
 #[test]

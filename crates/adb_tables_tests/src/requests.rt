@@ -1,9 +1,41 @@
 //! Each request over a few registries, with its reply and what follows, byte for byte.
 
-use crate::reply::{ALL, CLOSE, Case, NONE, ONE, TWO, are_answered};
-use std::test::Fail;
+use crate::reply::{ALL, CLOSE, NONE, ONE, Row, TWO};
 
-const ABOUT_THE_SERVER: &[Case] = &[
+#[derive(Clone, Copy, Debug, Drop)]
+pub enum Table {
+    TheServerTells,
+    DevicesAreListed,
+    SerialsAreSelected,
+    KindsAreSelected,
+    NumbersAreSelected,
+    FactsAreTold,
+    FactsOfSomeAreTold,
+    ForwardsAreMade,
+    ForwardsAreKilled,
+    ServicesAreOpened,
+    SelectionsStay,
+}
+
+impl Table {
+    pub fn rows(self) -> &'static [Row] {
+        match self {
+            Table::TheServerTells => ABOUT_THE_SERVER,
+            Table::DevicesAreListed => LISTS,
+            Table::SerialsAreSelected => SERIALS,
+            Table::KindsAreSelected => KINDS,
+            Table::NumbersAreSelected => NUMBERS,
+            Table::FactsAreTold => FACTS,
+            Table::FactsOfSomeAreTold => FACTS_OF_SOME,
+            Table::ForwardsAreMade => FORWARDS,
+            Table::ForwardsAreKilled => KILLS,
+            Table::ServicesAreOpened => SERVED,
+            Table::SelectionsStay => AFTER_A_SELECTION,
+        }
+    }
+}
+
+const ABOUT_THE_SERVER: &[Row] = &[
     (NONE, None, b"host:version", b"OKAY00040029", CLOSE),
     (NONE, None, b"host:kill", b"OKAY", ("stop", 0, b"")),
     (
@@ -15,12 +47,7 @@ const ABOUT_THE_SERVER: &[Case] = &[
     ),
 ];
 
-#[test]
-fn the_server_tells(rt: HostRuntime) -> Result<(), Fail> {
-    are_answered(&rt, rt.alloc(), ABOUT_THE_SERVER)
-}
-
-const LISTS: &[Case] = &[
+const LISTS: &[Row] = &[
     (NONE, None, b"host:devices", b"OKAY0000", CLOSE),
     (ONE, None, b"host:devices", b"OKAY000cemu1\tdevice\n", CLOSE),
     (
@@ -46,12 +73,7 @@ const LISTS: &[Case] = &[
     ),
 ];
 
-#[test]
-fn devices_are_listed(rt: HostRuntime) -> Result<(), Fail> {
-    are_answered(&rt, rt.alloc(), LISTS)
-}
-
-const SERIALS: &[Case] = &[
+const SERIALS: &[Row] = &[
     (
         ONE,
         None,
@@ -89,12 +111,7 @@ const SERIALS: &[Case] = &[
     ),
 ];
 
-#[test]
-fn serials_are_selected(rt: HostRuntime) -> Result<(), Fail> {
-    are_answered(&rt, rt.alloc(), SERIALS)
-}
-
-const KINDS: &[Case] = &[
+const KINDS: &[Row] = &[
     (
         NONE,
         None,
@@ -153,12 +170,7 @@ const KINDS: &[Case] = &[
     ),
 ];
 
-#[test]
-fn kinds_are_selected(rt: HostRuntime) -> Result<(), Fail> {
-    are_answered(&rt, rt.alloc(), KINDS)
-}
-
-const NUMBERS: &[Case] = &[
+const NUMBERS: &[Row] = &[
     (
         TWO,
         None,
@@ -189,12 +201,7 @@ const NUMBERS: &[Case] = &[
     ),
 ];
 
-#[test]
-fn numbers_are_selected(rt: HostRuntime) -> Result<(), Fail> {
-    are_answered(&rt, rt.alloc(), NUMBERS)
-}
-
-const FACTS: &[Case] = &[
+const FACTS: &[Row] = &[
     (ONE, None, b"host:get-serialno", b"OKAY0004emu1", CLOSE),
     (ONE, None, b"host:get-devpath", b"OKAY0005usb:1", CLOSE),
     (TWO, Some(2), b"host:get-devpath", b"OKAY0007unknown", CLOSE),
@@ -222,12 +229,7 @@ const FACTS: &[Case] = &[
     ),
 ];
 
-#[test]
-fn facts_are_told(rt: HostRuntime) -> Result<(), Fail> {
-    are_answered(&rt, rt.alloc(), FACTS)
-}
-
-const FACTS_OF_SOME: &[Case] = &[
+const FACTS_OF_SOME: &[Row] = &[
     (
         ALL,
         None,
@@ -266,12 +268,7 @@ const FACTS_OF_SOME: &[Case] = &[
     ),
 ];
 
-#[test]
-fn facts_of_some_are_told(rt: HostRuntime) -> Result<(), Fail> {
-    are_answered(&rt, rt.alloc(), FACTS_OF_SOME)
-}
-
-const FORWARDS: &[Case] = &[
+const FORWARDS: &[Row] = &[
     (
         ONE,
         None,
@@ -330,12 +327,7 @@ const FORWARDS: &[Case] = &[
     ),
 ];
 
-#[test]
-fn forwards_are_made(rt: HostRuntime) -> Result<(), Fail> {
-    are_answered(&rt, rt.alloc(), FORWARDS)
-}
-
-const KILLS: &[Case] = &[
+const KILLS: &[Row] = &[
     (
         NONE,
         None,
@@ -380,12 +372,7 @@ const KILLS: &[Case] = &[
     ),
 ];
 
-#[test]
-fn forwards_are_killed(rt: HostRuntime) -> Result<(), Fail> {
-    are_answered(&rt, rt.alloc(), KILLS)
-}
-
-const SERVED: &[Case] = &[
+const SERVED: &[Row] = &[
     (
         ONE,
         None,
@@ -411,12 +398,7 @@ const SERVED: &[Case] = &[
     (TWO, Some(2), b"sync:", b"", ("open", 2, b"sync:")),
 ];
 
-#[test]
-fn services_are_opened(rt: HostRuntime) -> Result<(), Fail> {
-    are_answered(&rt, rt.alloc(), SERVED)
-}
-
-const AFTER_A_SELECTION: &[Case] = &[
+const AFTER_A_SELECTION: &[Row] = &[
     (ONE, Some(1), b"host:version", b"OKAY00040029", CLOSE),
     (
         ONE,
@@ -433,8 +415,3 @@ const AFTER_A_SELECTION: &[Case] = &[
         CLOSE,
     ),
 ];
-
-#[test]
-fn selections_stay(rt: HostRuntime) -> Result<(), Fail> {
-    are_answered(&rt, rt.alloc(), AFTER_A_SELECTION)
-}

@@ -1,8 +1,15 @@
 //! Rows under numbers that lie close and far apart.
 
+use crate::cases::fault_unless;
 use adb_rows::RowMap;
-use std::alloc::AllocError;
-use std::test::Fail;
+use std::alloc::{AllocError, Global};
+
+/// What is tried, each over no rows at first.
+#[derive(Clone, Copy, Debug, Drop)]
+pub enum Case {
+    RowsFarApart,
+    ARowStaysWhileOthersComeAndGo,
+}
 
 #[derive(Clone, Copy, Drop)]
 enum Step {
@@ -14,24 +21,21 @@ enum Step {
     Clear,
 }
 
-/// What a step answers.
+/// What a step answers. A row is written where there is one.
 fn told(rows: &mut RowMap<u32>, step: Step) -> Result<Option<u32>, AllocError> {
     match step {
         Step::Put(id, row) => return rows.insert(id, row),
         Step::Look(id) => return Ok(rows.get(&id).copied()),
         Step::Take(id) => return Ok(rows.remove(&id)),
-        Step::Write(id, row) => write(rows, id, row),
+        Step::Write(id, row) => {
+            if let Some(place) = rows.get_mut(&id) {
+                *place = row;
+            }
+        }
         Step::KeepOnly(id) => rows.keep_only(id),
         Step::Clear => rows.clear(),
     }
     Ok(None)
-}
-
-/// Writes a row where there is one.
-fn write(rows: &mut RowMap<u32>, id: u32, row: u32) {
-    if let Some(place) = rows.get_mut(&id) {
-        *place = row;
-    }
 }
 
 /// A step, what it answers, and how many rows there are then.
@@ -64,38 +68,33 @@ const STEPS: &[Row] = &[
     (Step::Put(3, 79), None, 1),
 ];
 
-fn is_told(rows: &mut RowMap<u32>, row: &Row) -> Result<bool, AllocError> {
-    Ok(told(rows, row.0)? == row.1 && rows.len() == row.2)
-}
-
-#[test]
-fn rows_far_apart(rt: HostRuntime) -> Result<(), Fail> {
-    let mut rows = RowMap::new(rt.alloc());
-    for row in STEPS {
-        assert!(rt; is_told(&mut rows, row)?, "{:?} of {}", row.1, row.2);
+fn steps_are_told(rows: &mut RowMap<u32>) -> Result<Option<usize>, AllocError> {
+    for (at, row) in STEPS.iter().enumerate() {
+        if told(rows, row.0)? != row.1 || rows.len() != row.2 {
+            return Ok(Some(at));
+        }
     }
-    Ok(())
+    Ok(None)
 }
 
-/// A row comes, is found and goes. Whether the row of another number is there then.
-fn comes_and_goes(rows: &mut RowMap<u32>, id: u32, stays: u32) -> Result<bool, AllocError> {
-    rows.insert(id, id)?;
-    let found = rows.contains_key(&id);
-    let row = rows.remove(&id);
-    Ok(found && row.is_some() && !rows.contains_key(&id) && rows.contains_key(&stays))
-}
-
-fn is_all(rows: &RowMap<u32>, id: u32, row: u32) -> bool {
-    rows.len() == 1 && rows.get(&id).copied() == Some(row)
-}
-
-#[test]
-fn a_row_stays_while_others_come_and_go(rt: HostRuntime) -> Result<(), Fail> {
-    let mut rows = RowMap::new(rt.alloc());
+/// Whether the first row is there alone, as it was, after a thousand others that come, are found and
+/// go.
+fn stays(rows: &mut RowMap<u32>) -> Result<bool, AllocError> {
     rows.insert(1, 10)?;
+    let mut so = true;
     for id in 2..1002 {
-        assert!(rt; comes_and_goes(&mut rows, id, 1)?, "at {id}");
+        rows.insert(id, id)?;
+        let found = rows.contains_key(&id);
+        let row = rows.remove(&id);
+        so = so && found && row.is_some() && !rows.contains_key(&id) && rows.contains_key(&1);
     }
-    assert!(rt; is_all(&rows, 1, 10));
-    Ok(())
+    Ok(so && rows.len() == 1 && rows.get(&1).copied() == Some(10))
+}
+
+pub fn first_fault(alloc: Global, case: Case) -> Result<Option<usize>, AllocError> {
+    let mut rows = RowMap::new(alloc);
+    match case {
+        Case::RowsFarApart => steps_are_told(&mut rows),
+        Case::ARowStaysWhileOthersComeAndGo => Ok(fault_unless(stays(&mut rows)?)),
+    }
 }

@@ -1,17 +1,18 @@
 //! Writes that are held back, and streams that are found by link and id.
 
+use crate::cases::fault_unless;
 use adb_stream::{Credit, Streams, Took, Window};
+use std::alloc::Global;
 
-#[test]
-fn one_write_each_way(rt: HostRuntime) {
+pub fn one_write_each_way() -> bool {
     let mut window = Window::new();
-    assert!(rt; window.can_write());
+    let could_write = window.can_write();
     window.wrote();
-    assert!(rt; window.acked());
-    assert!(rt; window.took(0) == Took::AckNow);
-    assert!(rt; window.took(3) == Took::Accepted);
-    assert!(rt; window.to_hand() == 3);
-    assert!(rt; window.handed(3));
+    let was_acked = window.acked();
+    let took = (window.took(0), window.took(3));
+    let to_hand = window.to_hand();
+    let was_handed = window.handed(3);
+    could_write && was_acked && took == (Took::AckNow, Took::Accepted) && to_hand == 3 && was_handed
 }
 
 /// A call of a credit, and its answer.
@@ -44,16 +45,18 @@ fn is_answered(credit: &mut Credit, call: Call) -> bool {
     }
 }
 
-#[test]
-fn credit_is_given_back(rt: HostRuntime) {
+pub fn credit_is_given_back() -> Option<usize> {
     let mut credit = Credit::new();
     for (at, call) in CALLS.iter().enumerate() {
-        assert!(rt; is_answered(&mut credit, *call), "call {at}");
+        if !is_answered(&mut credit, *call) {
+            return Some(at);
+        }
     }
     credit.grant(u32::MAX);
     credit.grant(2);
-    assert!(rt; credit.can_send() == u32::MAX);
+    let is_all = credit.can_send() == u32::MAX;
     credit.sent(5);
+    fault_unless(is_all)
 }
 
 /// Clients, their links, and the ids that are drawn for them.
@@ -84,10 +87,10 @@ fn is_closed(streams: &mut Streams) -> bool {
     if let Some(part) = streams.find_mut(2, 1) {
         part.remote = 40;
     }
-    streams.first_of(2) == Some(1)
-        && remote_of_closed(streams, 1) == Some(40)
-        && streams.first_of(2) == Some(3)
-        && streams.first_of(3).is_none()
+    let first = streams.first_of(2);
+    let remote = remote_of_closed(streams, 1);
+    let next = streams.first_of(2);
+    first == Some(1) && remote == Some(40) && next == Some(3) && streams.first_of(3).is_none()
 }
 
 fn remote_of_closed(streams: &mut Streams, id: u32) -> Option<u32> {
@@ -103,15 +106,21 @@ fn is_cleared(streams: &mut Streams) -> bool {
     streams.first_of(2).is_none() && draws(streams, 5, 2, 4)
 }
 
-#[test]
-fn streams_stand_by_link(rt: HostRuntime) {
-    let mut streams = Streams::new(rt.alloc());
+fn stand(streams: &mut Streams) -> bool {
     for &(client, link, id) in DRAWN {
-        assert!(rt; draws(&mut streams, client, link, id), "{id}");
+        if !draws(streams, client, link, id) {
+            return false;
+        }
     }
     for &(link, id, client) in FOUND {
-        assert!(rt; client_of(&streams, link, id) == client, "{link}, {id}");
+        if client_of(streams, link, id) != client {
+            return false;
+        }
     }
-    assert!(rt; is_closed(&mut streams));
-    assert!(rt; is_cleared(&mut streams));
+    is_closed(streams) && is_cleared(streams)
+}
+
+pub fn streams_stand_by_link(alloc: Global) -> bool {
+    let mut streams = Streams::new(alloc);
+    stand(&mut streams)
 }
