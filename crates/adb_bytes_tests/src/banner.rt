@@ -1,7 +1,6 @@
 use adb_banner::{IdentityError, has_feature, read};
 use adb_outside::Identity;
 use std::alloc::{AllocError, Global};
-use std::test::Fail;
 
 /// What is to be read: system, serial, product, model, device and features.
 type Texts = [&'static [u8]; 6];
@@ -63,11 +62,13 @@ const IDENTITIES: &[(&[u8], Texts)] = &[
     (b"device\0:", REFUSED),
 ];
 
-#[test]
-fn identities_read(rt: HostRuntime) {
-    for row in IDENTITIES {
-        assert!(rt; is_read(rt.alloc(), row.0, &row.1), "{:?}", row.0);
+pub fn identities_are_read(alloc: Global) -> Option<usize> {
+    for (at, row) in IDENTITIES.iter().enumerate() {
+        if !is_read(alloc, row.0, &row.1) {
+            return Some(at);
+        }
     }
+    None
 }
 
 /// Two colons, letters up to a length, and NULs up to another.
@@ -78,13 +79,14 @@ fn padded(alloc: Global, letters: usize, whole: usize) -> Result<Vec<u8>, AllocE
     Ok(bytes)
 }
 
-#[test]
-fn the_longest_identity(rt: HostRuntime) -> Result<(), Fail> {
-    let longest = padded(rt.alloc(), 32768, 32770)?;
-    assert!(rt; is_read(rt.alloc(), &longest, &NOTHING));
-    let longer = padded(rt.alloc(), 32769, 32769)?;
-    assert!(rt; is_read(rt.alloc(), &longer, &REFUSED));
-    Ok(())
+pub fn the_longest_is_read(alloc: Global) -> Result<bool, AllocError> {
+    let longest = padded(alloc, 32768, 32770)?;
+    Ok(is_read(alloc, &longest, &NOTHING))
+}
+
+pub fn a_longer_one_is_refused(alloc: Global) -> Result<bool, AllocError> {
+    let longer = padded(alloc, 32769, 32769)?;
+    Ok(is_read(alloc, &longer, &REFUSED))
 }
 
 /// Names, and whether they are features of `shell_v2,cmd,stat_v2`.
@@ -107,9 +109,11 @@ fn is_feature(alloc: Global, name: &[u8]) -> Option<bool> {
     }
 }
 
-#[test]
-fn features_told_apart(rt: HostRuntime) {
-    for &(name, want) in NAMES {
-        assert!(rt; is_feature(rt.alloc(), name) == Some(want), "{name:?}");
+pub fn features_are_told_apart(alloc: Global) -> Option<usize> {
+    for (at, row) in NAMES.iter().enumerate() {
+        if is_feature(alloc, row.0) != Some(row.1) {
+            return Some(at);
+        }
     }
+    None
 }

@@ -4,6 +4,8 @@
 #[cfg(test)]
 mod banner;
 #[cfg(test)]
+mod cases;
+#[cfg(test)]
 mod outside;
 #[cfg(test)]
 mod request;

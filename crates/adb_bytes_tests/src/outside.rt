@@ -2,10 +2,9 @@
 
 use adb_outside::*;
 use std::alloc::{AllocError, Global};
-use std::test::Fail;
 
 /// Whether a text is put together, cut, and handed over.
-fn text_is_cut(alloc: Global) -> Result<bool, AllocError> {
+pub fn text_is_cut(alloc: Global) -> Result<bool, AllocError> {
     let mut text = Text::from_slice(alloc, b"host:")?;
     text.push_slice(b"version")?;
     let whole = text.copy()?.as_slice() == b"host:version".as_slice();
@@ -33,17 +32,10 @@ fn holds(queue: &mut ByteQueue) -> bool {
     held && queue.is_empty()
 }
 
-fn queue_is_cleared(alloc: Global) -> Result<bool, AllocError> {
+pub fn queue_is_cleared(alloc: Global) -> Result<bool, AllocError> {
     let mut queue = ByteQueue::from_text(Text::from_slice(alloc, b"host:")?);
     change(&mut queue)?;
     Ok(holds(&mut queue) && ByteQueue::new(alloc).spare() == 0)
-}
-
-#[test]
-fn texts_and_queues(rt: HostRuntime) -> Result<(), Fail> {
-    assert!(rt; text_is_cut(rt.alloc())?);
-    assert!(rt; queue_is_cleared(rt.alloc())?);
-    Ok(())
 }
 
 /// Whether a source gives this to a buffer of four bytes, and leaves these bytes in it.
@@ -53,7 +45,7 @@ fn gives(source: &mut impl Source, got: Got, bytes: &[u8]) -> bool {
 }
 
 /// Whether a source in memory gives no more than it may, and one that never fails all that fits.
-fn sources_give(alloc: Global) -> Result<bool, AllocError> {
+pub fn sources_give(alloc: Global) -> Result<bool, AllocError> {
     let text = Text::from_slice(alloc, b"sync:")?;
     let mut never = NeverSource::new(text.copy()?, 8);
     let mut memory = MemorySource::new(text, 3, Vec::new(alloc));
@@ -61,17 +53,10 @@ fn sources_give(alloc: Global) -> Result<bool, AllocError> {
 }
 
 /// Whether a sink in memory keeps what is written, and one that never fails takes it.
-fn sinks_take(alloc: Global) -> bool {
+pub fn sinks_take(alloc: Global) -> bool {
     let mut sink = MemorySink::new(alloc, Vec::new(alloc));
     let took = sink.write(b"OKAY") == Wrote::All && sink.bytes() == b"OKAY".as_slice();
     took && NeverSink::new().write(b"OKAY") == Wrote::All
-}
-
-#[test]
-fn memory_reads_and_writes(rt: HostRuntime) -> Result<(), Fail> {
-    assert!(rt; sources_give(rt.alloc())?);
-    assert!(rt; sinks_take(rt.alloc()));
-    Ok(())
 }
 
 /// States, their texts, and whether a device is in a state that names it as its system.
@@ -104,14 +89,11 @@ fn state_by(alloc: Global, name: &[u8]) -> Result<State, AllocError> {
     Ok(state_of(&identity))
 }
 
-#[test]
-fn states_have_texts(rt: HostRuntime) -> Result<(), Fail> {
-    for &(state, text, is_named) in STATES {
-        assert!(rt; state_text(state) == text, "{state:?}");
-        assert!(rt;
-            (state_by(rt.alloc(), text)? == state) == is_named,
-            "{state:?}"
-        );
+pub fn states_have_texts(alloc: Global) -> Result<Option<usize>, AllocError> {
+    for (at, row) in STATES.iter().enumerate() {
+        if state_text(row.0) != row.1 || (state_by(alloc, row.1)? == row.0) != row.2 {
+            return Ok(Some(at));
+        }
     }
-    Ok(())
+    Ok(None)
 }

@@ -1,7 +1,7 @@
+use crate::cases::fault_unless;
 use adb_outside::{Selector, Text};
 use adb_request::*;
 use std::alloc::{AllocError, Global};
-use std::test::Fail;
 
 /// Bytes, the number that they are in hexadecimal digits, and the request that they begin with.
 const CUTS: &[(&[u8], Option<u16>, Found)] = &[
@@ -20,13 +20,13 @@ const CUTS: &[(&[u8], Option<u16>, Found)] = &[
     (b"0001a", None, Found::Whole { len: 1 }),
 ];
 
-#[test]
-fn requests_are_cut(rt: HostRuntime) {
-    for &(bytes, number, found) in CUTS {
-        assert!(rt; read_hex4(bytes) == number, "of {bytes:?}");
-        assert!(rt; cut(bytes) == found, "of {bytes:?}");
+pub fn requests_are_cut() -> Option<usize> {
+    for (at, row) in CUTS.iter().enumerate() {
+        if read_hex4(row.0) != row.1 || cut(row.0) != row.2 {
+            return Some(at);
+        }
     }
-    assert!(rt; hex4(12) == *b"000c" && hex4(48879) == *b"beef");
+    fault_unless(hex4(12) == *b"000c" && hex4(48879) == *b"beef")
 }
 
 /// Adds a request in words, as the table below has them.
@@ -34,22 +34,28 @@ fn show(request: &Request, out: &mut Text) -> Result<(), AllocError> {
     match request {
         Request::Version => out.push_slice(b"version"),
         Request::Kill => out.push_slice(b"kill"),
-        Request::Devices { long } => show_list(b"devices", *long, out),
-        Request::Track { long } => show_list(b"track", *long, out),
-        Request::Transport { by, tell_id } => show_transport(by, *tell_id, out),
+        Request::Devices { long: false } => out.push_slice(b"devices"),
+        Request::Devices { long: true } => out.push_slice(b"devices long"),
+        Request::Track { long: false } => out.push_slice(b"track"),
+        Request::Track { long: true } => out.push_slice(b"track long"),
+        Request::Transport { by, tell_id: false } => show_by(b"transport", by, out),
+        Request::Transport { by, tell_id: true } => show_by(b"transport and id", by, out),
         Request::Serialno(on) => show_which(b"serialno", on, out),
         Request::Devpath(on) => show_which(b"devpath", on, out),
         Request::GetState(on) => show_which(b"state", on, out),
         Request::Features(on) => show_which(b"features", on, out),
         Request::Forward {
             on,
-            norebind,
+            norebind: false,
             local,
             remote,
-        } => {
-            show_forward(on, *norebind, out)?;
-            show_ends(*local, remote, out)
-        }
+        } => show_forward(b"forward", on, *local, remote, out),
+        Request::Forward {
+            on,
+            norebind: true,
+            local,
+            remote,
+        } => show_forward(b"new forward", on, *local, remote, out),
         Request::BadForward => out.push_slice(b"bad forward"),
         Request::KillForward(port) => show_pair(b"kill forward ", &hex4(*port), out),
         Request::KillAll => out.push_slice(b"kill all"),
@@ -64,26 +70,15 @@ fn show_pair(name: &[u8], text: &[u8], out: &mut Text) -> Result<(), AllocError>
     out.push_slice(text)
 }
 
-fn show_list(name: &[u8], long: bool, out: &mut Text) -> Result<(), AllocError> {
-    let kind: &[u8] = if long { b" long" } else { b"" };
-    show_pair(name, kind, out)
-}
-
-fn show_transport(by: &Selector, tell_id: bool, out: &mut Text) -> Result<(), AllocError> {
-    let id: &[u8] = if tell_id { b" and id" } else { b"" };
-    show_pair(b"transport", id, out)?;
-    show_selector(by, out)
-}
-
 fn show_which(name: &[u8], on: &Which, out: &mut Text) -> Result<(), AllocError> {
-    out.push_slice(name)?;
     match on {
-        Which::Own => out.push_slice(b" own"),
-        Which::By(by) => show_selector(by, out),
+        Which::Own => show_pair(name, b" own", out),
+        Which::By(by) => show_by(name, by, out),
     }
 }
 
-fn show_selector(by: &Selector, out: &mut Text) -> Result<(), AllocError> {
+fn show_by(name: &[u8], by: &Selector, out: &mut Text) -> Result<(), AllocError> {
+    out.push_slice(name)?;
     match by {
         Selector::Any => out.push_slice(b" any"),
         Selector::Usb => out.push_slice(b" usb"),
@@ -99,13 +94,14 @@ fn show_selector(by: &Selector, out: &mut Text) -> Result<(), AllocError> {
     }
 }
 
-fn show_forward(on: &Which, norebind: bool, out: &mut Text) -> Result<(), AllocError> {
-    let name: &[u8] = if norebind { b"new forward" } else { b"forward" };
-    show_which(name, on, out)
-}
-
-/// Adds the two ends of a forward.
-fn show_ends(local: u16, remote: &Text, out: &mut Text) -> Result<(), AllocError> {
+fn show_forward(
+    name: &[u8],
+    on: &Which,
+    local: u16,
+    remote: &Text,
+    out: &mut Text,
+) -> Result<(), AllocError> {
+    show_which(name, on, out)?;
     show_pair(b" ", &hex4(local), out)?;
     show_pair(b" to ", remote.as_slice(), out)
 }
@@ -219,11 +215,12 @@ fn means(alloc: Global, text: &[u8], meaning: &[u8]) -> Result<bool, AllocError>
     Ok(words.as_slice() == meaning)
 }
 
-#[test]
-fn texts_mean_requests(rt: HostRuntime) -> Result<(), Fail> {
-    for &(text, meaning) in MEANINGS {
-        assert!(rt; means(rt.alloc(), text, meaning)?, "of {text:?}");
+pub fn texts_mean_requests(alloc: Global) -> Result<Option<usize>, AllocError> {
+    for (at, row) in MEANINGS.iter().enumerate() {
+        if !means(alloc, row.0, row.1)? {
+            return Ok(Some(at));
+        }
     }
     spelled_is_read();
-    Ok(())
+    Ok(None)
 }

@@ -3,7 +3,6 @@
 use adb_outside::Text;
 use adb_shell::{ShellError, ShellReader, write_packet};
 use std::alloc::{AllocError, Global};
-use std::test::Fail;
 
 /// One packet of each id.
 const PACKETS: &[(u8, &[u8])] = &[
@@ -29,7 +28,7 @@ fn add_packets(alloc: Global, out: &mut Text) -> Result<(), AllocError> {
     Ok(())
 }
 
-fn are_written(alloc: Global) -> Result<bool, AllocError> {
+pub fn packets_are_written(alloc: Global) -> Result<bool, AllocError> {
     let mut out = Text::new(alloc);
     add_packets(alloc, &mut out)?;
     Ok(out.as_slice() == STREAM)
@@ -61,13 +60,14 @@ fn come(alloc: Global, at: usize) -> bool {
     taken && are_next(&mut reader)
 }
 
-#[test]
-fn packets_are_written_and_come_whole_however_cut(rt: HostRuntime) -> Result<(), Fail> {
-    assert!(rt; are_written(rt.alloc())?);
+/// The first place where packets that are cut there do not come.
+pub fn packets_come_however_cut(alloc: Global) -> Option<usize> {
     for at in 0..=STREAM.len() {
-        assert!(rt; come(rt.alloc(), at), "cut at {at}");
+        if !come(alloc, at) {
+            return Some(at);
+        }
     }
-    Ok(())
+    None
 }
 
 /// Bytes, and what the last one is answered.
@@ -103,25 +103,30 @@ const REFUSED: &[Row] = &[
     (b"\x01\x00\x00\x10\x00", Ok(())),
 ];
 
-/// Whether the last byte is answered so, and all that follows.
-fn refuses(reader: &mut ShellReader, row: &Row) -> bool {
+/// Whether the last byte is answered so, and all that follows, and one packet came before at most.
+fn answers(reader: &mut ShellReader, row: &Row) -> bool {
     let (front, last) = row.0.split_at(row.0.len().saturating_sub(1));
     let taken = reader.feed(front).is_ok();
-    let answered = reader.feed(last) == row.1;
-    taken && answered && reader.feed(b"") == row.1
+    let answer = reader.feed(last);
+    let followed = reader.feed(b"");
+    let came = reader.next().is_some();
+    taken
+        && answer == row.1
+        && followed == row.1
+        && came == (row.0.len() > 5)
+        && reader.next().is_none()
 }
 
-/// Whether that is so, and one packet came before at most.
-fn answers(alloc: Global, row: &Row) -> bool {
+fn is_answered(alloc: Global, row: &Row) -> bool {
     let mut reader = ShellReader::new(alloc);
-    let refused = refuses(&mut reader, row);
-    let came = reader.next().is_some() == (row.0.len() > 5);
-    refused && came && reader.next().is_none()
+    answers(&mut reader, row)
 }
 
-#[test]
-fn bad_packets_are_refused(rt: HostRuntime) {
-    for row in REFUSED {
-        assert!(rt; answers(rt.alloc(), row), "{:?}", row.0);
+pub fn bad_packets_are_refused(alloc: Global) -> Option<usize> {
+    for (at, row) in REFUSED.iter().enumerate() {
+        if !is_answered(alloc, row) {
+            return Some(at);
+        }
     }
+    None
 }

@@ -7,7 +7,6 @@ ghost use Rattle.adb_sync.specs.Asks.{IsAsk};
 use adb_outside::Text;
 use adb_sync::{AnswerReader, AskReader, SyncAnswer, SyncAsk, SyncError, write_answer, write_ask};
 use std::alloc::{AllocError, Global};
-use std::test::Fail;
 
 /// One request of each kind.
 const ASKS: &[u8] = b"STAT\x02\x00\x00\x00/aLIST\x01\x00\x00\x00/RECV\x02\x00\x00\x00/b\
@@ -65,20 +64,26 @@ fn answers_come(alloc: Global, stream: &Stream, at: usize) -> bool {
     taken && count_answers(&mut reader) == stream.2
 }
 
-#[test]
-fn asks_come_however_cut(rt: HostRuntime) {
+/// The first place where requests that are cut there do not come.
+pub fn asks_come_however_cut(alloc: Global) -> Option<usize> {
     for at in 0..=ASKS.len() {
-        assert!(rt; asks_come(rt.alloc(), at), "cut at {at}");
-    }
-}
-
-#[test]
-fn answers_come_however_cut(rt: HostRuntime) {
-    for stream in STREAMS {
-        for at in 0..=stream.0.len() {
-            assert!(rt; answers_come(rt.alloc(), stream, at), "cut at {at}");
+        if !asks_come(alloc, at) {
+            return Some(at);
         }
     }
+    None
+}
+
+/// The first place where answers that are cut there do not come.
+pub fn answers_come_however_cut(alloc: Global) -> Option<usize> {
+    for stream in STREAMS {
+        for at in 0..=stream.0.len() {
+            if !answers_come(alloc, stream, at) {
+                return Some(at);
+            }
+        }
+    }
+    None
 }
 
 fn text(alloc: Global, bytes: &[u8]) -> Result<Text, AllocError>
@@ -99,13 +104,6 @@ fn add_answer(alloc: Global, answer: SyncAnswer, out: &mut Text) -> Result<(), A
     write_answer(alloc, &answer, out)
 }
 
-/// The requests of a path alone.
-fn add_paths(alloc: Global, out: &mut Text) -> Result<(), AllocError> {
-    add_ask(alloc, SyncAsk::Stat(text(alloc, b"/a")?), out)?;
-    add_ask(alloc, SyncAsk::List(text(alloc, b"/")?), out)?;
-    add_ask(alloc, SyncAsk::Recv(text(alloc, b"/b")?), out)
-}
-
 /// The request that begins a file.
 fn add_send(alloc: Global, out: &mut Text) -> Result<(), AllocError> {
     let path = text(alloc, b"/a,b")?;
@@ -113,21 +111,18 @@ fn add_send(alloc: Global, out: &mut Text) -> Result<(), AllocError> {
     add_ask(alloc, SyncAsk::Send { path, mode }, out)
 }
 
-/// What a file is, and the end.
-fn add_file(alloc: Global, out: &mut Text) -> Result<(), AllocError> {
+fn add_asks(alloc: Global, out: &mut Text) -> Result<(), AllocError> {
+    add_ask(alloc, SyncAsk::Stat(text(alloc, b"/a")?), out)?;
+    add_ask(alloc, SyncAsk::List(text(alloc, b"/")?), out)?;
+    add_ask(alloc, SyncAsk::Recv(text(alloc, b"/b")?), out)?;
+    add_send(alloc, out)?;
     add_ask(alloc, SyncAsk::Chunk(text(alloc, b"hi")?), out)?;
     add_ask(alloc, SyncAsk::Chunk(Text::new(alloc)), out)?;
     add_ask(alloc, SyncAsk::Finish { mtime: 0x0403_0201 }, out)?;
     add_ask(alloc, SyncAsk::Quit, out)
 }
 
-fn add_asks(alloc: Global, out: &mut Text) -> Result<(), AllocError> {
-    add_paths(alloc, out)?;
-    add_send(alloc, out)?;
-    add_file(alloc, out)
-}
-
-fn asks_are_written(alloc: Global) -> Result<bool, AllocError> {
+pub fn asks_are_written(alloc: Global) -> Result<bool, AllocError> {
     let mut out = Text::new(alloc);
     add_asks(alloc, &mut out)?;
     Ok(out.as_slice() == ASKS)
@@ -157,24 +152,16 @@ fn add_listing(alloc: Global, out: &mut Text) -> Result<(), AllocError> {
     add_answer(alloc, SyncAnswer::ListEnd, out)
 }
 
-fn answers_are_written(alloc: Global) -> Result<bool, AllocError> {
+pub fn answers_are_written(alloc: Global) -> Result<bool, AllocError> {
     let mut out = Text::new(alloc);
     add_answers(alloc, &mut out)?;
     Ok(out.as_slice() == ANSWERS)
 }
 
-fn listing_is_written(alloc: Global) -> Result<bool, AllocError> {
+pub fn listing_is_written(alloc: Global) -> Result<bool, AllocError> {
     let mut out = Text::new(alloc);
     add_listing(alloc, &mut out)?;
     Ok(out.as_slice() == LISTING)
-}
-
-#[test]
-fn messages_are_written(rt: HostRuntime) -> Result<(), Fail> {
-    assert!(rt; asks_are_written(rt.alloc())?);
-    assert!(rt; answers_are_written(rt.alloc())?);
-    assert!(rt; listing_is_written(rt.alloc())?);
-    Ok(())
 }
 
 /// Bytes whose last one shows the fault.
@@ -225,27 +212,32 @@ fn ask_is_refused(alloc: Global, bad: &Bad) -> bool {
     taken && refused && reader.feed(b"QUIT\0\0\0\0") == Err(bad.1)
 }
 
-/// Whether answers are refused at their last byte, and all that follows.
-fn refuses_answer(reader: &mut AnswerReader, bad: &Bad) -> bool {
+/// Whether answers are refused at their last byte, and all that follows, and one answer came before
+/// where there are more than four bytes.
+fn answer_is_refused(alloc: Global, bad: &Bad) -> bool {
     let (front, last) = bad.0.split_at(bad.0.len().saturating_sub(1));
+    let mut reader = AnswerReader::new(alloc, false);
     let taken = reader.feed(front).is_ok();
     let refused = reader.feed(last) == Err(bad.1);
-    taken && refused && reader.feed(b"OKAY\0\0\0\0") == Err(bad.1)
+    let followed = reader.feed(b"OKAY\0\0\0\0") == Err(bad.1);
+    let came = count_answers(&mut reader);
+    taken && refused && followed && came == usize::from(bad.0.len() > 4)
 }
 
-/// Whether that is so, and one answer came before where there are more than four bytes.
-fn answer_is_refused(alloc: Global, bad: &Bad) -> bool {
-    let mut reader = AnswerReader::new(alloc, false);
-    let refused = refuses_answer(&mut reader, bad);
-    refused && count_answers(&mut reader) == usize::from(bad.0.len() > 4)
+pub fn bad_asks_are_refused(alloc: Global) -> Option<usize> {
+    for (at, bad) in BAD_ASKS.iter().enumerate() {
+        if !ask_is_refused(alloc, bad) {
+            return Some(at);
+        }
+    }
+    None
 }
 
-#[test]
-fn bad_messages_are_refused(rt: HostRuntime) {
-    for bad in BAD_ASKS {
-        assert!(rt; ask_is_refused(rt.alloc(), bad), "{:?}", bad.0);
+pub fn bad_answers_are_refused(alloc: Global) -> Option<usize> {
+    for (at, bad) in BAD_ANSWERS.iter().enumerate() {
+        if !answer_is_refused(alloc, bad) {
+            return Some(at);
+        }
     }
-    for bad in BAD_ANSWERS {
-        assert!(rt; answer_is_refused(rt.alloc(), bad), "{:?}", bad.0);
-    }
+    None
 }

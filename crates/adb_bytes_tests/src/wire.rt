@@ -2,11 +2,11 @@
 
 ghost use Rattle.std.specs.Prelude.{◌≤◌, length, IfOk};
 
+use crate::cases::fault_unless;
 use adb_outside::Text;
 use adb_wire::*;
 use bytes::Bytes;
 use std::alloc::{AllocError, Global};
-use std::test::Fail;
 
 /// What the server says first: version 0x01000001, 1,048,576 bytes at most, and what it can do.
 const CONNECT: &[u8] =
@@ -131,34 +131,33 @@ fn is_spelled(alloc: Global, row: &Spelling) -> Result<bool, AllocError> {
     Ok(out.as_slice() == row.bytes)
 }
 
-fn says(packet: &Packet, row: &Spelling) -> bool {
+fn says(packet: Packet, row: &Spelling) -> bool {
     packet.command == row.command
         && [packet.arg0, packet.arg1] == row.args
         && packet.payload.as_slice() == row.payload
 }
 
-/// Whether the next packet is that of a row.
+/// Whether the packet of a row is the first in its bytes.
 fn gives(deframer: &mut Deframer, row: &Spelling) -> bool {
+    let taken = deframer.feed(row.bytes).is_ok();
     match deframer.next() {
-        Some(packet) => says(&packet, row),
+        Some(packet) => taken && says(packet, row),
         None => false,
     }
 }
 
-/// Whether the packet of a row is the first in its bytes.
-fn is_first(alloc: Global, row: &Spelling) -> Result<bool, WireError> {
+fn is_first(alloc: Global, row: &Spelling) -> bool {
     let mut deframer = Deframer::new(alloc);
-    deframer.feed(row.bytes)?;
-    Ok(gives(&mut deframer, row))
+    gives(&mut deframer, row)
 }
 
-#[test]
-fn packets_are_spelled(rt: HostRuntime) -> Result<(), Fail> {
-    for row in SPELLINGS {
-        assert!(rt; is_spelled(rt.alloc(), row)?, "{:?}", row.bytes);
-        assert!(rt; is_first(rt.alloc(), row)?, "{:?}", row.bytes);
+pub fn packets_are_spelled(alloc: Global) -> Result<Option<usize>, AllocError> {
+    for (at, row) in SPELLINGS.iter().enumerate() {
+        if !is_spelled(alloc, row)? || !is_first(alloc, row) {
+            return Ok(Some(at));
+        }
     }
-    Ok(())
+    Ok(None)
 }
 
 const OPEN_HEAD: Head = Head {
@@ -169,13 +168,12 @@ const OPEN_HEAD: Head = Head {
     check: 0,
 };
 
-#[test]
-fn headers_are_spelled(rt: HostRuntime) {
+pub fn headers_are_spelled() -> bool {
     let mut bytes = [0; HEADER_LEN];
     header(&OPEN_HEAD, &mut bytes);
-    assert!(rt; bytes.as_slice() == &OPEN[..24]);
-    assert!(rt; read_header(&bytes) == Ok(OPEN_HEAD));
-    assert!(rt; byte_sum(b"host::features=shell_v2") == 2285);
+    bytes.as_slice() == &OPEN[..24]
+        && read_header(&bytes) == Ok(OPEN_HEAD)
+        && byte_sum(b"host::features=shell_v2") == 2285
 }
 
 /// Parts of a stream, how many packets are in it, and what its last piece is answered.
@@ -289,14 +287,22 @@ fn is_cut(alloc: Global, row: &Stream, piece: usize) -> Result<bool, AllocError>
     Ok(feed(&mut deframer, &stream, piece) == (row.count, row.answer))
 }
 
-#[test]
-fn streams_in_any_pieces(rt: HostRuntime) -> Result<(), Fail> {
-    for row in STREAMS {
-        for &piece in PIECES {
-            assert!(rt; is_cut(rt.alloc(), row, piece)?, "{} by {piece}", row.name);
+fn is_cut_by_all(alloc: Global, row: &Stream) -> Result<bool, AllocError> {
+    for &piece in PIECES {
+        if !is_cut(alloc, row, piece)? {
+            return Ok(false);
         }
     }
-    Ok(())
+    Ok(true)
+}
+
+pub fn streams_in_any_pieces(alloc: Global) -> Result<Option<usize>, AllocError> {
+    for (at, row) in STREAMS.iter().enumerate() {
+        if !is_cut_by_all(alloc, row)? {
+            return Ok(Some(at));
+        }
+    }
+    Ok(None)
 }
 
 fn add_many(stream: &mut Vec<u8>) -> Result<(), AllocError> {
@@ -315,11 +321,8 @@ fn packets_of_many(alloc: Global, piece: usize) -> Result<usize, AllocError> {
     Ok(if answer.is_ok() { count } else { 0 })
 }
 
-#[test]
-fn a_megabyte_takes_no_long_time(rt: HostRuntime) -> Result<(), Fail> {
-    assert!(rt; packets_of_many(rt.alloc(), 1)? == 40_000);
-    assert!(rt; packets_of_many(rt.alloc(), 65_536)? == 40_000);
-    Ok(())
+pub fn a_megabyte_takes_no_long_time(alloc: Global) -> Result<bool, AllocError> {
+    Ok(packets_of_many(alloc, 1)? == 40_000 && packets_of_many(alloc, 65_536)? == 40_000)
 }
 
 /// Pieces of a stream, and how many bytes are missing behind each.
@@ -337,19 +340,20 @@ const MISSING: &[(&[u8], usize)] = &[
     ),
 ];
 
-/// Whether so many bytes are missing behind a piece.
-fn misses(deframer: &mut Deframer, piece: &[u8], missing: usize) -> bool {
-    deframer.feed(piece).is_ok() && deframer.missing() == missing
+/// Whether so many bytes are missing behind each piece, and then the stream is broken.
+fn are_missing(deframer: &mut Deframer) -> Option<usize> {
+    for (at, row) in MISSING.iter().enumerate() {
+        if deframer.feed(row.0).is_err() || deframer.missing() != row.1 {
+            return Some(at);
+        }
+    }
+    let answer = deframer.feed(b"\n");
+    fault_unless(answer == Err(BAD_SUM) && deframer.missing() == usize::MAX)
 }
 
-#[test]
-fn missing_bytes_are_counted(rt: HostRuntime) {
-    let mut deframer = Deframer::new(rt.alloc());
-    for &(piece, missing) in MISSING {
-        assert!(rt; misses(&mut deframer, piece, missing), "{piece:?}");
-    }
-    assert!(rt; deframer.feed(b"\n") == Err(BAD_SUM));
-    assert!(rt; deframer.missing() == usize::MAX);
+pub fn missing_bytes_are_counted(alloc: Global) -> Option<usize> {
+    let mut deframer = Deframer::new(alloc);
+    are_missing(&mut deframer)
 }
 
 /// The slices of a stream.
@@ -390,11 +394,11 @@ fn is_sliced(alloc: Global, piece: usize) -> Result<bool, AllocError> {
     Ok(slices(&mut slicer, &stream, piece) && slicer.held() == CUT_OPEN)
 }
 
-#[test]
-fn slices_in_any_pieces(rt: HostRuntime) -> Result<(), Fail> {
-    for &piece in PIECES {
-        assert!(rt; is_sliced(rt.alloc(), piece)?, "by {piece}");
+pub fn slices_in_any_pieces(alloc: Global) -> Result<Option<usize>, AllocError> {
+    for (at, &piece) in PIECES.iter().enumerate() {
+        if !is_sliced(alloc, piece)? {
+            return Ok(Some(at));
+        }
     }
-    assert!(rt; MAX_PACKET == 1_048_600);
-    Ok(())
+    Ok(fault_unless(MAX_PACKET == 1_048_600))
 }

@@ -3,6 +3,7 @@
 ghost use Rattle.std.specs.Prelude.{IfOk};
 ghost use Rattle.adb_capture.specs.Records.{HasRecord};
 
+use crate::cases::fault_unless;
 use adb_capture::{
     CaptureError, Entry, Lent, MemoryRecorder, NullRecorder, Owner, Recorder, SinkRecorder, Why,
     append_entry, append_magic, limits_are, read_is_spelled, records_are_framed, spelled_is_read,
@@ -11,7 +12,6 @@ use adb_capture::{
 use adb_capture_reader::{CaptureReader, Record};
 use adb_outside::{ByteQueue, Kind, MemorySink, MemorySource, Text, Wrote};
 use std::alloc::{AllocError, Global};
-use std::test::Fail;
 
 /// What an entry says: its kind, its number, what else is no text, and its text.
 type Said<'a> = (&'a str, u32, u16, &'a [u8]);
@@ -174,12 +174,10 @@ fn are_copied(bench: &mut Bench, copies: &mut Copies) -> Result<bool, AllocError
     Ok(so && bench.is_over() && copies.are(RECORDS))
 }
 
-#[test]
-fn records_are_read_and_written(rt: HostRuntime) -> Result<(), Fail> {
-    let mut bench = Bench::new(rt.alloc(), RECORDS, &[])?;
-    let mut copies = Copies::new(rt.alloc());
-    assert!(rt; are_copied(&mut bench, &mut copies)?);
-    Ok(())
+pub fn records_are_read_and_written(alloc: Global) -> Result<bool, AllocError> {
+    let mut bench = Bench::new(alloc, RECORDS, &[])?;
+    let mut copies = Copies::new(alloc);
+    are_copied(&mut bench, &mut copies)
 }
 
 /// Whether the records are lent, their entries say so, and none follows.
@@ -191,11 +189,9 @@ fn are_lent(bench: &mut Bench) -> bool {
     so && bench.is_over()
 }
 
-#[test]
-fn records_are_lent(rt: HostRuntime) -> Result<(), Fail> {
-    let mut bench = Bench::new(rt.alloc(), RECORDS, &[])?;
-    assert!(rt; are_lent(&mut bench));
-    Ok(())
+pub fn records_are_lent(alloc: Global) -> Result<bool, AllocError> {
+    let mut bench = Bench::new(alloc, RECORDS, &[])?;
+    Ok(are_lent(&mut bench))
 }
 
 const TRUNCATED: CaptureError = CaptureError::Truncated { offset: 8 };
@@ -246,17 +242,18 @@ fn is_refused(
     Ok(bench.lends_none(error) && bench.fails(error))
 }
 
-#[test]
-fn captures_are_refused(rt: HostRuntime) -> Result<(), Fail> {
-    for &(capture, error) in REFUSED {
-        assert!(rt;
-            is_refused(rt.alloc(), capture, &[], error)?,
-            "of {capture:?}"
-        );
+pub fn captures_are_refused(alloc: Global) -> Result<Option<usize>, AllocError> {
+    for (at, row) in REFUSED.iter().enumerate() {
+        if !is_refused(alloc, row.0, &[], row.1)? {
+            return Ok(Some(at));
+        }
     }
+    Ok(None)
+}
+
+pub fn a_failed_read_is_told(alloc: Global) -> Result<bool, AllocError> {
     let part = b"ADBHUB1\nJ\x01\0\0\0\0";
-    assert!(rt; is_refused(rt.alloc(), part, &[3], CaptureError::ReadFault)?);
-    Ok(())
+    is_refused(alloc, part, &[3], CaptureError::ReadFault)
 }
 
 /// What records are, as laws that any caller may ask for.
@@ -320,6 +317,18 @@ impl Recorders {
         }
         true
     }
+
+    /// The first of the rows as which an entry is not kept.
+    fn keep_all(&mut self, entry: &Entry) -> Option<usize>
+        requires { HasRecord entry.now }
+    {
+        for (at, row) in KEEPINGS.iter().enumerate() {
+            if !self.keep(entry, row) {
+                return Some(at);
+            }
+        }
+        fault_unless(self.are_attached() && NullRecorder::new().keep(entry).is_ok())
+    }
 }
 
 /// Whether the entry is kept and written, how many are kept then, and how many bytes are written.
@@ -355,15 +364,16 @@ const KEEPINGS: &[Keeping] = &[
 /// Two records, of which the second is torn: nothing follows it.
 const TORN: &[u8] = b"ADBHUB1\nA\x01\0\0\0\x04\0\0\0uabcA\x01\0\0\0\x04\0\0\0u";
 
-#[test]
-fn recorders_keep(rt: HostRuntime) -> Result<(), Fail> {
-    let entry = attach(rt.alloc())?;
-    let mut recorders = Recorders::new(rt.alloc())?;
-    for row in KEEPINGS {
-        assert!(rt; recorders.keep(&entry, row), "{} written", row.len);
-    }
-    assert!(rt; recorders.are_attached() && NullRecorder::new().keep(&entry).is_ok());
-    Ok(())
+fn is_kept(alloc: Global, entry: &Entry) -> Result<Option<usize>, AllocError>
+    requires { HasRecord entry.now }
+{
+    let mut recorders = Recorders::new(alloc)?;
+    Ok(recorders.keep_all(entry))
+}
+
+pub fn recorders_keep(alloc: Global) -> Result<Option<usize>, AllocError> {
+    let entry = attach(alloc)?;
+    is_kept(alloc, &entry)
 }
 
 /// Whether a recorder keeps a piece of a client and one of a device.
@@ -380,17 +390,17 @@ fn are_both(entries: &[Entry]) -> bool {
     }
 }
 
-#[test]
-fn pieces_are_kept(rt: HostRuntime) {
-    let mut memory = MemoryRecorder::new(rt.alloc(), Vec::new(rt.alloc()));
-    assert!(rt; keeps_both(&mut memory) && are_both(memory.entries()));
-    assert!(rt; keeps_both(&mut NullRecorder::new()));
+pub fn pieces_are_kept(alloc: Global) -> bool {
+    let mut memory = MemoryRecorder::new(alloc, Vec::new(alloc));
+    keeps_both(&mut memory) && are_both(memory.entries())
 }
 
-#[test]
-fn pieces_are_written(rt: HostRuntime) {
-    let mut written = SinkRecorder::new(MemorySink::new(rt.alloc(), Vec::new(rt.alloc())));
-    assert!(rt; keeps_both(&mut written));
+pub fn pieces_are_passed_over() -> bool {
+    keeps_both(&mut NullRecorder::new())
+}
+
+pub fn pieces_are_written(alloc: Global) -> bool {
+    let mut written = SinkRecorder::new(MemorySink::new(alloc, Vec::new(alloc)));
     let records = b"ADBHUB1\nR\x01\0\0\0\x02\0\0\0abV\x02\0\0\0\x01\0\0\0c".as_slice();
-    assert!(rt; written.sink().bytes() == records);
+    keeps_both(&mut written) && written.sink().bytes() == records
 }

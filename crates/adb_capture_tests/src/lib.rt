@@ -3,3 +3,5 @@
 
 #[cfg(test)]
 mod capture;
+#[cfg(test)]
+mod cases;

@@ -2,10 +2,10 @@
 
 ghost use Rattle.std.specs.Prelude.{◌<◌, ◌^◌, length};
 
+use crate::cases::fault_unless;
 use adb_files::{File, FileError, Files};
 use adb_outside::Text;
 use std::alloc::{AllocError, Global};
-use std::test::Fail;
 
 /// A file of so many bytes.
 fn file_of(alloc: Global, size: usize) -> Result<File, AllocError> {
@@ -103,14 +103,22 @@ fn is_removed(files: &mut Files) -> bool {
     removed && !files.is_directory(b"/d") && files.get(b"/d/e").is_none()
 }
 
-#[test]
-fn a_map_of_files(rt: HostRuntime) -> Result<(), Fail> {
-    let mut files = Files::new(rt.alloc());
-    for row in PATHS {
-        assert!(rt; answers(rt.alloc(), &mut files, row)?, "at {:?}", row.0);
+fn lists_three(files: &Files) -> Result<bool, AllocError> {
+    let list = files.list(b"/")?;
+    Ok(list.len() == 3)
+}
+
+fn map_answers(alloc: Global, files: &mut Files) -> Result<Option<usize>, AllocError> {
+    for (at, row) in PATHS.iter().enumerate() {
+        if !answers(alloc, files, row)? {
+            return Ok(Some(at));
+        }
     }
-    assert!(rt; refuses_more(rt.alloc(), &mut files)?);
-    assert!(rt; files.list(b"/")?.len() == 3);
-    assert!(rt; is_removed(&mut files));
-    Ok(())
+    let so = refuses_more(alloc, files)? && lists_three(files)? && is_removed(files);
+    Ok(fault_unless(so))
+}
+
+pub fn a_map_of_files(alloc: Global) -> Result<Option<usize>, AllocError> {
+    let mut files = Files::new(alloc);
+    map_answers(alloc, &mut files)
 }

@@ -1,9 +1,9 @@
 //! Lines, and what their sessions ask for, write and print, worked out by hand.
 
+use crate::cases::fault_unless;
 use adb_outside::Text;
 use adb_script::{EchoLine, Script, ScriptError, ScriptLine, SessionLine};
 use std::alloc::{AllocError, Global};
-use std::test::Fail;
 
 /// Lines of one kind each, refused and not, and the number of the first that is refused, or 0.
 const LINES: &[(&[u8], u32)] = &[
@@ -68,16 +68,22 @@ fn long_bad(alloc: Global, row: &(&[u8], usize, &[u8], u32)) -> Result<u32, Allo
     Ok(first_bad(alloc, script.as_slice()))
 }
 
-#[test]
-fn lines(rt: HostRuntime) -> Result<(), Fail> {
-    let alloc = rt.alloc();
-    for &(script, want) in LINES {
-        assert!(rt; first_bad(alloc, script) == want, "script {script:?}");
+pub fn lines_are_read(alloc: Global) -> Option<usize> {
+    for (at, row) in LINES.iter().enumerate() {
+        if first_bad(alloc, row.0) != row.1 {
+            return Some(at);
+        }
     }
-    for row in LONG {
-        assert!(rt; long_bad(alloc, row)? == row.3, "script of {:?}", row.0);
+    None
+}
+
+pub fn long_scripts_are_read(alloc: Global) -> Result<Option<usize>, AllocError> {
+    for (at, row) in LONG.iter().enumerate() {
+        if long_bad(alloc, row)? != row.3 {
+            return Ok(Some(at));
+        }
     }
-    Ok(())
+    Ok(None)
 }
 
 /// A line, what its session was handed, and what is printed of it.
@@ -187,20 +193,22 @@ fn is_asked(alloc: Global, row: &Asked) -> Result<bool, AllocError> {
     }
 }
 
-#[test]
-fn sessions_are_printed(rt: HostRuntime) -> Result<(), Fail> {
-    for &(line, got, want) in PRINTED {
-        assert!(rt; is_printed(rt.alloc(), line, got, want)?, "line {line:?}");
+pub fn sessions_are_printed(alloc: Global) -> Result<Option<usize>, AllocError> {
+    for (at, row) in PRINTED.iter().enumerate() {
+        if !is_printed(alloc, row.0, row.1, row.2)? {
+            return Ok(Some(at));
+        }
     }
-    Ok(())
+    Ok(None)
 }
 
-#[test]
-fn sessions_ask(rt: HostRuntime) -> Result<(), Fail> {
-    for row in ASKED {
-        assert!(rt; is_asked(rt.alloc(), row)?, "line {:?}", row.0);
+pub fn sessions_ask(alloc: Global) -> Result<Option<usize>, AllocError> {
+    for (at, row) in ASKED.iter().enumerate() {
+        if !is_asked(alloc, row)? {
+            return Ok(Some(at));
+        }
     }
-    Ok(())
+    Ok(None)
 }
 
 const ECHO: EchoLine = EchoLine {
@@ -223,12 +231,12 @@ fn echoes(alloc: Global, want: &[u8]) -> Result<bool, AllocError> {
 /// Streams of the echo, and what each sends.
 const SENT: &[(u32, &[u8])] = &[(2, b"\x02\x03\x04\x05"), (249, b"\xf9\xfa\0\x01")];
 
-#[test]
-fn echo(rt: HostRuntime) -> Result<(), Fail> {
-    for &(stream, bytes) in SENT {
-        assert!(rt; sends(rt.alloc(), stream, bytes)?, "stream {stream}");
-        assert!(rt; ECHO.is_echoed(stream, bytes) && !ECHO.is_echoed(0, bytes));
+pub fn echo_is_sent(alloc: Global) -> Result<Option<usize>, AllocError> {
+    for (at, &(stream, bytes)) in SENT.iter().enumerate() {
+        let so = ECHO.is_echoed(stream, bytes) && !ECHO.is_echoed(0, bytes);
+        if !so || !sends(alloc, stream, bytes)? {
+            return Ok(Some(at));
+        }
     }
-    assert!(rt; echoes(rt.alloc(), b"echo 64 4 ok\n")?);
-    Ok(())
+    Ok(fault_unless(echoes(alloc, b"echo 64 4 ok\n")?))
 }

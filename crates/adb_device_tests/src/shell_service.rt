@@ -2,16 +2,16 @@
 
 ghost use Rattle.std.specs.Prelude.{◌<◌, ◌^◌, length};
 
+use crate::cases::fault_unless;
 use adb_files::{File, Files};
 use adb_outside::Text;
 use adb_shell_service::ShellService;
 use std::alloc::{AllocError, Global};
-use std::test::Fail;
 
 /// A command, what it writes to its output and to its error output, and its status.
-type Case = (&'static [u8], &'static [u8], &'static [u8], u8);
+type Row = (&'static [u8], &'static [u8], &'static [u8], u8);
 
-const CASES: &[Case] = &[
+const COMMANDS: &[Row] = &[
     (b"", b"", b"", 0),
     (b"   ", b"", b"", 0),
     (b"echo hi", b"hi\n", b"", 0),
@@ -43,8 +43,8 @@ const CASES: &[Case] = &[
     (b"echo\thi", b"", b"echo\thi: not found\n", 127),
 ];
 
-/// Puts a file of two bytes.
-fn put_file(alloc: Global, path: &[u8], files: &mut Files) -> Result<(), Fail>
+/// Puts a file of two bytes. Whether it was put.
+fn put_file(alloc: Global, path: &[u8], files: &mut Files) -> Result<bool, AllocError>
     requires { length path.now < 2 ^ 32 }
 {
     let file = File {
@@ -52,13 +52,12 @@ fn put_file(alloc: Global, path: &[u8], files: &mut Files) -> Result<(), Fail>
         mtime: 1,
         bytes: Text::from_slice(alloc, b"hi")?,
     };
-    Ok(files.put(path, file)?)
+    Ok(files.put(path, file) == Ok(()))
 }
 
 /// Puts the files `/a` and `/d/f`.
-fn put_two_files(alloc: Global, files: &mut Files) -> Result<(), Fail> {
-    put_file(alloc, b"/a", files)?;
-    put_file(alloc, b"/d/f", files)
+fn put_two_files(alloc: Global, files: &mut Files) -> Result<bool, AllocError> {
+    Ok(put_file(alloc, b"/a", files)? && put_file(alloc, b"/d/f", files)?)
 }
 
 /// Adds a packet of fewer than 256 bytes, where there are any.
@@ -70,16 +69,16 @@ fn add_packet(id: u8, bytes: &[u8], out: &mut Text) -> Result<(), AllocError> {
     out.push_slice(bytes)
 }
 
-fn plain_answer(alloc: Global, case: &Case) -> Result<Text, AllocError> {
-    let mut answer = Text::from_slice(alloc, case.1)?;
-    answer.push_slice(case.2)?;
+fn plain_answer(alloc: Global, row: &Row) -> Result<Text, AllocError> {
+    let mut answer = Text::from_slice(alloc, row.1)?;
+    answer.push_slice(row.2)?;
     Ok(answer)
 }
 
-fn add_packets(case: &Case, answer: &mut Text) -> Result<(), AllocError> {
-    add_packet(1, case.1, answer)?;
-    add_packet(2, case.2, answer)?;
-    add_packet(3, &[case.3], answer)
+fn add_packets(row: &Row, answer: &mut Text) -> Result<(), AllocError> {
+    add_packet(1, row.1, answer)?;
+    add_packet(2, row.2, answer)?;
+    add_packet(3, &[row.3], answer)
 }
 
 /// Whether a service has ended with this answer.
@@ -99,15 +98,15 @@ fn is_answered(
     Ok(has_answered(&service, answer))
 }
 
-fn answers_plainly(alloc: Global, files: &mut Files, case: &Case) -> Result<bool, AllocError> {
-    let answer = plain_answer(alloc, case)?;
-    is_answered(alloc, files, false, case.0, answer.as_slice())
+fn answers_plainly(alloc: Global, files: &mut Files, row: &Row) -> Result<bool, AllocError> {
+    let answer = plain_answer(alloc, row)?;
+    is_answered(alloc, files, false, row.0, answer.as_slice())
 }
 
-fn answers_in_packets(alloc: Global, files: &mut Files, case: &Case) -> Result<bool, AllocError> {
+fn answers_in_packets(alloc: Global, files: &mut Files, row: &Row) -> Result<bool, AllocError> {
     let mut answer = Text::new(alloc);
-    add_packets(case, &mut answer)?;
-    is_answered(alloc, files, true, case.0, answer.as_slice())
+    add_packets(row, &mut answer)?;
+    is_answered(alloc, files, true, row.0, answer.as_slice())
 }
 
 /// Whether the input of `cat` is dropped in plain mode.
@@ -123,18 +122,22 @@ fn removes(alloc: Global, files: &mut Files) -> Result<bool, AllocError> {
     Ok(answered && files.get(b"/a").is_none() && files.get(b"/d/f").is_some())
 }
 
-#[test]
-fn commands_answer_in_both_modes(rt: HostRuntime) -> Result<(), Fail> {
-    let mut files = Files::new(rt.alloc());
-    put_two_files(rt.alloc(), &mut files)?;
-    for case in CASES {
-        let plainly = answers_plainly(rt.alloc(), &mut files, case)?;
-        let in_packets = answers_in_packets(rt.alloc(), &mut files, case)?;
-        assert!(rt; plainly && in_packets, "{:?}", case.0);
+fn commands_answer(alloc: Global, files: &mut Files) -> Result<Option<usize>, AllocError> {
+    let put = put_two_files(alloc, files)?;
+    for (at, row) in COMMANDS.iter().enumerate() {
+        let plainly = answers_plainly(alloc, files, row)?;
+        let in_packets = answers_in_packets(alloc, files, row)?;
+        if !plainly || !in_packets {
+            return Ok(Some(at));
+        }
     }
-    assert!(rt; drops_its_input(rt.alloc(), &mut files)?);
-    assert!(rt; removes(rt.alloc(), &mut files)?);
-    Ok(())
+    let so = put && drops_its_input(alloc, files)? && removes(alloc, files)?;
+    Ok(fault_unless(so))
+}
+
+pub fn commands_answer_in_both_modes(alloc: Global) -> Result<Option<usize>, AllocError> {
+    let mut files = Files::new(alloc);
+    commands_answer(alloc, &mut files)
 }
 
 /// The packets before the last ones, and what `cat` writes of them.
@@ -171,30 +174,41 @@ fn gives_seven(service: &mut ShellService) -> bool {
     service.out().len() == count.saturating_sub(7)
 }
 
-/// Whether ` cat ` in packets writes back what it is fed.
+/// Whether a service writes back what it is fed.
+fn writes_back(service: &mut ShellService, end: &(&[u8], &[u8])) -> Result<bool, AllocError> {
+    feed(service, FED)?;
+    feed(service, end.0)?;
+    Ok(has_written(service, end.1) && gives_seven(service))
+}
+
+/// Whether ` cat ` in packets does.
 fn is_written_back(alloc: Global, end: &(&[u8], &[u8])) -> Result<bool, AllocError> {
-    let mut service = ShellService::open(alloc, &mut Files::new(alloc), true, b" cat ")?;
-    feed(&mut service, FED)?;
-    feed(&mut service, end.0)?;
-    Ok(has_written(&service, end.1) && gives_seven(&mut service))
+    let mut service = open_cat(alloc)?;
+    writes_back(&mut service, end)
 }
 
-#[test]
-fn input_is_written_back(rt: HostRuntime) -> Result<(), Fail> {
-    for end in ENDS {
-        assert!(rt; is_written_back(rt.alloc(), end)?, "{:?}", end.0);
+fn open_cat(alloc: Global) -> Result<ShellService, AllocError> {
+    let mut files = Files::new(alloc);
+    ShellService::open(alloc, &mut files, true, b" cat ")
+}
+
+pub fn input_is_written_back(alloc: Global) -> Result<Option<usize>, AllocError> {
+    for (at, end) in ENDS.iter().enumerate() {
+        if !is_written_back(alloc, end)? {
+            return Ok(Some(at));
+        }
     }
-    Ok(())
+    Ok(None)
 }
 
-/// Puts the file `/big`, of 65,537 bytes.
-fn put_big_file(alloc: Global, files: &mut Files) -> Result<(), Fail> {
+/// Puts the file `/big`, of 65,537 bytes. Whether it was put.
+fn put_big_file(alloc: Global, files: &mut Files) -> Result<bool, AllocError> {
     let file = File {
         mode: 33_188,
         mtime: 1,
         bytes: Text::from_vec(vec![in alloc; 7; 65_537]?),
     };
-    Ok(files.put(b"/big", file)?)
+    Ok(files.put(b"/big", file) == Ok(()))
 }
 
 /// Whether these are a packet of 65,536 bytes, one of a byte, and the status.
@@ -209,10 +223,11 @@ fn big_file_is_cut(alloc: Global, files: &mut Files) -> Result<bool, AllocError>
     Ok(are_packets(service.out()))
 }
 
-#[test]
-fn output_comes_in_packets_of_65_536_bytes(rt: HostRuntime) -> Result<(), Fail> {
-    let mut files = Files::new(rt.alloc());
-    put_big_file(rt.alloc(), &mut files)?;
-    assert!(rt; big_file_is_cut(rt.alloc(), &mut files)?);
-    Ok(())
+fn comes_in_packets(alloc: Global, files: &mut Files) -> Result<bool, AllocError> {
+    Ok(put_big_file(alloc, files)? && big_file_is_cut(alloc, files)?)
+}
+
+pub fn output_comes_in_packets_of_65_536_bytes(alloc: Global) -> Result<bool, AllocError> {
+    let mut files = Files::new(alloc);
+    comes_in_packets(alloc, &mut files)
 }

@@ -3,7 +3,6 @@
 use adb_outside::Text;
 use adb_sync_client::{Entries, List, Pull, Push, Stat, Step};
 use std::alloc::{AllocError, Global};
-use std::test::Fail;
 
 /// What a step is, in a letter, and its offset.
 fn shown<V: Drop>(step: &Step<V>) -> (char, u64) {
@@ -59,33 +58,38 @@ const PULLED: &[(&[u8], (char, u64))] = &[
     (b"DATA\0\0\0\x01", ('b', 7)),
 ];
 
-#[test]
-fn answers(rt: HostRuntime) -> Result<(), Fail> {
-    let alloc = rt.alloc();
-    for &(answer, want) in PUSHED {
-        assert!(rt; pushed(alloc, answer)? == want, "push {answer:?}");
+pub fn pushes_are_answered(alloc: Global) -> Result<Option<usize>, AllocError> {
+    for (at, row) in PUSHED.iter().enumerate() {
+        if pushed(alloc, row.0)? != row.1 {
+            return Ok(Some(at));
+        }
     }
-    for &(answer, want) in PULLED {
-        assert!(rt; pulled(alloc, answer)? == want, "pull {answer:?}");
-    }
-    Ok(())
+    Ok(None)
 }
 
-fn is_abc(step: &Step<Text>) -> bool {
-    match step {
+pub fn pulls_are_answered(alloc: Global) -> Result<Option<usize>, AllocError> {
+    for (at, row) in PULLED.iter().enumerate() {
+        if pulled(alloc, row.0)? != row.1 {
+            return Ok(Some(at));
+        }
+    }
+    Ok(None)
+}
+
+fn is_abc(step: Step<Text>) -> bool {
+    match &step {
         Step::Done(text) => text.as_slice() == b"abc".as_slice(),
         _ => false,
     }
 }
 
-fn pulls_abc(alloc: Global) -> Result<bool, AllocError> {
+pub fn pulls_abc(alloc: Global) -> Result<bool, AllocError> {
     let mut pull = Pull::new(alloc, b"/n")?;
-    let step = pull.feed(b"DATA\x02\0\0\0abDATA\x01\0\0\0cDONE\x09\0\0\0")?;
-    Ok(is_abc(&step))
+    Ok(is_abc(pull.feed(b"DATA\x02\0\0\0abDATA\x01\0\0\0cDONE\x09\0\0\0")?))
 }
 
 /// Whether a stat is done with the numbers of a file of five bytes.
-fn stats_a_file(alloc: Global) -> Result<bool, AllocError> {
+pub fn stats_a_file(alloc: Global) -> Result<bool, AllocError> {
     let mut stat = Stat::new(alloc, b"/n")?;
     let step = stat.feed(b"STAT\xa4\x81\0\0\x05\0\0\0\x01\0\0\0")?;
     Ok(match &step {
@@ -111,19 +115,10 @@ fn ends_with_x(list: &mut List) -> Result<bool, AllocError> {
     })
 }
 
-fn lists_x(alloc: Global) -> Result<bool, AllocError> {
+pub fn lists_x(alloc: Global) -> Result<bool, AllocError> {
     let mut list = List::new(alloc, b"/")?;
     list.feed(b"DENT\xa4\x81\0\0\x05\0\0\0\x01\0\0\0\x01\0\0\0x")?;
     ends_with_x(&mut list)
-}
-
-#[test]
-fn values(rt: HostRuntime) -> Result<(), Fail> {
-    let alloc = rt.alloc();
-    assert!(rt; pulls_abc(alloc)?);
-    assert!(rt; stats_a_file(alloc)?);
-    assert!(rt; lists_x(alloc)?);
-    Ok(())
 }
 
 /// Takes the first bytes that a push has left.
@@ -150,18 +145,14 @@ fn sends(push: &mut Push, alloc: Global, want: &[u8]) -> Result<bool, AllocError
     Ok(sent.as_slice() == want)
 }
 
-#[test]
-fn pushes_are_sent(rt: HostRuntime) -> Result<(), Fail> {
-    let mut push = Push::new(rt.alloc(), b"/n", 420, 5, b"abc")?;
+pub fn pushes_are_sent(alloc: Global) -> Result<bool, AllocError> {
+    let mut push = Push::new(alloc, b"/n", 420, 5, b"abc")?;
     let want = b"SEND\x06\0\0\0/n,420DATA\x03\0\0\0abcDONE\x05\0\0\0";
-    assert!(rt; sends(&mut push, rt.alloc(), want)?);
-    Ok(())
+    sends(&mut push, alloc, want)
 }
 
-#[test]
-fn pulls_are_sent(rt: HostRuntime) -> Result<(), Fail> {
-    let mut pull = Pull::new(rt.alloc(), b"/n")?;
+pub fn pulls_are_sent(alloc: Global) -> Result<bool, AllocError> {
+    let mut pull = Pull::new(alloc, b"/n")?;
     pull.taken(0);
-    assert!(rt; pull.out() == b"RECV\x02\0\0\0/n".as_slice());
-    Ok(())
+    Ok(pull.out() == b"RECV\x02\0\0\0/n".as_slice())
 }

@@ -1,9 +1,9 @@
 //! A sync service: worked requests and answers byte for byte, and pushes and pulls in pieces.
 
+use crate::cases::fault_unless;
 use adb_files::{File, Files, SyncService};
 use adb_outside::Text;
 use std::alloc::{AllocError, Global};
-use std::test::Fail;
 
 /// Takes all that a service answered.
 fn drain(service: &mut SyncService, answer: &mut Text) -> Result<(), AllocError> {
@@ -63,11 +63,13 @@ fn file_of(bytes: Text) -> File {
     }
 }
 
-/// Puts the files `/a`, which is empty, and `/d/f` with two bytes, both of the time 1.
-fn put_two_files(alloc: Global, files: &mut Files) -> Result<(), Fail> {
-    files.put(b"/a", file_of(Text::new(alloc)))?;
-    files.put(b"/d/f", file_of(Text::from_slice(alloc, b"hi")?))?;
-    Ok(())
+/// Puts the files `/a`, which is empty, and `/d/f` with two bytes, both of the time 1. Whether they
+/// were put.
+fn put_two_files(alloc: Global, files: &mut Files) -> Result<bool, AllocError> {
+    let empty = files.put(b"/a", file_of(Text::new(alloc)));
+    let bytes = Text::from_slice(alloc, b"hi")?;
+    let full = files.put(b"/d/f", file_of(bytes));
+    Ok(empty == Ok(()) && full == Ok(()))
 }
 
 /// What is asked over these files, one after the other.
@@ -128,20 +130,28 @@ const ANSWERS: &[Row<'static>] = &[
     ),
 ];
 
-#[test]
-fn answers_byte_for_byte(rt: HostRuntime) -> Result<(), Fail> {
-    let mut files = Files::new(rt.alloc());
-    put_two_files(rt.alloc(), &mut files)?;
-    for row in ANSWERS {
-        for &size in SIZES {
-            assert!(rt;
-                answers(rt.alloc(), &mut files, row, size)?,
-                "to {:?}",
-                row.0
-            );
+fn answers_in_pieces(alloc: Global, files: &mut Files, row: &Row) -> Result<bool, AllocError> {
+    for &size in SIZES {
+        if !answers(alloc, files, row, size)? {
+            return Ok(false);
         }
     }
-    Ok(())
+    Ok(true)
+}
+
+fn answers_all(alloc: Global, files: &mut Files) -> Result<Option<usize>, AllocError> {
+    let put = put_two_files(alloc, files)?;
+    for (at, row) in ANSWERS.iter().enumerate() {
+        if !answers_in_pieces(alloc, files, row)? {
+            return Ok(Some(at));
+        }
+    }
+    Ok(fault_unless(put))
+}
+
+pub fn answers_byte_for_byte(alloc: Global) -> Result<Option<usize>, AllocError> {
+    let mut files = Files::new(alloc);
+    answers_all(alloc, &mut files)
 }
 
 /// Adds so many bytes, each its place's rest by 251.
@@ -199,13 +209,20 @@ fn length_comes_back(alloc: Global, length: usize, size: usize) -> Result<bool, 
 
 const LENGTHS: &[usize] = &[0, 65_536, 65_537];
 
-#[test]
-fn pushes_are_pulled(rt: HostRuntime) -> Result<(), Fail> {
-    for &length in LENGTHS {
-        for &size in SIZES {
-            let so = length_comes_back(rt.alloc(), length, size)?;
-            assert!(rt; so, "{length} bytes by {size}");
+fn comes_back_in_pieces(alloc: Global, length: usize) -> Result<bool, AllocError> {
+    for &size in SIZES {
+        if !length_comes_back(alloc, length, size)? {
+            return Ok(false);
         }
     }
-    Ok(())
+    Ok(true)
+}
+
+pub fn pushes_are_pulled(alloc: Global) -> Result<Option<usize>, AllocError> {
+    for (at, &length) in LENGTHS.iter().enumerate() {
+        if !comes_back_in_pieces(alloc, length)? {
+            return Ok(Some(at));
+        }
+    }
+    Ok(None)
 }

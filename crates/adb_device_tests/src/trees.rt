@@ -4,7 +4,6 @@ use adb_outside::Text;
 use adb_script::ScriptError;
 use adb_trees::{NamedTree, read_tree};
 use std::alloc::{AllocError, Global};
-use std::test::Fail;
 
 /// Scripts, how many files they name, and the number of the first line that is refused, or 0.
 const TREES: &[(&[u8], usize, u32)] = &[
@@ -62,13 +61,13 @@ fn count(files: &NamedTree) -> usize {
     1_025
 }
 
-#[test]
-fn trees_are_read(rt: HostRuntime) -> Result<(), Fail> {
-    let alloc = rt.alloc();
-    for &(script, files, line) in TREES {
-        assert!(rt; files_of(alloc, script) == (files, line), "{script:?}");
+pub fn trees_are_read(alloc: Global) -> Option<usize> {
+    for (at, row) in TREES.iter().enumerate() {
+        if files_of(alloc, row.0) != (row.1, row.2) {
+            return Some(at);
+        }
     }
-    Ok(())
+    None
 }
 
 /// What pushes the file of a path of a script; nothing where the script doesn't name it.
@@ -85,10 +84,11 @@ fn is_pushed(alloc: Global, path: &[u8], text: &[u8]) -> Result<bool, AllocError
     Ok(pushed.as_slice() == text)
 }
 
-#[test]
-fn named_files_are_pushed(rt: HostRuntime) -> Result<(), Fail> {
-    for &(path, text) in PUSHES {
-        assert!(rt; is_pushed(rt.alloc(), path, text)?, "{path:?}");
+pub fn named_files_are_pushed(alloc: Global) -> Result<Option<usize>, AllocError> {
+    for (at, row) in PUSHES.iter().enumerate() {
+        if !is_pushed(alloc, row.0, row.1)? {
+            return Ok(Some(at));
+        }
     }
-    Ok(())
+    Ok(None)
 }

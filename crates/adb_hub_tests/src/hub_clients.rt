@@ -9,7 +9,6 @@ use adb_outside::{Identity, Kind, Text};
 use adb_registry::{AttachError, Registry};
 use adb_reply::Next;
 use std::alloc::{AllocError, Global};
-use std::test::Fail;
 
 /// The bytes held; how many of them are requests that are answered, and the replies; the transport
 /// that is selected then, or 0; and what follows, in a word.
@@ -63,17 +62,11 @@ fn word(next: &Option<Next>) -> &'static [u8] {
 }
 
 /// Whether a plan is that of a row.
-fn is_of(plan: &Plan, row: &Row) -> bool {
+fn is_of(plan: Plan, row: &Row) -> bool {
     plan.used == row.1
         && plan.replies.as_slice() == row.2
         && plan.selected.unwrap_or(0) == row.3
         && word(&plan.next) == row.4
-}
-
-fn client_with(alloc: Global, held: &[u8]) -> Result<Client, AllocError> {
-    let mut client = Client::new(alloc, 7, false)?;
-    client.take_in(held)?;
-    Ok(client)
 }
 
 /// The plan of a client where there are no forwards.
@@ -82,11 +75,20 @@ fn plan_of(alloc: Global, client: &Client, devices: &Registry) -> Result<Plan, A
     make_plan(alloc, client, devices, &forwards)
 }
 
-/// Whether a client that holds the bytes of a row asks what it says.
+/// Whether a client asks what a row says once its bytes came.
+fn asks_then(
+    alloc: Global,
+    client: &mut Client,
+    devices: &Registry,
+    row: &Row,
+) -> Result<bool, AllocError> {
+    client.take_in(row.0)?;
+    Ok(is_of(plan_of(alloc, client, devices)?, row))
+}
+
 fn asks(alloc: Global, devices: &Registry, row: &Row) -> Result<bool, AllocError> {
-    let client = client_with(alloc, row.0)?;
-    let plan = plan_of(alloc, &client, devices)?;
-    Ok(is_of(&plan, row))
+    let mut client = Client::new(alloc, 7, false)?;
+    asks_then(alloc, &mut client, devices, row)
 }
 
 /// A device that says nothing of itself.
@@ -103,18 +105,19 @@ fn identity(alloc: Global) -> Identity
     }
 }
 
-fn one_device(alloc: Global) -> Result<Registry, AttachError> {
-    let mut devices = Registry::new(alloc);
+/// A device comes. The first of the rows whose client does not ask what it says.
+fn are_planned(alloc: Global, devices: &mut Registry) -> Result<Option<usize>, AttachError> {
     let id = devices.attach(Kind::Usb, b"emu1")?;
     devices.online(id, identity(alloc), 0x0100_0001, 4096);
-    Ok(devices)
+    for (at, row) in ROWS.iter().enumerate() {
+        if !asks(alloc, devices, row)? {
+            return Ok(Some(at));
+        }
+    }
+    Ok(None)
 }
 
-#[test]
-fn requests_are_planned(rt: HostRuntime) -> Result<(), Fail> {
-    let devices = one_device(rt.alloc())?;
-    for row in ROWS {
-        assert!(rt; asks(rt.alloc(), &devices, row)?, "of {:?}", row.0);
-    }
-    Ok(())
+pub fn requests_are_planned(alloc: Global) -> Result<Option<usize>, AttachError> {
+    let mut devices = Registry::new(alloc);
+    are_planned(alloc, &mut devices)
 }

@@ -10,7 +10,6 @@ use adb_registry::Registry;
 use adb_stream::Streams;
 use std::alloc::{AllocError, Global};
 use std::collections::BTreeSet;
-use std::test::Fail;
 
 /// What is due to the clients 1 and 2; whether the list of the second is stale; and who is next, or
 /// 0.
@@ -61,24 +60,28 @@ fn comes(
     Ok(())
 }
 
-/// Whether of the two clients of a row that is next whom it says.
-fn is_next(alloc: Global, row: &Row) -> Result<bool, AllocError> {
-    let mut clients = TouchedMap::new(alloc);
-    comes(alloc, &mut clients, 1, row.0, false)?;
-    comes(alloc, &mut clients, 2, row.1, row.2)?;
+/// Whether of the two clients of a row, who come, that is next whom it says.
+fn is_next(alloc: Global, clients: &mut TouchedMap<Client>, row: &Row) -> Result<bool, AllocError> {
+    comes(alloc, clients, 1, row.0, false)?;
+    comes(alloc, clients, 2, row.1, row.2)?;
     Ok(clients.first_owed().unwrap_or(0) == row.3)
 }
 
-#[test]
-fn the_least_is_next(rt: HostRuntime) -> Result<(), Fail> {
-    for row in ROWS {
-        assert!(rt; is_next(rt.alloc(), row)?, "of {:?} and {:?}", row.0, row.1);
-    }
-    Ok(())
+fn is_next_of_two(alloc: Global, row: &Row) -> Result<bool, AllocError> {
+    let mut clients = TouchedMap::new(alloc);
+    is_next(alloc, &mut clients, row)
 }
 
-#[test]
-fn nobody_is_next(rt: HostRuntime) {
-    let mut server = nobody(rt.alloc());
-    assert!(rt; next_due(&mut server).is_none());
+pub fn the_least_is_next(alloc: Global) -> Result<Option<usize>, AllocError> {
+    for (at, row) in ROWS.iter().enumerate() {
+        if !is_next_of_two(alloc, row)? {
+            return Ok(Some(at));
+        }
+    }
+    Ok(None)
+}
+
+pub fn nobody_is_next(alloc: Global) -> bool {
+    let mut server = nobody(alloc);
+    next_due(&mut server).is_none()
 }

@@ -1,8 +1,8 @@
 //! The least to which something is due, and who is named, as rows come, are lent and go.
 
+use crate::cases::fault_unless;
 use adb_hub_tables::{Owes, TouchedMap};
 use std::alloc::{AllocError, Global};
-use std::test::Fail;
 
 /// A row to which something is due, or not.
 #[derive(Drop)]
@@ -19,7 +19,7 @@ impl Owes for Debt {
 }
 
 /// What is done with the row of a number.
-#[derive(Clone, Copy, Debug, Drop)]
+#[derive(Clone, Copy, Drop)]
 enum Act {
     /// One comes to which nothing is due.
     Insert,
@@ -55,33 +55,23 @@ const STEPS: &[Step] = &[
 
 fn take_step(rows: &mut TouchedMap<Debt>, act: Act, number: u32) -> Result<(), AllocError> {
     match act {
-        Act::Insert => insert(rows, number)?,
+        Act::Insert => {
+            rows.insert(number, Debt { due: false })?;
+        }
         Act::Owe => set(rows, number, true),
         Act::Pay => set(rows, number, false),
-        Act::Remove => remove(rows, number),
+        Act::Remove => {
+            rows.remove(&number);
+        }
         Act::KeepOnly => rows.keep_only(number),
     }
     Ok(())
-}
-
-fn insert(rows: &mut TouchedMap<Debt>, number: u32) -> Result<(), AllocError> {
-    rows.insert(number, Debt { due: false })?;
-    Ok(())
-}
-
-fn remove(rows: &mut TouchedMap<Debt>, number: u32) {
-    rows.remove(&number);
 }
 
 fn set(rows: &mut TouchedMap<Debt>, number: u32, due: bool) {
     if let Some(row) = rows.get_mut(&number) {
         row.due = due;
     }
-}
-
-fn is_first(rows: &mut TouchedMap<Debt>, step: &Step) -> Result<bool, AllocError> {
-    take_step(rows, step.0, step.1)?;
-    Ok(rows.first_owed().unwrap_or(0) == step.2)
 }
 
 /// Whether the row of 64 is all that is left, until that goes too.
@@ -91,14 +81,19 @@ fn is_left(rows: &mut TouchedMap<Debt>) -> bool {
     so && rows.len() == 0
 }
 
-#[test]
-fn the_least_is_first(rt: HostRuntime) -> Result<(), Fail> {
-    let mut rows = TouchedMap::new(rt.alloc());
-    for step in STEPS {
-        assert!(rt; is_first(&mut rows, step)?, "{:?} of {}", step.0, step.1);
+fn least_is_first(rows: &mut TouchedMap<Debt>) -> Result<Option<usize>, AllocError> {
+    for (at, step) in STEPS.iter().enumerate() {
+        take_step(rows, step.0, step.1)?;
+        if rows.first_owed().unwrap_or(0) != step.2 {
+            return Ok(Some(at));
+        }
     }
-    assert!(rt; is_left(&mut rows));
-    Ok(())
+    Ok(fault_unless(is_left(rows)))
+}
+
+pub fn the_least_is_first(alloc: Global) -> Result<Option<usize>, AllocError> {
+    let mut rows = TouchedMap::new(alloc);
+    least_is_first(&mut rows)
 }
 
 /// What is done before anybody asks for names.
@@ -123,24 +118,20 @@ const NAMES: &[Step] = &[
     (Act::Owe, 70, 70),
 ];
 
-fn is_named(rows: &mut TouchedMap<Debt>, step: &Step) -> Result<bool, AllocError> {
-    take_step(rows, step.0, step.1)?;
-    Ok(rows.next_touched().unwrap_or(0) == step.2)
-}
-
-fn rows_before(alloc: Global) -> Result<TouchedMap<Debt>, AllocError> {
-    let mut rows = TouchedMap::new(alloc);
+fn are_named(rows: &mut TouchedMap<Debt>) -> Result<Option<usize>, AllocError> {
     for &(act, number) in BEFORE {
-        take_step(&mut rows, act, number)?;
+        take_step(rows, act, number)?;
     }
-    Ok(rows)
+    for (at, step) in NAMES.iter().enumerate() {
+        take_step(rows, step.0, step.1)?;
+        if rows.next_touched().unwrap_or(0) != step.2 {
+            return Ok(Some(at));
+        }
+    }
+    Ok(None)
 }
 
-#[test]
-fn each_is_named_once(rt: HostRuntime) -> Result<(), Fail> {
-    let mut rows = rows_before(rt.alloc())?;
-    for step in NAMES {
-        assert!(rt; is_named(&mut rows, step)?, "{:?} of {}", step.0, step.1);
-    }
-    Ok(())
+pub fn each_is_named_once(alloc: Global) -> Result<Option<usize>, AllocError> {
+    let mut rows = TouchedMap::new(alloc);
+    are_named(&mut rows)
 }

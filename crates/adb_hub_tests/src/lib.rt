@@ -2,6 +2,8 @@
 #![tactic(auto)]
 
 #[cfg(test)]
+mod cases;
+#[cfg(test)]
 mod hub_clients;
 #[cfg(test)]
 mod hub_hand_outs;

@@ -46,15 +46,11 @@ fn asked(client: &mut Client) -> Result<&'static [u8], AllocError> {
     Ok(word(&asked.ask))
 }
 
-/// A piece comes. Whether that is asked then, and so many bytes are held.
-fn asks(client: &mut Client, row: &Asks) -> Result<bool, AllocError> {
-    client.take_in(row.0)?;
-    Ok(asked(client)? == row.1 && client.held() == row.2)
-}
-
+/// The first of the rows whose piece comes and is not followed by what it says.
 fn are_taken_off(client: &mut Client) -> Result<Option<usize>, AllocError> {
     for (at, row) in ASKS.iter().enumerate() {
-        if !asks(client, row)? {
+        client.take_in(row.0)?;
+        if asked(client)? != row.1 || client.held() != row.2 {
             return Ok(Some(at));
         }
     }
@@ -160,13 +156,7 @@ const DEBTS: &[Debts] = &[
     (Debt::Hand(3), b"", 0),
 ];
 
-fn owes(client: &mut Client, row: &Debts) -> Result<bool, AllocError> {
-    owe(client, row.0)?;
-    let front = client.front(4)?;
-    Ok(is_made_of(&front, row.1) && client.owed() == row.2)
-}
-
-fn is_made_of(front: &HandOut, bytes: &[u8]) -> bool {
+fn is_made_of(front: HandOut, bytes: &[u8]) -> bool {
     let parts = front.parts();
     front.len() == bytes.len() && bytes.starts_with(parts.start) && bytes.ends_with(parts.rest)
 }
@@ -176,7 +166,8 @@ fn is_handed_out(client: &mut Client) -> Result<Option<usize>, AllocError> {
         return Ok(Some(0));
     }
     for (at, row) in DEBTS.iter().enumerate() {
-        if !owes(client, row)? {
+        owe(client, row.0)?;
+        if !is_made_of(client.front(4)?, row.1) || client.owed() != row.2 {
             return Ok(Some(at));
         }
     }

@@ -110,19 +110,14 @@ const LONG_LIST: &[u8] = b"emu1                   device model:Pix_3 transport_i
     model:pppppppppppppppppppppppppppppppppppppppppppppppppppppppppppppppp \
     device:c:d_ transport_id:5\n";
 
-fn lists_short(registry: &Registry) -> Result<bool, AllocError> {
-    let list = registry.short_list()?;
-    Ok(list.as_slice() == SHORT_LIST)
-}
-
-fn lists_long(registry: &Registry) -> Result<bool, AllocError> {
-    let list = registry.long_list()?;
-    Ok(list.as_slice() == LONG_LIST)
+fn is_text(text: Text, bytes: &[u8]) -> bool {
+    text.as_slice() == bytes
 }
 
 fn lists(alloc: Global, registry: &mut Registry) -> Result<bool, AttachError> {
     plug_all(alloc, registry, LISTED)?;
-    Ok(lists_short(registry)? && lists_long(registry)?)
+    let short = is_text(registry.short_list()?, SHORT_LIST);
+    Ok(short && is_text(registry.long_list()?, LONG_LIST))
 }
 
 /// The ways to choose a device: the serial is `emu1`, and the id 3.

@@ -109,8 +109,18 @@ fn put(forwards: &mut Forwards, local: u16) -> bool {
     forwards.put(local, 1, b"emu1", b"tcp:80", true) == Ok(())
 }
 
-fn is_that(answer: Answer, bytes: &[u8], says: Said<'_>) -> bool {
+fn is_that(answer: &Answer, bytes: &[u8], says: Said<'_>) -> bool {
     answer.bytes.as_slice() == bytes && said(&answer.next) == says
+}
+
+fn answer_to(
+    alloc: Global,
+    registry: &Registry,
+    forwards: &Forwards,
+    row: &Row,
+) -> Result<Answer, AllocError> {
+    let request = read(alloc, row.2)?;
+    reply(alloc, registry, forwards, row.1, &request)
 }
 
 /// Whether the request of a row has its reply.
@@ -120,9 +130,8 @@ fn answers(
     forwards: &Forwards,
     row: &Row,
 ) -> Result<bool, AllocError> {
-    let request = read(alloc, row.2)?;
-    let answer = reply(alloc, registry, forwards, row.1, &request)?;
-    Ok(is_that(answer, row.3, row.4))
+    let answer = answer_to(alloc, registry, forwards, row)?;
+    Ok(is_that(&answer, row.3, row.4))
 }
 
 /// Whether that is so, over the devices of the row.
