@@ -2,7 +2,6 @@
 
 use adb_binder::*;
 use std::alloc::{AllocError, Global};
-use std::test::Fail;
 
 /// Ports that are asked for, of which the second call fails, and the answers.
 const BOUND: &[(u16, u16)] = &[
@@ -13,25 +12,24 @@ const BOUND: &[(u16, u16)] = &[
     (0, 0),
 ];
 
-fn asked(alloc: Global) -> Result<MemoryBinder, AllocError> {
-    let mut binder = MemoryBinder::new(alloc, 65_535, Vec::from_slice(alloc, &[2])?);
+fn gives_what_is_asked(binder: &mut MemoryBinder) -> bool {
     for &(port, _) in BOUND {
         let _ = binder.bind(port);
     }
-    Ok(binder)
+    binder.answered() == Some(BOUND)
 }
 
-#[test]
-fn binders_give_what_is_asked(rt: HostRuntime) -> Result<(), Fail> {
-    let binder = asked(rt.alloc())?;
-    assert!(rt; binder.answered() == Some(BOUND));
-    Ok(())
+pub fn binders_give_what_is_asked(alloc: Global) -> Result<bool, AllocError> {
+    let mut binder = MemoryBinder::new(alloc, 65_535, Vec::from_slice(alloc, &[2])?);
+    Ok(gives_what_is_asked(&mut binder))
 }
 
-#[test]
-fn ports_are_opened(rt: HostRuntime) -> Result<(), Fail> {
-    let mut ports = OpenPorts::new(rt.alloc());
+fn opens(ports: &mut OpenPorts) -> Result<bool, AllocError> {
     ports.add(40_000)?;
-    assert!(rt; ports.opened(40_000) && !ports.opened(40_001));
-    Ok(())
+    Ok(ports.opened(40_000) && !ports.opened(40_001))
+}
+
+pub fn ports_are_opened(alloc: Global) -> Result<bool, AllocError> {
+    let mut ports = OpenPorts::new(alloc);
+    opens(&mut ports)
 }

@@ -6,22 +6,29 @@ ghost use Rattle.adb_connections.specs.Memory.{HasPort};
 use adb_connections::*;
 use adb_outside::{Got, Text, Wrote};
 use std::alloc::{AllocError, Global};
-use std::test::Fail;
 
-/// Whether a port that was written to and closed tells so.
-fn port_is_closed(alloc: Global) -> bool {
-    let mut output = MemoryOut::new(alloc, Vec::new(alloc));
+/// Whether a port that is written to and closed tells so.
+fn is_closed(output: &mut MemoryOut) -> bool {
     let took = output.write_both(b"OK", b"AY") == Wrote::All;
     output.close();
     took && output.is_closed() && output.bytes() == b"OKAY".as_slice()
 }
 
-/// Whether a device that was written to and unplugged tells so.
-fn device_is_unplugged(alloc: Global) -> bool {
-    let mut output = MemoryDeviceOut::new(alloc, Vec::new(alloc));
+pub fn ports_are_closed(alloc: Global) -> bool {
+    let mut output = MemoryOut::new(alloc, Vec::new(alloc));
+    is_closed(&mut output)
+}
+
+/// Whether a device that is written to and unplugged tells so.
+fn is_unplugged(output: &mut MemoryDeviceOut) -> bool {
     let took = output.write_both(b"OP", b"EN") == Wrote::All;
     output.unplug();
     took && output.is_unplugged() && output.bytes() == b"OPEN".as_slice()
+}
+
+pub fn devices_are_unplugged(alloc: Global) -> bool {
+    let mut output = MemoryDeviceOut::new(alloc, Vec::new(alloc));
+    is_unplugged(&mut output)
 }
 
 /// A port without bytes.
@@ -29,26 +36,30 @@ fn silent_port(alloc: Global) -> MemoryIn {
     MemoryIn::new(Text::new(alloc), 1, Vec::new(alloc))
 }
 
-/// A device without bytes.
-fn silent(alloc: Global, plug: Plug) -> MemoryDeviceIn {
-    MemoryDeviceIn::new(alloc, plug, Text::new(alloc), 1, Vec::new(alloc))
+pub fn silent_ports_end(alloc: Global) -> bool {
+    let mut port = silent_port(alloc);
+    port.read(&mut [0]) == Got::End
 }
 
-#[test]
-fn ports_and_devices_end(rt: HostRuntime) -> Result<(), Fail> {
-    assert!(rt; port_is_closed(rt.alloc()));
-    assert!(rt; device_is_unplugged(rt.alloc()));
-    assert!(rt; silent_port(rt.alloc()).read(&mut [0]) == Got::End);
-    assert!(rt; silent(rt.alloc(), Plug::Here).read(&mut [0]) == Got::End);
-    Ok(())
-}
-
-const PLUGS: &[Plug] = &[Plug::Here, Plug::Never, Plug::Failed];
-
-/// Whether a device answers `plug` as it was made, and tells so.
-fn is_plugged(alloc: Global, plug: Plug) -> bool {
-    let mut device = silent(alloc, plug);
+/// Whether a device answers this where it is plugged in, tells so, and has no bytes.
+fn answers(device: &mut MemoryDeviceIn, plug: Plug) -> bool {
     device.plug() == plug && device.plugs() == Some([plug].as_slice())
+}
+
+fn is_plugged(alloc: Global, plug: Plug) -> bool {
+    let mut device = MemoryDeviceIn::new(alloc, plug, Text::new(alloc), 1, Vec::new(alloc));
+    answers(&mut device, plug)
+}
+
+pub fn silent_devices_end(alloc: Global) -> bool {
+    let mut device = MemoryDeviceIn::new(alloc, Plug::Here, Text::new(alloc), 1, Vec::new(alloc));
+    device.read(&mut [0]) == Got::End
+}
+
+pub fn devices_are_plugged(alloc: Global) -> bool {
+    is_plugged(alloc, Plug::Here)
+        && is_plugged(alloc, Plug::Never)
+        && is_plugged(alloc, Plug::Failed)
 }
 
 /// A client that says nothing, and one that comes through a forward.
@@ -69,34 +80,36 @@ fn door(alloc: Global) -> Result<MemoryDoor<MemoryIn, MemoryOut>, AllocError> {
     Ok(MemoryDoor::new(alloc, callers(alloc)?, failing))
 }
 
-/// The last of four answers, if all before it came in order.
-fn last_answer(door: MemoryDoor<MemoryIn, MemoryOut>) -> Option<Arrival> {
-    let mut door = door;
+/// Whether four callers come so.
+fn lets_in(door: &mut MemoryDoor<MemoryIn, MemoryOut>, want: &[Arrival]) -> bool {
     for _ in 0..4 {
         let _ = door.accept();
     }
-    match door.came() {
-        Some(
-            [
-                Arrival::Port,
-                Arrival::Failed,
-                Arrival::Forward(40_000),
-                last,
-            ],
-        ) => Some(*last),
-        _ => None,
-    }
+    door.came() == Some(want)
 }
 
-#[test]
-fn devices_and_callers_come(rt: HostRuntime) -> Result<(), Fail> {
-    for &plug in PLUGS {
-        assert!(rt; is_plugged(rt.alloc(), plug), "{plug:?}");
-    }
-    let alloc = rt.alloc();
-    assert!(rt; last_answer(door(alloc)?) == Some(Arrival::Closed));
-    assert!(rt; last_answer(door(alloc)?.lasting()) == Some(Arrival::Failed));
-    Ok(())
+const CLOSES: &[Arrival] = &[
+    Arrival::Port,
+    Arrival::Failed,
+    Arrival::Forward(40_000),
+    Arrival::Closed,
+];
+
+const FAILS: &[Arrival] = &[
+    Arrival::Port,
+    Arrival::Failed,
+    Arrival::Forward(40_000),
+    Arrival::Failed,
+];
+
+pub fn doors_close(alloc: Global) -> Result<bool, AllocError> {
+    let mut door = door(alloc)?;
+    Ok(lets_in(&mut door, CLOSES))
+}
+
+pub fn lasting_doors_fail(alloc: Global) -> Result<bool, AllocError> {
+    let mut door = door(alloc)?.lasting();
+    Ok(lets_in(&mut door, FAILS))
 }
 
 const PLACES: &[(Place, u8)] = &[
@@ -106,12 +119,13 @@ const PLACES: &[(Place, u8)] = &[
     (Place::DeviceWriter, 4),
 ];
 
-#[test]
-fn places_have_numbers(rt: HostRuntime) -> Result<(), Fail> {
+pub fn places_have_numbers() -> bool {
     for &(place, number) in PLACES {
         OpenGate::new().pass(place as u8, 1);
-        assert!(rt; place as u8 == number);
+        if place as u8 != number {
+            return false;
+        }
     }
     SilentBell::new().ring();
-    Ok(())
+    true
 }

@@ -4,6 +4,8 @@
 #[cfg(test)]
 mod binder;
 #[cfg(test)]
+mod cases;
+#[cfg(test)]
 mod connections;
 #[cfg(test)]
 mod live;

@@ -4,8 +4,7 @@ use adb_outside::Text;
 use adb_pipe::{PipeIn, PipeOut, Taken, pipe};
 use std::alloc::{AllocError, Global};
 use std::sync::Wait;
-use std::test::Fail;
-use std::thread::join;
+use std::thread::{Threads, join};
 
 /// Whether a chunk of these bytes is put.
 fn puts<W: Wait + Drop>(
@@ -17,15 +16,8 @@ fn puts<W: Wait + Drop>(
     Ok(out.put(chunk).is_ok())
 }
 
-/// Puts `ab` and `c`, and finishes.
-fn put_both<W: Wait + Drop>(alloc: Global, mut out: PipeOut<W>) -> Result<bool, AllocError> {
-    let put = puts(alloc, &mut out, b"ab")? && puts(alloc, &mut out, b"c")?;
-    out.finish();
-    Ok(put)
-}
-
 /// Whether a chunk of these bytes comes next.
-fn gives<W: Wait + Drop>(input: &mut PipeIn<W>, want: &[u8]) -> bool {
+pub fn gives<W: Wait + Drop>(input: &mut PipeIn<W>, want: &[u8]) -> bool {
     match input.take() {
         Taken::Chunk(chunk) => chunk.as_slice() == want,
         Taken::End | Taken::Lost => false,
@@ -36,44 +28,77 @@ fn is_lost<W: Wait + Drop>(input: &mut PipeIn<W>) -> bool {
     matches!(input.take(), Taken::Lost)
 }
 
+/// Whether `ab` and `c` are put.
+fn puts_both<W: Wait + Drop>(alloc: Global, out: &mut PipeOut<W>) -> Result<bool, AllocError> {
+    Ok(puts(alloc, out, b"ab")? && puts(alloc, out, b"c")?)
+}
+
+/// Puts both, and finishes.
+fn hand_over<W: Wait + Drop>(alloc: Global, mut out: PipeOut<W>) -> Result<bool, AllocError> {
+    let put = puts_both(alloc, &mut out);
+    out.finish();
+    put
+}
+
 /// Whether `ab`, `c` and the end come.
 fn gives_both<W: Wait + Drop>(input: &mut PipeIn<W>) -> bool {
     gives(input, b"ab") && gives(input, b"c") && matches!(input.take(), Taken::End)
 }
 
-#[test]
-fn handed_over(rt: HostRuntime) -> Result<(), Fail> {
-    let alloc = rt.alloc();
+fn come_through<W: Threads + Wait + Drop + Send + Sync>(
+    rt: &W,
+    alloc: Global,
+    out: PipeOut<W>,
+    input: &mut PipeIn<W>,
+) -> Result<bool, AllocError> {
+    let (put, taken) = join(rt, || hand_over(alloc, out), || gives_both(input));
+    Ok(put? && taken && is_lost(input) && is_lost(input) && is_lost(input))
+}
+
+/// Whether chunks come through in order, and nothing behind their end, however often one takes.
+pub fn chunks_are_handed_over<W: Threads + Wait + Copy + Drop + Send + Sync>(
+    rt: W,
+    alloc: Global,
+) -> Result<bool, AllocError> {
     let (out, mut input) = pipe(rt, alloc, 1)?;
-    let (put, taken) = join(&rt, || put_both(alloc, out), || gives_both(&mut input));
-    assert!(rt; put? && taken);
-    for _ in 0..3 {
-        assert!(rt; is_lost(&mut input));
-    }
-    Ok(())
+    come_through(&rt, alloc, out, &mut input)
+}
+
+/// Whether a chunk is put by a sender that is gone then.
+fn puts_and_leaves<W: Wait + Drop>(alloc: Global, mut out: PipeOut<W>) -> Result<bool, AllocError> {
+    puts(alloc, &mut out, b"x")
+}
+
+fn outlives<W: Wait + Drop>(
+    alloc: Global,
+    out: PipeOut<W>,
+    input: &mut PipeIn<W>,
+) -> Result<bool, AllocError> {
+    Ok(puts_and_leaves(alloc, out)? && gives(input, b"x") && is_lost(input))
 }
 
 /// Whether a chunk comes whose sender is gone, and nothing behind it.
-fn outlives_its_sender<W: Wait + Copy + Drop>(rt: W, alloc: Global) -> Result<bool, AllocError> {
-    let (mut out, mut input) = pipe(rt, alloc, 2)?;
-    let put = puts(alloc, &mut out, b"x")?;
-    drop(out);
-    Ok(put && gives(&mut input, b"x") && is_lost(&mut input))
+pub fn chunks_outlive_their_sender<W: Wait + Copy + Drop>(
+    rt: W,
+    alloc: Global,
+) -> Result<bool, AllocError> {
+    let (out, mut input) = pipe(rt, alloc, 2)?;
+    outlives(alloc, out, &mut input)
 }
 
-/// Whether a chunk is handed back that nobody can take.
-fn is_handed_back<W: Wait + Copy + Drop>(rt: W, alloc: Global) -> Result<bool, AllocError> {
-    let (mut out, input) = pipe(rt, alloc, 2)?;
-    drop(input);
+fn hands_back<W: Wait + Drop>(alloc: Global, out: &mut PipeOut<W>) -> Result<bool, AllocError> {
     Ok(match out.put(Text::from_slice(alloc, b"y")?) {
         Ok(()) => false,
         Err(chunk) => chunk.as_slice() == b"y".as_slice(),
     })
 }
 
-#[test]
-fn ends_that_are_gone(rt: HostRuntime) -> Result<(), Fail> {
-    assert!(rt; outlives_its_sender(rt, rt.alloc())?);
-    assert!(rt; is_handed_back(rt, rt.alloc())?);
-    Ok(())
+/// Whether a chunk is handed back that nobody can take.
+pub fn chunks_are_handed_back<W: Wait + Copy + Drop>(
+    rt: W,
+    alloc: Global,
+) -> Result<bool, AllocError> {
+    let (mut out, input) = pipe(rt, alloc, 2)?;
+    drop(input);
+    hands_back(alloc, &mut out)
 }

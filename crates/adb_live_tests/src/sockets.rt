@@ -3,41 +3,31 @@
 use adb_connections::{DeviceIn, DeviceOut, Plug, PortIn, PortOut};
 use adb_outside::{Got, Wrote};
 use adb_sockets::{Ending, TcpDeviceIn, TcpDeviceOut, TcpIn, TcpOut, halves, tcp_device};
+use std::alloc::Global;
 use std::io;
 use std::io::Read;
-use std::net::{TcpListener, TcpStream};
-use std::test::Fail;
-use std::thread::{join, sleep};
-use std::time::Duration;
+use std::net::{Net, SocketAddr, TcpListener, TcpStream};
+use std::sync::Wait;
+use std::thread::{Threads, join, sleep};
+use std::time::{Clock, Duration};
 
-/// A listener, and what tells that the server ends.
-#[derive(Drop)]
-struct Bench {
-    listener: TcpListener,
-    ending: Ending,
+/// A listener on a port of this machine, and its address.
+pub fn listener<W: Net<Listener = TcpListener, Stream = TcpStream>>(
+    rt: &W,
+) -> io::Result<(TcpListener, SocketAddr)> {
+    let listener = TcpListener::bind(rt, "127.0.0.1:0")?;
+    let address = listener.local_addr()?;
+    Ok((listener, address))
 }
 
-impl Bench {
-    fn new(rt: HostRuntime) -> io::Result<Bench> {
-        Ok(Bench {
-            listener: TcpListener::bind(&rt, "127.0.0.1:0")?,
-            ending: Ending::new(rt.alloc())?,
-        })
-    }
-
-    /// A connection to the listener, by its two halves, and its other end.
-    fn connection(&self, rt: HostRuntime) -> io::Result<(TcpIn, TcpOut, TcpStream)> {
-        let other = TcpStream::connect(&rt, self.listener.local_addr()?)?;
-        let (stream, _) = self.listener.accept()?;
-        let (input, output) = halves(rt.alloc(), stream, &self.ending)?;
-        Ok((input, output, other))
-    }
-
-    /// A device that is plugged in where the listener listens.
-    fn device(&self, rt: HostRuntime) -> io::Result<(TcpDeviceIn<HostRuntime>, TcpDeviceOut)> {
-        let port = self.listener.local_addr()?.port();
-        Ok(tcp_device(rt, rt.alloc(), port, &self.ending)?)
-    }
+/// A stream, and its other end.
+pub fn pair<W: Net<Listener = TcpListener, Stream = TcpStream>>(
+    rt: &W,
+) -> io::Result<(TcpStream, TcpStream)> {
+    let (listener, address) = listener(rt)?;
+    let other = TcpStream::connect(rt, address)?;
+    let (stream, _) = listener.accept()?;
+    Ok((stream, other))
 }
 
 /// Whether what is sent comes back, and a port that is closed ends its other half.
@@ -61,20 +51,35 @@ fn gives_up(output: &mut TcpOut, ending: &Ending) -> bool {
     false
 }
 
-#[test]
-fn ports_over_sockets(rt: HostRuntime) -> Result<(), Fail> {
-    let bench = Bench::new(rt)?;
-    let (mut input, mut output, other) = bench.connection(rt)?;
-    assert!(rt; echoes(&mut input, &mut output, &other)?);
-    Ok(())
+/// What is tried of the two halves of a connection.
+#[derive(Clone, Copy, Drop)]
+pub enum Port {
+    Echoes,
+    GivesUp,
 }
 
-#[test]
-fn writers_give_up(rt: HostRuntime) -> Result<(), Fail> {
-    let bench = Bench::new(rt)?;
-    let (_input, mut output, _other) = bench.connection(rt)?;
-    assert!(rt; gives_up(&mut output, &bench.ending));
-    Ok(())
+fn port_works(
+    alloc: Global,
+    stream: TcpStream,
+    other: &TcpStream,
+    ending: &Ending,
+    port: Port,
+) -> io::Result<bool> {
+    let (mut input, mut output) = halves(alloc, stream, ending)?;
+    match port {
+        Port::Echoes => echoes(&mut input, &mut output, other),
+        Port::GivesUp => Ok(gives_up(&mut output, ending)),
+    }
+}
+
+pub fn port_over_sockets<W: Net<Listener = TcpListener, Stream = TcpStream>>(
+    rt: &W,
+    alloc: Global,
+    port: Port,
+) -> io::Result<bool> {
+    let ending = Ending::new(alloc)?;
+    let (stream, other) = pair(rt)?;
+    port_works(alloc, stream, &other, &ending, port)
 }
 
 /// What plugging in a device gives, and whether it is then written to, and ends where it is
@@ -85,23 +90,6 @@ fn serves(input: &mut impl DeviceIn, output: &mut TcpDeviceOut) -> (Plug, bool) 
     let sent = output.write(b"CNXN") == Wrote::All;
     output.unplug();
     (plug, early && sent && input.read(&mut [0]) == Got::End)
-}
-
-#[test]
-fn devices_over_sockets(rt: HostRuntime) -> Result<(), Fail> {
-    let bench = Bench::new(rt)?;
-    let (mut input, mut output) = bench.device(rt)?;
-    assert!(rt; serves(&mut input, &mut output) == (Plug::Here, true));
-    Ok(())
-}
-
-#[test]
-fn nobody_listens(rt: HostRuntime) -> Result<(), Fail> {
-    let bench = Bench::new(rt)?;
-    let (mut input, mut output) = bench.device(rt)?;
-    drop(bench);
-    assert!(rt; serves(&mut input, &mut output).0 == Plug::Never);
-    Ok(())
 }
 
 /// The two parts of each packet.
@@ -132,28 +120,73 @@ fn comes(stream: &TcpStream) -> io::Result<bool> {
     Ok(start == START && rest[0] == 2 && rest[65_535] == 2)
 }
 
-/// Whether the packets come to one who begins to read when a write has timed out.
-fn reads_late(rt: &HostRuntime, listener: &TcpListener) -> io::Result<bool> {
-    let (stream, _) = listener.accept()?;
-    sleep(rt, Duration::from_millis(1_300));
+fn all_come(stream: &TcpStream) -> io::Result<bool> {
     for _ in 0..PACKETS {
-        if !comes(&stream)? {
+        if !comes(stream)? {
             return Ok(false);
         }
     }
     Ok(true)
 }
 
-#[test]
-fn parts_over_sockets(rt: HostRuntime) -> Result<(), Fail> {
-    let bench = Bench::new(rt)?;
-    let (mut input, mut output) = bench.device(rt)?;
-    assert!(rt; input.plug() == Plug::Here);
-    let (sent, came) = join(
-        &rt,
-        || sends_in_parts(&mut output),
-        || reads_late(&rt, &bench.listener),
-    );
-    assert!(rt; sent && came?);
-    Ok(())
+/// Whether the packets come to one who begins to read when a write has timed out.
+fn reads_late<W: Wait + Clock>(rt: &W, listener: &TcpListener) -> io::Result<bool> {
+    let (stream, _) = listener.accept()?;
+    sleep(rt, Duration::from_millis(1_300));
+    all_come(&stream)
+}
+
+/// Whether packets in parts come to one who reads late.
+fn takes_parts<W: Threads + Wait + Clock + Sync>(
+    rt: &W,
+    listener: &TcpListener,
+    input: &mut impl DeviceIn,
+    output: &mut TcpDeviceOut,
+) -> io::Result<bool> {
+    let plug = input.plug();
+    let (sent, came) = join(rt, || sends_in_parts(output), || reads_late(rt, listener));
+    Ok(plug == Plug::Here && sent && came?)
+}
+
+/// A device that is plugged in at an address.
+fn device<W: Net<Listener = TcpListener, Stream = TcpStream> + Drop>(
+    rt: W,
+    alloc: Global,
+    address: SocketAddr,
+) -> io::Result<(TcpDeviceIn<W>, TcpDeviceOut)> {
+    let ending = Ending::new(alloc)?;
+    Ok(tcp_device(rt, alloc, address.port(), &ending)?)
+}
+
+pub fn device_serves<W: Net<Listener = TcpListener, Stream = TcpStream> + Copy + Drop>(
+    rt: W,
+    alloc: Global,
+) -> io::Result<bool> {
+    let (_listener, address) = listener(&rt)?;
+    let (mut input, mut output) = device(rt, alloc, address)?;
+    Ok(serves(&mut input, &mut output) == (Plug::Here, true))
+}
+
+pub fn nobody_listens<W: Net<Listener = TcpListener, Stream = TcpStream> + Copy + Drop>(
+    rt: W,
+    alloc: Global,
+) -> io::Result<bool> {
+    let (listener, address) = listener(&rt)?;
+    drop(listener);
+    let (mut input, mut output) = device(rt, alloc, address)?;
+    Ok(serves(&mut input, &mut output).0 == Plug::Never)
+}
+
+pub fn device_takes_parts<
+    W: Net<Listener = TcpListener, Stream = TcpStream>
+        + Threads
+        + Wait
+        + Clock
+        + Copy
+        + Sync
+        + Drop,
+>(rt: W, alloc: Global) -> io::Result<bool> {
+    let (listener, address) = listener(&rt)?;
+    let (mut input, mut output) = device(rt, alloc, address)?;
+    takes_parts(&rt, &listener, &mut input, &mut output)
 }

@@ -2,53 +2,30 @@
 
 use adb_spawner::*;
 use std::alloc::{AllocError, Global};
-use std::sync::{Arc, Condvar, Mutex, Wait};
-use std::test::Fail;
+use std::sync::atomic::{AtomicU64, Ordering};
+use std::sync::{Arc, Barrier, Wait};
 use std::thread::Threads;
 
-/// How many jobs came.
+/// How many jobs came, and where they wait for each other.
 #[derive(Drop)]
 struct Meeting {
-    here: Mutex<u64>,
-    came: Condvar,
+    came: AtomicU64,
+    gate: Barrier,
 }
 
-impl Meeting {
-    fn new(alloc: Global) -> Result<Arc<Meeting, Global>, AllocError> {
-        let meeting = Meeting {
-            here: Mutex::new(0),
-            came: Condvar::new(),
-        };
-        Ok(Arc::new(alloc, meeting)?)
-    }
-
-    /// Comes, and waits until so many did.
-    fn meet<W: Wait>(&self, rt: &W, wanted: u64) {
-        let mut here = self.here.lock(rt);
-        *here = here.saturating_add(1);
-        self.came.notify_all();
-        for _ in rt.forever() {
-            if *here >= wanted {
-                return;
-            }
-            here = self.came.wait(rt, here);
-        }
-    }
-}
-
-/// Comes to a meeting, and waits until so many did.
+/// Comes to a meeting, and waits for the others.
 #[derive(Drop)]
 struct Visitor<W: Wait + Drop> {
     rt: W,
     meeting: Arc<Meeting, Global>,
-    wanted: u64,
 }
 
 impl<W: Wait + Drop> Job for Visitor<W> {
     ghost done = { λ job. Unit {0} };
 
     fn run(self) {
-        self.meeting.meet(&self.rt, self.wanted);
+        self.meeting.came.fetch_add(1, Ordering::SeqCst);
+        self.meeting.gate.wait(&self.rt);
     }
 }
 
@@ -57,50 +34,67 @@ fn is_sent<W: Threads + Wait + Copy + Send + Sync + Drop + 'static>(
     rt: W,
     crew: &mut Crew<W, Visitor<W>>,
     meeting: &Arc<Meeting, Global>,
-    wanted: u64,
 ) -> Result<bool, AllocError> {
-    let visitor = Visitor {
-        rt,
-        meeting: Arc::try_clone(meeting)?,
-        wanted,
-    };
-    Ok(crew.spawn(visitor).is_ok())
+    let meeting = Arc::try_clone(meeting)?;
+    Ok(crew.spawn(Visitor { rt, meeting }).is_ok())
 }
 
-/// How many of three came to their meeting, where each waits for so many, and how many of them came
-/// because their job was handed back.
-fn met<W: Threads + Wait + Copy + Send + Sync + Drop + 'static>(
+/// Whether three come to a meeting, and so many of them because their job was handed back.
+fn come<W: Threads + Wait + Copy + Send + Sync + Drop + 'static>(
     rt: W,
-    alloc: Global,
     crew: &mut Crew<W, Visitor<W>>,
-    wanted: u64,
-) -> Result<(u64, u64), AllocError> {
-    let meeting = Meeting::new(alloc)?;
+    meeting: &Arc<Meeting, Global>,
+    handed_back: u64,
+) -> Result<bool, AllocError> {
     let mut back = 0u64;
     for _ in 0..3 {
-        if !is_sent(rt, crew, &meeting, wanted)? {
+        if !is_sent(rt, crew, meeting)? {
             back = back.saturating_add(1);
-            meeting.meet(&rt, 0);
+            meeting.came.fetch_add(1, Ordering::SeqCst);
         }
     }
     crew.finish();
-    let here = *meeting.here.lock(&rt);
-    Ok((here, back))
+    Ok(meeting.came.load(Ordering::SeqCst) == 3 && back == handed_back)
 }
 
-#[test]
-fn inline_crews_run_jobs(rt: HostRuntime) -> Result<(), Fail> {
-    let mut inline = Crew::inline(Vec::from_slice(rt.alloc(), &[2])?);
-    assert!(rt; met(rt, rt.alloc(), &mut inline, 1)? == (3, 1));
-    Ok(())
+/// Whether three come to a meeting where each waits for so many, and so many of them because their
+/// job was handed back.
+fn meet<W: Threads + Wait + Copy + Send + Sync + Drop + 'static>(
+    rt: W,
+    alloc: Global,
+    crew: &mut Crew<W, Visitor<W>>,
+    wanted: usize,
+    handed_back: u64,
+) -> Result<bool, AllocError> {
+    let meeting = Meeting {
+        came: AtomicU64::new(0),
+        gate: Barrier::new(wanted),
+    };
+    let meeting = Arc::new(alloc, meeting)?;
+    come(rt, crew, &meeting, handed_back)
+}
+
+fn meet_twice<W: Threads + Wait + Copy + Send + Sync + Drop + 'static>(
+    rt: W,
+    alloc: Global,
+    crew: &mut Crew<W, Visitor<W>>,
+) -> Result<bool, AllocError> {
+    Ok(meet(rt, alloc, crew, 3, 0)? && meet(rt, alloc, crew, 3, 0)?)
+}
+
+pub fn inline_crews_run_jobs<W: Threads + Wait + Copy + Send + Sync + Drop + 'static>(
+    rt: W,
+    alloc: Global,
+) -> Result<bool, AllocError> {
+    let mut inline = Crew::inline(Vec::from_slice(alloc, &[2])?);
+    meet(rt, alloc, &mut inline, 1, 1)
 }
 
 /// Jobs that wait for each other are done by threads alone, also once threads were ended.
-#[test]
-fn crews_of_threads_run_jobs(rt: HostRuntime) -> Result<(), Fail> {
-    let mut threads = Crew::threads(rt, rt.alloc())?;
-    for _ in 0..2 {
-        assert!(rt; met(rt, rt.alloc(), &mut threads, 3)? == (3, 0));
-    }
-    Ok(())
+pub fn crews_of_threads_run_jobs<W: Threads + Wait + Copy + Send + Sync + Drop + 'static>(
+    rt: W,
+    alloc: Global,
+) -> Result<bool, AllocError> {
+    let mut threads = Crew::threads(rt, alloc)?;
+    meet_twice(rt, alloc, &mut threads)
 }
