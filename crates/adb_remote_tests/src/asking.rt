@@ -1,11 +1,13 @@
 //! What tools tell of answers, and what they are to send.
 
+ghost use Rattle.adb_remote_words.specs.Words.{HasWords};
+
 use crate::jobs::{Asks, Port, job};
 use adb_asking::{InputError, MAX_INPUT, ToolEnd, ask, read_input};
 use adb_outside::{MemorySink, MemorySource, Text};
+use adb_remote_words::Remote;
 use std::alloc::{AllocError, Global};
 use std::sync::Wait;
-use std::test::Fail;
 
 /// An end in a letter, and a number of it.
 fn shown(end: &ToolEnd) -> (char, u64) {
@@ -80,14 +82,12 @@ struct Desk {
 }
 
 impl Desk {
-    /// One of which these writes fail, or none where it is 0.
-    fn new(alloc: Global, out: u64, noted: u64) -> Result<Desk, AllocError> {
-        let out = Vec::from_slice(alloc, &[out])?;
-        let noted = Vec::from_slice(alloc, &[noted])?;
-        Ok(Desk {
+    /// One of which these writes fail.
+    fn new(alloc: Global, out: Vec<u64>, noted: Vec<u64>) -> Desk {
+        Desk {
             sink: MemorySink::new(alloc, out),
             note: MemorySink::new(alloc, noted),
-        })
+        }
     }
 
     /// How a job ends at a port.
@@ -95,42 +95,78 @@ impl Desk {
         &mut self,
         rt: W,
         alloc: Global,
-        asks: Asks,
+        job: &Remote,
         port: &mut Port,
-    ) -> Result<(char, u64), AllocError> {
-        let job = job(alloc, asks)?;
+    ) -> (char, u64)
+        requires { HasWords job.now }
+    {
         let end = ask(
             rt,
             alloc,
-            &job,
+            job,
             None,
             &mut port.input,
             &mut port.output,
             &mut self.sink,
             &mut self.note,
         );
-        Ok(shown(&end))
+        shown(&end)
     }
+}
+
+/// Whether such a job ends so at a port.
+fn ends<W: Wait + Copy + Drop>(
+    rt: W,
+    alloc: Global,
+    asks: Asks,
+    port: &mut Port,
+    desk: &mut Desk,
+    want: (char, u64),
+) -> Result<bool, AllocError> {
+    let job = job(alloc, asks)?;
+    Ok(desk.ask(rt, alloc, &job, port) == want)
+}
+
+fn has_written(sink: &MemorySink, want: &[u8]) -> bool {
+    sink.bytes() == want
+}
+
+fn row_holds<W: Wait + Copy + Drop>(
+    rt: W,
+    alloc: Global,
+    row: &Row,
+    port: &mut Port,
+    desk: &mut Desk,
+) -> Result<bool, AllocError> {
+    Ok(
+        ends(rt, alloc, row.0, port, desk, row.2)?
+            && has_written(&desk.sink, row.3)
+            && has_written(&desk.note, row.4),
+    )
 }
 
 /// Whether a row holds.
 fn tells<W: Wait + Copy + Drop>(rt: W, alloc: Global, row: &Row) -> Result<bool, AllocError> {
-    let mut port = Port::new(alloc, row.1, 64, 0, 0)?;
-    let mut desk = Desk::new(alloc, 0, 0)?;
-    let end = desk.ask(rt, alloc, row.0, &mut port)?;
-    Ok(end == row.2 && desk.sink.bytes() == row.3 && desk.note.bytes() == row.4)
+    let mut port = Port::new(alloc, row.1, 64, Vec::new(alloc), Vec::new(alloc))?;
+    let mut desk = Desk::new(alloc, Vec::new(alloc), Vec::new(alloc));
+    row_holds(rt, alloc, row, &mut port, &mut desk)
 }
 
-#[test]
-fn answers_are_told(rt: HostRuntime) -> Result<(), Fail> {
-    for row in ROWS {
-        assert!(rt; tells(rt, rt.alloc(), row)?, "{:?}", row.1);
+/// The first row that does not hold.
+pub fn answers_are_told<W: Wait + Copy + Drop>(
+    rt: W,
+    alloc: Global,
+) -> Result<Option<usize>, AllocError> {
+    for (at, row) in ROWS.iter().enumerate() {
+        if !tells(rt, alloc, row)? {
+            return Ok(Some(at));
+        }
     }
-    Ok(())
+    Ok(None)
 }
 
 /// Writes of the port, the sink and the note that fail, and how a command ends then.
-#[derive(Clone, Copy, Debug, Drop)]
+#[derive(Drop)]
 struct Failing {
     port: u64,
     out: u64,
@@ -168,19 +204,37 @@ const FAILINGS: &[Failing] = &[
 /// What a command is answered that writes to both.
 const BOTH: &[u8] = b"OKAYOKAY\x01\x01\0\0\0a\x02\x01\0\0\0b\x03\x01\0\0\0\0";
 
-/// Whether a command ends so.
-fn ends<W: Wait + Copy + Drop>(rt: W, alloc: Global, row: &Failing) -> Result<bool, AllocError> {
-    let mut port = Port::new(alloc, BOTH, 64, 0, row.port)?;
-    let mut desk = Desk::new(alloc, row.out, row.noted)?;
-    Ok(desk.ask(rt, alloc, Asks::Shell, &mut port)? == (row.end, 0))
+/// Whether a command ends so at a port.
+fn fails_at<W: Wait + Copy + Drop>(
+    rt: W,
+    alloc: Global,
+    row: &Failing,
+    port: &mut Port,
+) -> Result<bool, AllocError> {
+    let out = Vec::from_slice(alloc, &[row.out])?;
+    let noted = Vec::from_slice(alloc, &[row.noted])?;
+    let mut desk = Desk::new(alloc, out, noted);
+    ends(rt, alloc, Asks::Shell, port, &mut desk, (row.end, 0))
 }
 
-#[test]
-fn failing_writes_are_told(rt: HostRuntime) -> Result<(), Fail> {
-    for row in FAILINGS {
-        assert!(rt; ends(rt, rt.alloc(), row)?, "{row:?}");
+/// Whether a row holds.
+fn fails<W: Wait + Copy + Drop>(rt: W, alloc: Global, row: &Failing) -> Result<bool, AllocError> {
+    let writes = Vec::from_slice(alloc, &[row.port])?;
+    let mut port = Port::new(alloc, BOTH, 64, Vec::new(alloc), writes)?;
+    fails_at(rt, alloc, row, &mut port)
+}
+
+/// The first row that does not hold.
+pub fn failing_writes_are_told<W: Wait + Copy + Drop>(
+    rt: W,
+    alloc: Global,
+) -> Result<Option<usize>, AllocError> {
+    for (at, row) in FAILINGS.iter().enumerate() {
+        if !fails(rt, alloc, row)? {
+            return Ok(Some(at));
+        }
     }
-    Ok(())
+    Ok(None)
 }
 
 /// How many bytes there are, which read of them fails, or none where it is 0, and what is read.
@@ -193,27 +247,33 @@ const INPUTS: &[(usize, u64, Result<usize, InputError>)] = &[
 ];
 
 fn source(alloc: Global, size: usize, failing: u64) -> Result<MemorySource, AllocError> {
-    let bytes = Text::from_vec(vec![in alloc; 7; size]?);
     let failing = Vec::from_slice(alloc, &[failing])?;
+    let bytes = Text::from_vec(vec![in alloc; 7; size]?);
     Ok(MemorySource::new(bytes, 1_000_000, failing))
 }
 
-/// How many bytes are read of so many, of which this read fails.
-fn read(alloc: Global, size: usize, failing: u64) -> Result<Result<usize, InputError>, AllocError> {
-    let mut source = source(alloc, size, failing)?;
-    Ok(match read_input(alloc, &mut source) {
-        Ok(text) => Ok(text.len()),
-        Err(error) => Err(error),
-    })
+/// How many bytes are read.
+fn read(alloc: Global, source: &mut MemorySource) -> Result<usize, InputError> {
+    Ok(read_input(alloc, source)?.len())
 }
 
-#[test]
-fn input_is_read(rt: HostRuntime) -> Result<(), Fail> {
-    for &(size, failing, want) in INPUTS {
-        assert!(rt;
-            read(rt.alloc(), size, failing)? == want,
-            "{size} {failing}"
-        );
+/// Whether this comes of so many bytes, of which this read fails.
+fn reads(
+    alloc: Global,
+    size: usize,
+    failing: u64,
+    want: Result<usize, InputError>,
+) -> Result<bool, AllocError> {
+    let mut source = source(alloc, size, failing)?;
+    Ok(read(alloc, &mut source) == want)
+}
+
+/// The first row that does not hold.
+pub fn input_is_read(alloc: Global) -> Result<Option<usize>, AllocError> {
+    for (at, &(size, failing, want)) in INPUTS.iter().enumerate() {
+        if !reads(alloc, size, failing, want)? {
+            return Ok(Some(at));
+        }
     }
-    Ok(())
+    Ok(None)
 }

@@ -1,30 +1,17 @@
 //! Conversations over ports in memory, in pieces of one byte and whole.
 
 ghost use Rattle.std.specs.Prelude.{◌≤◌, length, IfSome};
+ghost use Rattle.adb_remote_words.specs.Words.{HasWords};
 
-use crate::jobs::{Asks, Port, job};
+use crate::jobs::{Asks, Port, job, outcome_shown};
+use adb_connections::MemoryOut;
 use adb_outside::Text;
-use adb_remote::{Outcome, RemoteError, converse};
+use adb_remote::{Outcome, Remote, RemoteError, converse};
 use adb_remote_words::MAX_WORD;
 use std::alloc::{AllocError, Global};
 use std::sync::Wait;
-use std::test::Fail;
 
-/// What an outcome is, in a letter, and a number of it.
-fn outcome_shown(outcome: &Outcome) -> (char, u64) {
-    match outcome {
-        Outcome::Listed(text) => ('l', text.len() as u64),
-        Outcome::Pushed => ('p', 0),
-        Outcome::Pulled(text) => ('g', text.len() as u64),
-        Outcome::Ran { out, status, .. } => (
-            's',
-            100 * u64::from(*status) + (out.len() as u64).min(99),
-        ),
-        Outcome::Ready => ('y', 0),
-    }
-}
-
-/// The same of an answer.
+/// What an answer is, in a letter, and a number of it.
 fn shown(answer: &Result<Outcome, RemoteError>) -> (char, u64) {
     match answer {
         Ok(outcome) => outcome_shown(outcome),
@@ -33,6 +20,36 @@ fn shown(answer: &Result<Outcome, RemoteError>) -> (char, u64) {
         Err(RemoteError::PortFault) => ('f', 0),
         Err(RemoteError::OutOfMemory) => ('o', 0),
     }
+}
+
+/// What comes of a job at a port, on a device or on any.
+fn comes<W: Wait + Copy + Drop>(
+    rt: W,
+    alloc: Global,
+    job: &Remote,
+    serial: Option<&Text>,
+    port: &mut Port,
+) -> (char, u64)
+    requires job { HasWords job.now }
+    requires serial { IfSome serial (λ serial. length serial.now ≤ MAX_WORD) }
+{
+    let answer = converse(rt, alloc, job, serial, &mut port.input, &mut port.output);
+    shown(&answer)
+}
+
+/// Whether this comes of such a job at a port.
+fn goes<W: Wait + Copy + Drop>(
+    rt: W,
+    alloc: Global,
+    asks: Asks,
+    serial: Option<&Text>,
+    port: &mut Port,
+    want: (char, u64),
+) -> Result<bool, AllocError>
+    requires { IfSome serial (λ serial. length serial.now ≤ MAX_WORD) }
+{
+    let job = job(alloc, asks)?;
+    Ok(comes(rt, alloc, &job, serial, port) == want)
 }
 
 /// A conversation: the job, the answer, what is written, and what comes of it.
@@ -92,54 +109,79 @@ const ROWS: &[Row] = &[
     ),
 ];
 
-/// What comes of a job at a port, on a device or on any.
-fn comes<W: Wait + Copy + Drop>(
+/// Whether this was written to a port.
+fn has_written(output: &MemoryOut, want: &[u8]) -> bool {
+    output.bytes() == want
+}
+
+fn row_holds<W: Wait + Copy + Drop>(
     rt: W,
     alloc: Global,
-    asks: Asks,
-    serial: Option<&Text>,
+    row: &Row,
     port: &mut Port,
-) -> Result<(char, u64), AllocError>
-    requires { IfSome serial (λ serial. length serial.now ≤ MAX_WORD) }
-{
-    let job = job(alloc, asks)?;
-    let answer = converse(rt, alloc, &job, serial, &mut port.input, &mut port.output);
-    Ok(shown(&answer))
+) -> Result<bool, AllocError> {
+    Ok(goes(rt, alloc, row.0, None, port, row.3)? && has_written(&port.output, row.2))
 }
 
 /// Whether a conversation goes so in pieces of that many bytes.
-fn goes<W: Wait + Copy + Drop>(
+fn row_holds_in<W: Wait + Copy + Drop>(
     rt: W,
     alloc: Global,
     row: &Row,
     piece: usize,
 ) -> Result<bool, AllocError> {
-    let mut port = Port::new(alloc, row.1, piece, 0, 0)?;
-    let came = comes(rt, alloc, row.0, None, &mut port)?;
-    Ok(came == row.3 && port.output.bytes() == row.2)
+    let mut port = Port::new(alloc, row.1, piece, Vec::new(alloc), Vec::new(alloc))?;
+    row_holds(rt, alloc, row, &mut port)
 }
 
-#[test]
-fn tools_converse(rt: HostRuntime) -> Result<(), Fail> {
-    for row in ROWS {
-        assert!(rt; goes(rt, rt.alloc(), row, 1)?, "{:?}", row.1);
-        assert!(rt; goes(rt, rt.alloc(), row, 64)?, "{:?}", row.1);
+fn row_holds_both<W: Wait + Copy + Drop>(
+    rt: W,
+    alloc: Global,
+    row: &Row,
+) -> Result<bool, AllocError> {
+    Ok(row_holds_in(rt, alloc, row, 1)? && row_holds_in(rt, alloc, row, 64)?)
+}
+
+/// The first row that does not hold.
+pub fn tools_converse<W: Wait + Copy + Drop>(
+    rt: W,
+    alloc: Global,
+) -> Result<Option<usize>, AllocError> {
+    for (at, row) in ROWS.iter().enumerate() {
+        if !row_holds_both(rt, alloc, row)? {
+            return Ok(Some(at));
+        }
     }
-    Ok(())
+    Ok(None)
 }
 
-/// Whether a pull from a device that is not there is refused.
-fn is_refused<W: Wait + Copy + Drop>(rt: W, alloc: Global) -> Result<bool, AllocError> {
-    let mut port = Port::new(alloc, b"FAIL0014device 'x' not found", 64, 0, 0)?;
+fn refuses<W: Wait + Copy + Drop>(
+    rt: W,
+    alloc: Global,
+    port: &mut Port,
+) -> Result<bool, AllocError> {
     let serial = Text::from_slice(alloc, b"x")?;
-    let came = comes(rt, alloc, Asks::Pull, Some(&serial), &mut port)?;
-    Ok(came == ('r', 20) && port.output.bytes() == b"0010host:transport:x".as_slice())
+    goes(rt, alloc, Asks::Pull, Some(&serial), port, ('r', 20))
 }
 
-#[test]
-fn missing_devices_are_refused(rt: HostRuntime) -> Result<(), Fail> {
-    assert!(rt; is_refused(rt, rt.alloc())?);
-    Ok(())
+fn is_refused<W: Wait + Copy + Drop>(
+    rt: W,
+    alloc: Global,
+    port: &mut Port,
+) -> Result<Option<usize>, AllocError> {
+    let refused = refuses(rt, alloc, port)?
+        && port.output.bytes() == b"0010host:transport:x".as_slice();
+    Ok(if refused { None } else { Some(0) })
+}
+
+/// Whether a pull from a device that is not there is refused, as the one row that does not hold.
+pub fn missing_devices_are_refused<W: Wait + Copy + Drop>(
+    rt: W,
+    alloc: Global,
+) -> Result<Option<usize>, AllocError> {
+    let answer = b"FAIL0014device 'x' not found";
+    let mut port = Port::new(alloc, answer, 64, Vec::new(alloc), Vec::new(alloc))?;
+    is_refused(rt, alloc, &mut port)
 }
 
 /// Reads and writes of a port that fail, or none where it is 0.
@@ -152,14 +194,21 @@ fn is_fault<W: Wait + Copy + Drop>(
     read: u64,
     write: u64,
 ) -> Result<bool, AllocError> {
-    let mut port = Port::new(alloc, b"OKAYOKAYDONE\0\0\0\0", 1, read, write)?;
-    Ok(comes(rt, alloc, Asks::Pull, None, &mut port)? == ('f', 0))
+    let reads = Vec::from_slice(alloc, &[read])?;
+    let writes = Vec::from_slice(alloc, &[write])?;
+    let mut port = Port::new(alloc, b"OKAYOKAYDONE\0\0\0\0", 1, reads, writes)?;
+    goes(rt, alloc, Asks::Pull, None, &mut port, ('f', 0))
 }
 
-#[test]
-fn faults_are_told(rt: HostRuntime) -> Result<(), Fail> {
-    for &(read, write) in FAILING {
-        assert!(rt; is_fault(rt, rt.alloc(), read, write)?, "{read} {write}");
+/// The first row that does not hold.
+pub fn faults_are_told<W: Wait + Copy + Drop>(
+    rt: W,
+    alloc: Global,
+) -> Result<Option<usize>, AllocError> {
+    for (at, &(read, write)) in FAILING.iter().enumerate() {
+        if !is_fault(rt, alloc, read, write)? {
+            return Ok(Some(at));
+        }
     }
-    Ok(())
+    Ok(None)
 }

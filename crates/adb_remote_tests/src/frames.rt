@@ -2,7 +2,6 @@
 
 use adb_outside::{Format, Front};
 use adb_remote_frames::{Awaited, Place};
-use std::test::Fail;
 
 /// What bytes at offset 8 begin with.
 const FRONTS: &[(Awaited, &[u8], Front<u64>)] = &[
@@ -24,11 +23,13 @@ const FRONTS: &[(Awaited, &[u8], Front<u64>)] = &[
     (Awaited::Packet, b"\x03\x01\0\0\0\x07", Front::Whole(6)),
 ];
 
-#[test]
-fn fronts_are_found(rt: HostRuntime) -> Result<(), Fail> {
-    for &(awaited, bytes, want) in FRONTS {
+/// The first row that does not hold.
+pub fn fronts_are_found() -> Option<usize> {
+    for (at, &(awaited, bytes, want)) in FRONTS.iter().enumerate() {
         let place = Place { awaited, offset: 8 };
-        assert!(rt; place.front(bytes) == want, "{awaited:?} {bytes:?}");
+        if place.front(bytes) != want {
+            return Some(at);
+        }
     }
-    Ok(())
+    None
 }

@@ -5,11 +5,11 @@ ghost use Rattle.adb_remote_words.specs.Words.{HasWords};
 
 use adb_connections::{MemoryIn, MemoryOut};
 use adb_outside::Text;
-use adb_remote_words::Remote;
+use adb_remote_words::{Outcome, Remote};
 use std::alloc::{AllocError, Global};
 
 /// A job, by its kind.
-#[derive(Clone, Copy, Debug, PartialEq, Eq, Drop)]
+#[derive(Clone, Copy, Drop)]
 pub(crate) enum Asks {
     Devices,
     Push,
@@ -53,6 +53,21 @@ pub(crate) fn job(alloc: Global, asks: Asks) -> Result<Remote, AllocError>
     }
 }
 
+/// What an outcome is, in a letter, and a number of it: its length, or its status before the two
+/// digits of its length.
+pub(crate) fn outcome_shown(outcome: &Outcome) -> (char, u64) {
+    match outcome {
+        Outcome::Listed(text) => ('l', text.len() as u64),
+        Outcome::Pushed => ('p', 0),
+        Outcome::Pulled(text) => ('g', text.len() as u64),
+        Outcome::Ran { out, status, .. } => (
+            's',
+            100 * u64::from(*status) + (out.len() as u64).min(99),
+        ),
+        Outcome::Ready => ('y', 0),
+    }
+}
+
 /// A port in memory.
 #[derive(Drop)]
 pub(crate) struct Port {
@@ -61,17 +76,14 @@ pub(crate) struct Port {
 }
 
 impl Port {
-    /// One that answers this in pieces, of which this read and this write fail, or none where it is
-    /// 0.
+    /// One that answers this in pieces, of which these reads and writes fail.
     pub(crate) fn new(
         alloc: Global,
         answer: &[u8],
         piece: usize,
-        read: u64,
-        write: u64,
+        reads: Vec<u64>,
+        writes: Vec<u64>,
     ) -> Result<Port, AllocError> {
-        let reads = Vec::from_slice(alloc, &[read])?;
-        let writes = Vec::from_slice(alloc, &[write])?;
         let answer = Text::from_slice(alloc, answer)?;
         Ok(Port {
             input: MemoryIn::new(answer, piece.max(1), reads),

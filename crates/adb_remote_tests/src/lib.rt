@@ -4,6 +4,8 @@
 #[cfg(test)]
 mod asking;
 #[cfg(test)]
+mod cases;
+#[cfg(test)]
 mod conversing;
 #[cfg(test)]
 mod frames;

@@ -1,23 +1,12 @@
 //! Answers that were worked out by hand, in pieces of one byte and whole.
 
 ghost use Rattle.std.specs.Prelude.{◌≤◌};
+ghost use Rattle.adb_remote_words.specs.Words.{HasWords};
 
-use crate::jobs::{Asks, job};
+use crate::jobs::{Asks, job, outcome_shown};
 use adb_remote_words::{Outcome, Reading, Remote, first_word, second_word};
 use adb_sync_client::Step;
 use std::alloc::{AllocError, Global};
-use std::test::Fail;
-
-/// What an outcome is, in a letter, its length, and its status.
-fn outcome_shown(outcome: &Outcome) -> (char, u64) {
-    match outcome {
-        Outcome::Listed(text) => ('l', text.len() as u64),
-        Outcome::Pushed => ('p', 0),
-        Outcome::Pulled(text) => ('g', text.len() as u64),
-        Outcome::Ran { status, .. } => ('s', u64::from(*status)),
-        Outcome::Ready => ('y', 0),
-    }
-}
 
 /// What a step is, in a letter, and its offset.
 fn shown(step: &Step<Outcome>) -> (char, u64) {
@@ -29,8 +18,13 @@ fn shown(step: &Step<Outcome>) -> (char, u64) {
     }
 }
 
+/// What the next piece of an answer shows.
+fn fed(reading: &mut Reading, job: &Remote, bytes: &[u8]) -> Result<(char, u64), AllocError> {
+    Ok(shown(&reading.feed(job, bytes)?))
+}
+
 /// What the last of the pieces of an answer shows.
-fn feed(
+fn all_fed(
     reading: &mut Reading,
     job: &Remote,
     answer: &[u8],
@@ -40,18 +34,45 @@ fn feed(
 {
     let mut last = ('m', 0);
     for bytes in answer.chunks(piece) {
-        last = shown(&reading.feed(job, bytes)?);
+        last = fed(reading, job, bytes)?;
     }
     Ok(last)
 }
 
 /// What an answer means in pieces of this length.
-fn meant(alloc: Global, asks: Asks, answer: &[u8], piece: usize) -> Result<(char, u64), AllocError>
+fn read(alloc: Global, job: &Remote, answer: &[u8], piece: usize) -> Result<(char, u64), AllocError>
     requires { 1 ≤ piece }
 {
+    let mut reading = Reading::new(alloc, job)?;
+    all_fed(&mut reading, job, answer, piece)
+}
+
+/// Whether an answer means this in pieces of one byte and whole.
+fn reads(
+    alloc: Global,
+    job: &Remote,
+    answer: &[u8],
+    want: (char, u64),
+) -> Result<bool, AllocError> {
+    Ok(read(alloc, job, answer, 1)? == want && read(alloc, job, answer, 64)? == want)
+}
+
+fn means(alloc: Global, asks: Asks, answer: &[u8], want: (char, u64)) -> Result<bool, AllocError> {
     let job = job(alloc, asks)?;
-    let mut reading = Reading::new(alloc, &job)?;
-    feed(&mut reading, &job, answer, piece)
+    reads(alloc, &job, answer, want)
+}
+
+/// Whether a job begins with these two words.
+fn begins(alloc: Global, job: &Remote, first: &[u8], second: &[u8]) -> Result<bool, AllocError>
+    requires { HasWords job.now }
+{
+    let begins = first_word(alloc, job, None)?.as_slice() == first;
+    Ok(begins && second_word(alloc, job)?.as_slice() == second)
+}
+
+fn says(alloc: Global, asks: Asks, first: &[u8], second: &[u8]) -> Result<bool, AllocError> {
+    let job = job(alloc, asks)?;
+    begins(alloc, &job, first, second)
 }
 
 /// Answers, and what they mean.
@@ -73,7 +94,7 @@ const MEANT: &[(Asks, &[u8], (char, u64))] = &[
     (
         Asks::Shell,
         b"OKAYOKAY\x01\x03\0\0\0hi\n\x03\x01\0\0\0\x07",
-        ('s', 7),
+        ('s', 703),
     ),
     (Asks::Shell, b"OKAYOKAY\x01\x03\0\0\0hi\n\x04", ('b', 16)),
     (
@@ -84,19 +105,14 @@ const MEANT: &[(Asks, &[u8], (char, u64))] = &[
     (Asks::Wait, b"OKAY000ayx\tdevice\n", ('m', 0)),
 ];
 
-#[test]
-fn answers_mean(rt: HostRuntime) -> Result<(), Fail> {
-    for &(asks, answer, want) in MEANT {
-        assert!(rt;
-            meant(rt.alloc(), asks, answer, 1)? == want,
-            "{asks:?} {answer:?}"
-        );
-        assert!(rt;
-            meant(rt.alloc(), asks, answer, 64)? == want,
-            "{asks:?} {answer:?}"
-        );
+/// The first row that does not hold.
+pub fn answers_mean(alloc: Global) -> Result<Option<usize>, AllocError> {
+    for (at, &(asks, answer, want)) in MEANT.iter().enumerate() {
+        if !means(alloc, asks, answer, want)? {
+            return Ok(Some(at));
+        }
     }
-    Ok(())
+    Ok(None)
 }
 
 /// The first two words of jobs.
@@ -112,18 +128,12 @@ const WORDS: &[(Asks, &[u8], &[u8])] = &[
     (Asks::Wait, b"0012host:track-devices", b""),
 ];
 
-/// Whether a job begins with these words.
-fn says(alloc: Global, asks: Asks, first: &[u8], second: &[u8]) -> Result<bool, AllocError> {
-    let job = job(alloc, asks)?;
-    let one = first_word(alloc, &job, None)?;
-    let two = second_word(alloc, &job)?;
-    Ok(one.as_slice() == first && two.as_slice() == second)
-}
-
-#[test]
-fn words_are_said(rt: HostRuntime) -> Result<(), Fail> {
-    for &(asks, first, second) in WORDS {
-        assert!(rt; says(rt.alloc(), asks, first, second)?, "{asks:?}");
+/// The first row that does not hold.
+pub fn words_are_said(alloc: Global) -> Result<Option<usize>, AllocError> {
+    for (at, &(asks, first, second)) in WORDS.iter().enumerate() {
+        if !says(alloc, asks, first, second)? {
+            return Ok(Some(at));
+        }
     }
-    Ok(())
+    Ok(None)
 }
