@@ -240,6 +240,15 @@ impl Client {
         self.parts.output.front(max)
     }
 
+    /// How many bytes to hand out at once, at most `max`, so that no slice of 4 KiB or more is copied:
+    /// its own, or those before it; `max` where there is none. It takes no memory.
+    pub fn front_len(&self, max: usize) -> usize
+        requires { 0 < max }
+        ensures { (0 < result) × (result ≤ max) }
+    {
+        self.parts.output.front_len(max)
+    }
+
     /// The first `n` bytes that were due were handed out. It takes no memory.
     pub fn hand(&mut self, n: usize)
         requires { n ≤ length self.old.due }

@@ -4,6 +4,7 @@ ghost use Rattle.std.specs.Prelude.{◌≡◌, ◌<◌, ◌≤◌, ◌+◌, ◌-
 ghost use Rattle.std.specs.VecDeque.{deque_len, deque_capacity};
 
 use crate::slices::{Slice, fill, first, put_back, share_front};
+use crate::tail::LARGE;
 use adb_outside::{HandOut, MAX_START, Text};
 use bytes::{Bytes, BytesMut};
 use std::alloc::{AllocError, Global};
@@ -172,6 +173,28 @@ impl Output {
         let mut text = Text::from_vec(Vec::with_capacity(self.alloc, n)?);
         fill(&mut text, &self.slices, self.own.as_slice(), max)?;
         Ok(HandOut::own(text))
+    }
+
+    /// How many bytes to hand out at once, at most `max`, so that no large slice is copied: its own
+    /// where it is the first, or those before it; `max` where there is none among these.
+    pub(crate) fn front_len(&self, max: usize) -> usize
+        requires { 0 < max }
+        ensures { (0 < result) × (result ≤ max) }
+    {
+        let mut short: usize = 0;
+        for i in 0..self.slices.len() {
+            let slice = &self.slices[i];
+            short = short.saturating_add(slice.before);
+            if short >= max {
+                break;
+            }
+            let len = slice.bytes.len();
+            if len >= LARGE {
+                return if short == 0 { len.min(max) } else { short };
+            }
+            short = short.saturating_add(len);
+        }
+        max
     }
 
     /// The first `n` bytes were handed out. It takes no memory.

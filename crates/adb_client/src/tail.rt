@@ -12,8 +12,9 @@ use std::alloc::{AllocError, Global};
 use std::collections::VecDeque;
 use std::marker::Model;
 
-/// The fewest bytes of a piece that is held in memory of its own.
-const LARGE: usize = 4096;
+/// The fewest bytes of what is not copied without need: a piece that is held in memory of its own,
+/// and a slice that is handed out alone.
+pub(crate) const LARGE: usize = 4096;
 
 /// How many bytes a tail has at most.
 const MAX_TAIL: usize = isize::MAX as usize;

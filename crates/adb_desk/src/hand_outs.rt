@@ -47,6 +47,15 @@ impl<R: Recorder, E: Ledger, M: Ledger, K: Marks> Desk<R, E, M, K> {
         answer
     }
 
+    /// How many bytes to hand out to a client or on a link at once, at most `max`, so that no payload
+    /// of 4 KiB or more is copied: see `Hub::front_len`.
+    pub fn front_len(&self, owner: Owner, max: usize) -> usize
+        requires { 0 < max }
+        ensures { (0 < result) × (result ≤ max) }
+    {
+        self.hub.front_len(owner, max)
+    }
+
     /// Whom to wake: somebody to whom something may have come due, for whom room may have been
     /// made, or who is gone, and who was not named since. After a kill all are gone, and not all
     /// are named.

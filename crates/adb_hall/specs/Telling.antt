@@ -83,6 +83,13 @@ abbrev pub Hands : (List ℕ → Entry) → ℕ → (State → Option (List ℕ)
 Hands e max all (Ok given) a b = HandsAt e max all given a b
 Hands e max all (Err error) a b = Fails (e []) error a b
 
+-- So it was with at most `max` bytes: as many as the hall chose.
+pub record HandsFront (e : List ℕ → Entry) (max : ℕ) (all : State → Option (List ℕ)) (answer : Result Handed DeskError) (a b : Telling) : Type 0 where
+  pub most : ℕ
+  pub some : 0 < most
+  pub within : most ≤ max
+  pub hands : Hands e most all answer a b
+
 -- ---- questions
 -- the room of a client; of one that was never drawn it is refused
 abbrev pub drawn_room : Bool → Option DeskError → Room → HubError → Result Room DeskError

@@ -9,7 +9,7 @@ ghost use Rattle.adb_hub.specs.Answers.{offered_to};
 ghost use Rattle.adb_desk_log.specs.declared.error.DeskError.{DeskError};
 ghost use Rattle.adb_desk_log.specs.Marked.{marks_error, marks_life, marks_room};
 ghost use Rattle.adb_desk.specs.Desk.{client_life};
-ghost use Rattle.adb_hall.specs.Telling.{Draws, Hands, IsSomeHanded, IsSomeRoom, Lives, Rooms, Waits, telling_of};
+ghost use Rattle.adb_hall.specs.Telling.{Draws, Hands, HandsFront, IsSomeHanded, IsSomeRoom, Lives, Rooms, Waits, telling_of};
 ghost use Rattle.adb_hall.specs.Passes.{ArePair, after_handed, after_life, after_room, after_waiting};
 
 use crate::notes::{note_error, note_handed, note_life, note_room};
@@ -17,7 +17,7 @@ use crate::sections::seat_pair;
 use adb_capture::Recorder;
 use adb_desk::Desk;
 use adb_desk_log::{ClientIn, ClientOut, DeskError, Marks};
-use adb_hub::{Handed, HubError, Life, Room};
+use adb_hub::{Handed, HubError, Life, Owner, Room};
 use adb_outside::Cause;
 use std::sync::ledger::Ledger;
 
@@ -132,6 +132,25 @@ pub fn end<R: Recorder, E: Ledger, M: Ledger, K: Marks>(
     let answer = desk.end(pass.number(), cause);
     note_life(desk, &mut pass.pass, &answer, 0);
     answer
+}
+
+/// Hands out first bytes that are due to the client of a pass, no more than go out with no large
+/// payload copied.
+pub fn put_front<R: Recorder, E: Ledger, M: Ledger, K: Marks>(
+    desk: &mut Desk<R, E, M, K>,
+    pass: &mut ClientOut<E, M, K>,
+    max: usize,
+) -> Result<Handed, DeskError>
+    requires { (0 < max) × (max ≤ MAX_DATA) }
+    ensures some { IsSomeHanded max result }
+    ensures pass { pass.new.pass ≡ after_handed pass.old.pass result }
+    ensures told { let n = pass.old.pass.number in HandsFront (Entry.Put n) max
+        (λ (s : State). offered_to s.devices (s.clients n)) result (telling_of desk.old)
+        (telling_of desk.new) }
+    ensures steady { K.steady → result ≢ Err DeskError.RecordFault }
+{
+    let most = desk.front_len(Owner::Client(pass.number()), max);
+    put(desk, pass, most)
 }
 
 /// A client's writer found its connection broken.

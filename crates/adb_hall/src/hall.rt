@@ -29,7 +29,7 @@ pub trait Hall<E: Ledger, M: Ledger, K: Marks> {
     ghost use Rattle.adb_desk_log.specs.declared.error.DeskError.{DeskError};
     ghost use Rattle.adb_desk_log.specs.Marked.{marks_error, marks_life};
     ghost use Rattle.adb_desk.specs.Desk.{client_life, link_life};
-    ghost use Rattle.adb_hall.specs.Telling.{Telling, Where, Lives, Draws, Hands};
+    ghost use Rattle.adb_hall.specs.Telling.{Telling, Where, Lives, Draws, Hands, HandsFront};
     ghost use Rattle.adb_hall.specs.Telling.{Rooms, Waits, Overs, Halts, IsSomeRoom, IsSomeHanded};
     ghost use Rattle.adb_hall.specs.Passes.{ArePair, after_life, after_handed};
     ghost use Rattle.adb_hall.specs.Passes.{after_room, after_waiting, or_marked};
@@ -132,6 +132,20 @@ pub trait Hall<E: Ledger, M: Ledger, K: Marks> {
         ensures steady { K.steady → result ≢ Err DeskError.RecordFault }
         ensures mark { marked self.new ≡ marked self.old };
 
+    /// Hands out first bytes that are due to the client, at most `max`, and of these no more than go
+    /// out with no payload of 4 KiB or more copied: one Put, where there are any. It waits as `put`
+    /// does. An error is `NoClient` or want of memory.
+    fn put_front(&mut self, pass: &mut ClientOut<E, M, K>, max: usize) -> Result<Handed, DeskError>
+        requires { (0 < max) × (max ≤ MAX_DATA) }
+        ensures idle { result ≡ Ok Handed.Nothing → is_some (tells self.old) ≡ true }
+        ensures some { IsSomeHanded max result }
+        ensures pass { pass.new.pass ≡ after_handed pass.old.pass result }
+        ensures told { let n = pass.old.pass.number in Where (tells self.old) (HandsFront
+            (Entry.Put n) max (λ (s : State). offered_to s.devices (s.clients n)) result)
+            (tells self.new) }
+        ensures steady { K.steady → result ≢ Err DeskError.RecordFault }
+        ensures mark { marked self.new ≡ marked self.old };
+
     /// The client's writer found its connection broken: one End. An error is `Stopped` or
     /// `NoClient`.
     fn break_out(&mut self, pass: &mut ClientOut<E, M, K>, cause: Cause) -> Result<Life, DeskError>
@@ -178,6 +192,19 @@ pub trait Hall<E: Ledger, M: Ledger, K: Marks> {
         ensures pass { pass.new.pass ≡ after_handed pass.old.pass result }
         ensures told { let n = pass.old.pass.number in Where (tells self.old)
             (Hands (Entry.Send n) max (λ (s : State). due_on (s.links n)) result)
+            (tells self.new) }
+        ensures steady { K.steady → result ≢ Err DeskError.RecordFault }
+        ensures mark { marked self.new ≡ marked self.old };
+
+    /// Hands out first bytes that are due on the link as `put_front` does: one Send, where there are
+    /// any. An error is `NoLink` or want of memory.
+    fn send_front(&mut self, pass: &mut LinkOut<E, M, K>, max: usize) -> Result<Handed, DeskError>
+        requires { (0 < max) × (max ≤ MAX_DATA) }
+        ensures idle { result ≡ Ok Handed.Nothing → is_some (tells self.old) ≡ true }
+        ensures some { IsSomeHanded max result }
+        ensures pass { pass.new.pass ≡ after_handed pass.old.pass result }
+        ensures told { let n = pass.old.pass.number in Where (tells self.old)
+            (HandsFront (Entry.Send n) max (λ (s : State). due_on (s.links n)) result)
             (tells self.new) }
         ensures steady { K.steady → result ≢ Err DeskError.RecordFault }
         ensures mark { marked self.new ≡ marked self.old };

@@ -13,10 +13,10 @@ pub use hall::Hall;
 /// One call each on a desk that is at hand: what a hall does under its lock.
 pub mod section {
     pub use crate::client_sections::{
-        bound, break_out, end, enter, join, put, read, room, strand_client, waiting,
+        bound, break_out, end, enter, join, put, put_front, read, room, strand_client, waiting,
     };
     pub use crate::link_sections::{
-        attach, break_send, detach, recv, recv_whole, send, strand_link,
+        attach, break_send, detach, recv, recv_whole, send, send_front, strand_link,
     };
     pub use crate::sections::{halt, mark_handle, over};
 }

@@ -10,7 +10,7 @@ ghost use Rattle.adb_hub.specs.Answers.{due_on};
 ghost use Rattle.adb_desk_log.specs.declared.error.DeskError.{DeskError};
 ghost use Rattle.adb_desk_log.specs.Marked.{marks_error, marks_life};
 ghost use Rattle.adb_desk.specs.Desk.{link_life};
-ghost use Rattle.adb_hall.specs.Telling.{Draws, Hands, IsSomeHanded, Lives, telling_of};
+ghost use Rattle.adb_hall.specs.Telling.{Draws, Hands, HandsFront, IsSomeHanded, Lives, telling_of};
 ghost use Rattle.adb_hall.specs.Passes.{ArePair, after_handed, after_life};
 
 use crate::notes::{note_handed, note_life};
@@ -18,7 +18,7 @@ use crate::sections::seat_pair;
 use adb_capture::Recorder;
 use adb_desk::Desk;
 use adb_desk_log::{DeskError, LinkIn, LinkOut, Marks};
-use adb_hub::{Handed, Life, Whole};
+use adb_hub::{Handed, Life, Owner, Whole};
 use adb_outside::{Cause, Kind};
 use std::sync::ledger::Ledger;
 
@@ -111,6 +111,24 @@ pub fn send<R: Recorder, E: Ledger, M: Ledger, K: Marks>(
     let answer = desk.send(pass.number(), max);
     note_handed(desk, &mut pass.pass, &answer);
     answer
+}
+
+/// Hands out first bytes that are due on the link of a pass, no more than go out with no large
+/// payload copied.
+pub fn send_front<R: Recorder, E: Ledger, M: Ledger, K: Marks>(
+    desk: &mut Desk<R, E, M, K>,
+    pass: &mut LinkOut<E, M, K>,
+    max: usize,
+) -> Result<Handed, DeskError>
+    requires { (0 < max) × (max ≤ MAX_DATA) }
+    ensures some { IsSomeHanded max result }
+    ensures pass { pass.new.pass ≡ after_handed pass.old.pass result }
+    ensures told { let n = pass.old.pass.number in HandsFront (Entry.Send n) max
+        (λ (s : State). due_on (s.links n)) result (telling_of desk.old) (telling_of desk.new) }
+    ensures steady { K.steady → result ≢ Err DeskError.RecordFault }
+{
+    let most = desk.front_len(Owner::Link(pass.number()), max);
+    send(desk, pass, most)
 }
 
 /// A device's writer found its connection broken.

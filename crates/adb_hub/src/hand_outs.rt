@@ -1,6 +1,6 @@
 //! Handing out what is due.
 
-ghost use Rattle.std.specs.Prelude.{◌≡◌, ◌<◌, List, All, None, IfOk, OnErr, option_and_then};
+ghost use Rattle.std.specs.Prelude.{◌≡◌, ◌<◌, ◌≤◌, List, All, None, IfOk, OnErr, option_and_then};
 ghost use Rattle.adb_capture.specs.declared.entry.Entry.{Entry};
 ghost use Rattle.adb_history.specs.Drained.{next_out};
 ghost use Rattle.adb_history.specs.Kept.{IsLawful};
@@ -53,6 +53,16 @@ impl Hub {
             }
             None => Ok(nothing(self.link_life(link))),
         }
+    }
+
+    /// How many bytes to hand out to a client or on a link at once, at most `max`, so that no payload
+    /// of 4 KiB or more is copied: such a payload, with its header, or what is due before it; `max`
+    /// where none is due. It takes no memory.
+    pub fn front_len(&self, owner: Owner, max: usize) -> usize
+        requires { 0 < max }
+        ensures { (0 < result) × (result ≤ max) }
+    {
+        adb_hub_hand_outs::front_len(&self.tables, owner, max)
     }
 
     /// Who is handed something next when all that is due is handed out: the least link to which

@@ -1,6 +1,6 @@
 //! To whom something is due: the least link, or else the least client; and whom to wake.
 
-ghost use Rattle.std.specs.Prelude.{◌≡◌, option_and_then, option_map};
+ghost use Rattle.std.specs.Prelude.{◌≡◌, ◌<◌, ◌≤◌, option_and_then, option_map};
 ghost use Rattle.adb_outside.specs.Tables.{IsRising};
 ghost use Rattle.adb_history.specs.Drained.{next_out};
 ghost use Rattle.adb_history.specs.Orderly.{IsDrawnOnly};
@@ -64,6 +64,38 @@ fn is_client_owed(tables: &Tables, client: u32) -> bool
     match tables.clients.get(&client) {
         Some(row) => row.owes(),
         None => true,
+    }
+}
+
+/// How many bytes to hand out at once, at most `max`, so that no large payload is copied: see
+/// `Client::front_len` and `Link::front_len`. It is `max` where nothing is due.
+pub fn front_len(tables: &Tables, owner: Owner, max: usize) -> usize
+    requires { 0 < max }
+    ensures { (0 < result) × (result ≤ max) }
+{
+    match owner {
+        Owner::Link(link) => link_front_len(tables, link, max),
+        Owner::Client(client) => client_front_len(tables, client, max),
+    }
+}
+
+fn link_front_len(tables: &Tables, link: u32, max: usize) -> usize
+    requires { 0 < max }
+    ensures { (0 < result) × (result ≤ max) }
+{
+    match tables.links.get(&link) {
+        Some(port) => port.link.front_len(max),
+        None => max,
+    }
+}
+
+fn client_front_len(tables: &Tables, client: u32, max: usize) -> usize
+    requires { 0 < max }
+    ensures { (0 < result) × (result ≤ max) }
+{
+    match tables.clients.get(&client) {
+        Some(row) => row.front_len(max),
+        None => max,
     }
 }
 

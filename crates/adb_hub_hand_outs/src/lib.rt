@@ -8,6 +8,6 @@ mod places;
 mod puts;
 mod sends;
 
-pub use due::{is_owed, next_due, next_touched};
+pub use due::{front_len, is_owed, next_due, next_touched};
 pub use puts::put;
 pub use sends::send;

@@ -186,6 +186,16 @@ impl Link {
         self.outbox.front(self.alloc, max)
     }
 
+    /// How many bytes to hand out at once, at most `max`, so that of no packet of 4 KiB or more a
+    /// payload is copied: such a packet's own, or those of the shorter ones before it; `max` where
+    /// there is none. It takes no memory.
+    pub fn front_len(&self, max: usize) -> usize
+        requires { 0 < max }
+        ensures { (0 < result) × (result ≤ max) }
+    {
+        self.outbox.front_len(max)
+    }
+
     /// The first `n` bytes that are due were handed out, also beyond the front. It takes no memory.
     pub fn hand(&mut self, n: usize)
         requires { n ≤ length self.old.due }

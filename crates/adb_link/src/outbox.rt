@@ -10,6 +10,9 @@ use std::alloc::{AllocError, Global};
 use std::collections::VecDeque;
 use std::marker::Model;
 
+/// The fewest bytes of a packet that is handed out alone, so that its payload is not copied.
+const LARGE: usize = 4096;
+
 /// Packets that are due, and places for more that need no memory: a place holds one packet,
 /// whatever its payload. Contracts see the bytes that are due and how many places are spare.
 #[derive(Drop)]
@@ -103,6 +106,27 @@ impl Outbox {
         let mut text = Text::from_vec(Vec::with_capacity(alloc, n)?);
         fill(&mut text, &self.packets, max)?;
         Ok(HandOut::own(text))
+    }
+
+    /// How many bytes to hand out at once, at most `max`, so that of no large packet a payload is
+    /// copied: those of the first packet where it is large, or of the short ones before the first
+    /// that is. It looks at no packet behind these.
+    pub(crate) fn front_len(&self, max: usize) -> usize
+        requires { 0 < max }
+        ensures { (0 < result) × (result ≤ max) }
+    {
+        let mut short: usize = 0;
+        for i in 0..self.packets.len() {
+            if short >= max {
+                break;
+            }
+            let len = self.packets[i].len();
+            if len >= LARGE {
+                return if short == 0 { len.min(max) } else { short };
+            }
+            short = short.saturating_add(len);
+        }
+        max
     }
 
     /// The first `n` bytes were handed out. It takes no memory.

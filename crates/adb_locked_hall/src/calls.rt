@@ -146,6 +146,29 @@ impl<R: Recorder, E: Ledger, M: Ledger, K: Marks, W: Wait + Copy + Drop> Hall<E,
         unreachable!()
     }
 
+    fn put_front(
+        &mut self,
+        pass: &mut ClientOut<E, M, K>,
+        max: usize,
+    ) -> Result<Handed, DeskError> {
+        let mut guard = self.shared.locked.lock(&self.rt);
+        for _ in self.rt.forever() {
+            let answer = section::put_front(&mut guard.desk, pass, max);
+            if let Ok(Handed::Nothing) = answer {
+                guard = self.shared.sleep(
+                    &self.rt,
+                    guard,
+                    Owner::Client(pass.number()),
+                    Side::Writer,
+                );
+            } else {
+                self.shared.leave(guard);
+                return answer;
+            }
+        }
+        unreachable!()
+    }
+
     fn break_out(
         &mut self,
         pass: &mut ClientOut<E, M, K>,
@@ -186,6 +209,22 @@ impl<R: Recorder, E: Ledger, M: Ledger, K: Marks, W: Wait + Copy + Drop> Hall<E,
         let mut guard = self.shared.locked.lock(&self.rt);
         for _ in self.rt.forever() {
             let answer = section::send(&mut guard.desk, pass, max);
+            if let Ok(Handed::Nothing) = answer {
+                guard = self
+                    .shared
+                    .sleep(&self.rt, guard, Owner::Link(pass.number()), Side::Writer);
+            } else {
+                self.shared.leave(guard);
+                return answer;
+            }
+        }
+        unreachable!()
+    }
+
+    fn send_front(&mut self, pass: &mut LinkOut<E, M, K>, max: usize) -> Result<Handed, DeskError> {
+        let mut guard = self.shared.locked.lock(&self.rt);
+        for _ in self.rt.forever() {
+            let answer = section::send_front(&mut guard.desk, pass, max);
             if let Ok(Handed::Nothing) = answer {
                 guard = self
                     .shared

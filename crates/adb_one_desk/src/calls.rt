@@ -65,6 +65,14 @@ impl<R: Recorder, E: Ledger, M: Ledger, K: Marks> Hall<E, M, K> for OneDesk<R, E
         section::put(&mut self.desk, pass, max)
     }
 
+    fn put_front(
+        &mut self,
+        pass: &mut ClientOut<E, M, K>,
+        max: usize,
+    ) -> Result<Handed, DeskError> {
+        section::put_front(&mut self.desk, pass, max)
+    }
+
     fn break_out(
         &mut self,
         pass: &mut ClientOut<E, M, K>,
@@ -91,6 +99,10 @@ impl<R: Recorder, E: Ledger, M: Ledger, K: Marks> Hall<E, M, K> for OneDesk<R, E
 
     fn send(&mut self, pass: &mut LinkOut<E, M, K>, max: usize) -> Result<Handed, DeskError> {
         section::send(&mut self.desk, pass, max)
+    }
+
+    fn send_front(&mut self, pass: &mut LinkOut<E, M, K>, max: usize) -> Result<Handed, DeskError> {
+        section::send_front(&mut self.desk, pass, max)
     }
 
     fn break_send(&mut self, pass: &mut LinkOut<E, M, K>, cause: Cause) -> Result<Life, DeskError> {

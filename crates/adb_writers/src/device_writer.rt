@@ -79,7 +79,7 @@ fn turn<E: Ledger, M: Ledger, K: Marks, H: Hall<E, M, K>, O: DeviceOut, G: Gate>
         (outlet (O.faults port.old) (O.written port.old) (O.closed port.old))
         (outlet (O.faults port.new) (O.written port.new) (O.closed port.new)) }
 {
-    match hall.send(pass, MAX_PACKET) {
+    match hall.send_front(pass, MAX_PACKET) {
         Ok(Handed::Bytes(bytes)) => {
             gate.pass(Place::DeviceWriter as u8, pass.number());
             write_out(hall, port, pass, &bytes)
