@@ -1,3 +1,4 @@
 pub mod Drawn
+pub mod Fronts
 pub mod Made
 pub mod Some

@@ -14,6 +14,7 @@ pub enum Case {
     RequestsAreTakenOff,
     WhatIsHeldIsCut,
     WhatIsDueIsHandedOut,
+    ALargeSliceGoesOutAlone,
 }
 
 /// What is asked, in a word.
@@ -183,18 +184,52 @@ fn is_handed_out(client: &mut Client) -> Result<Option<usize>, AllocError> {
     Ok(None)
 }
 
+/// The shortest slice that is not copied, and how many bytes are asked for.
+const LARGE: &[u8] = &[0; 4096];
+
+const ASKED: usize = 10_000;
+
+/// A change, and how many bytes are to be handed out at once then.
+type Fronts = (Debt, usize);
+
+const FRONTS: &[Fronts] = &[
+    (Debt::Slice(LARGE), 4096),
+    (Debt::Owe(b"ab"), 4096),
+    (Debt::Slice(LARGE), 4096),
+    (Debt::Hand(4096), 2),
+    (Debt::Hand(2), 4096),
+    (Debt::Hand(1), ASKED),
+];
+
+fn goes_out(client: &mut Client, row: &Fronts) -> Result<bool, AllocError> {
+    owe(client, row.0)?;
+    Ok(client.front_len(ASKED) == row.1)
+}
+
+fn is_alone(client: &mut Client) -> Result<Option<usize>, AllocError> {
+    for (at, row) in FRONTS.iter().enumerate() {
+        if !goes_out(client, row)? {
+            return Ok(Some(at));
+        }
+    }
+    Ok(None)
+}
+
 fn fault_with(client: &mut Client, case: Case) -> Result<Option<usize>, AllocError> {
     match case {
         Case::RequestsAreTakenOff => are_taken_off(client),
         Case::WhatIsHeldIsCut => is_cut(client),
         Case::WhatIsDueIsHandedOut => is_handed_out(client),
+        Case::ALargeSliceGoesOutAlone => is_alone(client),
     }
 }
 
 pub fn first_fault(alloc: Global, case: Case) -> Result<Option<usize>, AllocError> {
     let (id, is_local) = match case {
         Case::RequestsAreTakenOff => (7, true),
-        Case::WhatIsHeldIsCut | Case::WhatIsDueIsHandedOut => (1, false),
+        Case::WhatIsHeldIsCut | Case::WhatIsDueIsHandedOut | Case::ALargeSliceGoesOutAlone => (
+            1, false,
+        ),
     };
     let mut client = Client::new(alloc, id, is_local)?;
     fault_with(&mut client, case)

@@ -14,6 +14,7 @@ pub enum Case {
     CheckWordsFollowTheLastConnect,
     AConnectGoesOutWithItsSum,
     APieceIsCutBesideWhatIsHeld,
+    ALargePacketGoesOutAlone,
 }
 
 /// What the server says first, with the sum of its payload.
@@ -191,6 +192,32 @@ fn is_cut(link: &mut Link) -> Result<bool, AllocError>
     Ok(takes_packet(link, OLD_DEVICE, b"device::")? && waits(link, start, 1)? && breaks(link, end)?)
 }
 
+/// The shortest payload that is not copied, how long its packet is, and how many bytes are asked for.
+const LARGE: &[u8] = &[0; 4096];
+
+const LARGE_PACKET: usize = 4120;
+
+const ASKED: usize = 10_000;
+
+/// A large packet becomes due between two short ones.
+fn owe_large(link: &mut Link) -> Result<(), AllocError> {
+    owe_write(link)?;
+    link.owe_slice(&head(Command::Wrte, 4096), Bytes::from_static(LARGE))?;
+    owe_write(link)
+}
+
+/// Whether so many bytes are to be handed out at once, which are.
+fn goes_out(link: &mut Link, n: usize) -> bool {
+    let so = link.front_len(ASKED) == n;
+    link.hand(n.min(link.owed()));
+    so
+}
+
+fn is_alone(link: &mut Link) -> Result<bool, AllocError> {
+    owe_large(link)?;
+    Ok(goes_out(link, WRITE.len()) && goes_out(link, LARGE_PACKET) && goes_out(link, ASKED))
+}
+
 fn holds_over(alloc: Global, link: &mut Link, case: Case) -> Result<bool, AllocError>
     requires { link.old.incoming.fault ≡ None }
 {
@@ -204,6 +231,7 @@ fn holds_over(alloc: Global, link: &mut Link, case: Case) -> Result<bool, AllocE
             are_due(alloc, link, CONNECT)
         }
         Case::APieceIsCutBesideWhatIsHeld => is_cut(link),
+        Case::ALargePacketGoesOutAlone => is_alone(link),
     }
 }
 
