@@ -1,4 +1,3 @@
 pub mod Drawn
-pub mod Fronts
 pub mod Made
 pub mod Some

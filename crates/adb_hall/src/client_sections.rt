@@ -136,7 +136,6 @@ pub fn end<R: Recorder, E: Ledger, M: Ledger, K: Marks>(
 
 /// Hands out first bytes that are due to the client of a pass, no more than go out with no large
 /// payload copied.
-#[tactic(auto, using(crate::proofs::Fronts::some_within))]
 pub fn put_front<R: Recorder, E: Ledger, M: Ledger, K: Marks>(
     desk: &mut Desk<R, E, M, K>,
     pass: &mut ClientOut<E, M, K>,

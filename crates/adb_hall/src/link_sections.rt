@@ -115,7 +115,6 @@ pub fn send<R: Recorder, E: Ledger, M: Ledger, K: Marks>(
 
 /// Hands out first bytes that are due on the link of a pass, no more than go out with no large
 /// payload copied.
-#[tactic(auto, using(crate::proofs::Fronts::some_within))]
 pub fn send_front<R: Recorder, E: Ledger, M: Ledger, K: Marks>(
     desk: &mut Desk<R, E, M, K>,
     pass: &mut LinkOut<E, M, K>,
