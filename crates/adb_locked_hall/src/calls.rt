@@ -3,6 +3,7 @@
 ghost use Rattle.std.specs.Prelude.{◌≡◌, true};
 ghost use Rattle.adb_hall.specs.Passes.{or_marked};
 
+use crate::handing::Piece;
 use crate::locked_hall::LockedHall;
 use adb_bells::{Bells, Pair, Side};
 use adb_capture::Recorder;
@@ -128,22 +129,7 @@ impl<R: Recorder, E: Ledger, M: Ledger, K: Marks, W: Wait + Copy + Drop> Hall<E,
     }
 
     fn put(&mut self, pass: &mut ClientOut<E, M, K>, max: usize) -> Result<Handed, DeskError> {
-        let mut guard = self.shared.locked.lock(&self.rt);
-        for _ in self.rt.forever() {
-            let answer = section::put(&mut guard.desk, pass, max);
-            if let Ok(Handed::Nothing) = answer {
-                guard = self.shared.sleep(
-                    &self.rt,
-                    guard,
-                    Owner::Client(pass.number()),
-                    Side::Writer,
-                );
-            } else {
-                self.shared.leave(guard);
-                return answer;
-            }
-        }
-        unreachable!()
+        self.shared.put(&self.rt, pass, max, Piece::All)
     }
 
     fn put_front(
@@ -151,22 +137,7 @@ impl<R: Recorder, E: Ledger, M: Ledger, K: Marks, W: Wait + Copy + Drop> Hall<E,
         pass: &mut ClientOut<E, M, K>,
         max: usize,
     ) -> Result<Handed, DeskError> {
-        let mut guard = self.shared.locked.lock(&self.rt);
-        for _ in self.rt.forever() {
-            let answer = section::put_front(&mut guard.desk, pass, max);
-            if let Ok(Handed::Nothing) = answer {
-                guard = self.shared.sleep(
-                    &self.rt,
-                    guard,
-                    Owner::Client(pass.number()),
-                    Side::Writer,
-                );
-            } else {
-                self.shared.leave(guard);
-                return answer;
-            }
-        }
-        unreachable!()
+        self.shared.put(&self.rt, pass, max, Piece::Front)
     }
 
     fn break_out(
@@ -206,35 +177,11 @@ impl<R: Recorder, E: Ledger, M: Ledger, K: Marks, W: Wait + Copy + Drop> Hall<E,
     }
 
     fn send(&mut self, pass: &mut LinkOut<E, M, K>, max: usize) -> Result<Handed, DeskError> {
-        let mut guard = self.shared.locked.lock(&self.rt);
-        for _ in self.rt.forever() {
-            let answer = section::send(&mut guard.desk, pass, max);
-            if let Ok(Handed::Nothing) = answer {
-                guard = self
-                    .shared
-                    .sleep(&self.rt, guard, Owner::Link(pass.number()), Side::Writer);
-            } else {
-                self.shared.leave(guard);
-                return answer;
-            }
-        }
-        unreachable!()
+        self.shared.send(&self.rt, pass, max, Piece::All)
     }
 
     fn send_front(&mut self, pass: &mut LinkOut<E, M, K>, max: usize) -> Result<Handed, DeskError> {
-        let mut guard = self.shared.locked.lock(&self.rt);
-        for _ in self.rt.forever() {
-            let answer = section::send_front(&mut guard.desk, pass, max);
-            if let Ok(Handed::Nothing) = answer {
-                guard = self
-                    .shared
-                    .sleep(&self.rt, guard, Owner::Link(pass.number()), Side::Writer);
-            } else {
-                self.shared.leave(guard);
-                return answer;
-            }
-        }
-        unreachable!()
+        self.shared.send(&self.rt, pass, max, Piece::Front)
     }
 
     fn break_send(&mut self, pass: &mut LinkOut<E, M, K>, cause: Cause) -> Result<Life, DeskError> {

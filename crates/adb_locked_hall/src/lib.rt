@@ -2,6 +2,7 @@
 #![tactic(auto)]
 
 mod calls;
+mod handing;
 mod locked_hall;
 
 pub use locked_hall::LockedHall;

@@ -1,5 +1,5 @@
 use Rattle.std.proofs.Common.{◌≡◌}
-use Rattle.adb_locked_hall.proofs.calls.LockedHallHall.send.Given as goal
+use Rattle.adb_locked_hall.proofs.locked_hall.Shared.put.Given as goal
 
 abbrev pub invariant-loop : goal.invariant-loop
 invariant-loop g l =
