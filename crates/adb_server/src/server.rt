@@ -6,9 +6,9 @@ ghost use Rattle.adb_desk_log.specs.declared.marks.TheConstants.{ALL_PARTS};
 ghost use Rattle.adb_desk_log.specs.Log.{IsFresh};
 ghost use Rattle.adb_server.specs.Served.{Announces, is_write_fault};
 
-use crate::house::House;
+use crate::house::serve_all;
 use crate::listening::announce;
-use crate::plugging::{Transport, plug_all, unplug_all};
+use crate::workers::{Workers, crew_of};
 use adb_binder::Binder;
 use adb_capture::Recorder;
 use adb_connections::{Bell, DeviceIn, DeviceOut, Door, Gate, PortIn, PortOut};
@@ -16,9 +16,8 @@ use adb_desk_log::{ALL_PARTS, Marks};
 use adb_device_reader::Device;
 use adb_locked_hall::LockedHall;
 use adb_outside::Sink;
-use adb_spawner::Crew;
 use adb_work::BellHandle;
-use adb_yard::{Listening, Staff, Yard};
+use adb_yard::{Listening, Yard};
 use std::alloc::Global;
 use std::marker::Brand;
 use std::sync::Wait;
@@ -70,7 +69,7 @@ pub fn serve<
     ensures counts { Counts N.steady N.faults note.old note.new (is_write_fault result) }
 {
     let mut yard = yard;
-    let Listening::Here(door, bell, here) = yard.listen(port) else {
+    let Listening::Here(mut door, bell, here) = yard.listen(port) else {
         return Served::DoorFault;
     };
     if let Err(served) = announce(alloc, note, here) {
@@ -95,8 +94,8 @@ pub fn serve<
     >(
         rt,
         alloc,
-        yard,
-        door,
+        &mut yard,
+        &mut door,
         bell,
         recorder,
         devices,
@@ -125,8 +124,8 @@ fn serve_with<
 >(
     rt: W,
     alloc: Global,
-    yard: Y,
-    door: D,
+    yard: &mut Y,
+    door: &mut D,
     bell: B,
     recorder: R,
     devices: Vec<Device<X, Z>>,
@@ -143,86 +142,22 @@ fn serve_with<
     requires fresh { (R.faults recorder ≡ 0) × IsFresh (R.told recorder) }
     requires steady { K.steady → R.steady recorder }
     ensures record { K.steady → result ≢ Served.RecordFault }
-    ensures door { D.steady door → result ≢ Served.DoorFault }
-    ensures lasting { D.lasting door → result ≢ Served.Done }
+    ensures door { D.steady door.old → result ≢ Served.DoorFault }
+    ensures lasting { D.lasting door.old → result ≢ Served.Done }
     ensures note { result ≢ Served.WriteFault }
 {
-    let mut yard = yard;
+    let Ok(bell) = BellHandle::new(alloc, bell) else {
+        return Served::OutOfMemory;
+    };
+    let Ok(mut crew) = crew_of(rt, alloc, yard.staff()) else {
+        return Served::OutOfMemory;
+    };
     let hall = LockedHall::<R, E, M, K, W>::new(rt, alloc, recorder, entries, moved, marks);
     let Ok(mut hall) = hall else {
         return Served::OutOfMemory;
     };
-    let Ok(bell) = BellHandle::new(alloc, bell) else {
-        return Served::OutOfMemory;
-    };
-    let mut plugged = Vec::new(alloc);
-    let refused = plug_all(
-        rt,
-        alloc,
-        &mut yard,
-        &mut hall,
-        &bell,
-        devices,
-        &mut plugged,
-    );
-    serve_all::<W, R, E, M, K, I, O, P, G, B, X, Z, D, Y>(
-        rt, alloc, yard, door, bell, hall, plugged, refused,
+    let mut jobs = Workers { rt, bell };
+    serve_all(
+        rt, alloc, &mut jobs, &mut crew, &mut hall, yard, door, devices,
     )
-}
-
-/// Serves the devices that were plugged in, and then who comes at the door, unless it was found that
-/// nobody more can come.
-fn serve_all<
-    W: Threads + Wait + Copy + Send + Sync + Drop + 'static,
-    R: Recorder + Send + 'static,
-    E: Ledger + Send + Sync + 'static,
-    M: Ledger + Send + Sync + 'static,
-    K: Marks + Send + Sync + 'static,
-    I: PortIn + Send + Drop + 'static,
-    O: PortOut + Send + Drop + 'static,
-    P: Binder + Send + Drop + 'static,
-    G: Gate + Send + Drop + 'static,
-    B: Bell,
-    X: DeviceIn + Send + 'static,
-    Z: DeviceOut + Send + 'static,
-    D: Door<In = I, Out = O>,
-    Y: Yard<Ports = P, Gate = G>,
->(
-    rt: W,
-    alloc: Global,
-    yard: Y,
-    door: D,
-    bell: BellHandle<B>,
-    hall: LockedHall<R, E, M, K, W>,
-    plugged: Vec<Transport<W, R, E, M, K, G, BellHandle<B>, X, Z>>,
-    refused: Result<(), Served>,
-) -> Served
-    ensures record { (K.steady → refused ≢ Err Served.RecordFault)
-        → K.steady → result ≢ Served.RecordFault }
-    ensures door { D.steady door → refused ≢ Err Served.DoorFault → result ≢ Served.DoorFault }
-    ensures lasting { D.lasting door → refused ≢ Err Served.Done → result ≢ Served.Done }
-    ensures note { refused ≢ Err Served.WriteFault → result ≢ Served.WriteFault }
-{
-    let (mut yard, mut door) = (yard, door);
-    let crew = match yard.staff() {
-        Staff::Threads => Crew::threads(rt, alloc),
-        Staff::Inline { failing } => Ok(Crew::inline(failing)),
-    };
-    let Ok(crew) = crew else {
-        unplug_all(plugged);
-        return Served::OutOfMemory;
-    };
-    let mut house = House {
-        rt,
-        hall,
-        crew,
-        bell,
-    };
-    house.start_devices(plugged);
-    let served = house.serve(&mut yard, &mut door, refused);
-    if house.close() {
-        Served::RecordFault
-    } else {
-        served
-    }
 }

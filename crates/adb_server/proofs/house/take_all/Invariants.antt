@@ -1,4 +1,4 @@
-use Rattle.adb_server.proofs.house.House.take_all.Given as goal
+use Rattle.adb_server.proofs.house.take_all.Given as goal
 
 abbrev pub invariant-loop : goal.invariant-loop
 invariant-loop g l =
