@@ -7,6 +7,7 @@ ghost use Rattle.adb_client.specs.Input.{EndsWith};
 use crate::ask::{Asked, ask_in};
 use crate::slices::{behind, first, share};
 use crate::tail::Tail;
+use adb_outside::MIN_SHARED;
 use bytes::{Bytes, BytesMut};
 use std::alloc::{AllocError, Global};
 use std::marker::Model;
@@ -66,7 +67,23 @@ impl Input {
         }) }
         ensures err { OnErr result (self.new ≡ self.old) }
     {
+        self.gather_front()?;
         self.rest.push(piece)
+    }
+
+    /// What is left of a front is gathered anew where it is short and nothing stands behind it, so
+    /// that it lies in one memory with what comes.
+    fn gather_front(&mut self) -> Result<(), AllocError>
+        ensures { self.new ≡ self.old }
+    {
+        let is_kept = self.ready > 0 || self.front.len() >= MIN_SHARED || !self.rest.is_empty();
+        if self.front.is_empty() || is_kept {
+            return Ok(());
+        }
+        self.rest.push(self.front.as_slice())?;
+        self.handles = Vec::new(self.alloc);
+        self.front = Bytes::new();
+        Ok(())
     }
 
     /// The last `n` bytes are no longer held, and nothing is ready. It takes no memory.

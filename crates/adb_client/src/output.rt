@@ -4,8 +4,7 @@ ghost use Rattle.std.specs.Prelude.{◌≡◌, ◌<◌, ◌≤◌, ◌+◌, ◌-
 ghost use Rattle.std.specs.VecDeque.{deque_len, deque_capacity};
 
 use crate::slices::{Slice, fill, first, put_back, share_front};
-use crate::tail::LARGE;
-use adb_outside::{HandOut, MAX_START, Text};
+use adb_outside::{HandOut, MAX_START, MIN_SHARED, Text};
 use bytes::{Bytes, BytesMut};
 use std::alloc::{AllocError, Global};
 use std::collections::VecDeque;
@@ -189,7 +188,7 @@ impl Output {
                 break;
             }
             let len = slice.bytes.len();
-            if len >= LARGE {
+            if len >= MIN_SHARED {
                 return if short == 0 { len.min(max) } else { short };
             }
             short = short.saturating_add(len);

@@ -7,14 +7,11 @@ ghost use Rattle.std.specs.VecDeque.{deque_len, deque_capacity};
 ghost use Rattle.adb_client.specs.Tail.{Keeps, Goes};
 
 use crate::slices::first;
+use adb_outside::MIN_SHARED;
 use bytes::{Bytes, BytesMut};
 use std::alloc::{AllocError, Global};
 use std::collections::VecDeque;
 use std::marker::Model;
-
-/// The fewest bytes of what is not copied without need: a piece that is held in memory of its own,
-/// and a slice that is handed out alone.
-pub(crate) const LARGE: usize = 4096;
 
 /// How many bytes a tail has at most.
 const MAX_TAIL: usize = isize::MAX as usize;
@@ -86,14 +83,38 @@ impl Tail {
         if piece.len() > MAX_TAIL - self.len() {
             return Err(AllocError);
         }
-        if piece.len() < LARGE {
+        if piece.len() < MIN_SHARED {
             return self.gathered.extend_from_slice(piece);
         }
-        self.pieces.reserve(2)?;
-        let own = Bytes::copy_from_slice(self.alloc, piece)?;
-        let before = freeze_all(self.alloc, &mut self.gathered)?;
-        self.in_pieces += before.len() + own.len();
-        put_last(&mut self.pieces, before);
+        self.end_gathered()?;
+        self.push_large(piece)
+    }
+
+    /// What is gathered becomes a piece, unless it is short.
+    fn end_gathered(&mut self) -> Result<(), AllocError>
+        ensures { self.new ≡ self.old }
+    {
+        if self.gathered.len() < MIN_SHARED {
+            return Ok(());
+        }
+        self.pieces.reserve(1)?;
+        let all = freeze_all(self.alloc, &mut self.gathered)?;
+        self.in_pieces += all.len();
+        put_last(&mut self.pieces, all);
+        Ok(())
+    }
+
+    /// A piece comes behind, in one memory with what is gathered: so a packet that begins among few
+    /// bytes left over and ends in the piece can be cut off without a copy.
+    fn push_large(&mut self, piece: &[u8]) -> Result<(), AllocError>
+        requires { length self.old + length piece.now < 2 ^ 63 }
+        ensures ok { OnOk result (self.new ≡ self.old ++ piece.now) }
+        ensures err { OnErr result (self.new ≡ self.old) }
+    {
+        self.pieces.reserve(1)?;
+        let own = joined(self.alloc, self.gathered.as_slice(), piece)?;
+        self.gathered = BytesMut::new(self.alloc);
+        self.in_pieces += own.len();
         put_last(&mut self.pieces, own);
         Ok(())
     }
@@ -154,17 +175,24 @@ fn freeze_all(alloc: Global, gathered: &mut BytesMut) -> Result<Bytes, AllocErro
     Ok(all)
 }
 
-/// Puts a piece behind others, unless it is empty.
+/// Two slices, copied one behind the other into one memory.
+fn joined(alloc: Global, one: &[u8], two: &[u8]) -> Result<Bytes, AllocError>
+    requires { length one.now + length two.now < 2 ^ 63 }
+    ensures { IfOk result (λ bytes. bytes ≡ one.now ++ two.now) }
+{
+    let mut all = BytesMut::with_capacity(alloc, one.len() + two.len())?;
+    all.extend_from_slice(one)?;
+    all.extend_from_slice(two)?;
+    Ok(all.freeze()?)
+}
+
+/// Puts a piece behind others, in a place that is kept.
 #[tactic(auto, using(crate::proofs::Pieces::concat_last))]
 fn put_last(pieces: &mut VecDeque<Bytes>, piece: Bytes)
-    requires room { deque_len pieces.old < deque_capacity pieces.old }
-    ensures items { concat pieces.new.items ≡ concat pieces.old.items ++ piece }
-    ensures len { deque_len pieces.new ≤ deque_len pieces.old + 1 }
-    ensures capacity { deque_capacity pieces.new ≡ deque_capacity pieces.old }
+    requires { deque_len pieces.old < deque_capacity pieces.old }
+    ensures { concat pieces.new.items ≡ concat pieces.old.items ++ piece }
 {
-    if !piece.is_empty() {
-        pieces.push_back_reserved(piece);
-    }
+    pieces.push_back_reserved(piece);
 }
 
 /// Of pieces with so many bytes the first `n` bytes stay; says how many these are.

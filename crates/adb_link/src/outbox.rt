@@ -4,14 +4,11 @@ ghost use Rattle.std.specs.Prelude.{◌≡◌, ◌<◌, ◌≤◌, ◌+◌, ◌-
 ghost use Rattle.std.specs.List.{concat};
 
 use crate::outgoing::Outgoing;
-use adb_outside::{HandOut, Text};
+use adb_outside::{HandOut, MIN_SHARED, Text};
 use adb_wire::MAX_PACKET;
 use std::alloc::{AllocError, Global};
 use std::collections::VecDeque;
 use std::marker::Model;
-
-/// The fewest bytes of a packet that is handed out alone, so that its payload is not copied.
-const LARGE: usize = 4096;
 
 /// Packets that are due, and places for more that need no memory: a place holds one packet,
 /// whatever its payload. Contracts see the bytes that are due and how many places are spare.
@@ -121,7 +118,7 @@ impl Outbox {
                 break;
             }
             let len = self.packets[i].len();
-            if len >= LARGE {
+            if len >= MIN_SHARED {
                 return if short == 0 { len.min(max) } else { short };
             }
             short = short.saturating_add(len);

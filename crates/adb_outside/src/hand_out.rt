@@ -10,6 +10,10 @@ use std::marker::Model;
 /// How many bytes a hand-out holds in its own place, before those that it shares.
 pub const MAX_START: usize = 32;
 
+/// From how many bytes on a slice is left where it lies: a shorter one is copied together with what
+/// stands before and behind it.
+pub const MIN_SHARED: usize = 4096;
+
 /// A few bytes in their own place. Contracts see them as their list.
 #[derive(Drop)]
 struct Start {

@@ -27,7 +27,7 @@ pub use byte_queue::ByteQueue;
 pub use decimal::read_number;
 pub use failing::Failing;
 pub use framer::{FeedError, Format, Framer, Front};
-pub use hand_out::{HandOut, MAX_START, Parts};
+pub use hand_out::{HandOut, MAX_START, MIN_SHARED, Parts};
 pub use identity::{Identity, State, state_of, state_text};
 pub use kinds::{Cause, Kind, Selector};
 pub use laws::limits_are;
