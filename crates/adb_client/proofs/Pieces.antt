@@ -1,8 +1,8 @@
 -- Pieces one behind the other: their bytes when one comes, goes or is cut.
-use Rattle.std.proofs.Common.{◌≡◌, ℕ, ◌+◌, ◌-◌, ◌≤◌, ◌<◌, min, zero, List, [], ◌∷◌, ◌++◌, length, take, drop, get_or, refl, sym, ap, ◌∙◌, arith}
+use Rattle.std.proofs.Common.{◌≡◌, ℕ, ◌+◌, ◌-◌, ◌≤◌, ◌<◌, min, List, [], ◌∷◌, ◌++◌, length, take, drop, get_or, refl, sym, ap, ◌∙◌, arith}
 use Rattle.std.proofs.Common.{append_assoc, append-nil, length-append, length-take, take-take}
 use Rattle.std.proofs.Math.Seq.{take-append_seam, take-append-add, take-length, drop-append-add, drop-drop}
-use Rattle.std.proofs.lemmas.List.{take_min, drop-append-le, drop_all, drop_more, length-drop}
+use Rattle.std.proofs.lemmas.List.{take_min, drop-append-le, drop_all, drop_more}
 use Rattle.std.proofs.lemmas.List.Folds.{concat-append}
 use Rattle.std.specs.List.{concat}
 use Rattle.adb_client.specs.Tail.{Keeps, Goes}

@@ -8,7 +8,7 @@ use crate::ask::{Asked, ask_in};
 use crate::slices::{behind, first, share};
 use crate::tail::Tail;
 use adb_outside::MIN_SHARED;
-use bytes::{Bytes, BytesMut};
+use bytes::Bytes;
 use std::alloc::{AllocError, Global};
 use std::marker::Model;
 
@@ -123,11 +123,11 @@ impl Input {
         requires { n ≤ length self.now.held }
         ensures { IfOk result (λ bytes. bytes ≡ take n self.now.held) }
     {
-        let mut all = BytesMut::with_capacity(self.alloc, n)?;
+        let mut all = Vec::with_capacity(self.alloc, n)?;
         let some = n.min(self.front.len());
         all.extend_from_slice(first(self.front.as_slice(), some))?;
         self.rest.copy_to(n - some, &mut all)?;
-        Ok(all.freeze()?)
+        Ok(Bytes::from_vec(all)?)
     }
 
     /// The first `n` bytes go. It takes no memory.

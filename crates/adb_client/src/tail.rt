@@ -154,7 +154,7 @@ impl Tail {
     }
 
     /// Puts a copy of the first `n` bytes behind others.
-    pub(crate) fn copy_to(&self, n: usize, to: &mut BytesMut) -> Result<(), AllocError>
+    pub(crate) fn copy_to(&self, n: usize, to: &mut Vec<u8>) -> Result<(), AllocError>
         requires { n ≤ length self.now }
         ensures { OnOk result (to.new.items ≡ to.old.items ++ take n self.now) }
     {
@@ -180,10 +180,10 @@ fn joined(alloc: Global, one: &[u8], two: &[u8]) -> Result<Bytes, AllocError>
     requires { length one.now + length two.now < 2 ^ 63 }
     ensures { IfOk result (λ bytes. bytes ≡ one.now ++ two.now) }
 {
-    let mut all = BytesMut::with_capacity(alloc, one.len() + two.len())?;
+    let mut all = Vec::with_capacity(alloc, one.len() + two.len())?;
     all.extend_from_slice(one)?;
     all.extend_from_slice(two)?;
-    Ok(all.freeze()?)
+    Ok(Bytes::from_vec(all)?)
 }
 
 /// Puts a piece behind others, in a place that is kept.
@@ -261,7 +261,7 @@ fn drop_first(pieces: &mut VecDeque<Bytes>, n: usize) -> usize
 }
 
 /// Puts a copy of the first `n` bytes of pieces behind others.
-fn copy_first(pieces: &VecDeque<Bytes>, n: usize, to: &mut BytesMut) -> Result<(), AllocError>
+fn copy_first(pieces: &VecDeque<Bytes>, n: usize, to: &mut Vec<u8>) -> Result<(), AllocError>
     requires { n ≤ length (concat pieces.now.items) }
     ensures { OnOk result (to.new.items ≡ to.old.items ++ take n (concat pieces.now.items)) }
 {

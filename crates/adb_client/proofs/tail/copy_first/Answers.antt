@@ -1,4 +1,4 @@
-use Rattle.std.proofs.Common.{◌≡◌, ◌<◌, ◌+◌, ◌-◌, ◌∙◌, ◌++◌, min, ap, take, List, ℕ, length, subst, sym, rules}
+use Rattle.std.proofs.Common.{◌≡◌, ◌<◌, ◌+◌, ◌-◌, ◌++◌, min, take, List, ℕ, length, subst, sym, rules}
 use Rattle.adb_client.proofs.Pieces.{IsCopied, copied_more}
 use Rattle.adb_client.proofs.tail.copy_first.Goals as goal
 
