@@ -4,7 +4,7 @@ ghost use Rattle.std.specs.Prelude.{◌≡◌};
 ghost use Rattle.adb_desk_log.specs.declared.marks.TheConstants.{ALL_PARTS};
 
 use adb_capture::MemoryRecorder;
-use adb_desk_log::{ALL_PARTS, ClientIn, ClientOut, DeskError, LinkIn, Marks};
+use adb_desk_log::{ALL_PARTS, ClientIn, ClientOut, DeskError, LinkIn, LinkOut, Marks};
 use adb_hall::Hall;
 use adb_hub::{Handed, Life, MAX_HELD, Room};
 use adb_one_desk::OneDesk;
@@ -128,12 +128,65 @@ fn frees_by_a_device<E: Ledger, M: Ledger, K: Marks>(
         && frees_what_goes_up(hall, &mut link, &mut reading)
 }
 
+/// The header of what the device writes to that stream: 4,096 bytes.
+const WRTE: &[u8] = b"WRTE\x07\0\0\0\x01\0\0\0\0\x10\0\0\0\0\0\0\xa8\xad\xab\xba";
+
+/// How many bytes were handed out.
+fn len_of(answer: Result<Handed, DeskError>) -> usize {
+    match answer {
+        Ok(Handed::Bytes(given)) => given.len(),
+        _ => 0,
+    }
+}
+
+/// What is due before a large packet goes out to a device first, and then the packet alone.
+fn sends_a_large_packet_alone<E: Ledger, M: Ledger, K: Marks>(
+    hall: &mut OneDesk<MemoryRecorder, E, M, K>,
+    sender: &mut LinkOut<E, M, K>,
+) -> bool {
+    let before = len_of(hall.send_front(sender, MAX_HELD));
+    0 < before
+        && before < WRTE.len() + 4_096
+        && len_of(hall.send_front(sender, MAX_HELD)) == WRTE.len() + 4_096
+        && len_of(hall.send_front(sender, MAX_HELD)) == 0
+}
+
+/// What is due before a large payload goes out to a client first, and then the payload alone.
+fn puts_a_large_payload_alone<E: Ledger, M: Ledger, K: Marks>(
+    hall: &mut OneDesk<MemoryRecorder, E, M, K>,
+    link: &mut LinkIn<E, M, K>,
+    writing: &mut ClientOut<E, M, K>,
+    piece: &[u8],
+) -> bool {
+    hall.recv(link, WRTE).is_ok()
+        && hall.recv(link, &piece[..piece.len().min(4_096)]).is_ok()
+        && hands_out(&hall.put_front(writing, MAX_HELD), b"OKAYOKAY")
+        && len_of(hall.put_front(writing, MAX_HELD)) == 4_096
+        && len_of(hall.put_front(writing, MAX_HELD)) == 0
+}
+
+/// Tries what goes out at once either way.
+fn hands_out_fronts<E: Ledger, M: Ledger, K: Marks>(
+    hall: &mut OneDesk<MemoryRecorder, E, M, K>,
+    mut reading: ClientIn<E, M, K>,
+    mut writing: ClientOut<E, M, K>,
+    piece: &[u8],
+) -> bool {
+    let Ok((mut link, mut sender)) = hall.attach(Kind::Usb, b"emu1") else {
+        return false;
+    };
+    fills_a_stream(hall, &mut link, &mut reading, piece)
+        && sends_a_large_packet_alone(hall, &mut sender)
+        && puts_a_large_payload_alone(hall, &mut link, &mut writing, piece)
+}
+
 /// What is tried.
 #[derive(Clone, Copy, Drop)]
 enum Case {
     Counts,
     Holds,
     Frees,
+    Fronts,
     Shuts,
 }
 
@@ -150,6 +203,7 @@ fn holds_of_a_client<E: Ledger, M: Ledger, K: Marks>(
         Case::Counts => answers_and_counts(hall, reading, writing),
         Case::Holds => holds_so_much(hall, reading, piece),
         Case::Frees => frees_by_a_device(hall, reading, piece),
+        Case::Fronts => hands_out_fronts(hall, reading, writing, piece),
         Case::Shuts => is_shut_by_its_recorder(hall, reading),
     }
 }
@@ -193,6 +247,7 @@ const CASES: &[(&[u64], Case)] = &[
     (&[], Case::Counts),
     (&[], Case::Holds),
     (&[], Case::Frees),
+    (&[], Case::Fronts),
     (&[2], Case::Shuts),
 ];
 
