@@ -1,13 +1,10 @@
-//! What a client tool says and is answered: what no clause says.
+//! What a client tool meets: what no clause says. What tools say, and make of answers, `examples/try_tools`
+//! sees, which runs the program.
 #![tactic(auto)]
 
 #[cfg(test)]
-mod asking;
-#[cfg(test)]
-mod conversing;
+mod failing;
 #[cfg(test)]
 mod frames;
 #[cfg(test)]
-mod jobs;
-#[cfg(test)]
-mod words;
+mod input;

@@ -1,19 +1,8 @@
-//! A yard of this machine, and a server over it: what no clause says.
+//! The streams of the system and a yard of this machine: what no clause says. How a whole server over
+//! them is, `examples/try_serve` and `examples/try_tools` see, which run the program.
 #![tactic(auto)]
 
 #[cfg(test)]
-mod asking;
-#[cfg(test)]
-mod ends;
-#[cfg(test)]
-mod heard;
-#[cfg(test)]
-mod live;
-#[cfg(test)]
-mod replaying;
-#[cfg(test)]
-mod starting;
-#[cfg(test)]
-mod tools;
+mod streams;
 #[cfg(test)]
 mod yard;

@@ -1,18 +1,13 @@
-//! The streams of the system, and the words of a command line.
+//! Streams of the system that stop short, are interrupted and fail.
 
 ghost use Rattle.std.specs.Prelude.{◌≤◌, IfOk};
 
-use crate::ends::{Ends, words_of};
 use adb_outside::{Got, Sink, Source, Wrote};
 use adb_serving::Stream;
-use adb_top::Status;
 use std::alloc::{AllocError, Global};
 use std::io;
 use std::io::{ErrorKind, Read, Write};
-use std::net::{Net, TcpListener, TcpStream};
-use std::sync::Wait;
 use std::test::Fail;
-use std::thread::Threads;
 
 /// What a call of a fake stream does.
 #[derive(Clone, Copy, Drop)]
@@ -138,74 +133,5 @@ fn short_interrupted_and_failed_writes(rt: HostRuntime) -> Result<(), Fail> {
     let count = count_answered(&mut Stream::new(&mut written));
     assert!(rt; count == WROTE.len(), "write {count}");
     assert!(rt; written.kept.as_slice() == b"abcd".as_slice());
-    Ok(())
-}
-
-/// What a run has of the command line.
-enum Line {
-    Word(&'static str),
-    Fails(ErrorKind),
-}
-
-impl Line {
-    fn words(&self, alloc: Global) -> io::Result<Vec<String>> {
-        match self {
-            Line::Word(word) => words_of(alloc, &[*word]),
-            Line::Fails(kind) => Err(io::Error::from(*kind)),
-        }
-    }
-}
-
-/// A run over an empty capture: how it ends, what goes out, and what its note has.
-struct Run {
-    line: Line,
-    status: Status,
-    output: &'static [u8],
-    note: &'static [u8],
-}
-
-const RUNS: &[Run] = &[
-    Run {
-        line: Line::Word("replay"),
-        status: Status::Done,
-        output: b"ADBHUB1\n",
-        note: b"",
-    },
-    Run {
-        line: Line::Fails(ErrorKind::InvalidData),
-        status: Status::Usage,
-        output: b"",
-        note: b"usage: adbhub replay | gen <seed> <streams> | local <seed> | serve [--port <n>] [--device <serial>] [--connect <port>] [--record] | check | devices | push <path> | pull <path> | shell <command> | wait <serial> <state> | copy <seed>\n",
-    },
-    Run {
-        line: Line::Fails(ErrorKind::OutOfMemory),
-        status: Status::OutOfMemory,
-        output: b"",
-        note: b"adbhub: out of memory\n",
-    },
-];
-
-impl Run {
-    fn ends<
-        W: Net<Listener = TcpListener, Stream = TcpStream>
-            + Threads
-            + Wait
-            + Copy
-            + Send
-            + Sync
-            + Drop
-            + 'static,
-    >(&self, rt: W, alloc: Global) -> Result<bool, AllocError> {
-        let mut ends = Ends::new(alloc, b"ADBHUB1\n")?;
-        let status = ends.start(rt, alloc, self.line.words(alloc));
-        Ok(status == self.status && ends.output() == self.output && ends.note() == self.note)
-    }
-}
-
-#[test]
-fn words_of_a_run(rt: HostRuntime) -> Result<(), Fail> {
-    for run in RUNS {
-        assert!(rt; run.ends(rt, rt.alloc())?, "{:?}", run.status);
-    }
     Ok(())
 }
