@@ -2,4 +2,8 @@
 #![tactic(auto)]
 
 #[cfg(test)]
-mod capture;
+mod cases;
+#[cfg(test)]
+mod recorders;
+#[cfg(test)]
+mod records;

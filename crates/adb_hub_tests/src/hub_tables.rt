@@ -1,104 +1,33 @@
-//! The least to which something is due, and who is named, as rows come, are lent and go.
+//! Who is named, as rows come, are lent and go.
 
 use adb_hub_tables::{Owes, TouchedMap};
 use std::alloc::{AllocError, Global};
-use std::test::Fail;
 
-/// A row to which something is due, or not.
+/// A row to which nothing is due.
 #[derive(Drop)]
-struct Debt {
-    due: bool,
-}
+struct Row {}
 
-impl Owes for Debt {
-    ghost owed = { λ debt. debt.due };
+impl Owes for Row {
+    ghost use Rattle.std.specs.Prelude.{false};
+
+    ghost owed = { λ row. false };
 
     fn owes(&self) -> bool {
-        self.due
+        false
     }
 }
 
 /// What is done with the row of a number.
-#[derive(Clone, Copy, Debug, Drop)]
+#[derive(Clone, Copy, Drop)]
 enum Act {
-    /// One comes to which nothing is due.
+    /// One comes.
     Insert,
-    /// Something is due to it, where there is one.
-    Owe,
-    /// Nothing is due to it any more.
-    Pay,
+    /// It is lent, where there is one.
+    Lend,
     /// It goes.
     Remove,
     /// All others go.
     KeepOnly,
-}
-
-/// What is done with a number, and who is the first then to whom something is due, or 0.
-type Step = (Act, u32, u32);
-
-const STEPS: &[Step] = &[
-    (Act::Insert, 64, 0),
-    (Act::Insert, 1, 0),
-    (Act::Insert, u32::MAX, 0),
-    (Act::Owe, 63, 0),
-    (Act::Owe, u32::MAX, u32::MAX),
-    (Act::Owe, 64, 64),
-    (Act::Pay, 64, u32::MAX),
-    (Act::Owe, 1, 1),
-    (Act::Remove, 1, u32::MAX),
-    (Act::Insert, 63, u32::MAX),
-    (Act::Owe, 63, 63),
-    (Act::Owe, 64, 63),
-    (Act::KeepOnly, 64, 64),
-    (Act::Pay, 64, 0),
-];
-
-fn take_step(rows: &mut TouchedMap<Debt>, act: Act, number: u32) -> Result<(), AllocError> {
-    match act {
-        Act::Insert => insert(rows, number)?,
-        Act::Owe => set(rows, number, true),
-        Act::Pay => set(rows, number, false),
-        Act::Remove => remove(rows, number),
-        Act::KeepOnly => rows.keep_only(number),
-    }
-    Ok(())
-}
-
-fn insert(rows: &mut TouchedMap<Debt>, number: u32) -> Result<(), AllocError> {
-    rows.insert(number, Debt { due: false })?;
-    Ok(())
-}
-
-fn remove(rows: &mut TouchedMap<Debt>, number: u32) {
-    rows.remove(&number);
-}
-
-fn set(rows: &mut TouchedMap<Debt>, number: u32, due: bool) {
-    if let Some(row) = rows.get_mut(&number) {
-        row.due = due;
-    }
-}
-
-fn is_first(rows: &mut TouchedMap<Debt>, step: &Step) -> Result<bool, AllocError> {
-    take_step(rows, step.0, step.1)?;
-    Ok(rows.first_owed().unwrap_or(0) == step.2)
-}
-
-/// Whether the row of 64 is all that is left, until that goes too.
-fn is_left(rows: &mut TouchedMap<Debt>) -> bool {
-    let so = rows.len() == 1 && rows.get(&64).is_some() && !rows.contains_key(&63);
-    rows.clear();
-    so && rows.len() == 0
-}
-
-#[test]
-fn the_least_is_first(rt: HostRuntime) -> Result<(), Fail> {
-    let mut rows = TouchedMap::new(rt.alloc());
-    for step in STEPS {
-        assert!(rt; is_first(&mut rows, step)?, "{:?} of {}", step.0, step.1);
-    }
-    assert!(rt; is_left(&mut rows));
-    Ok(())
 }
 
 /// What is done before anybody asks for names.
@@ -110,37 +39,50 @@ const BEFORE: &[(Act, u32)] = &[
 ];
 
 /// What is done with a number, and who is named then, or 0.
-const NAMES: &[Step] = &[
-    (Act::Owe, 70, 3),
-    (Act::Owe, 3, 3),
-    (Act::Owe, 6, 70),
-    (Act::Owe, 6, 0),
+const NAMES: &[(Act, u32, u32)] = &[
+    (Act::Lend, 70, 3),
+    (Act::Lend, 3, 3),
+    (Act::Lend, 6, 70),
+    (Act::Lend, 6, 0),
     (Act::Remove, 3, 3),
-    (Act::Owe, 3, 0),
+    (Act::Lend, 3, 0),
     (Act::Insert, 128, 128),
     (Act::Insert, 129, 129),
     (Act::KeepOnly, 70, 0),
-    (Act::Owe, 70, 70),
+    (Act::Lend, 70, 70),
 ];
 
-fn is_named(rows: &mut TouchedMap<Debt>, step: &Step) -> Result<bool, AllocError> {
-    take_step(rows, step.0, step.1)?;
-    Ok(rows.next_touched().unwrap_or(0) == step.2)
-}
-
-fn rows_before(alloc: Global) -> Result<TouchedMap<Debt>, AllocError> {
-    let mut rows = TouchedMap::new(alloc);
-    for &(act, number) in BEFORE {
-        take_step(&mut rows, act, number)?;
-    }
-    Ok(rows)
-}
-
-#[test]
-fn each_is_named_once(rt: HostRuntime) -> Result<(), Fail> {
-    let mut rows = rows_before(rt.alloc())?;
-    for step in NAMES {
-        assert!(rt; is_named(&mut rows, step)?, "{:?} of {}", step.0, step.1);
+fn take_step(rows: &mut TouchedMap<Row>, act: Act, number: u32) -> Result<(), AllocError> {
+    match act {
+        Act::Insert => {
+            rows.insert(number, Row {})?;
+        }
+        Act::Lend => {
+            rows.get_mut(&number);
+        }
+        Act::Remove => {
+            rows.remove(&number);
+        }
+        Act::KeepOnly => rows.keep_only(number),
     }
     Ok(())
+}
+
+/// The number of the first row of `NAMES` that does not hold.
+fn first_fault(rows: &mut TouchedMap<Row>) -> Result<Option<usize>, AllocError> {
+    for &(act, number) in BEFORE {
+        take_step(rows, act, number)?;
+    }
+    for (at, &(act, number, named)) in NAMES.iter().enumerate() {
+        take_step(rows, act, number)?;
+        if rows.next_touched().unwrap_or(0) != named {
+            return Ok(Some(at));
+        }
+    }
+    Ok(None)
+}
+
+pub fn each_is_named_once(alloc: Global) -> Result<Option<usize>, AllocError> {
+    let mut rows = TouchedMap::new(alloc);
+    first_fault(&mut rows)
 }

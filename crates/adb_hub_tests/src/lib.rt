@@ -1,10 +1,8 @@
-//! The hub's parts, and loads: what no clause says.
+//! The hub's tables, and loads: what no clause says.
 #![tactic(auto)]
 
 #[cfg(test)]
-mod hub_clients;
-#[cfg(test)]
-mod hub_hand_outs;
+mod cases;
 #[cfg(test)]
 mod hub_tables;
 #[cfg(test)]

@@ -7,11 +7,10 @@ use adb_load::Load;
 use adb_outside::ByteQueue;
 use adb_wire::byte_sum;
 use std::alloc::{AllocError, Global};
-use std::test::Fail;
 
 /// What is told of a load: how many entries it has, how many bytes their records have, and the sum
 /// of the records' byte sums, each as often as its place from 1.
-#[derive(Clone, Copy, Debug, PartialEq, Eq, Drop)]
+#[derive(Clone, Copy, PartialEq, Eq, Drop)]
 struct Tally {
     entries: u64,
     size: u64,
@@ -27,34 +26,39 @@ impl Tally {
     }
 }
 
-/// Adds the next entry, where one is left.
-fn add_next(alloc: Global, load: &mut Load, tally: &mut Tally) -> Result<(), AllocError> {
-    if let Some(entry) = load.next()? {
-        let record = record_of(alloc, &entry)?;
-        tally.add(record.as_slice());
-    }
+/// Adds the record of an entry, which is dropped then.
+fn add_record(alloc: Global, entry: Entry, tally: &mut Tally) -> Result<(), AllocError>
+    requires { HasRecord entry }
+{
+    let mut record = ByteQueue::new(alloc);
+    append_entry(&mut record, &entry)?;
+    tally.add(record.as_slice());
     Ok(())
 }
 
-fn record_of(alloc: Global, entry: &Entry) -> Result<ByteQueue, AllocError>
-    requires { HasRecord entry.now }
-{
-    let mut record = ByteQueue::new(alloc);
-    append_entry(&mut record, entry)?;
-    Ok(record)
+/// Adds the next entry, where one is left.
+fn add_next(alloc: Global, load: &mut Load, tally: &mut Tally) -> Result<(), AllocError> {
+    match load.next()? {
+        Some(entry) => add_record(alloc, entry, tally),
+        None => Ok(()),
+    }
 }
 
-fn tally_of(alloc: Global, streams: u16) -> Result<Tally, AllocError> {
-    let mut load = Load::new(alloc, 7, u32::from(streams))?;
+fn weigh(alloc: Global, load: &mut Load) -> Result<Tally, AllocError> {
     let mut tally = Tally {
         entries: 0,
         size: 0,
         weight: 0,
     };
     for _ in 0..1000 {
-        add_next(alloc, &mut load, &mut tally)?;
+        add_next(alloc, load, &mut tally)?;
     }
     Ok(tally)
+}
+
+fn tally_of(alloc: Global, streams: u16) -> Result<Tally, AllocError> {
+    let mut load = Load::new(alloc, 7, u32::from(streams))?;
+    weigh(alloc, &mut load)
 }
 
 /// How many streams a load has, and its tally: that comes from `examples/count_load 7 1 3 20 40`,
@@ -94,13 +98,11 @@ const TALLIES: &[(u16, Tally)] = &[
     ),
 ];
 
-#[test]
-fn loads_of_a_seed(rt: HostRuntime) -> Result<(), Fail> {
-    for &(streams, tally) in TALLIES {
-        assert!(rt;
-            tally_of(rt.alloc(), streams)? == tally,
-            "of {streams} streams"
-        );
+pub fn loads_of_a_seed(alloc: Global) -> Result<Option<usize>, AllocError> {
+    for (at, row) in TALLIES.iter().enumerate() {
+        if tally_of(alloc, row.0)? != row.1 {
+            return Ok(Some(at));
+        }
     }
-    Ok(())
+    Ok(None)
 }
