@@ -1,4 +1,4 @@
-//! Tables and buffers: what no clause says.
+//! Tables and buffers: what no clause says, and calls and refusals that no history comes to.
 #![tactic(auto)]
 
 #[cfg(test)]
@@ -6,18 +6,8 @@ mod cases;
 #[cfg(test)]
 mod client;
 #[cfg(test)]
-mod devices;
-#[cfg(test)]
 mod forward;
 #[cfg(test)]
+mod laws;
+#[cfg(test)]
 mod link;
-#[cfg(test)]
-mod registry;
-#[cfg(test)]
-mod reply;
-#[cfg(test)]
-mod requests;
-#[cfg(test)]
-mod rows;
-#[cfg(test)]
-mod stream;
