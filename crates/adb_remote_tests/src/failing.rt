@@ -18,8 +18,8 @@ enum Asks {
     Shell,
 }
 
-/// A tool, which read and which write of its port fail, and which write of its sink and of its note,
-/// or none where it is 0; and whether the port's fault is told, and not that of a write.
+/// A tool, which read and which write of its port fail, and which write of its sink and of its
+/// note, or none where it is 0; and whether the port's fault is told, and not that of a write.
 #[derive(Clone, Copy, Debug, Drop)]
 struct Row {
     asks: Asks,

@@ -1,5 +1,5 @@
-//! What a client tool meets: what no clause says. What tools say, and make of answers, `examples/try_tools`
-//! sees, which runs the program.
+//! What a client tool meets: what no clause says. What tools say, and make of answers,
+//! `examples/try_tools` sees, which runs the program.
 #![tactic(auto)]
 
 #[cfg(test)]

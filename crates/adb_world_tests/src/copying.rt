@@ -10,6 +10,7 @@ use adb_script::ScriptError;
 use adb_trees::read_tree;
 use adb_world::World;
 use std::alloc::{AllocError, Global};
+use std::test::Fail;
 
 /// A tree that is pushed onto a device with a file in the way.
 struct Row {
@@ -100,12 +101,10 @@ fn is_refused_in_new(alloc: Global, row: &Row) -> Result<bool, AllocError> {
     is_refused(alloc, &mut world, row)
 }
 
-/// The first row whose tree is not refused.
-pub fn trees_are_refused(alloc: Global) -> Result<Option<usize>, AllocError> {
+#[test]
+fn trees_are_refused(rt: HostRuntime) -> Result<(), Fail> {
     for (at, row) in ROWS.iter().enumerate() {
-        if !is_refused_in_new(alloc, row)? {
-            return Ok(Some(at));
-        }
+        assert!(rt; is_refused_in_new(rt.alloc(), row)?, "row {at}");
     }
-    Ok(None)
+    Ok(())
 }

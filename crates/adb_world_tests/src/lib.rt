@@ -1,11 +1,6 @@
-//! Worlds and the scripts that run in them: what no clause says.
+//! Trees that a world's device refuses: what no clause says. Scripts, sessions and trees that it
+//! takes are among the worked commands of `adb_worked`.
 #![tactic(auto)]
 
 #[cfg(test)]
-mod cases;
-#[cfg(test)]
 mod copying;
-#[cfg(test)]
-mod local;
-#[cfg(test)]
-mod world;
