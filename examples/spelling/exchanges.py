@@ -45,6 +45,8 @@ class Exchange:
             self.told += text(words[0]) + b'\n'
         elif kind == 'Run':
             self.run(*words)
+        elif kind == 'Ask':
+            self.ask(*words)
         else:
             raise ValueError(f'no line: {kind}')
 
@@ -59,6 +61,19 @@ class Exchange:
             self.add(['Device', 'WRTE', own, '1', *answer])
         self.add(['Device', 'CLSE', own, '1'])
         self.add(['Host', 'WRTE', '1', own, INPUT])
+
+    def ask(self, requests, *answer):
+        """A stream of sync requests, what is answered to them, and who closes it: the device where `ends` stands behind."""
+        self.drawn += 1
+        own = str(self.drawn)
+        answer, ends = (answer[:-1], True) if answer[-1:] == ('ends',) else (answer, False)
+        self.add(['Host', 'OPEN', '1', '4096', '"sync:"'])
+        self.add(['Device', 'OKAY', own, '1', 'credit', '262144'])
+        self.add(['Host', 'WRTE', '1', own, requests])
+        self.add(['Device', 'OKAY', own, '1', 'credit', str(len(text(requests)))])
+        if answer:
+            self.add(['Device', 'WRTE', own, '1', *answer])
+        self.add(['Device', 'CLSE', own, '1'] if ends else ['Host', 'CLSE', '1', own])
 
 
 def begin(name):

@@ -1,15 +1,5 @@
-//! The services of a model device, who asks them, and their scripts: what no clause says.
+//! The files of a model device: what needs more bytes than data should have.
 #![tactic(auto)]
 
 #[cfg(test)]
 mod files;
-#[cfg(test)]
-mod script;
-#[cfg(test)]
-mod shell_service;
-#[cfg(test)]
-mod sync_client;
-#[cfg(test)]
-mod sync_service;
-#[cfg(test)]
-mod trees;
