@@ -29,12 +29,8 @@ fn tell_identity(identity: &Identity, told: &mut Text) -> Result<(), AllocError>
 /// Tells of a text `NAME of BYTES` whether who says the bytes has the feature of that name.
 pub fn tell_feature(alloc: Global, text: &[u8], told: &mut Text) -> Result<(), AllocError> {
     let (name, bytes) = cut(text, b" of ");
-    tell_value(alloc, told, is_feature(alloc, name, bytes))
-}
-
-fn is_feature(alloc: Global, name: &[u8], bytes: &[u8]) -> Option<bool> {
     match read(alloc, bytes) {
-        Ok(identity) => Some(has_feature(&identity, name)),
-        Err(_) => None,
+        Ok(identity) => tell_value(alloc, told, has_feature(&identity, name)),
+        Err(error) => tell_value(alloc, told, error),
     }
 }

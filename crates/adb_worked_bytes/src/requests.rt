@@ -34,7 +34,7 @@ fn tell_request(request: &Request, told: &mut Text) -> Result<(), AllocError> {
             remote,
         } => tell_forward(told, on, *norebind, *local, remote),
         Request::BadForward => told.push_slice(b"\nbad forward"),
-        Request::KillForward(port) => tell_hex(told, b"\nkill forward ", *port),
+        Request::KillForward(port) => tell_port(told, b"\nkill forward ", *port),
         Request::KillAll => told.push_slice(b"\nkill all"),
         Request::ListForward => told.push_slice(b"\nlist forwards"),
         Request::Service(service) => tell_bytes(told, b"\nservice ", service.as_slice()),
@@ -43,16 +43,17 @@ fn tell_request(request: &Request, told: &mut Text) -> Result<(), AllocError> {
 }
 
 fn tell_list(told: &mut Text, word: &[u8], long: bool) -> Result<(), AllocError> {
-    tell_word(told, word, if long { b" long" } else { b"" })
+    told.push_slice(word)?;
+    told.push_slice(if long { b" long" } else { b"" })
 }
 
 fn tell_transport(told: &mut Text, by: &Selector, tell_id: bool) -> Result<(), AllocError> {
-    let word: &[u8] = if tell_id {
+    told.push_slice(if tell_id {
         b"\ntransport and id"
     } else {
         b"\ntransport"
-    };
-    tell_by(told, word, by)
+    })?;
+    tell_by(told, by)
 }
 
 fn tell_forward(
@@ -71,43 +72,30 @@ fn tell_forward(
         },
         on,
     )?;
-    tell_hex(told, b" ", local)?;
+    tell_port(told, b" ", local)?;
     tell_bytes(told, b" to ", remote.as_slice())
 }
 
 fn tell_on(told: &mut Text, word: &[u8], on: &Which) -> Result<(), AllocError> {
+    told.push_slice(word)?;
     match on {
-        Which::Own => tell_word(told, word, b" own"),
-        Which::By(by) => tell_by(told, word, by),
+        Which::Own => told.push_slice(b" own"),
+        Which::By(by) => tell_by(told, by),
     }
 }
 
-fn tell_by(told: &mut Text, word: &[u8], by: &Selector) -> Result<(), AllocError> {
+fn tell_by(told: &mut Text, by: &Selector) -> Result<(), AllocError> {
     match by {
-        Selector::Any => tell_word(told, word, b" any"),
-        Selector::Usb => tell_word(told, word, b" usb"),
-        Selector::Local => tell_word(told, word, b" local"),
-        Selector::Serial(serial) => tell_serial(told, word, serial),
-        Selector::Id(id) => tell_id(told, word, *id),
+        Selector::Any => told.push_slice(b" any"),
+        Selector::Usb => told.push_slice(b" usb"),
+        Selector::Local => told.push_slice(b" local"),
+        Selector::Serial(serial) => tell_bytes(told, b" ", serial.as_slice()),
+        Selector::Id(id) => tell_number(told, b" #", u64::from(*id)),
     }
 }
 
-fn tell_word(told: &mut Text, word: &[u8], other: &[u8]) -> Result<(), AllocError> {
+/// Adds a word, and a port behind it in hexadecimal digits.
+fn tell_port(told: &mut Text, word: &[u8], port: u16) -> Result<(), AllocError> {
     told.push_slice(word)?;
-    told.push_slice(other)
-}
-
-fn tell_serial(told: &mut Text, word: &[u8], serial: &Text) -> Result<(), AllocError> {
-    told.push_slice(word)?;
-    tell_bytes(told, b" ", serial.as_slice())
-}
-
-fn tell_id(told: &mut Text, word: &[u8], id: u32) -> Result<(), AllocError> {
-    told.push_slice(word)?;
-    tell_number(told, b" #", u64::from(id))
-}
-
-/// Adds a word, and a number behind it in hexadecimal digits.
-fn tell_hex(told: &mut Text, word: &[u8], number: u16) -> Result<(), AllocError> {
-    tell_word(told, word, &hex4(number))
+    told.push_slice(&hex4(port))
 }
