@@ -1,6 +1,7 @@
 """A client of an adb server, in the words of adb's SERVICES.TXT, SYNC.TXT and shell protocol."""
 import socket
 import struct
+import time
 
 STDOUT, STDERR, EXIT, CLOSE_STDIN = 1, 2, 3, 4
 MOST_OF_CHUNK = 65_536
@@ -108,10 +109,12 @@ def push(port, serial, path, payload, mode=0o100644, mtime=1):
         sync_status(client)
 
 
-def pull(port, serial, path):
+def pull(port, serial, path, late=0):
+    """A file. So many seconds pass before anything of it is read."""
     with Client(port) as client:
         client.select(serial, "sync:")
         ask_sync(client, b"RECV", path.encode())
+        time.sleep(late)
         pieces = []
         while True:
             kind, length = struct.unpack("<4sI", client.take(8))

@@ -1,4 +1,4 @@
-//! What a live server stands on: what no clause says.
+//! What a live server stands on: what no clause says, and what the built program does not show.
 #![tactic(auto)]
 
 #[cfg(test)]
@@ -8,12 +8,6 @@ mod cases;
 #[cfg(test)]
 mod connections;
 #[cfg(test)]
-mod live;
-#[cfg(test)]
-mod model_device;
-#[cfg(test)]
-mod pipe;
-#[cfg(test)]
-mod sockets;
+mod pipes;
 #[cfg(test)]
 mod spawner;

@@ -1,100 +1,70 @@
-//! Jobs that run within the call, and in threads.
+//! Jobs that run in threads.
 
 use adb_spawner::*;
 use std::alloc::{AllocError, Global};
 use std::sync::atomic::{AtomicU64, Ordering};
-use std::sync::{Arc, Barrier, Wait};
-use std::thread::Threads;
+use std::sync::{Arc, Wait};
+use std::thread::{Threads, sleep};
+use std::time::{Clock, Duration};
 
-/// How many jobs came, and where they wait for each other.
+/// Counts itself as done, a while after it was begun.
 #[derive(Drop)]
-struct Meeting {
-    came: AtomicU64,
-    gate: Barrier,
-}
-
-/// Comes to a meeting, and waits for the others.
-#[derive(Drop)]
-struct Visitor<W: Wait + Drop> {
+struct Slow<W: Wait + Clock + Drop> {
     rt: W,
-    meeting: Arc<Meeting, Global>,
+    done: Arc<AtomicU64, Global>,
 }
 
-impl<W: Wait + Drop> Job for Visitor<W> {
+impl<W: Wait + Clock + Drop> Job for Slow<W> {
     ghost done = { λ job. Unit {0} };
 
     fn run(self) {
-        self.meeting.came.fetch_add(1, Ordering::SeqCst);
-        self.meeting.gate.wait(&self.rt);
+        sleep(&self.rt, Duration::from_millis(50));
+        self.done.fetch_add(1, Ordering::SeqCst);
     }
 }
 
-/// Whether a visitor is sent to a meeting.
-fn is_sent<W: Threads + Wait + Copy + Send + Sync + Drop + 'static>(
+/// Whether a crew takes a job.
+fn takes<W: Threads + Wait + Clock + Copy + Send + Sync + Drop + 'static>(
     rt: W,
-    crew: &mut Crew<W, Visitor<W>>,
-    meeting: &Arc<Meeting, Global>,
+    crew: &mut Crew<W, Slow<W>>,
+    done: &Arc<AtomicU64, Global>,
 ) -> Result<bool, AllocError> {
-    let meeting = Arc::try_clone(meeting)?;
-    Ok(crew.spawn(Visitor { rt, meeting }).is_ok())
+    let done = Arc::try_clone(done)?;
+    Ok(crew.spawn(Slow { rt, done }).is_ok())
 }
 
-/// Whether three come to a meeting, and so many of them because their job was handed back.
-fn come<W: Threads + Wait + Copy + Send + Sync + Drop + 'static>(
+/// Whether a crew takes six jobs, and each is done once it was waited for, behind the third too.
+fn works<W: Threads + Wait + Clock + Copy + Send + Sync + Drop + 'static>(
     rt: W,
-    crew: &mut Crew<W, Visitor<W>>,
-    meeting: &Arc<Meeting, Global>,
-    handed_back: u64,
+    crew: &mut Crew<W, Slow<W>>,
+    done: &Arc<AtomicU64, Global>,
 ) -> Result<bool, AllocError> {
-    let mut back = 0u64;
-    for _ in 0..3 {
-        if !is_sent(rt, crew, meeting)? {
-            back = back.saturating_add(1);
-            meeting.came.fetch_add(1, Ordering::SeqCst);
+    for number in 1..7u64 {
+        let taken = takes(rt, crew, done)?;
+        if number % 3 == 0 {
+            crew.finish();
+        }
+        if !taken || (number % 3 == 0 && done.load(Ordering::SeqCst) != number) {
+            return Ok(false);
         }
     }
-    crew.finish();
-    Ok(meeting.came.load(Ordering::SeqCst) == 3 && back == handed_back)
+    Ok(true)
 }
 
-/// Whether three come to a meeting where each waits for so many, and so many of them because their
-/// job was handed back.
-fn meet<W: Threads + Wait + Copy + Send + Sync + Drop + 'static>(
+fn crew_works<W: Threads + Wait + Clock + Copy + Send + Sync + Drop + 'static>(
     rt: W,
     alloc: Global,
-    crew: &mut Crew<W, Visitor<W>>,
-    wanted: usize,
-    handed_back: u64,
+    done: &Arc<AtomicU64, Global>,
 ) -> Result<bool, AllocError> {
-    let meeting = Meeting {
-        came: AtomicU64::new(0),
-        gate: Barrier::new(wanted),
-    };
-    let meeting = Arc::new(alloc, meeting)?;
-    come(rt, crew, &meeting, handed_back)
+    let mut crew = Crew::threads(rt, alloc)?;
+    works(rt, &mut crew, done)
 }
 
-fn meet_twice<W: Threads + Wait + Copy + Send + Sync + Drop + 'static>(
-    rt: W,
-    alloc: Global,
-    crew: &mut Crew<W, Visitor<W>>,
-) -> Result<bool, AllocError> {
-    Ok(meet(rt, alloc, crew, 3, 0)? && meet(rt, alloc, crew, 3, 0)?)
-}
-
-pub fn inline_crews_run_jobs<W: Threads + Wait + Copy + Send + Sync + Drop + 'static>(
+/// Whether a crew of threads does all jobs, also once its threads were ended.
+pub fn crews_run_jobs<W: Threads + Wait + Clock + Copy + Send + Sync + Drop + 'static>(
     rt: W,
     alloc: Global,
 ) -> Result<bool, AllocError> {
-    let mut inline = Crew::inline(Vec::from_slice(alloc, &[2])?);
-    meet(rt, alloc, &mut inline, 1, 1)
-}
-
-/// Jobs that wait for each other are done by threads alone, also once threads were ended.
-pub fn crews_of_threads_run_jobs<W: Threads + Wait + Copy + Send + Sync + Drop + 'static>(
-    rt: W,
-    alloc: Global,
-) -> Result<bool, AllocError> {
-    let mut threads = Crew::threads(rt, alloc)?;
-    meet_twice(rt, alloc, &mut threads)
+    let done = Arc::new(alloc, AtomicU64::new(0))?;
+    crew_works(rt, alloc, &done)
 }

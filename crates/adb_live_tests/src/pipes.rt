@@ -1,0 +1,50 @@
+//! The two halves of a device's link, each at an end of one pipe: how that ends.
+
+use adb_connections::{DeviceIn, DeviceOut};
+use adb_model_device::{PipeDeviceIn, PipeDeviceOut};
+use adb_outside::{Got, Wrote};
+use adb_pipe::pipe;
+use std::alloc::{AllocError, Global};
+use std::sync::Wait;
+
+/// Whether a piece in two parts is one chunk, and the end comes behind it.
+fn end(output: &mut impl DeviceOut, input: &mut impl DeviceIn) -> bool {
+    let mut into = [0u8; 8];
+    let all = output.write_both(b"CN", b"XN") == Wrote::All;
+    output.unplug();
+    all && input.read(&mut into) == Got::Bytes(4)
+        && into.starts_with(b"CNXN")
+        && input.read(&mut into) == Got::End
+        && output.write(b"x") == Wrote::Failed { taken: 0 }
+}
+
+pub fn pipes_end<W: Wait + Copy + Drop>(rt: W, alloc: Global) -> Result<bool, AllocError> {
+    let (to, from) = pipe(rt, alloc, 2)?;
+    let mut output = PipeDeviceOut::new(alloc, to);
+    let mut input = PipeDeviceIn::new(alloc, from);
+    Ok(end(&mut output, &mut input))
+}
+
+/// Whether a byte comes and no end behind it.
+fn is_lost(input: &mut impl DeviceIn) -> bool {
+    let mut into = [0u8; 8];
+    input.read(&mut into) == Got::Bytes(1) && input.read(&mut into) == Got::Failed
+}
+
+/// Whether what was put comes from one who is gone, and is lost behind that.
+pub fn pipes_are_lost<W: Wait + Copy + Drop>(rt: W, alloc: Global) -> Result<bool, AllocError> {
+    let (to, from) = pipe(rt, alloc, 2)?;
+    let mut output = PipeDeviceOut::new(alloc, to);
+    let all = output.write(b"x") == Wrote::All;
+    drop(output);
+    let mut input = PipeDeviceIn::new(alloc, from);
+    Ok(all && is_lost(&mut input))
+}
+
+/// Whether a write to one who is gone fails.
+pub fn pipes_refuse<W: Wait + Copy + Drop>(rt: W, alloc: Global) -> Result<bool, AllocError> {
+    let (to, from) = pipe(rt, alloc, 2)?;
+    drop(from);
+    let mut output = PipeDeviceOut::new(alloc, to);
+    Ok(output.write(b"x") == Wrote::Failed { taken: 0 })
+}
