@@ -2,6 +2,8 @@
 #![tactic(auto)]
 
 #[cfg(test)]
+mod hands;
+#[cfg(test)]
 mod locked_hall;
 #[cfg(test)]
 mod one_desk;

@@ -3,7 +3,7 @@
 ghost use Rattle.std.specs.Prelude.{◌≡◌};
 ghost use Rattle.adb_desk_log.specs.declared.marks.TheConstants.{ALL_PARTS};
 
-use crate::one_desk::hands_out;
+use crate::hands::{Client, asks, is_answered};
 use adb_bells::{Bells, Locked, Pair, Side};
 use adb_capture::NullRecorder;
 use adb_desk::Desk;
@@ -28,29 +28,17 @@ fn waits(bells: &mut Bells, owner: Owner, pair: Pair) {
     let _ = bells.sleep(owner, Side::Writer);
 }
 
-/// Whether the next client joins, and waits for what comes due to it.
-fn joins_and_waits<E: Ledger, M: Ledger, K: Marks>(
-    alloc: Global,
-    locked: &mut Locked<NullRecorder, E, M, K>,
-) -> Result<bool, AllocError> {
-    let pair = Pair::new(alloc)?;
-    let Ok(client) = locked.desk.join() else {
-        return Ok(false);
-    };
-    waits(&mut locked.bells, Owner::Client(client), pair);
-    Ok(true)
-}
-
+/// So many clients join, and each waits for what comes due to it.
 fn all_wait<E: Ledger, M: Ledger, K: Marks>(
     alloc: Global,
     locked: &mut Locked<NullRecorder, E, M, K>,
-) -> Result<bool, AllocError> {
+) -> Result<(), AllocError> {
     for _ in 0..IDLE {
-        if !joins_and_waits(alloc, locked)? {
-            return Ok(false);
+        if let Ok(client) = locked.desk.join() {
+            waits(&mut locked.bells, Owner::Client(client), Pair::new(alloc)?);
         }
     }
-    Ok(true)
+    Ok(())
 }
 
 fn rung<E: Ledger, M: Ledger, K: Marks>(locked: &mut Locked<NullRecorder, E, M, K>) -> usize {
@@ -68,69 +56,34 @@ fn rings_for_whom_it_concerns<E: Ledger, M: Ledger, K: Marks>(
         && rung(locked) == IDLE as usize - 1
 }
 
-fn asks<E: Ledger, M: Ledger, K: Marks, W: Threads + Wait + Copy + Drop>(
-    hall: &mut LockedHall<NullRecorder, E, M, K, W>,
-    reading: &mut ClientIn<E, M, K>,
-) -> bool {
-    hall.read(reading, b"000Chost:version").is_ok()
+/// What lies under a lock, once many clients wait.
+trait Bellman: Drop {
+    /// Whether its bells are rung so.
+    fn rings(&mut self, alloc: Global) -> Result<bool, AllocError>;
 }
 
-fn is_answered<E: Ledger, M: Ledger, K: Marks, W: Threads + Wait + Copy + Drop>(
-    hall: &mut LockedHall<NullRecorder, E, M, K, W>,
-    writing: &mut ClientOut<E, M, K>,
-) -> bool {
-    hands_out(&hall.put(writing, 100), b"OKAY00040029")
+impl<E: Ledger, M: Ledger, K: Marks> Bellman for Locked<NullRecorder, E, M, K> {
+    fn rings(&mut self, alloc: Global) -> Result<bool, AllocError> {
+        all_wait(alloc, self)?;
+        Ok(rings_for_whom_it_concerns(self))
+    }
 }
 
-/// A writer that waits in one thread is handed what a reader's piece in another made due.
-fn serves_in_two_threads<
-    E: Ledger + Send + Sync + 'static,
-    M: Ledger + Send + Sync + 'static,
-    K: Marks + Send + Sync + 'static,
-    W: Threads + Wait + Copy + Send + Sync + Drop + 'static,
->(
-    rt: W,
-    readers: &mut LockedHall<NullRecorder, E, M, K, W>,
-    writers: &mut LockedHall<NullRecorder, E, M, K, W>,
-    reading: &mut ClientIn<E, M, K>,
-    writing: &mut ClientOut<E, M, K>,
-) -> bool {
-    let (asked, answered) = thread::join(
-        &rt,
-        || asks(readers, reading),
-        || is_answered(writers, writing),
-    );
-    asked && answered
+/// Owns it, whatever it is: so its drop is proved over any type.
+fn rings_over<B: Bellman>(alloc: Global, bellman: B) -> Result<bool, AllocError> {
+    let mut bellman = bellman;
+    bellman.rings(alloc)
 }
 
-/// Whether what a client moved is counted once its passes are back, and not before.
-fn counts_what_it_moved<E: Ledger, M: Ledger, K: Marks, W: Threads + Wait + Copy + Drop>(
-    readers: &mut LockedHall<NullRecorder, E, M, K, W>,
-    writers: &mut LockedHall<NullRecorder, E, M, K, W>,
-    reading: ClientIn<E, M, K>,
-    writing: ClientOut<E, M, K>,
-) -> bool {
-    let out = writers.entries().is_none();
-    readers.retire_client_in(reading);
-    writers.retire_client_out(writing);
-    out && writers.entries() == Some(3) && writers.moved() == Some(28)
-}
-
-fn serves_a_client<
-    E: Ledger + Send + Sync + 'static,
-    M: Ledger + Send + Sync + 'static,
-    K: Marks + Send + Sync + 'static,
-    W: Threads + Wait + Copy + Send + Sync + Drop + 'static,
->(
-    rt: W,
-    readers: &mut LockedHall<NullRecorder, E, M, K, W>,
-    writers: &mut LockedHall<NullRecorder, E, M, K, W>,
-) -> bool {
-    let Ok((mut reading, mut writing)) = readers.join() else {
-        return false;
-    };
-    let served = serves_in_two_threads(rt, readers, writers, &mut reading, &mut writing);
-    counts_what_it_moved(readers, writers, reading, writing) && served
+fn locked<E: Ledger, M: Ledger, K: Marks>(
+    alloc: Global,
+    desk: Desk<NullRecorder, E, M, K>,
+) -> Locked<NullRecorder, E, M, K> {
+    Locked {
+        desk,
+        bells: Bells::new(alloc),
+        is_over: false,
+    }
 }
 
 fn rings<E: Ledger, M: Ledger, K: Marks>(
@@ -146,13 +99,91 @@ fn rings<E: Ledger, M: Ledger, K: Marks>(
     requires marks { (marks.name ≡ K.name) × (marks.parts ≡ K.parts)
         × (marks.parts ≡ ALL_PARTS) }
 {
-    let recorder = NullRecorder::new();
-    let mut locked = Locked {
-        desk: Desk::<NullRecorder, E, M, K>::new(alloc, recorder, entries, moved, marks),
-        bells: Bells::new(alloc),
-        is_over: false,
-    };
-    Ok(all_wait(alloc, &mut locked)? && rings_for_whom_it_concerns(&mut locked))
+    let desk = Desk::<NullRecorder, E, M, K>::new(
+        alloc,
+        NullRecorder::new(),
+        entries,
+        moved,
+        marks,
+    );
+    rings_over(alloc, locked(alloc, desk))
+}
+
+/// A writer that waits in one thread is handed what a reader's piece in another made due.
+fn serves_in_two_threads<
+    E: Ledger + Send + Sync + 'static,
+    M: Ledger + Send + Sync + 'static,
+    K: Marks + Send + Sync + 'static,
+    H: Hall<E, M, K> + Send,
+    W: Threads + Drop,
+>(
+    rt: W,
+    readers: &mut H,
+    writers: &mut H,
+    reading: &mut ClientIn<E, M, K>,
+    writing: &mut ClientOut<E, M, K>,
+) -> bool {
+    let (asked, answered) = thread::join(
+        &rt,
+        || asks(readers, reading),
+        || is_answered(writers, writing),
+    );
+    asked && answered
+}
+
+/// Whether what a client moved is counted once its passes are back, and not before.
+fn counts_what_it_moved<E: Ledger, M: Ledger, K: Marks, W: Wait + Copy + Drop>(
+    hall: &mut LockedHall<NullRecorder, E, M, K, W>,
+    client: Client<E, M, K>,
+) -> bool {
+    let out = hall.entries().is_none();
+    hall.retire_client_in(client.0);
+    hall.retire_client_out(client.1);
+    out && hall.entries() == Some(3) && hall.moved() == Some(28)
+}
+
+fn serves_a_client<
+    E: Ledger + Send + Sync + 'static,
+    M: Ledger + Send + Sync + 'static,
+    K: Marks + Send + Sync + 'static,
+    W: Threads + Wait + Copy + Send + Sync + Drop + 'static,
+>(
+    rt: W,
+    readers: &mut LockedHall<NullRecorder, E, M, K, W>,
+    writers: &mut LockedHall<NullRecorder, E, M, K, W>,
+    client: Client<E, M, K>,
+) -> bool {
+    let mut client = client;
+    let served = serves_in_two_threads(rt, readers, writers, &mut client.0, &mut client.1);
+    counts_what_it_moved(writers, client) && served
+}
+
+/// Whether a client is served by two handles.
+fn serves_who_joins<
+    E: Ledger + Send + Sync + 'static,
+    M: Ledger + Send + Sync + 'static,
+    K: Marks + Send + Sync + 'static,
+    W: Threads + Wait + Copy + Send + Sync + Drop + 'static,
+>(
+    rt: W,
+    readers: &mut LockedHall<NullRecorder, E, M, K, W>,
+    writers: &mut LockedHall<NullRecorder, E, M, K, W>,
+) -> bool {
+    match readers.join() {
+        Ok(client) => serves_a_client(rt, readers, writers, client),
+        Err(_) => false,
+    }
+}
+
+/// Whether a client is served by this handle and one more.
+fn serves_beside<
+    E: Ledger + Send + Sync + 'static,
+    M: Ledger + Send + Sync + 'static,
+    K: Marks + Send + Sync + 'static,
+    W: Threads + Wait + Copy + Send + Sync + Drop + 'static,
+>(rt: W, writers: &mut LockedHall<NullRecorder, E, M, K, W>) -> Result<bool, AllocError> {
+    let mut readers = writers.handle()?;
+    Ok(serves_who_joins(rt, &mut readers, writers))
 }
 
 fn serves<
@@ -172,8 +203,7 @@ fn serves<
     let mut writers = LockedHall::<NullRecorder, E, M, K, W>::new(
         rt, alloc, recorder, entries, moved, marks,
     )?;
-    let mut readers = writers.handle()?;
-    Ok(serves_a_client(rt, &mut readers, &mut writers))
+    serves_beside(rt, &mut writers)
 }
 
 fn rings_by_brand(alloc: Global) -> Result<bool, AllocError> {
@@ -199,14 +229,9 @@ fn serves_by_brand<W: Threads + Wait + Copy + Send + Sync + Drop + 'static>(
 }
 
 #[test]
-fn wakes_whom_it_concerns(rt: HostRuntime) -> Result<(), Fail> {
-    assert!(rt; rings_by_brand(rt.alloc())?);
-    Ok(())
-}
-
-#[test]
-fn serves_two_threads(rt: HostRuntime) -> Result<(), Fail> {
+fn wakes_and_serves(rt: HostRuntime) -> Result<(), Fail> {
     let alloc = rt.alloc();
-    assert!(rt; serves_by_brand(rt, alloc)?);
+    assert!(rt; rings_by_brand(alloc)?, "rings");
+    assert!(rt; serves_by_brand(rt, alloc)?, "serves");
     Ok(())
 }

@@ -2,12 +2,8 @@
 #![tactic(auto)]
 
 #[cfg(test)]
-mod clients;
-#[cfg(test)]
-mod devices;
-#[cfg(test)]
-mod forwards;
-#[cfg(test)]
 mod over_one_desk;
+#[cfg(test)]
+mod rows;
 #[cfg(test)]
 mod served;

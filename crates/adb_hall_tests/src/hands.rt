@@ -1,0 +1,47 @@
+//! What a hall takes from a client, and hands out.
+
+use adb_desk_log::{ClientIn, ClientOut, DeskError, Marks};
+use adb_hall::Hall;
+use adb_hub::{Handed, Life, MAX_HELD};
+use adb_outside::HandOut;
+use std::sync::ledger::Ledger;
+
+/// The passes of a client.
+pub(crate) type Client<E, M, K> = (ClientIn<E, M, K>, ClientOut<E, M, K>);
+
+/// Whether a client that asks for the version is still read.
+pub(crate) fn asks<E: Ledger, M: Ledger, K: Marks, H: Hall<E, M, K>>(
+    hall: &mut H,
+    reading: &mut ClientIn<E, M, K>,
+) -> bool {
+    hall.read(reading, b"000Chost:version") == Ok(Life::Live)
+}
+
+/// Whether the version is handed out.
+pub(crate) fn is_answered<E: Ledger, M: Ledger, K: Marks, H: Hall<E, M, K>>(
+    hall: &mut H,
+    writing: &mut ClientOut<E, M, K>,
+) -> bool {
+    hands_out(hall.put(writing, MAX_HELD), b"OKAY00040029")
+}
+
+/// Whether these bytes were handed out.
+pub(crate) fn hands_out(answer: Result<Handed, DeskError>, bytes: &[u8]) -> bool {
+    match answer {
+        Ok(Handed::Bytes(given)) => is_made_of(&given, bytes),
+        _ => false,
+    }
+}
+
+fn is_made_of(given: &HandOut, bytes: &[u8]) -> bool {
+    let parts = given.parts();
+    given.len() == bytes.len() && bytes.starts_with(parts.start) && bytes.ends_with(parts.rest)
+}
+
+/// How many bytes were handed out.
+pub(crate) fn len_of(answer: Result<Handed, DeskError>) -> usize {
+    match answer {
+        Ok(Handed::Bytes(given)) => given.len(),
+        _ => 0,
+    }
+}
