@@ -47,7 +47,8 @@ const OKAY: &[u8] = b"OKAY\x07\0\0\0\x01\0\0\0\0\0\0\0\0\0\0\0\xb0\xb4\xbe\xa6";
 /// The header of what the device writes to that stream: 4,096 bytes.
 const WRTE: &[u8] = b"WRTE\x07\0\0\0\x01\0\0\0\0\x10\0\0\0\0\0\0\xa8\xad\xab\xba";
 
-/// A client opens a stream to a device, and sends until a write is out and as much is held as may be.
+/// A client opens a stream to a device, and sends until a write is out and as much is held as may
+/// be.
 fn fills_a_stream<E: Ledger, M: Ledger, K: Marks, H: Hall<E, M, K>>(
     hall: &mut H,
     link: &mut LinkIn<E, M, K>,
@@ -77,8 +78,8 @@ fn frees_what_goes_up<E: Ledger, M: Ledger, K: Marks, H: Hall<E, M, K>>(
         && hall.room(reading) == Ok(Room::Bytes(4_096))
 }
 
-/// What is due before a large packet goes out to a device first, a packet of 58 and one of 34 bytes,
-/// and then the large packet alone.
+/// What is due before a large packet goes out to a device first, a packet of 58 and one of 34
+/// bytes, and then the large packet alone.
 fn sends_a_large_packet_alone<E: Ledger, M: Ledger, K: Marks, H: Hall<E, M, K>>(
     hall: &mut H,
     sender: &mut LinkOut<E, M, K>,

@@ -3,8 +3,8 @@
 use adb_connections::Plug;
 use adb_server::Served;
 
-/// A server with a device, and with one client that asks for the version where one comes. The device
-/// is unplugged at the end each time.
+/// A server with a device, and with one client that asks for the version where one comes. The
+/// device is unplugged at the end each time.
 #[derive(Clone, Copy, Drop)]
 pub(crate) struct Row {
     pub(crate) name: &'static str,

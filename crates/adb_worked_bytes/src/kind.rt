@@ -64,8 +64,8 @@ impl Kind {
         }
     }
 
-    /// Plays bytes, a stream in pieces of at most `size`. Tells how that goes, in lines each of which
-    /// stands behind a line's end.
+    /// Plays bytes, a stream in pieces of at most `size`. Tells how that goes, in lines each of
+    /// which stands behind a line's end.
     pub fn play(
         self,
         alloc: Global,
