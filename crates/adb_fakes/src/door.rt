@@ -8,7 +8,7 @@ use std::collections::VecDeque;
 use std::marker::Model;
 use std::sync::{Arc, Mutex, Wait};
 
-/// A handle of a bell, which counts how often it was rung. Any thread may ring it or look at it.
+/// A handle of a bell, which counts how often it was rung. Any thread may ring it.
 #[derive(Drop)]
 pub struct Rings<W: Wait + Copy + Drop> {
     rt: W,
@@ -17,7 +17,7 @@ pub struct Rings<W: Wait + Copy + Drop> {
 
 impl<W: Wait + Copy + Drop> Rings<W> {
     /// It was not rung.
-    pub fn new(rt: W, alloc: Global) -> Result<Rings<W>, AllocError> {
+    pub(crate) fn new(rt: W, alloc: Global) -> Result<Rings<W>, AllocError> {
         Ok(Rings {
             rt,
             count: Arc::new(alloc, Mutex::new(0u64))?,
@@ -25,7 +25,7 @@ impl<W: Wait + Copy + Drop> Rings<W> {
     }
 
     /// One more handle of the same.
-    pub fn handle(&self) -> Result<Rings<W>, AllocError> {
+    pub(crate) fn handle(&self) -> Result<Rings<W>, AllocError> {
         Ok(Rings {
             rt: self.rt,
             count: Arc::try_clone(&self.count)?,
@@ -33,7 +33,7 @@ impl<W: Wait + Copy + Drop> Rings<W> {
     }
 
     /// How often it was rung.
-    pub fn count(&self) -> u64 {
+    fn count(&self) -> u64 {
         *self.count.lock(&self.rt)
     }
 }

@@ -3,14 +3,12 @@
 #![tactic(auto)]
 
 mod door;
-mod gate;
 mod lines;
 mod recorder;
 mod sent;
 mod yard;
 
 pub use door::{FakeDoor, Rings};
-pub use gate::{HoldingGate, MOST_TURNS};
 pub use lines::lines_of;
 pub use recorder::{Kept, SharedRecorder};
 pub use sent::{Sent, SharedOut};

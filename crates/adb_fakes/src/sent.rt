@@ -45,11 +45,6 @@ impl<W: Wait + Copy + Drop> Sent<W> {
         })
     }
 
-    /// Whether exactly these bytes were sent.
-    pub fn holds(&self, bytes: &[u8]) -> bool {
-        self.store.lock(&self.rt).bytes.as_slice() == bytes
-    }
-
     /// Whether it was closed, or unplugged.
     pub fn is_closed(&self) -> bool {
         self.store.lock(&self.rt).closed
