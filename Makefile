@@ -4,7 +4,7 @@
 help:
 	@echo 'make demo    runs the program over an example capture and shows the history, before any proof: two minutes'
 	@echo 'make build   proves and links the program, as bin/adbhub: most of an hour the first time, then what changed'
-	@echo 'make test    the gate: every proof, must-fail edit, test and program'
+	@echo 'make test    the gate: every proof, must-fail edit, test and program, and the built program run as a user runs it'
 	@echo 'make serve   builds the program, starts a server with a model device, and says how to ask it something'
 	@echo 'make cost    builds the program, and tells how replay and check grow with what they read'
 
@@ -50,9 +50,8 @@ ifneq ($(filter library-%,$(MAKECMDGOALS)),)
 $(foreach crate,$(LIBRARIES),$(eval $(call library,$(crate))))
 endif
 
-# .ci/rt_ci is rt ci by a kit whose driver would sum the same files for hours.
 test:
-	if .ci/rt_ci --is-needed; then .ci/rt_ci; else rt ci; fi
+	.ci/run
 
 # A folder whose build.sh makes another program that replays, to compare with; without it, or without rustc, nothing is.
 YARDSTICK ?= ../shared/rust_replay
