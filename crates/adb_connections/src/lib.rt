@@ -6,7 +6,6 @@ mod device;
 mod door;
 mod gate;
 mod memory_device;
-mod memory_door;
 mod memory_port;
 mod port;
 
@@ -14,6 +13,5 @@ pub use device::{DeviceIn, DeviceOut, Plug};
 pub use door::{Arrival, Bell, Came, Door, SilentBell};
 pub use gate::{Gate, OpenGate, Place};
 pub use memory_device::{MemoryDeviceIn, MemoryDeviceOut};
-pub use memory_door::{Caller, MemoryDoor};
 pub use memory_port::{MemoryIn, MemoryOut};
 pub use port::{PortIn, PortOut};

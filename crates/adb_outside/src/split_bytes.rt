@@ -1,0 +1,80 @@
+//! Shared bytes in two slices.
+
+ghost use Rattle.std.specs.Prelude.{◌≡◌, ◌≤◌, ◌++◌, length, take, drop};
+
+use crate::hand_out::Parts;
+use bytes::Bytes;
+use std::marker::Model;
+
+/// Shared bytes that lie in two slices, one behind the other: what reaches over two memories needs
+/// not be copied into one. Either slice may be empty. Contracts see them as one list.
+#[derive(Drop)]
+pub struct SplitBytes {
+    front: Bytes,
+    back: Bytes,
+}
+
+impl Model for SplitBytes {
+    ghost use Rattle.std.specs.Prelude.{◌++◌, List, ℕ};
+
+    ghost Value = { List ℕ };
+
+    ghost view = { λ s. s.front ++ s.back };
+}
+
+impl SplitBytes {
+    /// One slice behind another. It takes no memory.
+    pub fn new(front: Bytes, back: Bytes) -> SplitBytes
+        ensures { result ≡ front ++ back }
+    {
+        SplitBytes { front, back }
+    }
+
+    /// Bytes that lie in one slice. It takes no memory.
+    pub fn whole(bytes: Bytes) -> SplitBytes
+        ensures { result ≡ bytes }
+    {
+        SplitBytes {
+            front: bytes,
+            back: Bytes::new(),
+        }
+    }
+
+    /// The bytes, where they are.
+    pub fn parts(&self) -> Parts<'_>
+        ensures { result.start.now ++ result.rest.now ≡ self.now }
+    {
+        Parts {
+            start: self.front.as_slice(),
+            rest: self.back.as_slice(),
+        }
+    }
+
+    /// How many bytes there are.
+    pub fn len(&self) -> usize
+        ensures { result ≡ length self.now }
+    {
+        self.front.len() + self.back.len()
+    }
+
+    /// Those of the first slice, or of the second where the first is empty.
+    pub fn first(&self) -> &Bytes
+        ensures { result.now ≡ take (length result.now) self.now }
+    {
+        if self.front.is_empty() {
+            &self.back
+        } else {
+            &self.front
+        }
+    }
+
+    /// The first `n` bytes go. It takes no memory.
+    pub fn advance(&mut self, n: usize)
+        requires { n ≤ length self.old }
+        ensures { self.new ≡ drop n self.old }
+    {
+        let some = n.min(self.front.len());
+        self.front.advance(some);
+        self.back.advance(n - some);
+    }
+}
