@@ -1,6 +1,17 @@
 -- What a client sent that is held.
 use Rattle.std.specs.Prelude.{ℕ, ◌≡◌, ◌++◌, List}
 
+-- a slice's bytes, and how many handles of it there are
+pub record Handled : Type 0 where
+  pub bytes : List ℕ
+  pub handles : ℕ
+
+-- the first bytes, cut ahead; how many of them can be cut off without memory, and in how many pieces
+pub record Ahead : Type 0 where
+  pub bytes : List ℕ
+  pub ready : ℕ
+  pub cuts : ℕ
+
 -- the bytes in order; how many of the first can be cut off without memory, and in how many pieces
 pub record Incoming : Type 0 where
   pub held : List ℕ

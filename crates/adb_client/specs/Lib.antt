@@ -3,7 +3,7 @@ pub mod Client
 pub mod Parts
 pub mod Lending
 pub mod Input
-pub mod Cutting
+pub mod Fronts
 pub mod Tail
 pub mod Tails
 pub mod Output

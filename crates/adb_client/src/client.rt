@@ -9,7 +9,7 @@ use crate::ask::Asked;
 use crate::input::Input;
 use crate::output::{MAX_SLICE, Output};
 use crate::phase::Phase;
-use adb_outside::HandOut;
+use adb_outside::{HandOut, SplitBytes};
 use bytes::Bytes;
 use std::alloc::{AllocError, Global};
 use std::marker::Model;
@@ -145,8 +145,8 @@ impl Client {
     }
 
     /// Makes at least the first `n` bytes held ready to be cut off, in at least `cuts` pieces,
-    /// whose lengths need not be known yet. They are copied only where bytes that were made ready
-    /// before were not cut off.
+    /// whose lengths need not be known yet. They are copied only where they lie in more than two
+    /// memories.
     pub fn prepare_cuts(&mut self, n: usize, cuts: usize) -> Result<(), AllocError>
         requires { n ≤ length self.old.held }
         ensures ok { OnOk result (self.new ≡ record self.old {
@@ -159,9 +159,9 @@ impl Client {
         self.parts.input.prepare_cuts(n, cuts)
     }
 
-    /// Takes the first `n` bytes held off, of those that are ready, as a shared slice. It takes no
+    /// Takes the first `n` bytes held off, of those that are ready, without a copy. It takes no
     /// memory.
-    pub fn cut_ready(&mut self, n: usize) -> Bytes
+    pub fn cut_ready(&mut self, n: usize) -> SplitBytes
         requires within { n ≤ self.old.ready }
         requires cut { 0 < self.old.cuts }
         ensures piece { result ≡ take n self.old.held }

@@ -1,41 +1,41 @@
 //! What a client sent that is held.
 
-ghost use Rattle.std.specs.Prelude.{◌≡◌, ◌<◌, ◌≤◌, ◌+◌, ◌-◌, ◌++◌, [], ℕ, length, take, drop, max, vec_len, All, IsOk, IfOk, OnOk, OnErr};
+ghost use Rattle.std.specs.Prelude.{◌≡◌, ◌<◌, ◌≤◌, ◌+◌, ◌-◌, ◌^◌, ◌++◌, [], length, take, drop, max, IsOk, IfOk, OnOk, OnErr};
 ghost use Rattle.adb_client.specs.Ask.{asked_in};
-ghost use Rattle.adb_client.specs.Input.{EndsWith};
 
 use crate::ask::{Asked, ask_in};
-use crate::slices::{behind, first, share};
+use crate::fronts::Fronts;
+use crate::slices::behind;
 use crate::tail::Tail;
-use adb_outside::MIN_SHARED;
+use adb_outside::{MIN_SHARED, SplitBytes};
 use bytes::Bytes;
 use std::alloc::{AllocError, Global};
 use std::marker::Model;
 
-/// The bytes that are held, one after another. Of a front that was cut ahead there are handles,
-/// made in advance: each becomes a part of it by leaving off bytes at both ends, which takes no
-/// memory.
+/// How many bytes are held at most.
+const MAX_LEN: usize = isize::MAX as usize;
+
+/// The bytes that are held, one after another: the first of them cut ahead, and those behind.
 #[derive(Drop)]
 pub(crate) struct Input {
     alloc: Global,
-    front: Bytes,
-    handles: Vec<Bytes>,
+    fronts: Fronts,
     rest: Tail,
-    /// How many bytes of the front can be cut off without memory, and in how many pieces.
-    ready: usize,
-    cuts: usize,
 }
 
 impl Model for Input {
+    ghost use Rattle.std.specs.Prelude.{◌++◌, ◌+◌, ◌<◌, ◌^◌, length};
     ghost use Rattle.adb_client.specs.Input.{Incoming};
 
     ghost Value = { Incoming };
 
-    ghost use Rattle.adb_client.specs.Cutting.{incoming, IsCut};
+    ghost view = { λ i. record {
+      held = i.fronts.bytes ++ i.rest;
+      ready = i.fronts.ready;
+      cuts = i.fronts.cuts;
+    } };
 
-    ghost view = { incoming };
-
-    ghost invariant = { IsCut };
+    ghost invariant = { λ i. length i.fronts.bytes + length i.rest < 2 ^ 63 };
 }
 
 impl Input {
@@ -45,28 +45,29 @@ impl Input {
     {
         Input {
             alloc,
-            front: Bytes::new(),
-            handles: Vec::new(alloc),
+            fronts: Fronts::new(alloc),
             rest: Tail::new(alloc),
-            ready: 0,
-            cuts: 0,
         }
     }
 
     /// How many bytes are held.
     pub(crate) fn len(&self) -> usize
-        ensures { result ≡ length self.now.held }
+        ensures value { result ≡ length self.now.held }
+        ensures bound { result < 2 ^ 63 }
     {
-        self.front.len() + self.rest.len()
+        self.fronts.len() + self.rest.len()
     }
 
-    /// Bytes came.
+    /// Bytes came. Where all would be too many to count it is want of memory.
     pub(crate) fn take_in(&mut self, piece: &[u8]) -> Result<(), AllocError>
         ensures ok { OnOk result (self.new ≡ record self.old {
           held = self.old.held ++ piece.now;
         }) }
         ensures err { OnErr result (self.new ≡ self.old) }
     {
+        if piece.len() > MAX_LEN - self.len() {
+            return Err(AllocError);
+        }
         self.gather_front()?;
         self.rest.push(piece)
     }
@@ -76,13 +77,16 @@ impl Input {
     fn gather_front(&mut self) -> Result<(), AllocError>
         ensures { self.new ≡ self.old }
     {
-        let is_kept = self.ready > 0 || self.front.len() >= MIN_SHARED || !self.rest.is_empty();
-        if self.front.is_empty() || is_kept {
+        let is_kept = self.fronts.ready() > 0
+            || self.fronts.len() >= MIN_SHARED
+            || !self.rest.is_empty();
+        if self.fronts.is_empty() || is_kept {
             return Ok(());
         }
-        self.rest.push(self.front.as_slice())?;
-        self.handles = Vec::new(self.alloc);
-        self.front = Bytes::new();
+        if let Some(few) = self.fronts.as_slice() {
+            self.rest.push(few)?;
+            self.fronts.advance(self.fronts.len());
+        }
         Ok(())
     }
 
@@ -96,11 +100,8 @@ impl Input {
         } }
     {
         let left = self.len() - n;
-        self.handles.clear();
-        self.ready = 0;
-        self.cuts = 0;
-        self.rest.truncate(left.saturating_sub(self.front.len()));
-        self.front.truncate(left);
+        self.rest.truncate(left.saturating_sub(self.fronts.len()));
+        self.fronts.truncate(left);
     }
 
     /// What the bytes ask from a place on.
@@ -109,7 +110,7 @@ impl Input {
         ensures asked { IfOk result (λ asked. asked ≡ asked_in (drop at self.now.held)) }
         ensures within { IfOk result (λ asked. at + asked.len ≤ length self.now.held) }
     {
-        if self.front.is_empty()
+        if self.fronts.is_empty()
             && let Some(bytes) = self.rest.as_slice()
         {
             return ask_in(self.alloc, behind(bytes, at));
@@ -124,8 +125,8 @@ impl Input {
         ensures { IfOk result (λ bytes. bytes ≡ take n self.now.held) }
     {
         let mut all = Vec::with_capacity(self.alloc, n)?;
-        let some = n.min(self.front.len());
-        all.extend_from_slice(first(self.front.as_slice(), some))?;
+        let some = n.min(self.fronts.len());
+        self.fronts.copy_to(some, &mut all)?;
         self.rest.copy_to(n - some, &mut all)?;
         Ok(Bytes::from_vec(all)?)
     }
@@ -138,10 +139,9 @@ impl Input {
           ready = self.old.ready - n;
         } }
     {
-        let some = n.min(self.front.len());
-        self.front.advance(some);
+        let some = n.min(self.fronts.len());
+        self.fronts.advance(some);
         self.rest.advance(n - some);
-        self.ready = self.ready.saturating_sub(n);
         self.give_back();
     }
 
@@ -149,10 +149,6 @@ impl Input {
     fn give_back(&mut self)
         ensures { self.new ≡ self.old }
     {
-        if self.front.is_empty() {
-            self.handles = Vec::new(self.alloc);
-            self.front = Bytes::new();
-        }
         if self.rest.is_empty() {
             self.rest = Tail::new(self.alloc);
         }
@@ -168,60 +164,35 @@ impl Input {
         ensures err { OnErr result (self.new ≡ self.old) }
         ensures is_ready { n ≤ self.old.ready → cuts ≤ self.old.cuts → IsOk result }
     {
-        if n <= self.ready && cuts <= self.cuts {
+        if n <= self.fronts.ready() && cuts <= self.fronts.cuts() {
             return Ok(());
         }
-        let ready = n.max(self.ready);
-        self.cut_front(ready)?;
-        self.hold_cuts(ready, cuts.max(self.cuts))
+        let ready = n.max(self.fronts.ready());
+        self.fronts.take_from(&mut self.rest, ready)?;
+        let cuts = cuts.max(self.fronts.cuts());
+        self.hold_cuts(ready, cuts)
     }
 
-    /// Where nothing was cut ahead, the first `n` bytes are, or the first piece, with no copy.
-    fn cut_front(&mut self, n: usize) -> Result<(), AllocError>
-        requires { n ≤ length self.old.held }
-        ensures { self.new ≡ self.old }
-    {
-        if !self.front.is_empty() {
-            return Ok(());
-        }
-        self.handles.clear();
-        self.front = self.rest.take_front(n)?;
-        Ok(())
-    }
-
-    /// The first `ready` bytes are ready, in `cuts` pieces.
+    /// The first `ready` bytes are ready, in `cuts` pieces: those of two slices as they are, and more
+    /// as a copy.
     fn hold_cuts(&mut self, ready: usize, cuts: usize) -> Result<(), AllocError>
         requires within { ready ≤ length self.old.held }
-        requires more { self.old.ready ≤ ready }
         ensures ok { OnOk result (self.new ≡ record self.old { ready = ready; cuts = cuts }) }
         ensures err { OnErr result (self.new ≡ self.old) }
     {
-        let before = self.front.len();
-        let len = ready.max(before);
-        let front = self.share_first(len)?;
-        let handles = handles_of(self.alloc, &front, cuts)?;
-        self.rest.advance(len - before);
-        self.front = front;
-        self.handles = handles;
-        self.ready = ready;
-        self.cuts = cuts;
+        let before = self.fronts.len();
+        if ready <= before {
+            return self.fronts.hold(ready, cuts);
+        }
+        let all = self.joined(ready)?;
+        let fronts = Fronts::whole(self.alloc, all, cuts)?;
+        self.rest.advance(ready - before);
+        self.fronts = fronts;
         Ok(())
     }
 
-    /// The first `n` bytes as a slice: a part of the front, or a copy where the front has fewer.
-    fn share_first(&self, n: usize) -> Result<Bytes, AllocError>
-        requires { n ≤ length self.now.held }
-        ensures { IfOk result (λ bytes. bytes ≡ take n self.now.held) }
-    {
-        if n <= self.front.len() {
-            self.front.slice(0..n)
-        } else {
-            self.joined(n)
-        }
-    }
-
-    /// The first `n` bytes go as a slice, of those that are ready. It takes no memory.
-    pub(crate) fn cut_ready(&mut self, n: usize) -> Bytes
+    /// The first `n` bytes go, of those that are ready. It takes no memory.
+    pub(crate) fn cut_ready(&mut self, n: usize) -> SplitBytes
         requires within { n ≤ self.old.ready }
         requires cut { 0 < self.old.cuts }
         ensures piece { result ≡ take n self.old.held }
@@ -231,34 +202,8 @@ impl Input {
           cuts = self.old.cuts - 1;
         } }
     {
-        let handle = self.handles.pop().unwrap_or(Bytes::new());
-        let piece = part(handle, self.front.len(), n);
-        self.front.advance(n);
-        self.ready -= n;
-        self.cuts -= 1;
+        let piece = self.fronts.cut(n);
         self.give_back();
         piece
     }
-}
-
-/// So many handles of a front, all of it.
-fn handles_of(alloc: Global, front: &Bytes, n: usize) -> Result<Vec<Bytes>, AllocError>
-    ensures ends { IfOk result (λ handles. All (EndsWith front.now) handles.items) }
-    ensures len { IfOk result (λ handles. vec_len handles ≡ n) }
-{
-    let mut handles = Vec::with_capacity(alloc, n)?;
-    for _ in 0..n {
-        handles.push(share(front)?)?;
-    }
-    Ok(handles)
-}
-
-/// The first `n` of a handle's last `len` bytes.
-fn part(handle: Bytes, len: usize, n: usize) -> Bytes
-    ensures { result ≡ take n (drop (length handle - len) handle) }
-{
-    let mut piece = handle;
-    piece.advance(piece.len().saturating_sub(len));
-    piece.truncate(n);
-    piece
 }

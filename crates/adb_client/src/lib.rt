@@ -4,6 +4,8 @@
 mod about;
 mod ask;
 mod client;
+mod front;
+mod fronts;
 mod input;
 mod output;
 mod phase;

@@ -13,9 +13,6 @@ use std::alloc::{AllocError, Global};
 use std::collections::VecDeque;
 use std::marker::Model;
 
-/// How many bytes a tail has at most.
-const MAX_TAIL: usize = isize::MAX as usize;
-
 /// Bytes one after another: pieces, each in memory of its own that is given back when it went, and
 /// behind them what is gathered of short ones. Contracts see the bytes.
 #[derive(Drop)]
@@ -75,14 +72,12 @@ impl Tail {
         }
     }
 
-    /// A piece comes behind. Where all would be too many to count it is want of memory.
+    /// A piece comes behind.
     pub(crate) fn push(&mut self, piece: &[u8]) -> Result<(), AllocError>
+        requires { length self.old + length piece.now < 2 ^ 63 }
         ensures ok { OnOk result (self.new ≡ self.old ++ piece.now) }
         ensures err { OnErr result (self.new ≡ self.old) }
     {
-        if piece.len() > MAX_TAIL - self.len() {
-            return Err(AllocError);
-        }
         if piece.len() < MIN_SHARED {
             return self.gathered.extend_from_slice(piece);
         }

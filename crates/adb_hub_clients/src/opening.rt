@@ -24,6 +24,7 @@ use crate::hearing::{Heard, hear};
 use crate::places::{make_packets, make_slices};
 use adb_client::Phase;
 use adb_hub_tables::{Port, Tables};
+use adb_outside::SplitBytes;
 use adb_stream::{CREDIT_WINDOW, DrawError};
 use adb_wire::{Command, Head};
 use bytes::Bytes;
@@ -240,7 +241,7 @@ fn put_on(port: &mut Port, head: &Head, payload: Bytes)
     ensures incoming { port.new.link.incoming ≡ port.old.link.incoming }
     ensures version { port.new.link.version ≡ port.old.link.version }
 {
-    port.link.owe_slice_spare(head, payload);
+    port.link.owe_slice_spare(head, SplitBytes::whole(payload));
 }
 
 /// No stream can be drawn for a client: it is told so, unless it came through a forward.

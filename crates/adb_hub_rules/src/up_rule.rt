@@ -17,8 +17,8 @@ use crate::ends::end_telling;
 use crate::handing::set_flow;
 use adb_client::Phase;
 use adb_hub_tables::Tables;
+use adb_outside::SplitBytes;
 use adb_stream::{Flow, Part, Stream};
-use bytes::Bytes;
 
 /// The up rule, for the stream of an id: what its client holds goes up in writes, and then its
 /// end, where its input ended and all went up.
@@ -224,7 +224,7 @@ fn write_one(tables: &mut Tables, id: u32, stream: &Stream, n: usize)
 }
 
 /// The first bytes that a client holds, which are held no more.
-fn cut(tables: &mut Tables, client: u32, n: usize) -> Option<Bytes>
+fn cut(tables: &mut Tables, client: u32, n: usize) -> Option<SplitBytes>
     requires cut { CanCut n (at client tables.old.clients.entries) }
     requires some { 0 < n }
     requires held { n ≤ length (held_at (at client tables.old.clients.entries)) }

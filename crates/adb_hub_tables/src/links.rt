@@ -12,9 +12,9 @@ ghost use Rattle.adb_hub_tables.specs.Places.{LinkRoom, Uses};
 
 use crate::tables::Tables;
 use adb_link::MAX_SHORT;
+use adb_outside::SplitBytes;
 use adb_wire::{Command, Head};
 use byteorder::{ByteOrder, LittleEndian};
-use bytes::Bytes;
 
 impl Tables {
     /// A packet with a payload of at most eight bytes is put behind what is due to a link.
@@ -34,7 +34,7 @@ impl Tables {
     }
 
     /// A packet is put behind what is due to a link.
-    fn put_slice(&mut self, link: u32, head: &Head, payload: Bytes)
+    fn put_slice(&mut self, link: u32, head: &Head, payload: SplitBytes)
         requires place { LinkRoom 1 (at link self.old.links.entries) }
         requires head { IsHeadOf head.now payload }
         ensures row { state_of self.new ≡ to_link link
@@ -63,7 +63,7 @@ impl Tables {
     }
 
     /// A packet becomes due, in a place that was kept.
-    fn owe_slice(&mut self, link: u32, head: &Head, payload: Bytes)
+    fn owe_slice(&mut self, link: u32, head: &Head, payload: SplitBytes)
         requires place { LinkRoom 1 (at link self.old.links.entries) }
         requires head { IsHeadOf head.now payload }
         ensures state { state_of self.new
@@ -114,7 +114,7 @@ impl Tables {
     }
 
     /// Bytes go up a stream, in a place that was kept.
-    pub fn owe_write(&mut self, link: u32, id: u32, remote: u32, payload: Bytes)
+    pub fn owe_write(&mut self, link: u32, id: u32, remote: u32, payload: SplitBytes)
         requires place { LinkRoom 1 (at link self.old.links.entries) }
         requires size { length payload ≤ MAX_PAYLOAD }
         ensures state { state_of self.new
@@ -148,7 +148,7 @@ pub fn head(command: Command, arg0: u32, arg1: u32, length: u32) -> Head
 }
 
 /// The header of bytes that go up a stream.
-fn write_head(id: u32, remote: u32, payload: &Bytes) -> Head
+fn write_head(id: u32, remote: u32, payload: &SplitBytes) -> Head
     requires { length payload.now ≤ MAX_PAYLOAD }
     ensures of { IsHeadOf result payload.now }
     ensures packet { packet_under result payload.now ≡ write_packet id remote payload.now }

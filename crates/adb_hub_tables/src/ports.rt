@@ -7,8 +7,8 @@ ghost use Rattle.adb_hub_tables.specs.Tables.{link_row, owing_row};
 
 use crate::owes::Owes;
 use adb_link::{Link, MAX_SHORT};
+use adb_outside::SplitBytes;
 use adb_wire::Head;
-use bytes::Bytes;
 
 /// A device's link, and how many places are kept on it for the packets that end its streams.
 #[derive(Drop)]
@@ -33,7 +33,7 @@ impl Port {
     }
 
     /// A packet becomes due, in a place that was kept.
-    pub fn owe_slice(&mut self, head: &Head, payload: Bytes)
+    pub fn owe_slice(&mut self, head: &Head, payload: SplitBytes)
         requires place { 0 < self.old.link.spare }
         requires head { IsHeadOf head.now payload }
         ensures row { link_row self.new

@@ -2,7 +2,7 @@
 use Rattle.std.proofs.Common.{◌≡◌, ℕ, ◌+◌, ◌-◌, ◌≤◌, ◌<◌, List, [], ◌∷◌, ◌++◌, length, take, drop, get_or, zero, suc, refl, sym, ap, ◌∙◌, arith}
 use Rattle.std.proofs.Common.{append_assoc, length-append, append-nil}
 use Rattle.std.proofs.Math.Seq.{take-nil}
-use Rattle.std.proofs.lemmas.List.{drop_more, drop_all, length-take}
+use Rattle.std.proofs.lemmas.List.{drop_more, drop_all, length-take, take-take}
 use Rattle.std.specs.List.{concat}
 
 -- `take` over two lists takes what it can from the first
@@ -18,6 +18,16 @@ pub first_of_both : (xs ys : List ℕ) (max : ℕ) → take max xs ++ take (max 
 first_of_both xs ys max =
     let left : max - length (take max xs) ≡ max - length xs = omega (arith, length-take max xs) in
     ap (λ (n : ℕ). take max xs ++ take n ys) left ∙ sym (take_both xs ys max)
+
+-- the same, where a front of the second list has all that is taken of it
+pub first_of_front : (xs ys front : List ℕ) (n : ℕ) → front ≡ take (length front) ys → n ≤ length xs + length front
+    → (n ≤ length (xs ++ ys)) × (take n xs ++ take (n - length (take n xs)) front ≡ take n (xs ++ ys))
+first_of_front xs ys front n is within =
+    let left = n - length (take n xs) in
+    let some : left ≤ length front = omega (arith, length-take n xs, within) in
+    let least : length front ≤ length ys = omega (arith, ap length is, length-take (length front) ys) in
+    let same : take left front ≡ take left ys = ap (take left) is ∙ take-take left (length front) ys some in
+    (omega (arith, within, least, length-append xs ys), ap (λ (l : List ℕ). take n xs ++ l) same ∙ first_of_both xs ys n)
 
 -- a text with what it still gets of a list
 abbrev pub filled : List ℕ → ℕ → List ℕ → List ℕ

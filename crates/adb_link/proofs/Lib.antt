@@ -1,2 +1,4 @@
 pub mod Packets
 mod Filling
+mod Sending
+mod Sums

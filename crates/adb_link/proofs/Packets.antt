@@ -9,13 +9,13 @@ use Rattle.adb_wire.specs.declared.slicer.TheConstants.{MAX_PACKET}
 use Rattle.adb_link.specs.Outgoing.{left_of, IsHeld}
 use Rattle.adb_link.specs.Outbox.{IsBox}
 
-start_len : (start : List ℕ) (from to : ℕ) → IsHeld start from to → length (take (to - from) (drop from start)) ≡ to - from
-start_len start from to h = omega (arith, length-take (to - from) (drop from start), length-drop from start, h.long, h.ordered, h.within)
+start_len : (start : List ℕ) (from to : ℕ) (payload : List ℕ) → IsHeld start from to payload → length (take (to - from) (drop from start)) ≡ to - from
+start_len start from to payload h = omega (arith, length-take (to - from) (drop from start), length-drop from start, h.long, h.ordered, h.within)
 
-pub left_len : (start : List ℕ) (from to : ℕ) (payload : List ℕ) → IsHeld start from to
+pub left_len : (start : List ℕ) (from to : ℕ) (payload : List ℕ) → IsHeld start from to payload
     → length (left_of start from to payload) ≡ (to - from) + length payload
 left_len start from to payload h =
-    length-append (take (to - from) (drop from start)) payload ∙ ap (λ n. n + length payload) (start_len start from to h)
+    length-append (take (to - from) (drop from start)) payload ∙ ap (λ n. n + length payload) (start_len start from to payload h)
 
 -- bytes behind a list's end are those of the next
 drop_beyond : (x y : List ℕ) (n : ℕ) → length x ≤ n → drop n (x ++ y) ≡ drop (n - length x) y
@@ -24,7 +24,7 @@ drop_beyond x y n le =
     ap (λ k. drop k (x ++ y)) (sym split) ∙ (sym (drop-drop (n - length x) (length x) (x ++ y)) ∙ ap (drop (n - length x)) (drop_at x y (length x) refl))
 
 -- what is left after bytes were handed out, of the start first
-pub left_after : (start : List ℕ) (from to : ℕ) (payload : List ℕ) (n of_start : ℕ) → IsHeld start from to → of_start ≡ min n (to - from)
+pub left_after : (start : List ℕ) (from to : ℕ) (payload : List ℕ) (n of_start : ℕ) → IsHeld start from to payload → of_start ≡ min n (to - from)
     → left_of start (from + of_start) to (drop (n - of_start) payload) ≡ drop n (left_of start from to payload)
 left_after start from to payload n of_start h is = elim (cases_lt (to - from) n) [
   | inl beyond ↦
@@ -48,7 +48,7 @@ left_after start from to payload n of_start h is = elim (cases_lt (to - from) n)
     part = take (to - from) (drop from start)
 
     size : length part ≡ to - from
-    size = start_len start from to h
+    size = start_len start from to payload h
 
 -- ---- all of them
 pub concat_push : (packets : List (List ℕ)) (packet : List ℕ) → concat (packets ++ packet ∷ []) ≡ concat packets ++ packet

@@ -1,6 +1,7 @@
 //! A device's link.
 
 ghost use Rattle.std.specs.Prelude.{◌≡◌, ◌<◌, ◌≤◌, ◌++◌, [], List, ℕ, length, take, drop, max, None, true, IfOk, OnOk, OnErr, MatchOption};
+ghost use Rattle.adb_wire.specs.Header.{byte_sum_of};
 ghost use Rattle.adb_wire.specs.Packet.{head_for, check_of};
 ghost use Rattle.adb_wire.specs.Format.{packet_under};
 ghost use Rattle.adb_wire.specs.Cutting.{cut_packets, goes_with_sum};
@@ -9,7 +10,7 @@ ghost use Rattle.adb_link.specs.Linked.{IsHeadOf, version_past};
 
 use crate::outbox::Outbox;
 use crate::outgoing::{MAX_SHORT, Outgoing};
-use adb_outside::HandOut;
+use adb_outside::{HandOut, Parts, SplitBytes};
 use adb_wire::{Command, Deframer, Head, MIN_VERSION, WireError, byte_sum};
 use bytes::Bytes;
 use std::alloc::{AllocError, Global};
@@ -133,7 +134,8 @@ impl Link {
         ensures ok { OnOk result (self.new ≡ owing self.old (packet_under head.now payload)) }
         ensures err { OnErr result (self.new ≡ self.old) }
     {
-        let head = head_to_send(self.version, head, payload.as_slice());
+        let payload = SplitBytes::whole(payload);
+        let head = head_to_send(self.version, head, payload.parts());
         self.outbox.push(Outgoing::new(&head, &[], payload))
     }
 
@@ -155,19 +157,23 @@ impl Link {
         requires short { length payload.now ≤ MAX_SHORT }
         ensures { self.new ≡ placing self.old (packet_under head.now payload.now) }
     {
-        let head = head_to_send(self.version, head, payload);
-        self.outbox
-            .push_spare(Outgoing::new(&head, payload, Bytes::new()));
+        let parts = Parts {
+            start: payload,
+            rest: &[],
+        };
+        let head = head_to_send(self.version, head, parts);
+        let none = SplitBytes::whole(Bytes::new());
+        self.outbox.push_spare(Outgoing::new(&head, payload, none));
     }
 
     /// A packet of that header and shared payload is due next, in a reserved place, with the link's
     /// check word. It takes no memory.
-    pub fn owe_slice_spare(&mut self, head: &Head, payload: Bytes)
+    pub fn owe_slice_spare(&mut self, head: &Head, payload: SplitBytes)
         requires place { 0 < self.old.spare }
         requires head { IsHeadOf head.now payload }
         ensures { self.new ≡ placing self.old (packet_under head.now payload) }
     {
-        let head = head_to_send(self.version, head, payload.as_slice());
+        let head = head_to_send(self.version, head, payload.parts());
         self.outbox.push_spare(Outgoing::new(&head, &[], payload));
     }
 
@@ -179,16 +185,17 @@ impl Link {
     }
 
     /// The first `max` bytes that are due, or all where there are fewer. The payload is shared where
-    /// the first packet alone has them, and else they are copied. Nothing changes.
+    /// the first packet alone has them, in one slice of it, and else they are copied. Nothing
+    /// changes.
     pub fn front(&self, max: usize) -> Result<HandOut, AllocError>
         ensures { IfOk result (λ bytes. bytes ≡ take max self.now.due) }
     {
         self.outbox.front(self.alloc, max)
     }
 
-    /// How many bytes to hand out at once, at most `max`, so that of no packet of 4 KiB or more a
-    /// payload is copied: such a packet's own, or those of the shorter ones before it; `max` where
-    /// there is none. It takes no memory.
+    /// How many bytes to hand out at once, at most `max`, so that no slice of a payload of 4 KiB or
+    /// more is copied: those up to its end where it is the first, or what stands before it; `max`
+    /// where there is none. It takes no memory.
     pub fn front_len(&self, max: usize) -> usize
         requires { 0 < max }
         ensures { (0 < result) × (result ≤ max) }
@@ -216,9 +223,9 @@ fn version_past(version: u32, command: Command, arg0: u32) -> u32
 }
 
 /// The header with the check word that it goes out with on a link of that version.
-fn head_to_send(version: u32, head: &Head, payload: &[u8]) -> Head
-    requires { IsHeadOf head.now payload.now }
-    ensures { let p = packet_under head.now payload.now in
+fn head_to_send(version: u32, head: &Head, payload: Parts<'_>) -> Head
+    requires { IsHeadOf head.now (payload.start.now ++ payload.rest.now) }
+    ensures { let p = packet_under head.now (payload.entry.start.now ++ payload.entry.rest.now) in
         result ≡ head_for p (check_of (goes_with_sum version p) p) }
 {
     let has_sum = match head.command {
@@ -230,6 +237,14 @@ fn head_to_send(version: u32, head: &Head, payload: &[u8]) -> Head
         arg0: head.arg0,
         arg1: head.arg1,
         length: head.length,
-        check: if has_sum { byte_sum(payload) } else { 0 },
+        check: if has_sum { sum_of(payload) } else { 0 },
     }
+}
+
+/// The sum of a payload's bytes, modulo 2^32.
+#[tactic(auto, using(crate::proofs::Sums::sum_both))]
+fn sum_of(payload: Parts<'_>) -> u32
+    ensures { result ≡ byte_sum_of (payload.entry.start.now ++ payload.entry.rest.now) }
+{
+    byte_sum(payload.start).wrapping_add(byte_sum(payload.rest))
 }

@@ -92,22 +92,22 @@ impl Outbox {
     }
 
     /// The first `max` bytes that are due, or all where there are fewer. The payload is shared where
-    /// the first packet alone has them, and else they are copied.
+    /// the first packet alone has them, in one slice of it, and else they are copied.
     pub(crate) fn front(&self, alloc: Global, max: usize) -> Result<HandOut, AllocError>
         ensures { IfOk result (λ bytes. bytes ≡ take max self.now.due) }
     {
         let n = max.min(self.owed);
-        if let Some(packet) = with_front(&self.packets, n) {
-            return packet.front(n);
+        if let Some(shared) = share(&self.packets, n)? {
+            return Ok(shared);
         }
         let mut text = Text::from_vec(Vec::with_capacity(alloc, n)?);
         fill(&mut text, &self.packets, max)?;
         Ok(HandOut::own(text))
     }
 
-    /// How many bytes to hand out at once, at most `max`, so that of no large packet a payload is
-    /// copied: those of the first packet where it is large, or of the short ones before the first
-    /// that is. It looks at no packet behind these.
+    /// How many bytes to hand out at once, at most `max`, so that no large slice of a payload is
+    /// copied: those of the first packet up to its first slice's end where that is large, or what
+    /// stands before the first slice that is. It looks at no packet behind these.
     pub(crate) fn front_len(&self, max: usize) -> usize
         requires { 0 < max }
         ensures { (0 < result) × (result ≤ max) }
@@ -117,11 +117,15 @@ impl Outbox {
             if short >= max {
                 break;
             }
-            let len = self.packets[i].len();
+            let packet = &self.packets[i];
+            let len = packet.first_len();
             if len >= MIN_SHARED {
                 return if short == 0 { len.min(max) } else { short };
             }
             short = short.saturating_add(len);
+            if len < packet.len() && short > 0 {
+                return short.min(max);
+            }
         }
         max
     }
@@ -157,15 +161,15 @@ impl Outbox {
     }
 }
 
-/// The first packet, if it has all of the first `n` bytes.
-fn with_front(packets: &VecDeque<Outgoing>, n: usize) -> Option<&Outgoing>
-    ensures { IfSome result (λ packet. take n packet.now ≡ take n (concat packets.now.items)) }
+/// The first `n` bytes, where the first packet alone has them, in one slice of its payload.
+fn share(packets: &VecDeque<Outgoing>, n: usize) -> Result<Option<HandOut>, AllocError>
+    ensures { IfOk result (λ shared. IfSome shared
+        (λ bytes. bytes ≡ take n (concat packets.now.items))) }
 {
-    let packet = packets.front()?;
-    if packet.len() < n {
-        return None;
+    match packets.front() {
+        Some(packet) => packet.share(n),
+        None => Ok(None),
     }
-    Some(packet)
 }
 
 /// Fills an empty text up to `max` bytes from packets, and looks at none behind these.

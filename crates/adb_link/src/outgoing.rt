@@ -1,9 +1,10 @@
 //! One packet that is due.
 
-ghost use Rattle.std.specs.Prelude.{◌≡◌, ◌<◌, ◌≤◌, ◌+◌, ◌-◌, ◌++◌, length, take, drop, IfOk, OnOk};
+ghost use Rattle.std.specs.Prelude.{◌≡◌, ◌<◌, ◌≤◌, ◌+◌, ◌-◌, ◌++◌, length, take, drop, IfOk, IfSome, OnOk};
 ghost use Rattle.adb_wire.specs.Header.{header_bytes};
+ghost use Rattle.adb_wire.specs.declared.headers.TheConstants.{MAX_PAYLOAD};
 
-use adb_outside::{HandOut, Text};
+use adb_outside::{HandOut, SplitBytes, Text};
 use adb_wire::{HEADER_LEN, Head, header};
 use bytes::Bytes;
 use std::alloc::AllocError;
@@ -30,7 +31,7 @@ pub(crate) struct Outgoing {
     from: usize,
     /// and up to here.
     to: usize,
-    payload: Bytes,
+    payload: SplitBytes,
 }
 
 impl Model for Outgoing {
@@ -41,7 +42,7 @@ impl Model for Outgoing {
 
     ghost view = { λ packet. left_of packet.start packet.from packet.to packet.payload };
 
-    ghost invariant = { λ packet. IsHeld packet.start packet.from packet.to };
+    ghost invariant = { λ packet. IsHeld packet.start packet.from packet.to packet.payload };
 }
 
 /// Writes bytes over those from a place on.
@@ -78,8 +79,9 @@ fn share_first(payload: &Bytes, max: usize) -> Result<Bytes, AllocError>
 
 impl Outgoing {
     /// A packet of a header, a short payload and a shared payload. It takes no memory.
-    pub(crate) fn new(head: &Head, short: &[u8], payload: Bytes) -> Outgoing
-        requires { length short.now ≤ MAX_SHORT }
+    pub(crate) fn new(head: &Head, short: &[u8], payload: SplitBytes) -> Outgoing
+        requires short { length short.now ≤ MAX_SHORT }
+        requires size { length payload ≤ MAX_PAYLOAD }
         ensures { result ≡ header_bytes head.now ++ short.now ++ payload }
     {
         let mut words = [0; HEADER_LEN];
@@ -102,22 +104,38 @@ impl Outgoing {
         self.to - self.from + self.payload.len()
     }
 
+    /// Up to where they can be handed out with no payload copied: with the first slice of it that
+    /// is left.
+    pub(crate) fn first_len(&self) -> usize
+        ensures { result ≤ length self.now }
+    {
+        self.to - self.from + self.payload.first().len()
+    }
+
     /// Fills a text up to `max` bytes from the front of those that are still due.
     pub(crate) fn fill(&self, text: &mut Text, max: usize) -> Result<(), AllocError>
         ensures { OnOk result (text.new ≡ text.old ++ take (max - length text.old) self.now) }
     {
         fill_up(text, &self.start[self.from..self.to], max)?;
-        fill_up(text, self.payload.as_slice(), max)
+        let payload = self.payload.parts();
+        fill_up(text, payload.start, max)?;
+        fill_up(text, payload.rest, max)
     }
 
-    /// The first `max` bytes of those that are still due, or all where there are fewer. Those of the
-    /// payload are shared.
-    pub(crate) fn front(&self, max: usize) -> Result<HandOut, AllocError>
-        ensures { IfOk result (λ bytes. bytes ≡ take max self.now) }
+    /// The first `n` bytes of those that are still due, where they reach over no more than the first
+    /// slice of the payload, which is shared.
+    pub(crate) fn share(&self, n: usize) -> Result<Option<HandOut>, AllocError>
+        ensures { IfOk result (λ shared. IfSome shared
+            (λ bytes. (n ≤ length self.now) × (bytes ≡ take n self.now))) }
     {
-        let start = first(&self.start[self.from..self.to], max);
-        let payload = share_first(&self.payload, max - start.len())?;
-        Ok(HandOut::framed(start, payload))
+        let start = &self.start[self.from..self.to];
+        let slice = self.payload.first();
+        if n > start.len() + slice.len() {
+            return Ok(None);
+        }
+        let start = first(start, n);
+        let payload = share_first(slice, n - start.len())?;
+        Ok(Some(HandOut::framed(start, payload)))
     }
 
     /// The first `n` bytes were handed out. It takes no memory.

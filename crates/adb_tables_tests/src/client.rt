@@ -3,7 +3,7 @@
 ghost use Rattle.std.specs.Prelude.{◌≤◌, length};
 
 use adb_client::Client;
-use adb_outside::MIN_SHARED;
+use adb_outside::{MIN_SHARED, SplitBytes};
 use bytes::Bytes;
 use std::alloc::{AllocError, Global};
 
@@ -13,11 +13,11 @@ fn is_without_last(client: &mut Client) -> Result<bool, AllocError> {
     client.prepare_cuts(client.held(), 1)?;
     client.take_back(client.held().min(2));
     let rest = cut_off(client, client.held())?;
-    Ok(rest.as_slice() == b"abc".as_slice() && client.held() == 0)
+    Ok(rest.parts().start == b"abc".as_slice() && rest.len() == 3 && client.held() == 0)
 }
 
 /// The first `n` bytes that are held, which are so no longer.
-fn cut_off(client: &mut Client, n: usize) -> Result<Bytes, AllocError>
+fn cut_off(client: &mut Client, n: usize) -> Result<SplitBytes, AllocError>
     requires { n ≤ length client.old.held }
 {
     client.prepare_cuts(n, 1)?;
@@ -31,6 +31,21 @@ pub fn bytes_are_taken_back(alloc: Global) -> Result<bool, AllocError> {
 
 /// The shortest slice that is not copied.
 const LARGE: &[u8] = &[0; MIN_SHARED];
+
+/// Whether so many large pieces are cut off at once as a first slice of that length, and a second.
+fn lie_so(client: &mut Client, pieces: usize, first: usize) -> Result<bool, AllocError> {
+    for _ in 0..pieces {
+        client.take_in(LARGE)?;
+    }
+    let all = cut_off(client, client.held())?;
+    Ok(all.parts().start.len() == first && all.len() == pieces * MIN_SHARED)
+}
+
+pub fn two_pieces_are_cut_off_as_they_are(alloc: Global) -> Result<bool, AllocError> {
+    let mut client = Client::new(alloc, 1, false)?;
+    let two = lie_so(&mut client, 2, MIN_SHARED)?;
+    Ok(two && lie_so(&mut client, 3, 3 * MIN_SHARED)?)
+}
 
 /// How many bytes may go out at once.
 const MOST: usize = 10_000;

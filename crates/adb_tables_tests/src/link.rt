@@ -3,7 +3,7 @@
 ghost use Rattle.std.specs.Prelude.{◌≡◌};
 
 use adb_link::Link;
-use adb_outside::MIN_SHARED;
+use adb_outside::{MIN_SHARED, SplitBytes};
 use adb_wire::{Command, HEADER_LEN, Head};
 use bytes::Bytes;
 use std::alloc::{AllocError, Global};
@@ -50,6 +50,29 @@ fn is_alone(link: &mut Link) -> Result<bool, AllocError> {
             && goes_out(link, MIN_SHARED, 1)
             && goes_out(link, MOST, 0),
     )
+}
+
+/// A slice that is not copied.
+const SLICE: &[u8] = &[0; MIN_SHARED];
+
+/// A write becomes due whose payload lies in two large slices.
+fn owe_split(link: &mut Link) -> Result<(), AllocError> {
+    link.reserve(1)?;
+    let payload = SplitBytes::new(Bytes::from_static(SLICE), Bytes::from_static(SLICE));
+    link.owe_slice_spare(&head(2 * SLICE.len() as u32), payload);
+    Ok(())
+}
+
+/// Whether each of the two slices goes out by itself, the first with the header.
+fn is_split(link: &mut Link) -> Result<bool, AllocError> {
+    owe_split(link)?;
+    let first = HEADER_LEN + MIN_SHARED;
+    Ok(goes_out(link, first, first) && goes_out(link, MIN_SHARED, MIN_SHARED) && link.owed() == 0)
+}
+
+pub fn a_split_payload_goes_out_by_slices(alloc: Global) -> Result<bool, AllocError> {
+    let mut link = Link::new(alloc);
+    is_split(&mut link)
 }
 
 pub fn a_large_packet_goes_out_alone(alloc: Global) -> Result<bool, AllocError> {

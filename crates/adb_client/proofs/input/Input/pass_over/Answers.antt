@@ -1,25 +1,24 @@
-use Rattle.std.proofs.Common.{◌≡◌, ◌-◌, ◌++◌, List, ℕ, All, subst, sym, ap, ◌∙◌, min, length, length-drop, rules, arith}
-use Rattle.adb_client.specs.Input.{Incoming, EndsWith}
+use Rattle.std.proofs.Common.{◌≡◌, ◌∙◌, ◌-◌, ◌++◌, List, ℕ, ap, drop, min, length, rules, arith}
+use Rattle.adb_client.specs.Input.{Incoming, Ahead}
 use Rattle.adb_client.proofs.Seams.{drop_some}
-use Rattle.adb_client.proofs.Ends.{ends_shorter}
 use Rattle.adb_client.proofs.input.Input.pass_over.Goals as goal
-
-pub invariant_of-self : goal.invariant_of-self
-invariant_of-self c =
-    let shorter : length c.advance.new.self ≡ length c.self.inside.front - c.min-some.result =
-    ap length c.advance.ensures ∙ length-drop c.min-some.result c.self.inside.front
-    in
-    record {
-      ends = subst (λ (l : List ℕ). All (EndsWith l) c.self.inside.handles.items) (sym c.advance.ensures)
-          (ends_shorter c.min-some.result c.self.inside.front c.self.inside.handles.items c.self.invariant.ends);
-      ready = omega (arith, shorter);
-      cuts = λ some. c.self.invariant.cuts (omega arith);
-    }
 
 pub returns : goal.returns
 returns c =
-    let some : c.min-some.result ≡ min c.args.n (length c.self.inside.front) = search rules in
-    let held : c.self.inside.front ++ c.self.inside.rest ≡ c.args.self.now.held = ap (λ (i : Incoming). i.held) c.self.view_is in
-    let ready : c.self.inside.ready ≡ c.args.self.now.ready = ap (λ (i : Incoming). i.ready) c.self.view_is in
-    let cuts : c.self.inside.cuts ≡ c.args.self.now.cuts = ap (λ (i : Incoming). i.cuts) c.self.view_is in
-    cc (drop_some c.self.inside.front c.self.inside.rest c.args.n c.min-some.result some)
+    let i = c.self.inside in
+    let one = i.fronts.bytes in
+    let n = c.args.n in
+    let some = c.min-some.result in
+    let is : some ≡ min n (length one) = search rules in
+    let front : c.advance.new.self.bytes ≡ drop some one = ap (λ (a : Ahead). a.bytes) c.advance.ensures.rest in
+    let ready : c.advance.new.self.ready ≡ i.fronts.ready - n =
+    ap (λ (a : Ahead). a.ready) c.advance.ensures.rest ∙ omega (arith, is, c.advance.ensures.within) in
+    let cuts : c.advance.new.self.cuts ≡ i.fronts.cuts = ap (λ (a : Ahead). a.cuts) c.advance.ensures.rest in
+    let held = ap (λ (l : List ℕ). l ++ c.advance-2.new.self) front
+    ∙ (ap (λ (l : List ℕ). drop some one ++ l) c.advance-2.ensures ∙ drop_some one i.rest n some is) in
+    let made : List ℕ → ℕ → ℕ → Incoming = λ l m k. record { held = l; ready = m; cuts = k } in
+    let after : Incoming → Incoming = λ a. record { held = drop n a.held; ready = a.ready - n; cuts = a.cuts } in
+    c.give_back.ensures
+    ∙ (ap (λ (l : List ℕ). made l c.advance.new.self.ready c.advance.new.self.cuts) held
+    ∙ (ap (λ (m : ℕ). made (drop n (one ++ i.rest)) m c.advance.new.self.cuts) ready
+    ∙ (ap (made (drop n (one ++ i.rest)) (i.fronts.ready - n)) cuts ∙ ap after c.self.view_is)))

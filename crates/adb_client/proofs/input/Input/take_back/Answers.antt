@@ -1,11 +1,20 @@
-use Rattle.std.proofs.Common.{◌≡◌, ◌-◌, ◌++◌, ℕ, ap, length, rules}
-use Rattle.adb_client.specs.Input.{Incoming}
+use Rattle.std.proofs.Common.{◌≡◌, ◌∙◌, ◌-◌, ◌++◌, List, ℕ, ap, sym, take, length, rules}
+use Rattle.adb_client.specs.Input.{Incoming, Ahead}
 use Rattle.adb_client.proofs.Seams.{take_both}
 use Rattle.adb_client.proofs.input.Input.take_back.Goals as goal
 
 pub returns : goal.returns
 returns c =
-    let left : c.len.result - c.args.n ≡ length c.args.self.now.held - c.args.n = ap (λ (n : ℕ). n - c.args.n) c.len.ensures in
-    let held : c.self.inside.front ++ c.self.inside.rest ≡ c.args.self.now.held = ap (λ (i : Incoming). i.held) c.self.view_is in
-    let back : c.saturating_sub.result ≡ (c.len.result - c.args.n) - length c.self.inside.front = search rules in
-    cc (left, take_both c.self.inside.front c.self.inside.rest (c.len.result - c.args.n))
+    let one = c.self.inside.fronts.bytes in
+    let rest = c.self.inside.rest in
+    let left : ℕ = c.len.result - c.args.n in
+    let back : c.saturating_sub.result ≡ left - length one = search rules in
+    let behind : c.truncate.new.self ≡ take (left - length one) rest = c.truncate.ensures ∙ ap (λ (m : ℕ). take m rest) back in
+    let made : Ahead → List ℕ → Incoming = λ a l. record { held = a.bytes ++ l; ready = a.ready; cuts = a.cuts } in
+    let whole : List ℕ → Incoming = λ l. record { held = l; ready = 0; cuts = 0 } in
+    let after : Incoming → Incoming = λ a. whole (take (length a.held - c.args.n) a.held) in
+    ap (λ (a : Ahead). made a c.truncate.new.self) c.truncate-2.ensures
+    ∙ (ap (λ (l : List ℕ). whole (take left one ++ l)) behind
+    ∙ (ap whole (sym (take_both one rest left))
+    ∙ (ap (λ (m : ℕ). whole (take (m - c.args.n) (one ++ rest))) (c.len.ensures.value ∙ sym (ap (λ (a : Incoming). length a.held) c.self.view_is))
+    ∙ ap after c.self.view_is)))

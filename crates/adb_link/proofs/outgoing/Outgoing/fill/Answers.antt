@@ -8,10 +8,12 @@ returns c =
     let own = c.self.inside in
     let text = c.args.text.now in
     let max = c.args.max in
+    let one = c.parts-payload.result.start.now in
+    let two = c.parts-payload.result.rest.now in
     let start : List ℕ = take (own.to - own.from) (drop own.from own.start) in
     let first : c.fill_up.new.text ≡ filled text max start = search rules in
-    let all : start ++ own.payload ≡ c.args.self.now = search rules in
-    let both = filled_both text start own.payload max ∙ ap (λ (bytes : List ℕ). filled text max bytes) all in
-    let last : c.as_slice.result.now ≡ own.payload = c.as_slice.ensures in
-    on_ok_weaker c.fill_up-2.result (λ is. is ∙
-    (ap (filled c.fill_up.new.text max) last ∙ (ap (λ (t : List ℕ). filled t max own.payload) first ∙ both))) c.fill_up-2.ensures
+    let second : c.fill_up-2.new.text ≡ filled (filled text max start) max one = search rules in
+    let all : start ++ (one ++ two) ≡ c.args.self.now = search rules in
+    let both = filled_both (filled text max start) one two max ∙ (filled_both text start (one ++ two) max
+    ∙ ap (λ (bytes : List ℕ). filled text max bytes) all) in
+    on_ok_weaker c.fill_up-3.result (λ is. is ∙ (ap (λ (t : List ℕ). filled t max two) second ∙ both)) c.fill_up-3.ensures
