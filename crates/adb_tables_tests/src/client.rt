@@ -38,7 +38,8 @@ fn lie_so(client: &mut Client, pieces: usize, first: usize) -> Result<bool, Allo
         client.take_in(LARGE)?;
     }
     let all = cut_off(client, client.held())?;
-    Ok(all.parts().start.len() == first && all.len() == pieces * MIN_SHARED)
+    let all_len = pieces.checked_mul(MIN_SHARED);
+    Ok(all.parts().start.len() == first && Some(all.len()) == all_len)
 }
 
 pub fn two_pieces_are_cut_off_as_they_are(alloc: Global) -> Result<bool, AllocError> {
