@@ -1,0 +1,90 @@
+//! What is tried, each by itself.
+
+use crate::{
+    client, copying, failing, files, forward, frames, input, link, load, recorders, records,
+    touched,
+};
+use std::alloc::{AllocError, Global};
+use std::sync::Wait;
+
+#[derive(Clone, Copy, Debug, Drop)]
+pub enum Case {
+    RecordsAreSpelled,
+    AllIsRecorded,
+    NothingFollowsATornRecord,
+    BytesAreTakenBack,
+    TwoPiecesAreCutOffAsTheyAre,
+    ALargeSliceGoesOutAlone,
+    ALargePacketGoesOutAlone,
+    ASplitPayloadGoesOutBySlices,
+    ForwardsAreRefused,
+    EachIsNamedOnce,
+    LoadsOfASeed,
+    TreesAreRefused,
+    FrontsAreFound,
+    InputIsRead,
+    FaultsAreTold,
+    FilesAreFilled,
+}
+
+pub const CASES: &[Case] = &[
+    Case::RecordsAreSpelled,
+    Case::AllIsRecorded,
+    Case::NothingFollowsATornRecord,
+    Case::BytesAreTakenBack,
+    Case::TwoPiecesAreCutOffAsTheyAre,
+    Case::ALargeSliceGoesOutAlone,
+    Case::ALargePacketGoesOutAlone,
+    Case::ASplitPayloadGoesOutBySlices,
+    Case::ForwardsAreRefused,
+    Case::EachIsNamedOnce,
+    Case::LoadsOfASeed,
+    Case::TreesAreRefused,
+    Case::FrontsAreFound,
+    Case::InputIsRead,
+    Case::FaultsAreTold,
+    Case::FilesAreFilled,
+];
+
+/// Which row does not hold of a case that has one.
+fn fault_of(holds: bool) -> Option<usize> {
+    if holds { None } else { Some(0) }
+}
+
+impl Case {
+    /// The number of the first of its rows, from 0, that does not hold; `None` where all do.
+    pub fn first_fault<W: Wait + Copy + Drop>(
+        self,
+        rt: W,
+        alloc: Global,
+    ) -> Result<Option<usize>, AllocError> {
+        Ok(match self {
+            Case::RecordsAreSpelled => records::first_fault(alloc)?,
+            Case::AllIsRecorded => fault_of(recorders::all_is_recorded(alloc)),
+            Case::NothingFollowsATornRecord => {
+                fault_of(recorders::nothing_follows_a_torn_record(alloc)?)
+            }
+            Case::BytesAreTakenBack => fault_of(client::bytes_are_taken_back(alloc)?),
+            Case::TwoPiecesAreCutOffAsTheyAre => {
+                fault_of(client::two_pieces_are_cut_off_as_they_are(alloc)?)
+            }
+            Case::ALargeSliceGoesOutAlone => {
+                fault_of(client::a_large_slice_goes_out_alone(alloc)?)
+            }
+            Case::ALargePacketGoesOutAlone => {
+                fault_of(link::a_large_packet_goes_out_alone(alloc)?)
+            }
+            Case::ASplitPayloadGoesOutBySlices => {
+                fault_of(link::a_split_payload_goes_out_by_slices(alloc)?)
+            }
+            Case::ForwardsAreRefused => fault_of(forward::forwards_are_refused(alloc)),
+            Case::EachIsNamedOnce => touched::each_is_named_once(alloc)?,
+            Case::LoadsOfASeed => load::loads_of_a_seed(alloc)?,
+            Case::TreesAreRefused => copying::first_fault(alloc)?,
+            Case::FrontsAreFound => frames::first_fault(),
+            Case::InputIsRead => input::first_fault(alloc)?,
+            Case::FaultsAreTold => failing::first_fault(rt, alloc)?,
+            Case::FilesAreFilled => fault_of(files::files_are_filled(alloc)),
+        })
+    }
+}

@@ -1,0 +1,90 @@
+//! What is tried, each by itself.
+
+use crate::{binder, connections, locked_hall, one_desk, pipes, served, spawner, streams, yard};
+use std::alloc::{AllocError, Global};
+use std::net::{Net, TcpListener, TcpStream};
+use std::sync::Wait;
+use std::thread::Threads;
+use std::time::Clock;
+
+#[derive(Clone, Copy, Debug, Drop)]
+pub enum Case {
+    DevicesAreUnplugged,
+    DevicesArePlugged,
+    PlacesHaveNumbers,
+    BindersGiveWhatIsAsked,
+    PortsAreOpened,
+    CrewsRunJobs,
+    PipesEnd,
+    PipesAreLost,
+    PipesRefuse,
+    BellsAreRung,
+    AClientIsServedByTwoThreads,
+    ADeskAnswersKeepsAndCounts,
+    AServerEndsAsTold,
+    ReadsStopShort,
+    WritesStopShort,
+    AYardGivesWhatItIsAsked,
+}
+
+pub const CASES: &[Case] = &[
+    Case::DevicesAreUnplugged,
+    Case::DevicesArePlugged,
+    Case::PlacesHaveNumbers,
+    Case::BindersGiveWhatIsAsked,
+    Case::PortsAreOpened,
+    Case::CrewsRunJobs,
+    Case::PipesEnd,
+    Case::PipesAreLost,
+    Case::PipesRefuse,
+    Case::BellsAreRung,
+    Case::AClientIsServedByTwoThreads,
+    Case::ADeskAnswersKeepsAndCounts,
+    Case::AServerEndsAsTold,
+    Case::ReadsStopShort,
+    Case::WritesStopShort,
+    Case::AYardGivesWhatItIsAsked,
+];
+
+/// Which row does not hold of a case that has one.
+fn fault_of(holds: bool) -> Option<usize> {
+    if holds { None } else { Some(0) }
+}
+
+impl Case {
+    /// The number of the first of its rows, from 0, that does not hold; `None` where all do.
+    pub fn first_fault<
+        W: Net<Listener = TcpListener, Stream = TcpStream>
+            + Threads
+            + Wait
+            + Clock
+            + Copy
+            + Send
+            + Sync
+            + Drop
+            + 'static,
+    >(self, rt: W, alloc: Global) -> Result<Option<usize>, AllocError> {
+        Ok(match self {
+            Case::DevicesAreUnplugged => fault_of(connections::devices_are_unplugged(alloc)),
+            Case::DevicesArePlugged => fault_of(connections::devices_are_plugged(alloc)),
+            Case::PlacesHaveNumbers => fault_of(connections::places_have_numbers()),
+            Case::BindersGiveWhatIsAsked => fault_of(binder::binders_give_what_is_asked(alloc)?),
+            Case::PortsAreOpened => fault_of(binder::ports_are_opened(alloc)?),
+            Case::CrewsRunJobs => fault_of(spawner::crews_run_jobs(rt, alloc)?),
+            Case::PipesEnd => fault_of(pipes::pipes_end(rt, alloc)?),
+            Case::PipesAreLost => fault_of(pipes::pipes_are_lost(rt, alloc)?),
+            Case::PipesRefuse => fault_of(pipes::pipes_refuse(rt, alloc)?),
+            Case::BellsAreRung => fault_of(locked_hall::rings_by_brand(alloc)?),
+            Case::AClientIsServedByTwoThreads => {
+                fault_of(locked_hall::serves_by_brand(rt, alloc)?)
+            }
+            Case::ADeskAnswersKeepsAndCounts => one_desk::first_fault(alloc)?,
+            Case::AServerEndsAsTold => served::first_fault(rt, alloc)?,
+            Case::ReadsStopShort => streams::first_bad_read(alloc)?,
+            Case::WritesStopShort => streams::first_bad_write(alloc)?,
+            Case::AYardGivesWhatItIsAsked => {
+                fault_of(yard::a_yard_gives_what_it_is_asked(rt, alloc)?)
+            }
+        })
+    }
+}

@@ -1,0 +1,299 @@
+//! A desk for one thread: what it answers, keeps and counts.
+
+ghost use Rattle.std.specs.Prelude.{◌≡◌};
+ghost use Rattle.adb_desk_log.specs.declared.marks.TheConstants.{ALL_PARTS};
+
+use crate::hands::{Client, asks, hands_out, is_answered, len_of};
+use adb_capture::MemoryRecorder;
+use adb_desk_log::{ALL_PARTS, ClientIn, ClientOut, DeskError, LinkIn, LinkOut, Marks};
+use adb_hall::Hall;
+use adb_hub::{MAX_HELD, Room};
+use adb_one_desk::OneDesk;
+use adb_outside::{Cause, Kind};
+use std::alloc::{AllocError, Global};
+use std::marker::Brand;
+use std::sync::ledger::{Blank, Ledger};
+
+/// The passes of a device.
+type Device<E, M, K> = (LinkIn<E, M, K>, LinkOut<E, M, K>);
+
+/// What is more than may be held is refused for now.
+fn holds_so_much<E: Ledger, M: Ledger, K: Marks, H: Hall<E, M, K>>(
+    hall: &mut H,
+    reading: &mut ClientIn<E, M, K>,
+    piece: &[u8],
+) -> bool {
+    hall.read(reading, &piece[..piece.len().min(MAX_HELD + 1)]) == Err(DeskError::Later)
+        && hall.room(reading) == Ok(Room::Bytes(MAX_HELD))
+}
+
+/// A recorder that fails shuts the hall: every later call has that answer.
+fn is_shut_by_its_recorder<E: Ledger, M: Ledger, K: Marks, H: Hall<E, M, K>>(
+    hall: &mut H,
+    reading: &mut ClientIn<E, M, K>,
+) -> bool {
+    hall.read(reading, b"x") == Err(DeskError::RecordFault)
+        && hall.end(reading, Cause::Eof) == Err(DeskError::RecordFault)
+        && hall.over() == Some(DeskError::RecordFault)
+}
+
+/// The first packet of a device that takes 4,096 bytes at once.
+const CNXN: &[u8] = b"CNXN\x01\0\0\x01\0\x10\0\0\x08\0\0\0\0\0\0\0\xbc\xb1\xa7\xb1device::";
+
+/// What it answers a stream that is asked for first, and a write of that.
+const OKAY: &[u8] = b"OKAY\x07\0\0\0\x01\0\0\0\0\0\0\0\0\0\0\0\xb0\xb4\xbe\xa6";
+
+/// The header of what the device writes to that stream: 4,096 bytes.
+const WRTE: &[u8] = b"WRTE\x07\0\0\0\x01\0\0\0\0\x10\0\0\0\0\0\0\xa8\xad\xab\xba";
+
+/// A client opens a stream to a device, and sends until a write is out and as much is held as may
+/// be.
+fn fills_a_stream<E: Ledger, M: Ledger, K: Marks, H: Hall<E, M, K>>(
+    hall: &mut H,
+    link: &mut LinkIn<E, M, K>,
+    reading: &mut ClientIn<E, M, K>,
+    piece: &[u8],
+) -> bool {
+    hall.recv(link, CNXN).is_ok()
+        && hall
+            .read(reading, b"0012host:transport-any0009shell:cat")
+            .is_ok()
+        && hall.recv(link, OKAY).is_ok()
+        && hall.read(reading, &piece[..piece.len().min(4_096)]).is_ok()
+        && hall
+            .read(reading, &piece[..piece.len().min(MAX_HELD)])
+            .is_ok()
+}
+
+/// While that write is out nothing more is taken; its answer makes room for the next write.
+fn frees_what_goes_up<E: Ledger, M: Ledger, K: Marks, H: Hall<E, M, K>>(
+    hall: &mut H,
+    link: &mut LinkIn<E, M, K>,
+    reading: &mut ClientIn<E, M, K>,
+) -> bool {
+    hall.read(reading, b"x") == Err(DeskError::Later)
+        && hall.room(reading) == Ok(Room::Later)
+        && hall.recv(link, OKAY).is_ok()
+        && hall.room(reading) == Ok(Room::Bytes(4_096))
+}
+
+/// What is due before a large packet goes out to a device first, a packet of 58 and one of 34
+/// bytes, and then the large packet alone.
+fn sends_a_large_packet_alone<E: Ledger, M: Ledger, K: Marks, H: Hall<E, M, K>>(
+    hall: &mut H,
+    sender: &mut LinkOut<E, M, K>,
+) -> bool {
+    len_of(hall.send_front(sender, MAX_HELD)) == 92
+        && len_of(hall.send_front(sender, MAX_HELD)) == WRTE.len() + 4_096
+        && len_of(hall.send_front(sender, MAX_HELD)) == 0
+}
+
+/// What is due before a large payload goes out to a client first, and then the payload alone.
+fn puts_a_large_payload_alone<E: Ledger, M: Ledger, K: Marks, H: Hall<E, M, K>>(
+    hall: &mut H,
+    link: &mut LinkIn<E, M, K>,
+    writing: &mut ClientOut<E, M, K>,
+    piece: &[u8],
+) -> bool {
+    hall.recv(link, WRTE).is_ok()
+        && hall.recv(link, &piece[..piece.len().min(4_096)]).is_ok()
+        && hands_out(hall.put_front(writing, MAX_HELD), b"OKAYOKAY")
+        && len_of(hall.put_front(writing, MAX_HELD)) == 4_096
+        && len_of(hall.put_front(writing, MAX_HELD)) == 0
+}
+
+/// What is tried, by a client and a device.
+#[derive(Clone, Copy, Drop)]
+enum Case {
+    Counts,
+    Holds,
+    Frees,
+    Fronts,
+    Shuts,
+}
+
+impl Case {
+    fn holds<E: Ledger, M: Ledger, K: Marks, H: Hall<E, M, K>>(
+        self,
+        hall: &mut H,
+        client: &mut Client<E, M, K>,
+        device: &mut Device<E, M, K>,
+        piece: &[u8],
+    ) -> bool {
+        let (reading, writing) = client;
+        let (link, sender) = device;
+        match self {
+            Case::Counts => asks(hall, reading) && is_answered(hall, writing),
+            Case::Holds => holds_so_much(hall, reading, piece),
+            Case::Frees => {
+                fills_a_stream(hall, link, reading, piece)
+                    && frees_what_goes_up(hall, link, reading)
+            }
+            Case::Fronts => {
+                fills_a_stream(hall, link, reading, piece)
+                    && sends_a_large_packet_alone(hall, sender)
+                    && puts_a_large_payload_alone(hall, link, writing, piece)
+            }
+            Case::Shuts => is_shut_by_its_recorder(hall, reading),
+        }
+    }
+}
+
+/// A case over a recorder that fails at one call, or at none where that is 0.
+#[derive(Clone, Copy, Drop)]
+struct Row {
+    case: Case,
+    failing: u64,
+    /// How many entries are kept.
+    entries: u64,
+    /// How many bytes they move.
+    moved: u64,
+}
+
+const ROWS: &[Row] = &[
+    Row {
+        case: Case::Counts,
+        failing: 0,
+        entries: 4,
+        moved: 28,
+    },
+    Row {
+        case: Case::Holds,
+        failing: 0,
+        entries: 2,
+        moved: 0,
+    },
+    Row {
+        case: Case::Frees,
+        failing: 0,
+        entries: 8,
+        moved: 69_751,
+    },
+    Row {
+        case: Case::Fronts,
+        failing: 0,
+        entries: 13,
+        moved: 82_163,
+    },
+    Row {
+        case: Case::Shuts,
+        failing: 3,
+        entries: 2,
+        moved: 0,
+    },
+];
+
+/// The first client and the first device come.
+fn seats<E: Ledger, M: Ledger, K: Marks, H: Hall<E, M, K>>(
+    hall: &mut H,
+) -> Option<(Client<E, M, K>, Device<E, M, K>)> {
+    let client = hall.join().ok();
+    client.zip(hall.attach(Kind::Usb, b"emu1").ok())
+}
+
+/// All passes are handed back.
+fn retire<E: Ledger, M: Ledger, K: Marks>(
+    hall: &mut OneDesk<MemoryRecorder, E, M, K>,
+    client: Client<E, M, K>,
+    device: Device<E, M, K>,
+) {
+    hall.retire_client_in(client.0);
+    hall.retire_client_out(client.1);
+    hall.retire_link_in(device.0);
+    hall.retire_link_out(device.1);
+}
+
+impl Row {
+    /// Whether so many entries were kept, and so many counted.
+    fn counts<E: Ledger, M: Ledger, K: Marks>(
+        self,
+        hall: &mut OneDesk<MemoryRecorder, E, M, K>,
+    ) -> bool {
+        hall.recorder().entries().len() as u64 == self.entries
+            && hall.entries() == Some(self.entries)
+            && hall.moved() == Some(self.moved)
+    }
+
+    /// Whether the case holds, and its entries are counted once the passes are back, not before.
+    fn holds_of<E: Ledger, M: Ledger, K: Marks>(
+        self,
+        hall: &mut OneDesk<MemoryRecorder, E, M, K>,
+        client: Client<E, M, K>,
+        device: Device<E, M, K>,
+        piece: &[u8],
+    ) -> bool {
+        let mut client = client;
+        let mut device = device;
+        let holds = self.case.holds(hall, &mut client, &mut device, piece);
+        let out = hall.entries().is_none();
+        retire(hall, client, device);
+        holds && out && self.counts(hall)
+    }
+}
+
+/// A hall at which a row is tried.
+trait Trial: Drop {
+    /// Whether the row holds of the first client and the first device.
+    fn holds(&mut self, row: Row, piece: &[u8]) -> bool;
+}
+
+impl<E: Ledger, M: Ledger, K: Marks> Trial for OneDesk<MemoryRecorder, E, M, K> {
+    fn holds(&mut self, row: Row, piece: &[u8]) -> bool {
+        match seats(self) {
+            Some((client, device)) => row.holds_of(self, client, device, piece),
+            None => false,
+        }
+    }
+}
+
+/// Owns the hall, whatever it is: so its drop is proved over any type.
+fn holds_over<T: Trial>(hall: T, row: Row, piece: &[u8]) -> bool {
+    let mut hall = hall;
+    hall.holds(row, piece)
+}
+
+fn tried<E: Ledger, M: Ledger, K: Marks>(
+    row: Row,
+    alloc: Global,
+    failing: Vec<u64>,
+    piece: &[u8],
+    entries: Blank,
+    moved: Blank,
+    marks: Blank,
+) -> bool
+    requires entries { (entries.name ≡ E.name) × (entries.parts ≡ E.parts)
+        × (entries.parts ≡ ALL_PARTS) }
+    requires moved { (moved.name ≡ M.name) × (moved.parts ≡ M.parts)
+        × (moved.parts ≡ ALL_PARTS) }
+    requires marks { (marks.name ≡ K.name) × (marks.parts ≡ K.parts)
+        × (marks.parts ≡ ALL_PARTS) }
+    requires unsteady { K.steady → ⊥ }
+{
+    let recorder = MemoryRecorder::new(alloc, failing);
+    let hall = OneDesk::<MemoryRecorder, E, M, K>::new(alloc, recorder, entries, moved, marks);
+    holds_over(hall, row, piece)
+}
+
+fn holds(row: Row, alloc: Global) -> Result<bool, AllocError> {
+    let piece = vec![in alloc; b'f'; MAX_HELD + 1]?;
+    let failing = Vec::from_slice(alloc, &[row.failing])?;
+    Ok(tried::<Brand, Brand, Brand>(
+        row,
+        alloc,
+        failing,
+        &piece,
+        Blank::new(ALL_PARTS),
+        Blank::new(ALL_PARTS),
+        Blank::new(ALL_PARTS),
+    ))
+}
+
+/// The number of the first row that does not hold.
+pub fn first_fault(alloc: Global) -> Result<Option<usize>, AllocError> {
+    for (at, &row) in ROWS.iter().enumerate() {
+        if !holds(row, alloc)? {
+            return Ok(Some(at));
+        }
+    }
+    Ok(None)
+}

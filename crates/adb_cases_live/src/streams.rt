@@ -1,0 +1,141 @@
+//! Streams of the system that stop short, are interrupted and fail.
+
+ghost use Rattle.std.specs.Prelude.{◌≤◌, IfOk};
+
+use adb_outside::{Got, Sink, Source, Wrote};
+use adb_serving::Stream;
+use std::alloc::{AllocError, Global};
+use std::io;
+use std::io::{ErrorKind, Read, Write};
+
+/// What a call of a fake stream does.
+#[derive(Clone, Copy, Drop)]
+enum Step {
+    /// It moves at most so many bytes.
+    Moves(usize),
+    /// It fails so.
+    Fails(ErrorKind),
+}
+
+/// A stream whose calls do the steps in turn, and then move nothing. The bytes that are read count
+/// up from 1, and those that are written are kept.
+#[derive(Drop)]
+struct Fake {
+    steps: Vec<Step>,
+    calls: usize,
+    given: u8,
+    kept: Vec<u8>,
+}
+
+impl Fake {
+    fn new(alloc: Global, steps: &[Step]) -> Result<Fake, AllocError> {
+        Ok(Fake {
+            steps: Vec::from_slice(alloc, steps)?,
+            calls: 0,
+            given: 0,
+            kept: Vec::new(alloc),
+        })
+    }
+
+    /// How many of so many bytes the next call moves.
+    fn step(&mut self, len: usize) -> io::Result<usize>
+        ensures { IfOk result (λ count. count ≤ len) }
+    {
+        let step = self.steps.get(self.calls).copied();
+        self.calls = self.calls.saturating_add(1);
+        match step {
+            None => Ok(0),
+            Some(Step::Moves(count)) => Ok(count.min(len)),
+            Some(Step::Fails(kind)) => Err(io::Error::from(kind)),
+        }
+    }
+}
+
+impl Read for Fake {
+    fn read(&mut self, into: &mut [u8]) -> io::Result<usize> {
+        let count = self.step(into.len())?;
+        for byte in &mut into[..count] {
+            self.given = self.given.wrapping_add(1);
+            *byte = self.given;
+        }
+        Ok(count)
+    }
+}
+
+impl Write for &mut Fake {
+    fn write(&mut self, piece: &[u8]) -> io::Result<usize> {
+        let count = self.step(piece.len())?;
+        self.kept.extend_from_slice(&piece[..count])?;
+        Ok(count)
+    }
+
+    fn flush(&mut self) -> io::Result<()> {
+        Ok(())
+    }
+}
+
+const READS: &[Step] = &[
+    Step::Fails(ErrorKind::Interrupted),
+    Step::Moves(9),
+    Step::Fails(ErrorKind::Other),
+    Step::Moves(1),
+];
+
+/// What the reads into two bytes answer, and what these are then.
+const GOT: &[(Got, [u8; 2])] = &[
+    (Got::Bytes(2), [1, 2]),
+    (Got::Failed, [1, 2]),
+    (Got::Bytes(1), [3, 2]),
+    (Got::End, [3, 2]),
+];
+
+/// The number of the first of the reads that answers otherwise.
+pub fn first_bad_read(alloc: Global) -> Result<Option<usize>, AllocError> {
+    let mut source = Stream::new(Fake::new(alloc, READS)?);
+    Ok(bad_read(&mut source))
+}
+
+fn bad_read(source: &mut impl Source) -> Option<usize> {
+    let mut into = [0; 2];
+    for (at, &(want, bytes)) in GOT.iter().enumerate() {
+        if source.read(&mut into) != want || into != bytes {
+            return Some(at);
+        }
+    }
+    None
+}
+
+const WRITES: &[Step] = &[
+    Step::Moves(1),
+    Step::Fails(ErrorKind::Interrupted),
+    Step::Moves(9),
+    Step::Moves(1),
+    Step::Fails(ErrorKind::BrokenPipe),
+];
+
+/// Pieces, and what their writes answer.
+const WROTE: &[(&[u8; 3], Wrote)] = &[
+    (b"abc", Wrote::All),
+    (b"def", Wrote::Failed { taken: 1 }),
+    (b"ghi", Wrote::Failed { taken: 0 }),
+];
+
+fn bad_write(sink: &mut impl Sink) -> Option<usize> {
+    for (at, &(piece, want)) in WROTE.iter().enumerate() {
+        if sink.write(piece) != want {
+            return Some(at);
+        }
+    }
+    None
+}
+
+/// The number of the first of the writes that answers otherwise, or behind them all, where they
+/// did not write what they took.
+pub fn first_bad_write(alloc: Global) -> Result<Option<usize>, AllocError> {
+    let mut written = Fake::new(alloc, WRITES)?;
+    Ok(match bad_write(&mut Stream::new(&mut written)) {
+        Some(at) => Some(at),
+        None if written.kept.as_slice() == b"abcd".as_slice() => None,
+        None => Some(WROTE.len()),
+    })
+}
