@@ -1,6 +1,6 @@
 //! A slice of which pieces can be cut off without memory.
 
-ghost use Rattle.std.specs.Prelude.{◌≡◌, ◌<◌, ◌≤◌, ◌+◌, ◌-◌, ◌^◌, [], length, take, drop, vec_len, All, IfOk};
+ghost use Rattle.std.specs.Prelude.{◌≡◌, ◌<◌, ◌≤◌, ◌+◌, ◌-◌, ◌^◌, [], length, take, drop, vec_len, All, IfOk, OnOk, OnErr};
 ghost use Rattle.adb_client.specs.Input.{EndsWith};
 
 use crate::slices::share;
@@ -59,11 +59,13 @@ impl Front {
         })
     }
 
-    /// The same slice with so many handles.
-    pub(crate) fn with_handles(&self, handles: usize) -> Result<Front, AllocError>
-        ensures { IfOk result (λ front. front ≡ record self.now { handles = handles }) }
+    /// Makes so many handles, in the place of those that there are.
+    pub(crate) fn hold(&mut self, handles: usize) -> Result<(), AllocError>
+        ensures ok { OnOk result (self.new ≡ record self.old { handles = handles }) }
+        ensures err { OnErr result (self.new ≡ self.old) }
     {
-        Front::held(self.alloc, share(&self.bytes)?, handles)
+        self.handles = handles_of(self.alloc, &self.bytes, handles)?;
+        Ok(())
     }
 
     pub(crate) fn as_slice(&self) -> &[u8]

@@ -136,14 +136,15 @@ impl Fronts {
 
     /// The first `ready` bytes are ready, in `cuts` pieces.
     pub(crate) fn hold(&mut self, ready: usize, cuts: usize) -> Result<(), AllocError>
-        requires { ready ≤ length self.old.bytes }
+        requires within { ready ≤ length self.old.bytes }
+        requires more { self.old.cuts ≤ cuts }
         ensures ok { OnOk result (self.new ≡ record self.old { ready = ready; cuts = cuts }) }
         ensures err { OnErr result (self.new ≡ self.old) }
     {
-        let first = self.first.with_handles(cuts)?;
-        let behind = if ready > first.len() { cuts } else { 0 };
-        self.second = self.second.with_handles(behind)?;
-        self.first = first;
+        self.first.hold(cuts)?;
+        if ready > self.first.len() {
+            self.second.hold(cuts)?;
+        }
         self.ready = ready;
         self.cuts = cuts;
         Ok(())

@@ -177,6 +177,7 @@ impl Input {
     /// as a copy.
     fn hold_cuts(&mut self, ready: usize, cuts: usize) -> Result<(), AllocError>
         requires within { ready ≤ length self.old.held }
+        requires more { self.old.cuts ≤ cuts }
         ensures ok { OnOk result (self.new ≡ record self.old { ready = ready; cuts = cuts }) }
         ensures err { OnErr result (self.new ≡ self.old) }
     {
