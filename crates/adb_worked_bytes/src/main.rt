@@ -13,22 +13,29 @@ mod telling;
 mod wire;
 
 use kind::{KINDS, Kind};
+use std::process::ExitCode;
 use std::{fs, io};
 
 /// Writes a line for each kind: how many of its cases go as told, and what is left behind these.
-fn main(rt: HostRuntime) -> io::Result<()> {
+/// Ends with status 1 where something is.
+fn main(rt: HostRuntime) -> io::Result<ExitCode> {
+    let mut code = ExitCode::SUCCESS;
     for kind in KINDS {
-        play(&rt, kind)?;
+        if play(&rt, kind)? > 0 {
+            code = ExitCode::FAILURE;
+        }
     }
-    Ok(())
+    Ok(code)
 }
 
-fn play(rt: &HostRuntime, kind: Kind) -> io::Result<()> {
+/// Plays the text of a kind; says how many of its bytes are left.
+fn play(rt: &HostRuntime, kind: Kind) -> io::Result<usize> {
     let text = fs::read(rt, kind.file())?;
     tell(rt, kind, text.as_slice())
 }
 
-fn tell(rt: &HostRuntime, kind: Kind, text: &[u8]) -> io::Result<()> {
+fn tell(rt: &HostRuntime, kind: Kind, text: &[u8]) -> io::Result<usize> {
     let (count, left) = cases::play(rt.alloc(), kind, text)?;
-    println!(rt; "{}: {count} cases as told, {left} bytes left", kind.file())
+    println!(rt; "{}: {count} cases as told, {left} bytes left", kind.file())?;
+    Ok(left)
 }
