@@ -1,6 +1,6 @@
 //! What is tried, each by itself.
 
-use crate::{binder, connections, locked_hall, one_desk, pipes, served, spawner, streams, yard};
+use crate::{binder, connections, pipes, served, spawner, streams, yard};
 use std::alloc::{AllocError, Global};
 use std::net::{Net, TcpListener, TcpStream};
 use std::sync::Wait;
@@ -18,9 +18,6 @@ pub enum Case {
     PipesEnd,
     PipesAreLost,
     PipesRefuse,
-    BellsAreRung,
-    AClientIsServedByTwoThreads,
-    ADeskAnswersKeepsAndCounts,
     AServerEndsAsTold,
     ReadsStopShort,
     WritesStopShort,
@@ -37,9 +34,6 @@ pub const CASES: &[Case] = &[
     Case::PipesEnd,
     Case::PipesAreLost,
     Case::PipesRefuse,
-    Case::BellsAreRung,
-    Case::AClientIsServedByTwoThreads,
-    Case::ADeskAnswersKeepsAndCounts,
     Case::AServerEndsAsTold,
     Case::ReadsStopShort,
     Case::WritesStopShort,
@@ -74,11 +68,6 @@ impl Case {
             Case::PipesEnd => fault_of(pipes::pipes_end(rt, alloc)?),
             Case::PipesAreLost => fault_of(pipes::pipes_are_lost(rt, alloc)?),
             Case::PipesRefuse => fault_of(pipes::pipes_refuse(rt, alloc)?),
-            Case::BellsAreRung => fault_of(locked_hall::rings_by_brand(alloc)?),
-            Case::AClientIsServedByTwoThreads => {
-                fault_of(locked_hall::serves_by_brand(rt, alloc)?)
-            }
-            Case::ADeskAnswersKeepsAndCounts => one_desk::first_fault(alloc)?,
             Case::AServerEndsAsTold => served::first_fault(rt, alloc)?,
             Case::ReadsStopShort => streams::first_bad_read(alloc)?,
             Case::WritesStopShort => streams::first_bad_write(alloc)?,

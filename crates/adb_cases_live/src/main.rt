@@ -5,9 +5,6 @@
 mod binder;
 mod case;
 mod connections;
-mod hands;
-mod locked_hall;
-mod one_desk;
 mod pipes;
 mod rows;
 mod served;

@@ -1,4 +1,4 @@
-use Rattle.adb_cases_live.proofs.locked_hall.serves_by_brand.Given as goal
+use Rattle.adb_cases_halls.proofs.locked_hall.serves_by_brand.Given as goal
 
 abbrev pub ghosts-serves-E-Ledger : goal.ghosts-serves-E-Ledger
 ghosts-serves-E-Ledger g a = record { name = a.entries.name; parts = a.entries.parts }

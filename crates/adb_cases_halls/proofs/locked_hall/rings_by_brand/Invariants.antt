@@ -1,4 +1,4 @@
-use Rattle.adb_cases_live.proofs.locked_hall.rings_by_brand.Given as goal
+use Rattle.adb_cases_halls.proofs.locked_hall.rings_by_brand.Given as goal
 
 abbrev pub ghosts-rings-E-Ledger : goal.ghosts-rings-E-Ledger
 ghosts-rings-E-Ledger a = record { name = a.entries.name; parts = a.entries.parts }

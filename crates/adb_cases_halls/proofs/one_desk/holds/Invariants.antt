@@ -1,4 +1,4 @@
-use Rattle.adb_cases_live.proofs.one_desk.holds.Given as goal
+use Rattle.adb_cases_halls.proofs.one_desk.holds.Given as goal
 
 abbrev pub ghosts-tried-E-Ledger : goal.ghosts-tried-E-Ledger
 ghosts-tried-E-Ledger a = record { name = a.entries.name; parts = a.entries.parts }

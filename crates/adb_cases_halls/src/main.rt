@@ -1,0 +1,32 @@
+//! Tries halls where no clause says what they do, and tells of each case whether it holds.
+#![tactic(auto)]
+
+mod case;
+mod hands;
+mod locked_hall;
+mod one_desk;
+
+use case::{CASES, Case};
+use std::io;
+use std::process::ExitCode;
+
+/// Writes a line for each case. Ends with status 1 where one does not hold.
+fn main(rt: HostRuntime) -> io::Result<ExitCode> {
+    let mut code = ExitCode::SUCCESS;
+    for &case in CASES {
+        let fault = case.first_fault(rt, rt.alloc())?;
+        tell(&rt, case, fault)?;
+        if fault.is_some() {
+            code = ExitCode::FAILURE;
+        }
+    }
+    Ok(code)
+}
+
+/// Writes that a case holds, or which of its rows is the first that does not.
+fn tell(rt: &HostRuntime, case: Case, fault: Option<usize>) -> io::Result<()> {
+    match fault {
+        None => println!(rt; "{case:?}: holds"),
+        Some(row) => println!(rt; "{case:?}: row {row} does not hold"),
+    }
+}
