@@ -13,7 +13,8 @@ pub enum Case {
     AllIsRecorded,
     NothingFollowsATornRecord,
     BytesAreTakenBack,
-    TwoPiecesAreCutOffAsTheyAre,
+    TwoMemoriesAreCutOffAsTheyAre,
+    PiecesBehindASliceLieInOneMemory,
     ALargeSliceGoesOutAlone,
     ALargePacketGoesOutAlone,
     ASplitPayloadGoesOutBySlices,
@@ -32,7 +33,8 @@ pub const CASES: &[Case] = &[
     Case::AllIsRecorded,
     Case::NothingFollowsATornRecord,
     Case::BytesAreTakenBack,
-    Case::TwoPiecesAreCutOffAsTheyAre,
+    Case::TwoMemoriesAreCutOffAsTheyAre,
+    Case::PiecesBehindASliceLieInOneMemory,
     Case::ALargeSliceGoesOutAlone,
     Case::ALargePacketGoesOutAlone,
     Case::ASplitPayloadGoesOutBySlices,
@@ -65,8 +67,11 @@ impl Case {
                 fault_of(recorders::nothing_follows_a_torn_record(alloc)?)
             }
             Case::BytesAreTakenBack => fault_of(client::bytes_are_taken_back(alloc)?),
-            Case::TwoPiecesAreCutOffAsTheyAre => {
-                fault_of(client::two_pieces_are_cut_off_as_they_are(alloc)?)
+            Case::TwoMemoriesAreCutOffAsTheyAre => {
+                fault_of(client::two_memories_are_cut_off_as_they_are(alloc)?)
+            }
+            Case::PiecesBehindASliceLieInOneMemory => {
+                fault_of(client::pieces_behind_a_slice_lie_in_one_memory(alloc)?)
             }
             Case::ALargeSliceGoesOutAlone => {
                 fault_of(client::a_large_slice_goes_out_alone(alloc)?)

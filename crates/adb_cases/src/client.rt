@@ -32,20 +32,42 @@ pub fn bytes_are_taken_back(alloc: Global) -> Result<bool, AllocError> {
 /// The shortest slice that is not copied.
 const LARGE: &[u8] = &[0; MIN_SHARED];
 
-/// Whether so many large pieces are cut off at once as a first slice of that length, and a second.
-fn lie_so(client: &mut Client, pieces: usize, first: usize) -> Result<bool, AllocError> {
-    for _ in 0..pieces {
-        client.take_in(LARGE)?;
+/// The length of a piece of which two do not lie in one memory.
+const HALF_LEN: usize = 40_000;
+
+const HALF: &[u8] = &[0; HALF_LEN];
+
+/// Whether what is held with pieces that come is cut off at once, as a first slice of that length and
+/// a second.
+fn lie_so(client: &mut Client, pieces: &[&[u8]], first: usize) -> Result<bool, AllocError> {
+    for piece in pieces {
+        client.take_in(piece)?;
     }
-    let all = cut_off(client, client.held())?;
-    let all_len = pieces.checked_mul(MIN_SHARED);
-    Ok(all.parts().start.len() == first && Some(all.len()) == all_len)
+    let held = client.held();
+    let all = cut_off(client, held)?;
+    Ok(all.parts().start.len() == first && all.len() == held)
 }
 
-pub fn two_pieces_are_cut_off_as_they_are(alloc: Global) -> Result<bool, AllocError> {
+pub fn two_memories_are_cut_off_as_they_are(alloc: Global) -> Result<bool, AllocError> {
     let mut client = Client::new(alloc, 1, false)?;
-    let two = lie_so(&mut client, 2, MIN_SHARED)?;
-    Ok(two && lie_so(&mut client, 3, 3 * MIN_SHARED)?)
+    let two = lie_so(&mut client, &[HALF, HALF], HALF_LEN)?;
+    Ok(two && lie_so(&mut client, &[HALF, HALF, HALF], 3 * HALF_LEN)?)
+}
+
+/// Whether pieces that come behind what is left of a slice are cut off with it, uncopied.
+fn lie_behind(client: &mut Client) -> Result<bool, AllocError> {
+    client.take_in(HALF)?;
+    let cut = cut_off(client, client.held().min(MIN_SHARED))?;
+    lie_so(
+        client,
+        &[LARGE, b"a", LARGE],
+        HALF_LEN.saturating_sub(cut.len()),
+    )
+}
+
+pub fn pieces_behind_a_slice_lie_in_one_memory(alloc: Global) -> Result<bool, AllocError> {
+    let mut client = Client::new(alloc, 1, false)?;
+    lie_behind(&mut client)
 }
 
 /// How many bytes may go out at once.

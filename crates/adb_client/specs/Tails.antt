@@ -5,9 +5,9 @@ use Rattle.adb_client.specs.declared.tail.Tail.TheInside.{Inside}
 
 -- the bytes of the pieces, and those that are gathered
 abbrev pub bytes_of : Inside → List ℕ
-bytes_of t = concat t.pieces.items ++ t.gathered.items
+bytes_of t = concat t.pieces.items ++ t.gathered
 
 -- The bytes in pieces are counted, and all can be.
 pub record IsTail (t : Inside) : Type 0 where
   pub counted : t.in_pieces ≡ length (concat t.pieces.items)
-  pub bounded : t.in_pieces + length t.gathered.items < 2 ^ 63
+  pub bounded : t.in_pieces + length t.gathered < 2 ^ 63

@@ -119,17 +119,16 @@ impl Fronts {
     /// The first slices of a tail come behind, as long as there are fewer than `n` bytes and not two
     /// slices.
     pub(crate) fn take_from(&mut self, rest: &mut Tail, n: usize) -> Result<(), AllocError>
-        requires enough { n ≤ length self.old.bytes + length rest.old }
         requires bound { length self.old.bytes + length rest.old < 2 ^ 63 }
         ensures bytes { self.new.bytes ++ rest.new ≡ self.old.bytes ++ rest.old }
         ensures same { (self.new.ready ≡ self.old.ready) × (self.new.cuts ≡ self.old.cuts) }
     {
-        if self.first.len() == 0 {
-            self.first = Front::bare(self.alloc, rest.take_front(n)?);
+        if self.first.len() == 0 && 0 < n {
+            self.first = Front::bare(self.alloc, rest.take_front()?);
         }
         let len = self.first.len();
         if self.second.len() == 0 && 0 < len && len < n {
-            self.second = Front::bare(self.alloc, rest.take_front(n - len)?);
+            self.second = Front::bare(self.alloc, rest.take_front()?);
         }
         Ok(())
     }

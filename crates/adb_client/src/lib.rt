@@ -6,6 +6,7 @@ mod ask;
 mod client;
 mod front;
 mod fronts;
+mod gathered;
 mod input;
 mod output;
 mod phase;

@@ -6,22 +6,22 @@ ghost use Rattle.std.specs.Bool.{◌==◌};
 ghost use Rattle.std.specs.VecDeque.{deque_len, deque_capacity};
 ghost use Rattle.adb_client.specs.Tail.{Keeps, Goes};
 
+use crate::gathered::Gathered;
 use crate::slices::first;
-use adb_outside::MIN_SHARED;
-use bytes::{Bytes, BytesMut};
+use bytes::Bytes;
 use std::alloc::{AllocError, Global};
 use std::collections::VecDeque;
 use std::marker::Model;
 
-/// Bytes one after another: pieces, each in memory of its own that is given back when it went, and
-/// behind them what is gathered of short ones. Contracts see the bytes.
+/// Bytes one after another: slices, each in memory of its own that is given back when it went, and
+/// behind them what is gathered. Contracts see the bytes.
 #[derive(Drop)]
 pub(crate) struct Tail {
     alloc: Global,
     pieces: VecDeque<Bytes>,
     /// How many bytes the pieces have.
     in_pieces: usize,
-    gathered: BytesMut,
+    gathered: Gathered,
 }
 
 impl Model for Tail {
@@ -44,7 +44,7 @@ impl Tail {
             alloc,
             pieces: VecDeque::new(alloc),
             in_pieces: 0,
-            gathered: BytesMut::new(alloc),
+            gathered: Gathered::new(alloc),
         }
     }
 
@@ -72,45 +72,26 @@ impl Tail {
         }
     }
 
-    /// A piece comes behind.
+    /// A piece comes behind, in one memory with what is gathered as long as there is room.
     pub(crate) fn push(&mut self, piece: &[u8]) -> Result<(), AllocError>
         requires { length self.old + length piece.now < 2 ^ 63 }
         ensures ok { OnOk result (self.new ≡ self.old ++ piece.now) }
         ensures err { OnErr result (self.new ≡ self.old) }
     {
-        if piece.len() < MIN_SHARED {
-            return self.gathered.extend_from_slice(piece);
+        if !self.gathered.has_room(piece.len()) {
+            self.end_gathered()?;
         }
-        self.end_gathered()?;
-        self.push_large(piece)
+        self.gathered.push(piece)
     }
 
-    /// What is gathered becomes a piece, unless it is short.
+    /// What is gathered becomes a slice.
     fn end_gathered(&mut self) -> Result<(), AllocError>
         ensures { self.new ≡ self.old }
     {
-        if self.gathered.len() < MIN_SHARED {
-            return Ok(());
-        }
         self.pieces.reserve(1)?;
-        let all = freeze_all(self.alloc, &mut self.gathered)?;
+        let all = self.gathered.freeze(self.alloc)?;
         self.in_pieces += all.len();
         put_last(&mut self.pieces, all);
-        Ok(())
-    }
-
-    /// A piece comes behind, in one memory with what is gathered: so a packet that begins among few
-    /// bytes left over and ends in the piece can be cut off without a copy.
-    fn push_large(&mut self, piece: &[u8]) -> Result<(), AllocError>
-        requires { length self.old + length piece.now < 2 ^ 63 }
-        ensures ok { OnOk result (self.new ≡ self.old ++ piece.now) }
-        ensures err { OnErr result (self.new ≡ self.old) }
-    {
-        self.pieces.reserve(1)?;
-        let own = joined(self.alloc, self.gathered.as_slice(), piece)?;
-        self.gathered = BytesMut::new(self.alloc);
-        self.in_pieces += own.len();
-        put_last(&mut self.pieces, own);
         Ok(())
     }
 
@@ -133,9 +114,8 @@ impl Tail {
         self.gathered.advance(n - some);
     }
 
-    /// The first piece goes as a slice, or where there is none the first `n` bytes do.
-    pub(crate) fn take_front(&mut self, n: usize) -> Result<Bytes, AllocError>
-        requires { n ≤ length self.old }
+    /// The first slice goes, or where there is none all that is gathered, as a slice.
+    pub(crate) fn take_front(&mut self) -> Result<Bytes, AllocError>
         ensures ok { IfOk result (λ bytes. bytes ++ self.new ≡ self.old) }
         ensures err { OnErr result (self.new ≡ self.old) }
     {
@@ -144,7 +124,7 @@ impl Tail {
                 self.in_pieces -= piece.len();
                 Ok(piece)
             }
-            None => self.gathered.freeze_to(n),
+            None => self.gathered.freeze(self.alloc),
         }
     }
 
@@ -157,28 +137,6 @@ impl Tail {
         copy_first(&self.pieces, some, to)?;
         to.extend_from_slice(first(self.gathered.as_slice(), n - some))
     }
-}
-
-/// All that is gathered, as a slice.
-fn freeze_all(alloc: Global, gathered: &mut BytesMut) -> Result<Bytes, AllocError>
-    ensures all { IfOk result (λ bytes. bytes ≡ gathered.old.items) }
-    ensures none { OnOk result (gathered.new.items ≡ []) }
-    ensures err { OnErr result (gathered.new.items ≡ gathered.old.items) }
-{
-    let all = gathered.freeze_to(gathered.len())?;
-    *gathered = BytesMut::new(alloc);
-    Ok(all)
-}
-
-/// Two slices, copied one behind the other into one memory.
-fn joined(alloc: Global, one: &[u8], two: &[u8]) -> Result<Bytes, AllocError>
-    requires { length one.now + length two.now < 2 ^ 63 }
-    ensures { IfOk result (λ bytes. bytes ≡ one.now ++ two.now) }
-{
-    let mut all = Vec::with_capacity(alloc, one.len() + two.len())?;
-    all.extend_from_slice(one)?;
-    all.extend_from_slice(two)?;
-    Ok(Bytes::from_vec(all)?)
 }
 
 /// Puts a piece behind others, in a place that is kept.

@@ -1,4 +1,4 @@
-use Rattle.std.proofs.Common.{◌≡◌, ◌-◌, List, [], ℕ, All, None, subst, ap, sym, ◌∙◌, take, length, vec_len, rules, arith}
+use Rattle.std.proofs.Common.{◌≡◌, List, [], ℕ, All, None, subst, ap, sym, take, vec_len, rules, arith}
 use Rattle.std.specs.Prelude.{unwrap_or}
 use Rattle.std.proofs.lemmas.List.Elements.{All-pop}
 use Rattle.adb_client.specs.Input.{Handled, EndsWith}

@@ -1,4 +1,4 @@
-use Rattle.std.proofs.Common.{◌≡◌, ◌-◌, ◌++◌, ℕ, ap, min, length, rules}
+use Rattle.std.proofs.Common.{◌≡◌, ◌++◌, ap, min, length, rules}
 use Rattle.adb_client.specs.Input.{Ahead}
 use Rattle.adb_client.proofs.Seams.{take_some, drop_some}
 use Rattle.adb_client.proofs.fronts.Fronts.cut.Goals as goal

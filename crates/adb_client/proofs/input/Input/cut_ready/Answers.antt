@@ -1,4 +1,4 @@
-use Rattle.std.proofs.Common.{◌≡◌, ◌∙◌, ◌-◌, ◌++◌, ◌≤◌, List, ℕ, ap, sym, take, drop, length, arith}
+use Rattle.std.proofs.Common.{◌∙◌, ◌-◌, ◌++◌, ◌≤◌, List, ℕ, ap, sym, take, drop, length, arith}
 use Rattle.std.proofs.lemmas.List.{take-append-le, drop-append-le}
 use Rattle.adb_client.specs.Input.{Incoming, Ahead}
 use Rattle.adb_client.proofs.input.Input.cut_ready.Goals as goal

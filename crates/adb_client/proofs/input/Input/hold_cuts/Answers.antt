@@ -1,4 +1,4 @@
-use Rattle.std.proofs.Common.{◌≡◌, ◌∙◌, ◌-◌, ◌≤◌, ◌++◌, List, ℕ, ap, take, drop, min, length, length-take, rules, arith}
+use Rattle.std.proofs.Common.{◌≡◌, ◌∙◌, ◌-◌, ◌≤◌, ◌++◌, List, ℕ, ap, take, drop, length, length-take, rules, arith}
 use Rattle.adb_client.specs.Input.{Incoming, Ahead}
 use Rattle.adb_client.proofs.Seams.{take_drop}
 use Rattle.adb_client.proofs.input.Input.hold_cuts.Goals as goal

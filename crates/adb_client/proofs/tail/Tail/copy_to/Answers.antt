@@ -8,7 +8,7 @@ use Rattle.adb_client.proofs.tail.Tail.copy_to.Goals as goal
 pub returns : goal.returns
 returns c =
     let front = concat c.self.inside.pieces.items in
-    let gathered = c.self.inside.gathered.items in
+    let gathered = c.self.inside.gathered in
     let some = c.min-some.result in
     let first : some ≡ min c.args.n (length front) = search rules in
     let held : front ++ gathered ≡ c.args.self.now = c.self.view_is in
