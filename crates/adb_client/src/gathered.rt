@@ -16,6 +16,7 @@ const ROOM: usize = 68 * 1024;
 /// Contracts see the bytes that are left.
 #[derive(Drop)]
 pub(crate) struct Gathered {
+    alloc: Global,
     bytes: Vec<u8>,
     gone: usize,
 }
@@ -36,6 +37,7 @@ impl Gathered {
         ensures { result ≡ [] }
     {
         Gathered {
+            alloc,
             bytes: Vec::new(alloc),
             gone: 0,
         }
@@ -54,21 +56,35 @@ impl Gathered {
         behind(self.bytes.as_slice(), self.gone)
     }
 
-    /// Whether so many bytes more are to be gathered with these.
+    /// Whether so many bytes more are to be gathered with these: where there is room for both, or
+    /// these are the fewer, so that a copy of them costs less than what comes.
     pub(crate) fn has_room(&self, more: usize) -> bool {
-        self.bytes.is_empty() || more <= ROOM.saturating_sub(self.bytes.len())
+        more <= ROOM.saturating_sub(self.len()) || self.len() < more
     }
 
-    /// Others come behind; from the first large ones on there is room for what follows them.
+    /// Others come behind, in place of those that went where these are as many as are left.
     pub(crate) fn push(&mut self, more: &[u8]) -> Result<(), AllocError>
         ensures ok { OnOk result (self.new ≡ self.old ++ more.now) }
         ensures err { OnErr result (self.new ≡ self.old) }
     {
-        if more.len() >= MIN_SHARED {
-            let room = ROOM.saturating_sub(self.bytes.len());
-            self.bytes.reserve(room.max(more.len()))?;
+        let room = room_for(self.len(), more.len());
+        if self.gone < self.len() {
+            self.bytes.reserve(room)?;
+        } else {
+            self.renew(room)?;
         }
         self.bytes.extend_from_slice(more)
+    }
+
+    /// What is left moves to a memory that has so much room behind it.
+    fn renew(&mut self, room: usize) -> Result<(), AllocError>
+        ensures { self.new ≡ self.old }
+    {
+        let mut memory = Vec::with_capacity(self.alloc, self.len().saturating_add(room))?;
+        memory.extend_from_slice(self.as_slice())?;
+        self.bytes = memory;
+        self.gone = 0;
+        Ok(())
     }
 
     /// The first `n` bytes stay. It takes no memory.
@@ -87,12 +103,12 @@ impl Gathered {
     }
 
     /// All go as a slice; no byte is copied.
-    pub(crate) fn freeze(&mut self, alloc: Global) -> Result<Bytes, AllocError>
+    pub(crate) fn freeze(&mut self) -> Result<Bytes, AllocError>
         ensures all { IfOk result (λ bytes. bytes ≡ self.old) }
         ensures none { OnOk result (self.new ≡ []) }
         ensures err { OnErr result (self.new ≡ self.old) }
     {
-        let memory = std::mem::replace(&mut self.bytes, Vec::new(alloc));
+        let memory = std::mem::replace(&mut self.bytes, Vec::new(self.alloc));
         match Bytes::from_vec(memory) {
             Ok(all) => {
                 let mut all = all;
@@ -106,4 +122,13 @@ impl Gathered {
             }
         }
     }
+}
+
+/// How much room is made for others behind so many bytes: with the first large ones, room for what
+/// follows them too.
+fn room_for(len: usize, more: usize) -> usize {
+    if more < MIN_SHARED {
+        return more;
+    }
+    ROOM.saturating_sub(len).max(more)
 }

@@ -17,7 +17,6 @@ use std::marker::Model;
 /// behind them what is gathered. Contracts see the bytes.
 #[derive(Drop)]
 pub(crate) struct Tail {
-    alloc: Global,
     pieces: VecDeque<Bytes>,
     /// How many bytes the pieces have.
     in_pieces: usize,
@@ -41,7 +40,6 @@ impl Tail {
         ensures { result ≡ [] }
     {
         Tail {
-            alloc,
             pieces: VecDeque::new(alloc),
             in_pieces: 0,
             gathered: Gathered::new(alloc),
@@ -89,7 +87,7 @@ impl Tail {
         ensures { self.new ≡ self.old }
     {
         self.pieces.reserve(1)?;
-        let all = self.gathered.freeze(self.alloc)?;
+        let all = self.gathered.freeze()?;
         self.in_pieces += all.len();
         put_last(&mut self.pieces, all);
         Ok(())
@@ -124,7 +122,7 @@ impl Tail {
                 self.in_pieces -= piece.len();
                 Ok(piece)
             }
-            None => self.gathered.freeze(self.alloc),
+            None => self.gathered.freeze(),
         }
     }
 
