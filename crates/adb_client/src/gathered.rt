@@ -8,9 +8,9 @@ use bytes::Bytes;
 use std::alloc::{AllocError, Global};
 use std::marker::Model;
 
-/// How many bytes are gathered in one memory: more than a hub holds of a client that it reads as
-/// there is room, so that what comes while a packet is on its way lies in one.
-const ROOM: usize = 68 * 1024;
+/// How many bytes are gathered in one memory: as many as a server holds of a client, so that what
+/// comes while a packet is on its way lies in one.
+const ROOM: usize = 65_540;
 
 /// Bytes in one memory, to which others are added, and of which those in front may have gone.
 /// Contracts see the bytes that are left.
