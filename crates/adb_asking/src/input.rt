@@ -10,6 +10,11 @@ use std::alloc::{AllocError, Global};
 /// The most bytes that a tool sends.
 pub const MAX_INPUT: usize = 16_777_216;
 
+/// Says that the number that definitions take from the code is that of the specification.
+pub fn limits_are()
+    ensures input { MAX_INPUT ≡ 16777216 }
+{}
+
 /// The most bytes that are read at once.
 const PIECE: usize = 65_536;
 

@@ -12,5 +12,5 @@ mod writing;
 
 pub use asking::ask;
 pub use ends::ToolEnd;
-pub use input::{InputError, MAX_INPUT, read_input};
+pub use input::{InputError, MAX_INPUT, limits_are, read_input};
 pub use job::{Job, failed_input, make_job};

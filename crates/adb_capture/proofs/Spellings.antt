@@ -17,7 +17,7 @@ use Rattle.adb_outside.specs.declared.kinds.Cause.{Cause}
 use Rattle.adb_outside.specs.declared.kinds.Cause.TheVariants.{Eof, Fault, Starved, NoThread}
 use Rattle.adb_capture.specs.declared.entry.Entry.{Entry}
 use Rattle.adb_capture.specs.declared.entry.Entry.TheVariants.{Join, Enter, Read, End, Bound, Attach, Recv, Detach, Put, Send}
-use Rattle.adb_capture.specs.declared.limits.TheConstants.{HEADER_LEN, MAX_CAPTURE}
+use Rattle.adb_capture.specs.declared.limits.TheConstants.{RECORD_HEADER_LEN, MAX_CAPTURE}
 use Rattle.adb_capture.specs.Records.{record_at, is_kind, kind_in, owner_in, size_in, data_in, entry_at, entry_in, or_join, kind_of, number_of}
 use Rattle.adb_capture.specs.Records.{data_of, record_of, cause_byte, plug_letter, HasRecord, HasPort, cause_at, port_at, plug_at, join_at, enter_at}
 use Rattle.adb_capture.specs.Records.{bound_at, end_at, detach_at, attach_by, attach_at}
@@ -83,7 +83,7 @@ all_again e rest h =
     ap (λ n. entry_at (kind_of e) n (data_in (record_of e ++ rest))) (owner_again e rest h)
     ∙ (ap (λ bytes. entry_at (kind_of e) (number_of e) bytes) (data_again e rest h) ∙ entry_again e h.port)
 
-pub length_record : (e : Entry) → length (record_of e) ≡ HEADER_LEN + length (data_of e)
+pub length_record : (e : Entry) → length (record_of e) ≡ RECORD_HEADER_LEN + length (data_of e)
 length_record e = omega arith
 
 -- An entry's record is read as a whole one, whatever follows.
@@ -320,16 +320,16 @@ front_spelled offset n bytes all w =
     read_spelled offset (take n bytes) (All-take IsByte n bytes all) (whole_alone offset bytes n w ∙ ap Whole len)
 
 -- a whole record, alone: its data are all that follows the header
-pub whole_header : (offset : ℕ) (x : List ℕ) → record_at offset x ≡ Whole (length x) → HEADER_LEN ≤ length x
+pub whole_header : (offset : ℕ) (x : List ℕ) → record_at offset x ≡ Whole (length x) → RECORD_HEADER_LEN ≤ length x
 whole_header offset x w = let t = whole_tells offset x (length x) w in omega (arith, t.size)
 
-whole_data : (offset : ℕ) (x : List ℕ) → record_at offset x ≡ Whole (length x) → data_in x ≡ take (length x - HEADER_LEN) (drop HEADER_LEN x)
+whole_data : (offset : ℕ) (x : List ℕ) → record_at offset x ≡ Whole (length x) → data_in x ≡ take (length x - RECORD_HEADER_LEN) (drop RECORD_HEADER_LEN x)
 whole_data offset x w = let t = whole_tells offset x (length x) w in let e : size_in x
-    ≡ length x - HEADER_LEN = omega (arith, t.size) in ap (λ n. take n (drop HEADER_LEN x)) e
+    ≡ length x - RECORD_HEADER_LEN = omega (arith, t.size) in ap (λ n. take n (drop RECORD_HEADER_LEN x)) e
 
 -- it has an entry
 pub whole_read : (offset : ℕ) (x : List ℕ) → record_at offset x ≡ Whole (length x)
-    → None ≡ entry_at (kind_in x) (owner_in x) (take (length x - HEADER_LEN) (drop HEADER_LEN x))
+    → None ≡ entry_at (kind_in x) (owner_in x) (take (length x - RECORD_HEADER_LEN) (drop RECORD_HEADER_LEN x))
     → ⊥
 whole_read offset x w none =
     let t = whole_tells offset x (length x) w in
@@ -338,5 +338,5 @@ whole_read offset x w none =
 
 -- and this one
 pub entry_read : (offset : ℕ) (x : List ℕ) (e : Entry) → record_at offset x ≡ Whole (length x)
-    → Some e ≡ entry_at (kind_in x) (owner_in x) (take (length x - HEADER_LEN) (drop HEADER_LEN x)) → (offset, e) ≡ entry_in offset x
+    → Some e ≡ entry_at (kind_in x) (owner_in x) (take (length x - RECORD_HEADER_LEN) (drop RECORD_HEADER_LEN x)) → (offset, e) ≡ entry_in offset x
 entry_read offset x e w is = ap (λ o. (offset, or_join o)) (is ∙ ap (λ b. entry_at (kind_in x) (owner_in x) b) (sym (whole_data offset x w)))

@@ -12,7 +12,7 @@ use Rattle.adb_capture.specs.declared.entry.Entry.{Entry}
 use Rattle.adb_capture.specs.declared.entry.Entry.TheVariants.{Join, Enter, Read, End, Bound, Attach, Recv, Detach, Put, Send}
 use Rattle.adb_capture.specs.declared.entry.Owner.{Owner}
 use Rattle.adb_capture.specs.declared.entry.Owner.TheVariants.{Client, Link}
-use Rattle.adb_capture.specs.declared.limits.TheConstants.{HEADER_LEN, MAX_DATA, MAX_CAPTURE}
+use Rattle.adb_capture.specs.declared.limits.TheConstants.{RECORD_HEADER_LEN, MAX_DATA, MAX_CAPTURE}
 use Rattle.adb_capture.specs.declared.error.Why.TheVariants.{UnknownKind, BadForm, TooLarge}
 use Rattle.adb_capture.specs.declared.error.FormFault.{FormFault}
 use Rattle.adb_capture.specs.declared.error.FormFault.TheVariants.{BadRecord, TooLong}
@@ -186,20 +186,20 @@ abbrev pub size_in : List ℕ → ℕ
 size_in bytes = little_number 4 (drop 5 bytes)
 
 abbrev pub data_in : List ℕ → List ℕ
-data_in bytes = take (size_in bytes) (drop HEADER_LEN bytes)
+data_in bytes = take (size_in bytes) (drop RECORD_HEADER_LEN bytes)
 
 abbrev pub formed : ℕ → ℕ → Option Entry → Front FormFault
 formed offset size None = Bad (BadRecord offset BadForm)
-formed offset size (Some e) = Whole (HEADER_LEN + size)
+formed offset size (Some e) = Whole (RECORD_HEADER_LEN + size)
 
 -- What the bytes at an offset begin with: a record, or the first of its refusals.
 unfoldable pub record_at : ℕ → List ℕ → Front FormFault
 record_at offset bytes =
-    if nat_lt (length bytes) HEADER_LEN then More
+    if nat_lt (length bytes) RECORD_HEADER_LEN then More
     else (if not (is_kind (kind_in bytes)) then Bad (BadRecord offset UnknownKind)
     else (if nat_lt MAX_DATA (size_in bytes) then Bad (BadRecord offset TooLarge)
-    else (if nat_lt MAX_CAPTURE (offset + HEADER_LEN + size_in bytes) then Bad (TooLong offset)
-    else (if nat_lt (length bytes) (HEADER_LEN + size_in bytes) then More
+    else (if nat_lt MAX_CAPTURE (offset + RECORD_HEADER_LEN + size_in bytes) then Bad (TooLong offset)
+    else (if nat_lt (length bytes) (RECORD_HEADER_LEN + size_in bytes) then More
     else formed offset (size_in bytes) (entry_at (kind_in bytes) (owner_in bytes) (data_in bytes))))))
 
 abbrev pub or_join : Option Entry → Entry

@@ -3,13 +3,13 @@
 ghost use Rattle.std.specs.Prelude.{◌≡◌, ◌<◌, ◌≤◌, ◌+◌, ◌++◌, ℕ, List, length, take, All};
 ghost use Rattle.adb_outside.specs.Framing.{IsFraming};
 ghost use Rattle.adb_outside.specs.declared.framer.Front.TheVariants.{More, Whole};
-ghost use Rattle.adb_capture.specs.declared.limits.TheConstants.{HEADER_LEN, MAX_DATA, MAX_CAPTURE, MAX_READ};
+ghost use Rattle.adb_capture.specs.declared.limits.TheConstants.{RECORD_HEADER_LEN, MAX_DATA, MAX_CAPTURE, MAX_READ};
 ghost use Rattle.adb_capture.specs.declared.entry.Entry.{Entry};
 ghost use Rattle.adb_capture.specs.Records.{record_at, record_of, entry_in, offset_after, HasRecord};
 
 /// The numbers of the limits, which definitions name.
 pub fn limits_are()
-    ensures header { HEADER_LEN ≡ 9 }
+    ensures header { RECORD_HEADER_LEN ≡ 9 }
     ensures data { MAX_DATA ≡ 2097152 }
     ensures capture { MAX_CAPTURE ≡ 1073741824 }
     ensures read { MAX_READ ≡ 65536 }
@@ -20,7 +20,7 @@ pub fn limits_are()
 pub fn records_are_framed()
     ensures framing { IsFraming record_at entry_in offset_after }
     ensures short { (offset : ℕ) (bytes : List ℕ)
-        → record_at offset bytes ≡ More → length bytes < HEADER_LEN + MAX_DATA }
+        → record_at offset bytes ≡ More → length bytes < RECORD_HEADER_LEN + MAX_DATA }
 {}
 
 /// What is spelled is read back, whatever follows it.

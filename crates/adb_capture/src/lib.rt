@@ -16,7 +16,7 @@ pub use entry::{Entry, Owner};
 pub use error::{CaptureError, FormFault, Why};
 pub use laws::{limits_are, read_is_spelled, records_are_framed, spelled_is_read};
 pub use lent::Lent;
-pub use limits::{HEADER_LEN, MAX_CAPTURE, MAX_DATA, MAX_READ};
+pub use limits::{MAX_CAPTURE, MAX_DATA, MAX_READ, RECORD_HEADER_LEN};
 pub use memory_recorder::MemoryRecorder;
 pub use recorder::{NullRecorder, RecordError, Recorder};
 pub use sink_recorder::SinkRecorder;

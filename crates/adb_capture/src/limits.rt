@@ -1,7 +1,7 @@
 //! The limits of captures.
 
 /// The bytes before a record's data: its kind, its number, and the length of its data.
-pub const HEADER_LEN: usize = 9;
+pub const RECORD_HEADER_LEN: usize = 9;
 
 /// The most bytes of a record's data.
 pub const MAX_DATA: usize = 2_097_152;

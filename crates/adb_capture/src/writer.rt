@@ -4,13 +4,13 @@ ghost use Rattle.std.specs.Prelude.{◌≡◌, ◌<◌, ◌≤◌, ◌+◌, ◌+
 ghost use Rattle.adb_outside.specs.declared.hand_out.TheConstants.{MAX_START};
 ghost use Rattle.adb_outside.specs.Outside.{Counts};
 ghost use Rattle.adb_outside.specs.Sink.{FitsPiece, TellsWrite, is_failed_write};
-ghost use Rattle.adb_capture.specs.declared.limits.TheConstants.{HEADER_LEN, MAX_DATA};
+ghost use Rattle.adb_capture.specs.declared.limits.TheConstants.{RECORD_HEADER_LEN, MAX_DATA};
 ghost use Rattle.adb_capture.specs.declared.writer.TheConstants.{MAX_HEAD};
 ghost use Rattle.adb_capture.specs.Records.{magic, kind_of, record_of, cause_byte, plug_letter, came_from, HasRecord};
 ghost use Rattle.adb_capture.specs.Pieces.{text_of, word_of};
 
 use crate::entry::{Entry, Owner};
-use crate::limits::HEADER_LEN;
+use crate::limits::RECORD_HEADER_LEN;
 use adb_outside::{ByteQueue, Cause, Kind, MAX_START, Parts, Sink, Wrote};
 use byteorder::{ByteOrder, LittleEndian};
 use std::alloc::AllocError;
@@ -116,7 +116,7 @@ pub(crate) fn write_both<K: Sink>(sink: &mut K, first: &[u8], last: &[u8]) -> Wr
 }
 
 /// How many bytes a head has at most: those before a text, and the start of one.
-const MAX_HEAD: usize = HEADER_LEN + 2 + MAX_START;
+const MAX_HEAD: usize = RECORD_HEADER_LEN + 2 + MAX_START;
 
 /// The bytes of a record before its text: the kind, the number, the length of the data, and the
 /// data that are no text; and behind these it may have the start of the text.
@@ -128,14 +128,14 @@ pub(crate) struct Head {
 
 impl Model for Head {
     ghost use Rattle.std.specs.Prelude.{◌≤◌, List, ℕ, take};
-    ghost use Rattle.adb_capture.specs.declared.limits.TheConstants.{HEADER_LEN};
+    ghost use Rattle.adb_capture.specs.declared.limits.TheConstants.{RECORD_HEADER_LEN};
     ghost use Rattle.adb_capture.specs.declared.writer.TheConstants.{MAX_HEAD};
 
     ghost Value = { List ℕ };
 
     ghost view = { λ head. take head.len head.bytes };
 
-    ghost invariant = { λ head. (HEADER_LEN ≤ head.len) × (head.len ≤ MAX_HEAD) };
+    ghost invariant = { λ head. (RECORD_HEADER_LEN ≤ head.len) × (head.len ≤ MAX_HEAD) };
 }
 
 impl Head {
@@ -143,7 +143,7 @@ impl Head {
     pub(crate) fn of(entry: &Entry) -> Head
         requires { HasRecord entry.now }
         ensures is { result ++ text_of entry.now ≡ record_of entry.now }
-        ensures len { (HEADER_LEN ≤ length result) × (length result ≤ 11) }
+        ensures len { (RECORD_HEADER_LEN ≤ length result) × (length result ≤ 11) }
     {
         let word = Word::of(entry);
         let size = word.len + text_len(entry);
@@ -155,7 +155,7 @@ impl Head {
         bytes[10] = word.bytes[1];
         Head {
             bytes,
-            len: HEADER_LEN + word.len,
+            len: RECORD_HEADER_LEN + word.len,
         }
     }
 
@@ -163,7 +163,7 @@ impl Head {
     pub(crate) fn of_piece(from: Owner, piece: &[u8]) -> Head
         requires { length piece.now ≤ MAX_DATA }
         ensures is { result ++ piece.now ≡ record_of (came_from from piece.now) }
-        ensures len { length result ≡ HEADER_LEN }
+        ensures len { length result ≡ RECORD_HEADER_LEN }
     {
         let mut bytes = [0; MAX_HEAD];
         bytes[0] = match from {
@@ -174,7 +174,7 @@ impl Head {
         LittleEndian::write_u32(&mut bytes[5..9], piece.len() as u32);
         Head {
             bytes,
-            len: HEADER_LEN,
+            len: RECORD_HEADER_LEN,
         }
     }
 
@@ -206,7 +206,7 @@ impl<'a> Spelled<'a> {
     pub(crate) fn of(entry: &'a Entry) -> Spelled<'a>
         requires { HasRecord entry.now }
         ensures is { result.head ++ result.rest.now ≡ record_of entry.now }
-        ensures len { (HEADER_LEN ≤ length result.head) × (length result.head ≤ MAX_HEAD) }
+        ensures len { (RECORD_HEADER_LEN ≤ length result.head) × (length result.head ≤ MAX_HEAD) }
         ensures size { length result.rest.now ≤ MAX_DATA }
     {
         let mut head = Head::of(entry);

@@ -6,7 +6,7 @@ use Rattle.adb_capture.specs.declared.entry.Entry.{Entry}
 use Rattle.adb_capture.specs.declared.error.FormFault.TheVariants as form
 use Rattle.adb_capture.specs.declared.error.CaptureError.{CaptureError}
 use Rattle.adb_capture.specs.declared.error.CaptureError.TheVariants.{BadMagic, BadRecord, Truncated, TooLong, ReadFault, OutOfMemory}
-use Rattle.adb_capture.specs.declared.limits.TheConstants.{HEADER_LEN, MAX_DATA, MAX_CAPTURE, MAX_READ}
+use Rattle.adb_capture.specs.declared.limits.TheConstants.{RECORD_HEADER_LEN, MAX_DATA, MAX_CAPTURE, MAX_READ}
 use Rattle.adb_capture_reader.specs.Counting.{KeepsBytes}
 use Rattle.adb_capture.specs.Records.{magic, record_at, entry_in, offset_after, HasRecord}
 
@@ -35,7 +35,7 @@ ahead_of reader left = option_and_then (ahead reader) left
 
 -- A reader holds no more than one record and one read past it.
 abbrev pub HoldsFew : List ℕ → Type 0
-HoldsFew held = length held < HEADER_LEN + MAX_DATA + MAX_READ
+HoldsFew held = length held < RECORD_HEADER_LEN + MAX_DATA + MAX_READ
 
 -- What a reader holds is less than one read.
 abbrev pub HoldsLittle : List ℕ → Type 0

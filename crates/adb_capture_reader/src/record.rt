@@ -1,13 +1,13 @@
 //! Records: at the front of some bytes, and lent.
 
 ghost use Rattle.std.specs.Prelude.{◌≡◌, ◌≤◌, ℕ, IfOk, length, take};
-ghost use Rattle.adb_capture.specs.declared.limits.TheConstants.{HEADER_LEN};
+ghost use Rattle.adb_capture.specs.declared.limits.TheConstants.{RECORD_HEADER_LEN};
 ghost use Rattle.adb_capture.specs.Lent.{entry_lent};
 ghost use Rattle.adb_capture.specs.Records.{record_at, record_of, entry_in, is_kind, owner_in, size_in, HasRecord};
 ghost use Rattle.adb_capture_reader.specs.Forms.{entry_by};
 
 use crate::form::Form;
-use adb_capture::{Entry, FormFault, HEADER_LEN, Lent, MAX_CAPTURE, MAX_DATA, Why};
+use adb_capture::{Entry, FormFault, Lent, MAX_CAPTURE, MAX_DATA, RECORD_HEADER_LEN, Why};
 use adb_outside::Front;
 use byteorder::{ByteOrder, LittleEndian};
 use std::alloc::{AllocError, Global};
@@ -19,7 +19,7 @@ pub(crate) fn front(offset: u64, bytes: &[u8]) -> Front<FormFault>
     requires { offset ≤ MAX_CAPTURE }
     ensures { result ≡ record_at offset bytes.now }
 {
-    if bytes.len() < HEADER_LEN {
+    if bytes.len() < RECORD_HEADER_LEN {
         return Front::More;
     }
     if !has_kind(bytes[0]) {
@@ -29,14 +29,14 @@ pub(crate) fn front(offset: u64, bytes: &[u8]) -> Front<FormFault>
     if size > MAX_DATA {
         return bad(offset, Why::TooLarge);
     }
-    if offset + HEADER_LEN as u64 + size as u64 > MAX_CAPTURE {
+    if offset + RECORD_HEADER_LEN as u64 + size as u64 > MAX_CAPTURE {
         return Front::Bad(FormFault::TooLong { offset });
     }
-    let end = HEADER_LEN + size;
+    let end = RECORD_HEADER_LEN + size;
     if bytes.len() < end {
         return Front::More;
     }
-    match Form::of(bytes[0], &bytes[HEADER_LEN..end]) {
+    match Form::of(bytes[0], &bytes[RECORD_HEADER_LEN..end]) {
         None => bad(offset, Why::BadForm),
         Some(_) => Front::Whole(end),
     }
@@ -123,7 +123,7 @@ fn read(offset: u64, bytes: &[u8]) -> Said<'_>
     ensures { (offset, entry_by result.form result.owner result.content.now)
         ≡ entry_in offset bytes.now }
 {
-    let content = &bytes[HEADER_LEN..];
+    let content = &bytes[RECORD_HEADER_LEN..];
     match Form::of(bytes[0], content) {
         Some(form) => Said {
             form,
@@ -166,14 +166,14 @@ fn has_kind(letter: u8) -> bool
 
 /// The number of the client or link.
 fn owner(bytes: &[u8]) -> u32
-    requires { HEADER_LEN ≤ length bytes.now }
+    requires { RECORD_HEADER_LEN ≤ length bytes.now }
     ensures { result ≡ owner_in bytes.now }
 {
     LittleEndian::read_u32(&bytes[1..])
 }
 
 fn data_len(bytes: &[u8]) -> u32
-    requires { HEADER_LEN ≤ length bytes.now }
+    requires { RECORD_HEADER_LEN ≤ length bytes.now }
     ensures { result ≡ size_in bytes.now }
 {
     LittleEndian::read_u32(&bytes[5..])

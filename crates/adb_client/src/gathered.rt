@@ -8,9 +8,10 @@ use bytes::Bytes;
 use std::alloc::{AllocError, Global};
 use std::marker::Model;
 
-/// How many bytes are gathered in one memory: as many as a server holds of a client, so that what
-/// comes while a packet is on its way lies in one.
-const ROOM: usize = 65_540;
+/// The number of held bytes at which a client has no more room: one more than the longest request
+/// with its length. As many bytes are gathered in one buffer, so that what a client sends while a
+/// packet is on its way lies in one.
+pub const MAX_HELD: usize = 65_540;
 
 /// Bytes in one memory, to which others are added, and of which those in front may have gone.
 /// Contracts see the bytes that are left.
@@ -59,7 +60,7 @@ impl Gathered {
     /// Whether so many bytes more are to be gathered with these: where there is room for both, or
     /// these are the fewer, so that a copy of them costs less than what comes.
     pub(crate) fn has_room(&self, more: usize) -> bool {
-        more <= ROOM.saturating_sub(self.len()) || self.len() < more
+        more <= MAX_HELD.saturating_sub(self.len()) || self.len() < more
     }
 
     /// Others come behind, in place of those that went where these are as many as are left.
@@ -130,5 +131,5 @@ fn room_for(len: usize, more: usize) -> usize {
     if more < MIN_SHARED {
         return more;
     }
-    ROOM.saturating_sub(len).max(more)
+    MAX_HELD.saturating_sub(len).max(more)
 }

@@ -16,5 +16,6 @@ mod tail;
 pub use about::{About, Want};
 pub use ask::{Ask, Asked, ask_in};
 pub use client::Client;
+pub use gathered::MAX_HELD;
 pub use output::{MAX_SLICE, limits_are};
 pub use phase::Phase;

@@ -1,6 +1,7 @@
 //! What is due to a client.
 
 ghost use Rattle.std.specs.Prelude.{◌≡◌, ◌<◌, ◌≤◌, ◌+◌, ◌-◌, ◌++◌, [], length, take, drop, max, IsOk, IfOk, OnOk, OnErr};
+ghost use Rattle.adb_client.specs.declared.gathered.TheConstants.{MAX_HELD};
 ghost use Rattle.std.specs.VecDeque.{deque_len, deque_capacity};
 
 use crate::slices::{Slice, fill, first, put_back, share_front};
@@ -16,6 +17,7 @@ pub const MAX_SLICE: usize = 1_048_576;
 /// The numbers that definitions take from the code, written out.
 pub fn limits_are()
     ensures slice { MAX_SLICE ≡ 1048576 }
+    ensures held { MAX_HELD ≡ 65540 }
 {}
 
 /// How many bytes the slices hold at most, with those that have a place and come later, so that all

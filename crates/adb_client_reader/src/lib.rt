@@ -8,4 +8,4 @@ mod handing_in;
 mod reader;
 
 pub use admitting::{Admitted, admit};
-pub use reader::{FIRST_PIECE, MAX_PIECE, read_client};
+pub use reader::{FIRST_PIECE, read_client};

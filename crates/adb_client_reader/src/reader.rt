@@ -7,6 +7,7 @@ ghost use Rattle.adb_client_reader.specs.Reading.{Feeds, Reads, goes_on, seen};
 use crate::ending::finish;
 use crate::handing_in::hand_in;
 use adb_binder::Binder;
+use adb_client::MAX_HELD;
 use adb_connections::{Gate, Place, PortIn};
 use adb_desk_log::{ClientIn, Marks};
 use adb_hall::Hall;
@@ -17,10 +18,6 @@ use std::sync::ledger::Ledger;
 
 /// The length of a reader's first buffer: most clients ask for little.
 pub const FIRST_PIECE: usize = 4_096;
-
-/// The most bytes that a reader takes of its port at once: all that a client has room for. Less would
-/// leave room for a few, which a turn of their own would bring.
-pub const MAX_PIECE: usize = 65_540;
 
 /// Whether a reader goes on.
 #[derive(Clone, Copy, Debug, PartialEq, Eq, Drop)]
@@ -127,7 +124,7 @@ fn turn<E: Ledger, M: Ledger, K: Marks, H: Hall<E, M, K>, I: PortIn, B: Binder, 
     }
 }
 
-/// Reads on, in pieces of up to `MAX_PIECE` bytes. It is a function of its own so that a client
+/// Reads on, in pieces of up to `MAX_HELD` bytes. It is a function of its own so that a client
 /// with little to say pays for no large buffer.
 fn read_bulk<
     W: Wait + Copy + Drop,
@@ -157,7 +154,7 @@ fn read_bulk<
         (B.faults binder.new)) }
 {
     let mut pass = pass;
-    let mut buffer = [0u8; MAX_PIECE];
+    let mut buffer = [0u8; MAX_HELD];
     for _ in rt.forever() {
         if !turn(hall, port, &mut pass, binder, &mut buffer, gate).goes_on() {
             return pass;

@@ -5,7 +5,7 @@ use Rattle.std.proofs.lemmas.List.{length-append, length-take, take-append-drop}
 use Rattle.adb_outside.specs.Source.{TellsRead}
 use Rattle.adb_outside.specs.declared.source.Got.TheVariants.{Bytes}
 use Rattle.adb_commands.specs.ScriptInput.{PieceBy, TakesPiece, Grows, ReadsPiece, IsRead, ReadsFront}
-use Rattle.adb_commands.specs.declared.script_input.TheConstants.{MAX_READ}
+use Rattle.adb_commands.specs.declared.script_input.TheConstants.{MAX_SCRIPT_READ}
 use Rattle.adb_commands.specs.declared.script_stop.ScriptStop.{ScriptStop}
 use Rattle.adb_commands.specs.declared.script_stop.ScriptStop.TheVariants as stop
 
@@ -95,7 +95,7 @@ read_none before = λ coming is. record { rest = coming; is = refl; left = is }
 
 module _ (before now after : Option (List ℕ)) (script new : List ℕ) (so : ReadSo before now script) where
   abbrev Piece : Result Bool ScriptStop → Type 0
-  Piece result = ReadsPiece now after script new (MAX_READ - length script) result
+  Piece result = ReadsPiece now after script new (MAX_SCRIPT_READ - length script) result
 
   -- what was to come is what was read, a piece, and the rest
   behind : (coming taken rest more : List ℕ) → coming ≡ script ++ more → more ≡ taken ++ rest → coming ≡ (script ++ taken) ++ rest
@@ -108,7 +108,7 @@ module _ (before now after : Option (List ℕ)) (script new : List ℕ) (so : Re
       record { rest = t.rest; is = behind coming t.taken t.rest h.rest h.is t.is ∙ ap (λ b. b ++ t.rest) (sym t.by); left = t.left }
 
   -- nothing is left, or no more may be read
-  pub read_end : length script ≤ MAX_READ → Piece (Ok false) → (coming : List ℕ) → before ≡ Some coming → IsRead new coming after
+  pub read_end : length script ≤ MAX_SCRIPT_READ → Piece (Ok false) → (coming : List ℕ) → before ≡ Some coming → IsRead new coming after
   read_end few piece coming is = record {
     rest = t.rest;
     is = h.is ∙ (ap (λ b. script ++ b) all ∙ ap (λ b. b ++ t.rest) (sym piece.grows));
@@ -119,18 +119,18 @@ module _ (before now after : Option (List ℕ)) (script new : List ℕ) (so : Re
       h : ReadsUpTo script coming now
       h = so coming is
 
-      t : TakesPiece (Ok false) h.rest after script new (MAX_READ - length script)
+      t : TakesPiece (Ok false) h.rest after script new (MAX_SCRIPT_READ - length script)
       t = piece.told h.rest h.left
 
       all : h.rest ≡ t.rest
       all = t.is ∙ ap (λ b. b ++ t.rest) t.by.0
 
-      whole : (t.rest ≡ []) ⊎ (MAX_READ - length script ≡ 0) → (t.rest ≡ []) ⊎ (length new ≡ MAX_READ)
+      whole : (t.rest ≡ []) ⊎ (MAX_SCRIPT_READ - length script ≡ 0) → (t.rest ≡ []) ⊎ (length new ≡ MAX_SCRIPT_READ)
       whole (inl none) = inl none
       whole (inr none) = inr (omega (arith, none, few, ap (length {A = ℕ}) piece.grows))
 
   -- what was read is within the bound, however the last piece ended
-  pub read_within : (result : Result Bool ScriptStop) → length script ≤ MAX_READ → Piece result → (coming : List ℕ) → before ≡ Some coming
+  pub read_within : (result : Result Bool ScriptStop) → length script ≤ MAX_SCRIPT_READ → Piece result → (coming : List ℕ) → before ≡ Some coming
       → ReadsFront coming after
   read_within result few piece = λ coming is.
       let h = so coming is in

@@ -7,7 +7,7 @@ use Rattle.adb_commands.specs.ScriptInput.{IsRead, ReadsScript, ReadsWithin}
 use Rattle.adb_commands.specs.ScriptStop.{IsReadStop, IsRunStop, is_read_stop, is_write_stop}
 use Rattle.adb_commands.specs.Scripts.{answer_lines, first_bad, RefusesBy, RefusesAs, WritesLines, LosesLines, StopsOut, AnswersAs, AnswersBy, ScriptEndsBy}
 use Rattle.adb_commands.specs.Scripts.{CompletesScriptBy, IsScriptLine, IsLineNamed, IsLineOfScript, ScriptEndsIn}
-use Rattle.adb_commands.specs.declared.script_input.TheConstants.{MAX_READ}
+use Rattle.adb_commands.specs.declared.script_input.TheConstants.{MAX_SCRIPT_READ}
 use Rattle.adb_commands.specs.declared.script_kind.ScriptKind.{ScriptKind}
 use Rattle.adb_commands.specs.declared.script_stop.ScriptStop.{ScriptStop}
 use Rattle.adb_commands.specs.declared.script_stop.ScriptStop.TheVariants as stop
@@ -71,7 +71,7 @@ module _ (kind : ScriptKind) (script coming : List ℕ) (after : Option (List �
   pub bad_alike : first_bad kind script ≡ first_bad kind coming
   bad_alike = go read.whole
     where
-      go : (read.rest ≡ []) ⊎ (length script ≡ MAX_READ) → first_bad kind script ≡ first_bad kind coming
+      go : (read.rest ≡ []) ⊎ (length script ≡ MAX_SCRIPT_READ) → first_bad kind script ≡ first_bad kind coming
       go (inl none) = ap (first_bad kind) (sym (append-nil script) ∙ (ap (λ r. script ++ r) (sym none) ∙ sym read.is))
       go (inr long) =
           let r = front_refused kind script read.rest (omega (arith, long)) in
@@ -81,7 +81,7 @@ module _ (kind : ScriptKind) (script coming : List ℕ) (after : Option (List �
   pub whole_read : first_bad kind script ≡ None → (script ≡ coming) × (after ≡ Some [])
   whole_read good = go read.whole
     where
-      go : (read.rest ≡ []) ⊎ (length script ≡ MAX_READ) → (script ≡ coming) × (after ≡ Some [])
+      go : (read.rest ≡ []) ⊎ (length script ≡ MAX_SCRIPT_READ) → (script ≡ coming) × (after ≡ Some [])
       go (inl none) = (sym (append-nil script) ∙ (ap (λ r. script ++ r) (sym none) ∙ sym read.is), read.left ∙ ap Some none)
       go (inr long) =
           let r = front_refused kind script read.rest (omega (arith, long)) in

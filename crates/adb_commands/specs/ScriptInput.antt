@@ -1,6 +1,6 @@
 -- What is read of a script, piece by piece.
 use Rattle.std.specs.Prelude.{ℕ, ◌+◌, ◌≡◌, ◌<◌, ◌≤◌, ◌⊎◌, Bool, true, false, List, [], ◌++◌, length, Option, Some, Result, Ok, Err}
-use Rattle.adb_commands.specs.declared.script_input.TheConstants.{MAX_READ}
+use Rattle.adb_commands.specs.declared.script_input.TheConstants.{MAX_SCRIPT_READ}
 use Rattle.adb_commands.specs.declared.script_stop.ScriptStop.{ScriptStop}
 
 -- how a script became longer by a piece that was taken: or it did not, since nothing is left, or no more may be read
@@ -33,7 +33,7 @@ pub record IsRead (script coming : List ℕ) (after : Option (List ℕ)) : Type 
   pub rest : List ℕ
   pub is : coming ≡ script ++ rest
   pub left : after ≡ Some rest
-  pub whole : (rest ≡ []) ⊎ (length script ≡ MAX_READ)
+  pub whole : (rest ≡ []) ⊎ (length script ≡ MAX_SCRIPT_READ)
 
 abbrev pub ReadsScript : List ℕ → Option (List ℕ) → Option (List ℕ) → Type 0
 ReadsScript script before after = (coming : List ℕ) → before ≡ Some coming → IsRead script coming after
@@ -44,7 +44,7 @@ pub record ReadsFront (coming : List ℕ) (after : Option (List ℕ)) : Type 0 w
   pub rest : List ℕ
   pub is : coming ≡ front ++ rest
   pub left : after ≡ Some rest
-  pub few : length front ≤ MAX_READ
+  pub few : length front ≤ MAX_SCRIPT_READ
 
 abbrev pub ReadsWithin : Option (List ℕ) → Option (List ℕ) → Type 0
 ReadsWithin before after = (coming : List ℕ) → before ≡ Some coming → ReadsFront coming after

@@ -1,16 +1,22 @@
 //! Reading a script.
 
-ghost use Rattle.std.specs.Prelude.{◌≤◌, ◌<◌, ◌-◌, IfOk, length};
+ghost use Rattle.std.specs.Prelude.{◌≡◌, ◌≤◌, ◌<◌, ◌-◌, IfOk, length};
 ghost use Rattle.adb_outside.specs.Outside.{Counts};
 ghost use Rattle.adb_commands.specs.ScriptInput.{ReadsPiece, ReadsScript, ReadsWithin};
 ghost use Rattle.adb_commands.specs.ScriptStop.{IsReadEnd, stops_reading};
 
 use crate::script_stop::ScriptStop;
 use adb_outside::{Got, Source, Text};
+use adb_script::MAX_SCRIPT;
 use std::alloc::{AllocError, Global};
 
-/// The most bytes that are read of a script: one more than it may have.
-pub const MAX_READ: usize = 1_048_577;
+/// The maximum number of bytes that are read of a script: one more than it may have.
+pub const MAX_SCRIPT_READ: usize = MAX_SCRIPT + 1;
+
+/// Says that the number that definitions take from the code is that of the specification.
+pub fn limits_are()
+    ensures script { MAX_SCRIPT_READ ≡ 1048577 }
+{}
 
 /// The most bytes that are read at once.
 const PIECE: usize = 65_536;
@@ -35,13 +41,13 @@ fn read_piece<S: Source>(
     script: &mut Text,
     buffer: &mut [u8; PIECE],
 ) -> Result<bool, ScriptStop>
-    requires { length script.old ≤ MAX_READ }
+    requires { length script.old ≤ MAX_SCRIPT_READ }
     ensures piece { ReadsPiece (S.left source.old) (S.left source.new)
-        script.old script.new (MAX_READ - length script.old) result }
+        script.old script.new (MAX_SCRIPT_READ - length script.old) result }
     ensures ends { IsReadEnd result }
     ensures counts { Counts S.steady S.faults source.old source.new (stops_reading result) }
 {
-    let room = PIECE.min(MAX_READ - script.len());
+    let room = PIECE.min(MAX_SCRIPT_READ - script.len());
     if room == 0 {
         return Ok(false);
     }

@@ -13,5 +13,5 @@ pub use error::DeskError;
 pub use keeping::{keep_attach, keep_put, keep_sent};
 pub use log::Log;
 pub use marked::{is_marked, marks_error, marks_handed, marks_life, marks_room};
-pub use marks::{ALL_PARTS, Marks};
+pub use marks::{ALL_PARTS, Marks, limits_are};
 pub use pass::{ClientIn, ClientOut, LinkIn, LinkOut, Mark, Pass};

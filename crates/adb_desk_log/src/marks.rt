@@ -1,10 +1,17 @@
 //! The ledger of marks.
 
+ghost use Rattle.std.specs.Prelude.{◌≡◌, ◌^◌};
+
 use std::marker::Brand;
 use std::sync::ledger::Ledger;
 
 /// How many parts each of a desk's three ledgers has.
 pub const ALL_PARTS: u64 = 1 << 40;
+
+/// Says that the number that definitions take from the code is that of the specification.
+pub fn limits_are()
+    ensures parts { ALL_PARTS ≡ 2 ^ 40 }
+{}
 
 /// A ledger of marks. It also says whether the recorder of its desk never fails.
 pub trait Marks: Ledger {

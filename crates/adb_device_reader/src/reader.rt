@@ -9,16 +9,13 @@ ghost use Rattle.adb_device_reader.specs.Reading.{Start, HasRead, IsReading, Tur
 
 use crate::feeding::{end_input, feed};
 use crate::packets::Packets;
+use adb_capture::MAX_READ;
 use adb_connections::{DeviceIn, Gate};
 use adb_desk_log::{LinkIn, Marks};
 use adb_hall::Hall;
 use adb_outside::{Cause, Got};
 use std::sync::Wait;
 use std::sync::ledger::Ledger;
-
-/// The most bytes of a read of a device. A read brings many small packets at once, or a part of a
-/// long one; each byte is copied once, out of a buffer that stays in the cache.
-const MAX_READ: usize = 65_536;
 
 /// One turn: reads, and hands in what became whole. Answers whether more may follow.
 fn turn<E: Ledger, M: Ledger, K: Marks, H: Hall<E, M, K>, I: DeviceIn, G: Gate>(

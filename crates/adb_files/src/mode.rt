@@ -6,7 +6,7 @@ ghost use Rattle.adb_files.specs.Served.{stored_mode};
 use adb_outside::read_number;
 
 /// The most digits of a mode.
-const MAX_DIGITS: usize = 10;
+const MODE_DIGITS: usize = 10;
 
 /// What a file's mode has beside its lowest nine bits.
 const REGULAR_FILE: u32 = 32_768;
@@ -15,7 +15,7 @@ const REGULAR_FILE: u32 = 32_768;
 pub fn stored_mode(digits: &[u8]) -> Option<u32>
     ensures { result ≡ stored_mode digits.now }
 {
-    let mode = read_number(digits, MAX_DIGITS)?;
+    let mode = read_number(digits, MODE_DIGITS)?;
     if mode > 4_294_967_295 {
         return None;
     }

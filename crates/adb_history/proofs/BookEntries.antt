@@ -17,7 +17,7 @@ use Rattle.adb_stream.specs.declared.row.Stream.{Stream}
 use Rattle.adb_capture.specs.declared.entry.Entry.{Entry}
 use Rattle.adb_capture.specs.declared.entry.Entry.TheVariants.{Join, Enter, Attach, Recv, Detach, Put, Send}
 use Rattle.adb_history.specs.Rows.{Client, Link, State, new_client, new_link, to_client}
-use Rattle.adb_history.specs.Events as ending
+use Rattle.adb_history.specs.declared.ending.Ending.TheVariants as ending
 use Rattle.adb_history.specs.Events.{quietly, owed_to}
 use Rattle.adb_history.specs.Links.{server_cnxn, is_connected}
 use Rattle.adb_history.specs.Streams.{opens}
@@ -234,20 +234,20 @@ module _ (older : History) (legal : IsLegal older) (b : IsBooked (state older) o
 
       stopped : (o : Option Link) → (unplugs_on o t s).state.stopped ≡ s.stopped
       stopped None = refl
-      stopped (Some link) = (turns_link_ends came links t ending.lost s good).stopped
+      stopped (Some link) = (turns_link_ends came links t ending.Lost s good).stopped
 
       others : (o : Option Link) (k : ℕ) → k ≢ t → at k (unplugs_on o t s).state.devices.rows ≡ at k s.devices.rows
       others None k apart = refl
-      others (Some link) k apart = (turns_link_ends came links t ending.lost s good).others k apart
+      others (Some link) k apart = (turns_link_ends came links t ending.Lost s good).others k apart
 
       leads : (o : Option Link) → Leads t s (unplugs_on o t s)
       leads None = inl (refl, refl)
-      leads (Some link) = leads_link_ends came links t ending.lost s tie.streams
+      leads (Some link) = leads_link_ends came links t ending.Lost s tie.streams
 
       held : (o : Option Link) (k : ℕ) → RowStep Holds (s.clients k) ((unplugs_on o t s).state.clients k) []
       held None k = holds_same (s.clients k)
-      held (Some link) k = holds (s.clients k) ((link_ends t ending.lost s).state.clients k) (owed_to k (link_ends t ending.lost s).told)
-          ((changes_link_ends came links t ending.lost s tie.streams).clients k)
+      held (Some link) k = holds (s.clients k) ((link_ends t ending.Lost s).state.clients k) (owed_to k (link_ends t ending.Lost s).told)
+          ((changes_link_ends came links t ending.Lost s tie.streams).clients k)
 
   -- ---- join, and enter
   apart_streams : (forwarded : Bool) (n : ℕ) → n ≡ s.joined + 1 → (l : ℕ) (stream : Stream) → s.streams l ≡ Some stream → stream.client ≤ came

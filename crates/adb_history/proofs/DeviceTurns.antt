@@ -22,7 +22,9 @@ use Rattle.adb_wire.specs.declared.format.PacketFormat.{PacketFormat}
 use Rattle.adb_wire.specs.declared.limits.TheConstants.{VERSION}
 use Rattle.adb_wire.specs.declared.headers.TheConstants.{MAX_PAYLOAD}
 use Rattle.adb_history.specs.Rows.{Link, State, to_link, none_kept}
-use Rattle.adb_history.specs.Events.{Made, Ending, quietly, then_also, lost, broken}
+use Rattle.adb_history.specs.Events.{Made, quietly, then_also}
+use Rattle.adb_history.specs.declared.ending.Ending.{Ending}
+use Rattle.adb_history.specs.declared.ending.Ending.TheVariants.{Lost, Broken}
 use Rattle.adb_history.specs.Links.{is_connected}
 use Rattle.adb_history.specs.Streams.{all_end}
 use Rattle.adb_history.specs.Tracking.{mark_all}
@@ -141,7 +143,7 @@ module _ (came plugged t : ℕ) where
 
   turns_connects : (version maxdata : ℕ) (o : Option Identity) (row : Row) (s : State) → IsGood came plugged s → at t s.devices.rows ≡ Some row
       → Turns t (row_connected o version maxdata row) s (connects t version maxdata o s)
-  turns_connects version maxdata None row s good is = turns_link_ends broken s good
+  turns_connects version maxdata None row s good is = turns_link_ends Broken s good
   turns_connects version maxdata (Some identity) row s good is = go (is_connected t s.devices)
     where
       after : (m : Made) → Keeps came plugged s m
@@ -158,7 +160,7 @@ module _ (came plugged t : ℕ) where
 
       go : (connected : Bool) → Turns t (row_connected (Some identity) version maxdata row) s
           (then_also (streams_end_first connected t s) (λ s. quietly (goes_online t version maxdata identity s)))
-      go true = after (all_end t lost s) (keeps_all_end came plugged t lost s good.streams)
+      go true = after (all_end t Lost s) (keeps_all_end came plugged t Lost s good.streams)
       go false = after (quietly s) (keeps_all came plugged s)
 
   turns_cnxn : (version maxdata : ℕ) (banner : List ℕ) (row : Row) (s : State) → IsGood came plugged s → at t s.devices.rows ≡ Some row
@@ -166,8 +168,8 @@ module _ (came plugged t : ℕ) where
   turns_cnxn version maxdata banner row s good is = go (nat_lt version least_version || nat_lt maxdata least_maxdata)
     where
       go : (bad : Bool) → Turns t (cond bad None (row_connected (identity_of banner) version maxdata row)) s
-          (cond bad (link_ends t broken s) (connects t version maxdata (identity_of banner) s))
-      go true = turns_link_ends broken s good
+          (cond bad (link_ends t Broken s) (connects t version maxdata (identity_of banner) s))
+      go true = turns_link_ends Broken s good
       go false = turns_connects version maxdata (identity_of banner) row s good is
 
   -- ---- AUTH and STLS
@@ -251,7 +253,7 @@ module _ (came plugged t : ℕ) where
       go true o e = refl
       go false o e = e
   turns_faulty (Some link) None s is good = turns_keeps s (quietly s) good.linked (keeps_all came plugged s)
-  turns_faulty (Some link) (Some fault) s is good = turns_link_ends broken s good
+  turns_faulty (Some link) (Some fault) s is good = turns_link_ends Broken s good
 
   -- bytes are received
   pub turns_cut : (c : Cut PacketFormat Packet PacketFault) (s : State) → IsGood came plugged s → t ≤ plugged

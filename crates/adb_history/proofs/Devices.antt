@@ -24,7 +24,7 @@ use Rattle.adb_wire.specs.declared.format.PacketFormat.{PacketFormat}
 use Rattle.adb_capture.specs.declared.entry.Entry.{Entry}
 use Rattle.adb_capture.specs.declared.entry.Entry.TheVariants.{Join, Enter, Read, End, Bound, Attach, Recv, Detach, Put, Send}
 use Rattle.adb_history.specs.Rows.{Client, Link, State, new_link}
-use Rattle.adb_history.specs.Events as ending
+use Rattle.adb_history.specs.declared.ending.Ending.TheVariants as ending
 use Rattle.adb_history.specs.Events.{Made, quietly}
 use Rattle.adb_history.specs.Links.{server_cnxn}
 use Rattle.adb_history.specs.Tracking.{mark_all}
@@ -306,8 +306,8 @@ module _ (older : History) (tie : IsTied older) (got : IsReceived older) (shows 
       go None is = turned n None (quietly s) (Detach n cause ∷ older)
           (record { here = none (at n s.devices.rows) (sym (shows.linked n) ∙ ap is_some is); others = λ k apart. refl; linked = shows.linked; stopped = refl })
           may.0 gone apart
-      go (Some link) is = turned n None (link_ends n ending.lost s) (Detach n cause ∷ older)
-          (turns_link_ends (came_count older) (plugged_count older) n ending.lost s good) may.0 gone apart
+      go (Some link) is = turned n None (link_ends n ending.Lost s) (Detach n cause ∷ older)
+          (turns_link_ends (came_count older) (plugged_count older) n ending.Lost s good) may.0 gone apart
 
   -- ---- the other entries
   ask_shows : (stop : Bool) (m : Made) (next : History) → ((t : ℕ) → device_of t next ≡ device_of t older) → AskTables stop s m → ShowsDevices m.state next

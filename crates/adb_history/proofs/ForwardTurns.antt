@@ -20,7 +20,9 @@ use Rattle.adb_wire.specs.declared.packets.Packet.{Packet}
 use Rattle.adb_wire.specs.declared.format.PacketFault.{PacketFault}
 use Rattle.adb_wire.specs.declared.format.PacketFormat.{PacketFormat}
 use Rattle.adb_history.specs.Rows.{Link, State, to_link}
-use Rattle.adb_history.specs.Events.{Made, Ending, quietly, then_also, lost, broken}
+use Rattle.adb_history.specs.Events.{Made, quietly, then_also}
+use Rattle.adb_history.specs.declared.ending.Ending.{Ending}
+use Rattle.adb_history.specs.declared.ending.Ending.TheVariants.{Lost, Broken}
 use Rattle.adb_history.specs.Links.{is_connected}
 use Rattle.adb_history.specs.Streams.{all_end}
 use Rattle.adb_history.specs.Forwarding.{forwards_without}
@@ -86,21 +88,21 @@ module _ (came plugged t : ℕ) where
 
   leads_connects : (version maxdata : ℕ) (o : Option Identity) (s : State) → AreWithin came plugged s.streams
       → Leads t s (connects t version maxdata o s)
-  leads_connects version maxdata None s all = leads_link_ends broken s all
+  leads_connects version maxdata None s all = leads_link_ends Broken s all
   leads_connects version maxdata (Some identity) s all =
       let m = streams_end_first (is_connected t s.devices) t s in
       leads_then s m (λ x. quietly (goes_online t version maxdata identity x)) (first (is_connected t s.devices))
       (leads_online version maxdata identity m.state)
     where
       first : (connected : Bool) → Leads t s (streams_end_first connected t s)
-      first true = leads_keeps s (all_end t lost s) (keeps_all_end came plugged t lost s all)
+      first true = leads_keeps s (all_end t Lost s) (keeps_all_end came plugged t Lost s all)
       first false = inl (refl, refl)
 
   leads_cnxn : (version maxdata : ℕ) (banner : List ℕ) (s : State) → AreWithin came plugged s.streams → Leads t s (cnxn t version maxdata banner s)
   leads_cnxn version maxdata banner s all = go (nat_lt version least_version || nat_lt maxdata least_maxdata)
     where
-      go : (refused : Bool) → Leads t s (cond refused (link_ends t broken s) (connects t version maxdata (identity_of banner) s))
-      go true = leads_link_ends broken s all
+      go : (refused : Bool) → Leads t s (cond refused (link_ends t Broken s) (connects t version maxdata (identity_of banner) s))
+      go true = leads_link_ends Broken s all
       go false = leads_connects version maxdata (identity_of banner) s all
 
   leads_unauthorized : (o : Option Row) (s : State) → Leads t s (unauthorized t o s)
@@ -142,7 +144,7 @@ module _ (came plugged t : ℕ) where
   leads_faulty : (o : Option Link) (fault : Option PacketFault) (s : State) → AreWithin came plugged s.streams → Leads t s (faulty_on o t fault s)
   leads_faulty None fault s all = inl (refl, refl)
   leads_faulty (Some link) None s all = inl (refl, refl)
-  leads_faulty (Some link) (Some fault) s all = leads_link_ends broken s all
+  leads_faulty (Some link) (Some fault) s all = leads_link_ends Broken s all
 
   pub leads_cut : (c : Cut PacketFormat Packet PacketFault) (s : State) → t ≤ plugged → AreWithin came plugged s.streams → Leads t s (receives_cut t c s)
   leads_cut c s le all =

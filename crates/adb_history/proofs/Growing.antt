@@ -11,7 +11,8 @@ use Rattle.adb_stream.specs.declared.row.Stream.{Stream}
 use Rattle.adb_stream.specs.declared.row.Part.{Part}
 use Rattle.adb_client.specs.declared.phase.Phase.TheVariants.{Asking, Binding}
 use Rattle.adb_history.specs.Rows.{Client, Link, State, to_client, to_link, to_stream, none_kept, with_due, with_link_due, with_stream_part}
-use Rattle.adb_history.specs.Events.{Made, Event, Ending, due_to_client, due_to_link, ended, quietly, then_also, bytes_for, owed_to, spelled_to}
+use Rattle.adb_history.specs.Events.{Made, Event, due_to_client, due_to_link, ended, quietly, then_also, bytes_for, owed_to, spelled_to}
+use Rattle.adb_history.specs.declared.ending.Ending.{Ending}
 use Rattle.adb_history.specs.Links.{owe_checked, owe_link, check_on, wants_sums}
 use Rattle.adb_history.specs.Clients.{owe_client}
 

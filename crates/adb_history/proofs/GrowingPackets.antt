@@ -13,7 +13,8 @@ use Rattle.adb_client.specs.declared.phase.Phase.{Phase}
 use Rattle.adb_client.specs.declared.phase.Phase.TheVariants.{Asking, Streaming, Binding, Tracking}
 use Rattle.adb_reply.proofs.AllAnswers.{by_test}
 use Rattle.adb_history.specs.Rows.{Client, State, to_client, to_stream, none_kept, in_phase, with_stream_part}
-use Rattle.adb_history.specs.Events.{Made, quietly, peer_closed, out_of_turn}
+use Rattle.adb_history.specs.Events.{Made, quietly}
+use Rattle.adb_history.specs.declared.ending.Ending.TheVariants.{PeerClosed, OutOfTurn}
 use Rattle.adb_history.specs.Links.{close_packet, okay_packet, credit_packet, credit_word, owe_link}
 use Rattle.adb_history.specs.Clients.{owe_client}
 use Rattle.adb_history.specs.Flow.{with_flow}
@@ -97,14 +98,14 @@ module _ (came plugged : ℕ) where
   keeps_takes_write l remote payload stream s within =
       by_test (Keeps came plugged s) (remote == 0 || not (remote == stream.part.remote)) (λ e. keeps_all came plugged s)
       (λ e. by_test (Keeps came plugged s) (is_out_of_turn stream.part.flow (length payload))
-      (λ f. keeps_ends_telling came plugged l out_of_turn stream s within) (λ f. keeps_accepts l payload stream s within))
+      (λ f. keeps_ends_telling came plugged l OutOfTurn stream s within) (λ f. keeps_accepts l payload stream s within))
 
   -- ---- CLSE
   keeps_takes_close : (l remote : ℕ) (stream : Stream) (s : State) → IsWithin came plugged (Some stream)
       → Keeps came plugged s (takes_close l remote stream s)
   keeps_takes_close l remote stream s within =
       by_test (Keeps came plugged s) (remote == 0 || remote == stream.part.remote)
-      (λ e. keeps_ends_row came plugged l peer_closed stream s within.0) (λ e. keeps_all came plugged s)
+      (λ e. keeps_ends_row came plugged l PeerClosed stream s within.0) (λ e. keeps_all came plugged s)
 
   pub keeps_treat_open : (t : ℕ) (command : Command) (p : Packet) (s : State) → t ≤ plugged → AreWithin came plugged s.streams
       → Keeps came plugged s (treat_open t command p s)

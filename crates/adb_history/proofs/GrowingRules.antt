@@ -12,7 +12,9 @@ use Rattle.adb_client.specs.declared.phase.Phase.{Phase}
 use Rattle.adb_client.specs.declared.phase.Phase.TheVariants.{Asking, Opening, Streaming, Binding, Closing, Gone}
 use Rattle.adb_reply.specs.Strings.{failed}
 use Rattle.adb_history.specs.Rows.{Client, State, to_client, to_stream, none_kept, with_held, in_phase, with_stream_part}
-use Rattle.adb_history.specs.Events.{Ending, ended, quietly, client_closed, client_failed}
+use Rattle.adb_history.specs.Events.{ended, quietly}
+use Rattle.adb_history.specs.declared.ending.Ending.{Ending}
+use Rattle.adb_history.specs.declared.ending.Ending.TheVariants.{ClientClosed, ClientFailed}
 use Rattle.adb_history.specs.Links.{open_packet, close_packet, write_packet, owe_link, is_credit, maxdata_of}
 use Rattle.adb_history.specs.Clients.{owe_client, closing_with, closing, closes, closes_with}
 use Rattle.adb_history.specs.Streams.{stream_ids, draw, asks_for, no_ids_left, opens, loses, client_loses, tells_end, ends_row, ends_telling}
@@ -169,7 +171,7 @@ module _ (came plugged : ℕ) where
   keeps_closes_if : (over : Bool) (l : ℕ) (o : Option Stream) (s : State) → IsWithin came plugged o → Keeps came plugged s (closes_if over l o s)
   keeps_closes_if over l None s within = keeps_all came plugged s
   keeps_closes_if false l (Some stream) s within = keeps_all came plugged s
-  keeps_closes_if true l (Some stream) s within = keeps_ends_telling l client_closed stream s within
+  keeps_closes_if true l (Some stream) s within = keeps_ends_telling l ClientClosed stream s within
 
   keeps_sends_up : (l : ℕ) (stream : Stream) (client : Client) (payloads : List (List ℕ)) (s : State) → IsWithin came plugged (Some stream)
       → ((a : Client) → s.clients stream.client ≡ Some a → (a.about.phase ≢ Asking) × (a.about.phase ≢ Binding))
@@ -223,14 +225,14 @@ module _ (came plugged : ℕ) where
   keeps_stream_fails (Streaming l) cause (Some stream) s within =
       let gone = to_stream l none_kept s in
       let m = owe_link stream.link (close_packet l stream.part.remote) gone in
-      keeps_then came plugged s m (λ s. record { state = s; told = ended l (client_failed cause) ∷ [] })
+      keeps_then came plugged s m (λ s. record { state = s; told = ended l (ClientFailed cause) ∷ [] })
       (keeps_over came plugged s gone m (keeps_no_stream came plugged l s)
       (keeps_owe_link came plugged stream.link (close_packet l stream.part.remote) gone within.1))
-      (keeps_told_end came plugged l (client_failed cause) m.state)
+      (keeps_told_end came plugged l (ClientFailed cause) m.state)
   keeps_stream_fails (Opening l) cause (Some stream) s within =
       let left = to_stream l (with_stream_part (orphaned stream.part)) s in
-      keeps_over came plugged s left (record { state = left; told = ended l (client_failed cause) ∷ [] })
-      (keeps_part came plugged l (orphaned stream.part) s) (keeps_told_end came plugged l (client_failed cause) left)
+      keeps_over came plugged s left (record { state = left; told = ended l (ClientFailed cause) ∷ [] })
+      (keeps_part came plugged l (orphaned stream.part) s) (keeps_told_end came plugged l (ClientFailed cause) left)
   keeps_stream_fails _ cause _ s within = keeps_all came plugged s
 
   within_stream_of : (phase : Phase) (streams : ℕ → Option Stream) → AreWithin came plugged streams → IsWithin came plugged (stream_of phase streams)

@@ -19,7 +19,9 @@ use Rattle.adb_wire.specs.declared.format.PacketFault.{PacketFault}
 use Rattle.adb_wire.specs.declared.limits.TheConstants.{VERSION}
 use Rattle.adb_wire.specs.declared.headers.TheConstants.{MAX_PAYLOAD}
 use Rattle.adb_history.specs.Rows.{Link, State, to_link, none_kept}
-use Rattle.adb_history.specs.Events.{Made, Ending, quietly, lost, broken, spelled_to}
+use Rattle.adb_history.specs.Events.{Made, quietly, spelled_to}
+use Rattle.adb_history.specs.declared.ending.Ending.{Ending}
+use Rattle.adb_history.specs.declared.ending.Ending.TheVariants.{Lost, Broken}
 use Rattle.adb_history.specs.Links.{is_connected}
 use Rattle.adb_history.specs.Streams.{all_end}
 use Rattle.adb_history.specs.Tracking.{mark_all}
@@ -210,7 +212,7 @@ module _ (came plugged : ℕ) where
   hears_connects : (t version maxdata : ℕ) (o : Option Identity) (s : State) → AreWithin came plugged s.streams
       → Changes came plugged Stay (HearsOn t Cnxn version) s (connects t version maxdata o s)
   hears_connects t version maxdata None s all =
-      hears_gone t Cnxn version s (link_ends t broken s) (link_ends_gone t broken s all) (changes_link_ends t broken s all)
+      hears_gone t Cnxn version s (link_ends t Broken s) (link_ends_gone t Broken s all) (changes_link_ends t Broken s all)
   hears_connects t version maxdata (Some identity) s all =
       changes_then came plugged stay_on (stays_and_hears t version) s ended
       (λ x. quietly (goes_online t version maxdata identity x)) (first (is_connected t s.devices)) (hears_online t version maxdata identity ended.state)
@@ -219,7 +221,7 @@ module _ (came plugged : ℕ) where
       ended = streams_end_first (is_connected t s.devices) t s
 
       first : (connected : Bool) → Changes came plugged Stay LinkStay s (streams_end_first connected t s)
-      first true = changes_keeps came plugged s (all_end t lost s) (keeps_all_end came plugged t lost s all)
+      first true = changes_keeps came plugged s (all_end t Lost s) (keeps_all_end came plugged t Lost s all)
       first false = changes_keeps came plugged s (quietly s) (keeps_all came plugged s)
 
   hears_cnxn : (t version maxdata : ℕ) (banner : List ℕ) (s : State) → AreWithin came plugged s.streams
@@ -227,8 +229,8 @@ module _ (came plugged : ℕ) where
   hears_cnxn t version maxdata banner s all = go (nat_lt version least_version || nat_lt maxdata least_maxdata)
     where
       go : (refused : Bool) → Changes came plugged Stay (HearsOn t Cnxn version) s
-          (cond refused (link_ends t broken s) (connects t version maxdata (identity_of banner) s))
-      go true = hears_gone t Cnxn version s (link_ends t broken s) (link_ends_gone t broken s all) (changes_link_ends t broken s all)
+          (cond refused (link_ends t Broken s) (connects t version maxdata (identity_of banner) s))
+      go true = hears_gone t Cnxn version s (link_ends t Broken s) (link_ends_gone t Broken s all) (changes_link_ends t Broken s all)
       go false = hears_connects t version maxdata (identity_of banner) s all
 
   changes_unauthorized_from : (t : ℕ) (state : DeviceState) (s : State) → Changes came plugged Stay LinkStay s (quietly (unauthorized_from t state s))
@@ -304,10 +306,10 @@ module _ (came plugged : ℕ) where
       → Changes came plugged Stay LinkStay s (faulty_on o t fault s)
   changes_faulty None t fault s all = changes_keeps came plugged s (quietly s) (keeps_all came plugged s)
   changes_faulty (Some link) t None s all = changes_keeps came plugged s (quietly s) (keeps_all came plugged s)
-  changes_faulty (Some link) t (Some fault) s all = changes_link_ends t broken s all
+  changes_faulty (Some link) t (Some fault) s all = changes_link_ends t Broken s all
 
   -- a link that stays had no fault
   pub faulty_gone : (o : Option Link) (t : ℕ) (fault : PacketFault) (s : State) → s.links t ≡ o → AreWithin came plugged s.streams
       → (faulty_on o t (Some fault) s).state.links t ≡ None
   faulty_gone None t fault s e all = e
-  faulty_gone (Some link) t fault s e all = link_ends_gone t broken s all
+  faulty_gone (Some link) t fault s e all = link_ends_gone t Broken s all

@@ -24,7 +24,9 @@ use Rattle.adb_stream.specs.declared.row.Stream.{Stream}
 use Rattle.adb_capture.specs.declared.entry.Entry.{Entry}
 use Rattle.adb_capture.specs.declared.entry.Entry.TheVariants.{Join, Enter, Read, Attach}
 use Rattle.adb_history.specs.Rows.{Link, State, new_link, to_stream, none_kept, with_stream_part}
-use Rattle.adb_history.specs.Events.{Event, Ending, quietly, lost}
+use Rattle.adb_history.specs.Events.{Event, quietly}
+use Rattle.adb_history.specs.declared.ending.Ending.{Ending}
+use Rattle.adb_history.specs.declared.ending.Ending.TheVariants.{Lost}
 use Rattle.adb_history.specs.Links.{is_connected, is_connected_row, is_connected_state, is_credit}
 use Rattle.adb_history.specs.Streams.{ends_row, ends_if_of, ends_of, all_end}
 use Rattle.adb_history.specs.Flow.{with_flow}
@@ -176,7 +178,7 @@ module _ (s : State) (h : IsLinked s) where
 
   -- ---- a device says who it is
   pub first_cleared : (b : Bool) (t : ℕ) → is_connected t s.devices ≡ b → IsCleared t s (streams_end_first b t s).state
-  first_cleared true t is = all_cleared t lost s h.owned.rows
+  first_cleared true t is = all_cleared t Lost s h.owned.rows
   first_cleared false t is =
       record { devices = refl; links = refl; forwards = refl; same = λ m x e. e; clear = λ m x e. none_on t s.devices x is (h.on m x e) }
 

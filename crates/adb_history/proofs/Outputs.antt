@@ -13,7 +13,8 @@ use Rattle.adb_wire.specs.declared.packets.Packet.{Packet}
 use Rattle.adb_wire.specs.declared.format.PacketFault.{PacketFault}
 use Rattle.adb_wire.specs.declared.format.PacketFormat.{PacketFormat}
 use Rattle.adb_history.specs.Rows.{Client, Link, State, to_link}
-use Rattle.adb_history.specs.Events.{Made, Event, quietly, then_also, lost, owed_to, spelled_to}
+use Rattle.adb_history.specs.Events.{Made, Event, quietly, then_also, owed_to, spelled_to}
+use Rattle.adb_history.specs.declared.ending.Ending.TheVariants.{Lost}
 use Rattle.adb_history.specs.Losing.{link_ends, client_ends}
 use Rattle.adb_history.specs.Packets.{treat_all, faulty, with_rest, receives_cut, receives_on, receives}
 use Rattle.adb_history.specs.Reading.{reads, bound}
@@ -168,7 +169,7 @@ module _ (came plugged : ℕ) (put sent : ℕ → List ℕ) where
 
   owes_unplugs : (o : Option Link) (t : ℕ) (s : State) → AreWithin came plugged s.streams → Changes came plugged Owed LinkOwed s (unplugs_on o t s)
   owes_unplugs None t s all = owed_stays s (quietly s) (changes_keeps came plugged s (quietly s) (keeps_all came plugged s))
-  owes_unplugs (Some link) t s all = owed_stays s (link_ends t lost s) (changes_link_ends came plugged t lost s all)
+  owes_unplugs (Some link) t s all = owed_stays s (link_ends t Lost s) (changes_link_ends came plugged t Lost s all)
 
   -- ---- the entries that come from clients and links that are there
   tie_read : (c : ℕ) (bytes : List ℕ) (s : State) (events : List Event) → c ≤ came → Tie came plugged s events put sent

@@ -11,7 +11,9 @@ use Rattle.adb_capture.specs.declared.entry.Entry.{Entry}
 use Rattle.adb_capture.specs.declared.entry.Entry.TheVariants.{Join, Enter, Read, Attach}
 use Rattle.adb_reply.specs.Strings.{failed}
 use Rattle.adb_history.specs.Rows.{Client, State, start, new_client, to_client, to_stream, none_kept, with_due}
-use Rattle.adb_history.specs.Events.{Event, Ending, lost}
+use Rattle.adb_history.specs.Events.{Event}
+use Rattle.adb_history.specs.declared.ending.Ending.{Ending}
+use Rattle.adb_history.specs.declared.ending.Ending.TheVariants.{Lost}
 use Rattle.adb_history.specs.Streams.{loses, client_loses, tells_end, ends_row, all_end}
 use Rattle.adb_history.specs.Links.{is_connected}
 use Rattle.adb_history.specs.Tracking.{mark_all}
@@ -133,7 +135,7 @@ module _ (s : State) (h : IsOwned s) where
       marked_owned (all_end t ending forgot).state (all_end_kept {P = λ s w. IsOwned s} ends_kept t ending forgot [] kept)
 
   ends_first_owned : (b : Bool) (t : ℕ) → IsOwned (streams_end_first b t s).state
-  ends_first_owned true t = all_end_kept {P = λ s w. IsOwned s} ends_kept t lost s [] h
+  ends_first_owned true t = all_end_kept {P = λ s w. IsOwned s} ends_kept t Lost s [] h
   ends_first_owned false t = h
 
   online_owned : (t version maxdata : ℕ) (identity : Identity) → IsOwned (connects_now t version maxdata identity s).state

@@ -21,7 +21,8 @@ use Rattle.adb_stream.specs.declared.flow.Flow.TheVariants.{One, Credit}
 use Rattle.adb_stream.specs.declared.row.Stream.{Stream}
 use Rattle.adb_stream.specs.Flow.{acknowledged, is_out_of_turn}
 use Rattle.adb_history.specs.Rows.{Client, Link, State, to_link, to_stream, with_stream_part}
-use Rattle.adb_history.specs.Events.{Made, Event, quietly, peer_closed, out_of_turn, broken}
+use Rattle.adb_history.specs.Events.{Made, Event, quietly}
+use Rattle.adb_history.specs.declared.ending.Ending.TheVariants.{PeerClosed, OutOfTurn, Broken}
 use Rattle.adb_history.specs.Links.{close_packet, okay_packet, credit_word, owe_link, is_connected}
 use Rattle.adb_history.specs.Clients.{owe_client}
 use Rattle.adb_history.specs.Streams.{ends_row, ends_telling}
@@ -62,13 +63,13 @@ module _ {scope : Scope} {asker : ℕ} {P : State → List Event → Type 0} (k 
   module _ (s : State) (w : List Event) (h : P s w) where
     -- ---- CNXN, AUTH and STLS
     connects_kept : (t version maxdata : ℕ) (who : Option Identity) → scope.renews t × scope.cuts t → After P w (connects t version maxdata who s)
-    connects_kept t version maxdata None may = k.link_ends t broken s w (refl, may.1) h
+    connects_kept t version maxdata None may = k.link_ends t Broken s w (refl, may.1) h
     connects_kept t version maxdata (Some identity) may = k.online t version maxdata identity s w may.0 h
 
     cnxn_kept : (t version maxdata : ℕ) (banner : List ℕ) → scope.renews t × scope.cuts t → After P w (cnxn t version maxdata banner s)
     cnxn_kept t version maxdata banner may =
-        after_if P w (nat_lt version least_version || nat_lt maxdata least_maxdata) (link_ends t broken s) (connects t version maxdata (identity_of banner) s)
-        (λ e. k.link_ends t broken s w (refl, may.1) h) (λ e. connects_kept t version maxdata (identity_of banner) may)
+        after_if P w (nat_lt version least_version || nat_lt maxdata least_maxdata) (link_ends t Broken s) (connects t version maxdata (identity_of banner) s)
+        (λ e. k.link_ends t Broken s w (refl, may.1) h) (λ e. connects_kept t version maxdata (identity_of banner) may)
 
     unauthorized_kept : (t : ℕ) (o : Option Row) → at t s.devices.rows ≡ o → After P w (unauthorized t o s)
     unauthorized_kept t None is = after_quietly P w s h
@@ -131,18 +132,18 @@ module _ {scope : Scope} {asker : ℕ} {P : State → List Event → Type 0} (k 
 
     write_kept : (l remote : ℕ) (payload : List ℕ) (stream : Stream) → s.streams l ≡ Some stream → After P w (takes_write l remote payload stream s)
     write_kept l remote payload stream is =
-        let late : Made = ends_telling l out_of_turn stream s in
+        let late : Made = ends_telling l OutOfTurn stream s in
         let taken : Made = accepts l payload stream s in
         let out : Bool = is_out_of_turn stream.part.flow (length payload) in
         after_if P w (eqb remote 0 || not (eqb remote stream.part.remote)) (quietly s) (cond out late taken) (λ e. after_quietly P w s h)
-        (λ known. after_if P w out late taken (λ e. ends_telling_kept k s w h l out_of_turn stream is (inr (inl (written_to remote stream.part.remote known))))
+        (λ known. after_if P w out late taken (λ e. ends_telling_kept k s w h l OutOfTurn stream is (inr (inl (written_to remote stream.part.remote known))))
         (λ turn. accepts_kept l payload stream is (written_to remote stream.part.remote known) turn))
 
     -- ---- CLSE
     close_kept : (l remote : ℕ) (stream : Stream) → s.streams l ≡ Some stream → scope.reaches l → After P w (takes_close l remote stream s)
     close_kept l remote stream is may =
-        after_if P w (eqb remote 0 || eqb remote stream.part.remote) (ends_row l peer_closed stream s) (quietly s)
-        (λ e. k.ends l peer_closed stream s w is (inl (refl, may)) h)
+        after_if P w (eqb remote 0 || eqb remote stream.part.remote) (ends_row l PeerClosed stream s) (quietly s)
+        (λ e. k.ends l PeerClosed stream s w is (inl (refl, may)) h)
         (λ e. after_quietly P w s h)
 
     -- ---- one packet
@@ -187,7 +188,7 @@ module _ {scope : Scope} {asker : ℕ} {P : State → List Event → Type 0} (k 
     pub faulty_kept : (o : Option Link) (t : ℕ) (fault : Option PacketFault) → scope.cuts t → After P w (faulty_on o t fault s)
     faulty_kept None t fault may = after_quietly P w s h
     faulty_kept (Some link) t None may = after_quietly P w s h
-    faulty_kept (Some link) t (Some fault) may = k.link_ends t broken s w (refl, may) h
+    faulty_kept (Some link) t (Some fault) may = k.link_ends t Broken s w (refl, may) h
 
   module _ (s : State) (w : List Event) (h : P s w) where
     receives_cut_kept : (t : ℕ) (c : Cut PacketFormat Packet PacketFault) → ((p : Packet) → Allows scope t p.command p) × scope.cuts t

@@ -13,7 +13,9 @@ use Rattle.adb_client.specs.declared.phase.Phase.{Phase}
 use Rattle.adb_client.specs.declared.phase.Phase.TheVariants.{Opening, Streaming}
 use Rattle.adb_reply.specs.Strings.{failed}
 use Rattle.adb_history.specs.Rows.{Client, Link, State, to_client, to_link, to_stream, none_kept, with_due, with_held, with_link_due, with_stream_part}
-use Rattle.adb_history.specs.Events.{Made, Event, Ending, quietly, due_to_client, due_to_link, ended, lost, stopped, client_failed}
+use Rattle.adb_history.specs.Events.{Made, Event, quietly, due_to_client, due_to_link, ended}
+use Rattle.adb_history.specs.declared.ending.Ending.{Ending}
+use Rattle.adb_history.specs.declared.ending.Ending.TheVariants.{Lost, Stopped, ClientFailed}
 use Rattle.adb_history.specs.Links.{is_connected, is_credit}
 use Rattle.adb_history.specs.Clients.{closes, closes_with, closing}
 use Rattle.adb_history.specs.Streams.{draw, loses, client_loses, tells_end, ends_row, all_end}
@@ -97,7 +99,7 @@ module _ {P : State → List Event → Type 0} (k : Plain P) where
       (λ v now. after_quietly P v (mark_all (all_end t ending forgot).state) (k.marks (all_end t ending forgot).state v now))
 
   ends_first_plain : (b : Bool) (t : ℕ) (s : State) (w : List Event) → P s w → After P w (streams_end_first b t s)
-  ends_first_plain true t s w h = all_end_kept ends_plain t lost s w h
+  ends_first_plain true t s w h = all_end_kept ends_plain t Lost s w h
   ends_first_plain false t s w h = after_quietly P w s h
 
   online_plain : (t version maxdata : ℕ) (identity : Identity) (s : State) (w : List Event) → P s w → After P w (connects_now t version maxdata identity s)
@@ -112,9 +114,9 @@ module _ {P : State → List Event → Type 0} (k : Plain P) where
       subst (λ (v : List Event). P s v) (append_assoc w (all_stop n streams) (tells_stop (suc n) (streams (suc n))))
       (one (streams (suc n)) (w ++ all_stop n streams) (all_stop_plain n streams s w h))
     where
-      told : (b : Bool) (v : List Event) → P s v → P s (v ++ cond b [] (ended (suc n) stopped ∷ []))
+      told : (b : Bool) (v : List Event) → P s v → P s (v ++ cond b [] (ended (suc n) Stopped ∷ []))
       told true v now = subst (λ (u : List Event). P s u) (sym (append-nil v)) now
-      told false v now = k.tells_end (suc n) stopped s v now
+      told false v now = k.tells_end (suc n) Stopped s v now
 
       one : (o : Option Stream) (v : List Event) → P s v → P s (v ++ tells_stop (suc n) o)
       one None v now = subst (λ (u : List Event). P s u) (sym (append-nil v)) now
@@ -139,8 +141,8 @@ module _ {P : State → List Event → Type 0} (k : Plain P) where
     opens = λ l remote word stream s w is new h. k.client stream.client _ _ w (k.stream l _ s w h);
     orphan_goes = λ l stream s w is orphan h. k.stream l none_kept s w h;
     ends = ends_plain;
-    fails_open = λ c l failing s w at h. k.stream l none_kept _ _ (k.client c none_kept s _ (k.tells_end l (client_failed failing.cause) s w h));
-    fails_asked = λ c l failing s w at h. k.stream l _ _ _ (k.client c none_kept s _ (k.tells_end l (client_failed failing.cause) s w h));
+    fails_open = λ c l failing s w at h. k.stream l none_kept _ _ (k.client c none_kept s _ (k.tells_end l (ClientFailed failing.cause) s w h));
+    fails_asked = λ c l failing s w at h. k.stream l _ _ _ (k.client c none_kept s _ (k.tells_end l (ClientFailed failing.cause) s w h));
     links = λ t f s w h. k.link t (λ link. Some (f link)) s w h;
     link_ends = link_ends_plain;
     online = online_plain;

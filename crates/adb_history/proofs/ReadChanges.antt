@@ -14,7 +14,8 @@ use Rattle.adb_client.specs.declared.about.Want.{Want}
 use Rattle.adb_reply.specs.declared.answer.Next.{Next}
 use Rattle.adb_reply.specs.declared.answer.Next.TheVariants as what
 use Rattle.adb_history.specs.Rows.{Client, State, to_client, with_held}
-use Rattle.adb_history.specs.Events.{Made, Event, quietly, then_also, owed_to, spelled_to, ended, stopped}
+use Rattle.adb_history.specs.Events.{Made, Event, quietly, then_also, owed_to, spelled_to, ended}
+use Rattle.adb_history.specs.declared.ending.Ending.TheVariants.{Stopped}
 use Rattle.adb_history.specs.Clients.{owe_client, closes, closes_with}
 use Rattle.adb_history.specs.Streams.{opens}
 use Rattle.adb_history.specs.Forwarding.{Binding as Bound, bound_by, put_forward}
@@ -99,8 +100,8 @@ module _ (came plugged c : ℕ) where
       one None = (λ n. refl, λ t. refl)
       one (Some stream) = orphaned stream.part.orphan
         where
-          orphaned : (orphan : Bool) → ((n : ℕ) → owed_to n (cond orphan [] (ended (suc k) stopped ∷ [])) ≡ [])
-              × ((t : ℕ) → spelled_to t (cond orphan [] (ended (suc k) stopped ∷ [])) ≡ [])
+          orphaned : (orphan : Bool) → ((n : ℕ) → owed_to n (cond orphan [] (ended (suc k) Stopped ∷ [])) ≡ [])
+              × ((t : ℕ) → spelled_to t (cond orphan [] (ended (suc k) Stopped ∷ [])) ≡ [])
           orphaned true = (λ n. refl, λ t. refl)
           orphaned false = (λ n. refl, λ t. refl)
 

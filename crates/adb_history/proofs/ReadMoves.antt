@@ -22,7 +22,8 @@ use Rattle.adb_reply.specs.Refusals.{no_transport}
 use Rattle.adb_reply.specs.declared.answer.Next.{Next}
 use Rattle.adb_reply.specs.declared.answer.Next.TheVariants.{Close, Select, Track, Open, Bind, Rebind, Unbind, UnbindAll, Stop}
 use Rattle.adb_history.specs.Rows.{Client, State, to_client, to_stream, none_kept, with_due, with_held}
-use Rattle.adb_history.specs.Events.{Made, Event, quietly, ended, client_failed}
+use Rattle.adb_history.specs.Events.{Made, Event, quietly, ended}
+use Rattle.adb_history.specs.declared.ending.Ending.TheVariants.{ClientFailed}
 use Rattle.adb_history.specs.Links.{owe_link, close_packet}
 use Rattle.adb_history.specs.Clients.{owe_client, closes}
 use Rattle.adb_history.specs.Forwarding.{Binding as Bound, forwards_with, put_forward, told_port, is_unbound, bound_by}
@@ -150,7 +151,7 @@ module _ {scope : Scope} {asker : ℕ} {P : State → List Event → Type 0} (k 
         let p : Packet = close_packet l stream.part.remote in
         let owed : Made = owe_link stream.link p s in
         let gone : Made = owe_link stream.link p (to_stream l none_kept (to_client c none_kept s)) in
-        subst (λ (v : List Event). P gone.state v) (append_assoc w owed.told (ended l (client_failed cause) ∷ []))
+        subst (λ (v : List Event). P gone.state v) (append_assoc w owed.told (ended l (ClientFailed cause) ∷ []))
         (k.fails_open c l (record { cause = cause; client = x.client; stream = stream }) owed.state (w ++ owed.told) (x.here, x.in_phase, at_l)
         (owes_kept (serving k) s w h stream.link p (inr (inl (ap is_some at_l)))))
 

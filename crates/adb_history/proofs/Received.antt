@@ -27,7 +27,7 @@ use Rattle.adb_history.specs.Tied.{RestIsPastPackets}
 use Rattle.adb_outside.specs.declared.kinds.Cause.{Cause}
 use Rattle.adb_outside.specs.Tables.{at}
 use Rattle.adb_forward.specs.declared.row.ForwardRow.{ForwardRow}
-use Rattle.adb_history.specs.Events as ending
+use Rattle.adb_history.specs.declared.ending.Ending.TheVariants as ending
 use Rattle.adb_history.specs.Links.{server_cnxn, is_connected}
 use Rattle.adb_history.specs.Streams.{opens}
 use Rattle.adb_history.specs.Tracking.{mark_all}
@@ -323,14 +323,14 @@ module _ (older : History) (tie : IsTied older) (h : IsReceived older) where
       go : (here : Bool) → eqb n t ≡ here → (o : Option Link) → s.links n ≡ o
           → ReadTie (here || is_lost t older) ((unplugs_on o n s).state.links t) (bytes_received t older)
       go false e None is = h.links t
-      go false e (Some link) is = same_tie (link_ends n ending.lost s)
-          (λ t. holds (s.links t) ((link_ends n ending.lost s).state.links t) (spelled_to t (link_ends n ending.lost s).told)
-          ((changes_link_ends (came_count older) (plugged_count older) n ending.lost s tie.streams).links t)) t
+      go false e (Some link) is = same_tie (link_ends n ending.Lost s)
+          (λ t. holds (s.links t) ((link_ends n ending.Lost s).state.links t) (spelled_to t (link_ends n ending.Lost s).told)
+          ((changes_link_ends (came_count older) (plugged_count older) n ending.Lost s tie.streams).links t)) t
       go true e None is = subst (λ (o : Option Link). ReadTie true o (bytes_received t older)) (sym (ap s.links (sym (eqb-true n t e)) ∙ is)) tt
       go true e (Some link) is =
-          let gone : (link_ends n ending.lost s).state.links t ≡ None =
-          ap (link_ends n ending.lost s).state.links (sym (eqb-true n t e))
-          ∙ link_ends_gone (came_count older) (plugged_count older) n ending.lost s tie.streams in
+          let gone : (link_ends n ending.Lost s).state.links t ≡ None =
+          ap (link_ends n ending.Lost s).state.links (sym (eqb-true n t e))
+          ∙ link_ends_gone (came_count older) (plugged_count older) n ending.Lost s tie.streams in
           subst (λ (o : Option Link). ReadTie true o (bytes_received t older)) (sym gone) tt
 
   below_came : (c : ℕ) (o : Option Client) (bytes : List ℕ) → s.clients c ≡ o → MayPut s o bytes → c ≤ came_count older

@@ -17,7 +17,8 @@ use Rattle.adb_capture.specs.declared.entry.Entry.TheVariants.{Join, Enter, Read
 use Rattle.adb_outside.specs.Tables.{at}
 use Rattle.adb_forward.specs.declared.row.ForwardRow.{ForwardRow}
 use Rattle.adb_history.specs.Rows.{new_client, Client, Link, State, to_client, to_stream, with_stream_part}
-use Rattle.adb_history.specs.Events.{Made, Event, quietly, lost}
+use Rattle.adb_history.specs.Events.{Made, Event, quietly}
+use Rattle.adb_history.specs.declared.ending.Ending.TheVariants.{Lost}
 use Rattle.adb_history.specs.Links.{okay_packet, credit_packet, server_cnxn, is_connected}
 use Rattle.adb_history.specs.Streams.{opens}
 use Rattle.adb_history.specs.Flow.{with_flow}
@@ -186,7 +187,7 @@ module _ {scope : Scope} {asker : ℕ} {P : State → List Event → Type 0} (k 
     -- ---- entries
     pub unplugs_turns : (o : Option Link) (t : ℕ) → scope.cuts t → After P w (unplugs_on o t s)
     unplugs_turns None t may = after_quietly P w s h
-    unplugs_turns (Some link) t may = k.link_ends t lost s w (refl, may) h
+    unplugs_turns (Some link) t may = k.link_ends t Lost s w (refl, may) h
 
 -- What is to be shown before the rule of an entry: that it holds with who comes; of a client that asks, that it holds with what is read.
 abbrev pub BeginsWith : (State → List Event → Type 0) → Entry → State → List Event → Type 0

@@ -12,7 +12,9 @@ use Rattle.adb_client.specs.declared.phase.Phase.{Phase}
 use Rattle.adb_client.specs.declared.phase.Phase.TheVariants.{Asking, Streaming}
 use Rattle.adb_reply.specs.Strings.{failed}
 use Rattle.adb_history.specs.Rows.{Client, State, to_client, to_stream, with_due, with_stream_part, none_kept, with_held}
-use Rattle.adb_history.specs.Events.{Made, Event, Ending, quietly, client_closed}
+use Rattle.adb_history.specs.Events.{Made, Event, quietly}
+use Rattle.adb_history.specs.declared.ending.Ending.{Ending}
+use Rattle.adb_history.specs.declared.ending.Ending.TheVariants.{ClientClosed}
 use Rattle.adb_history.specs.Links.{owe_link, open_packet, close_packet, write_packet, check_on, wants_sums, is_credit, maxdata_of}
 use Rattle.adb_history.specs.Clients.{closes_with}
 use Rattle.adb_history.specs.Streams.{stream_ids, asks_for, no_ids_left, opens, ends_row, ends_telling, ends_if_of, ends_of, all_end}
@@ -113,7 +115,7 @@ module _ {scope : Scope} {asker : ℕ} {P : State → List Event → Type 0} (k 
         → ((stream : Stream) → s.streams l ≡ Some stream → HasOpen s.clients stream.client l) → After P w (closes_if over l o s)
     closes_if_kept over l None is open_for = after_quietly P w s h
     closes_if_kept false l (Some stream) is open_for = after_quietly P w s h
-    closes_if_kept true l (Some stream) is open_for = ends_telling_kept s w h l client_closed stream is (inr (inr (open_for stream is)))
+    closes_if_kept true l (Some stream) is open_for = ends_telling_kept s w h l ClientClosed stream is (inr (inr (open_for stream is)))
 
     noted_kept : (l : ℕ) (stream : Stream) (client : Client) (payloads : List (List ℕ)) → s.streams l ≡ Some stream → s.clients stream.client ≡ Some client
         → HasOne client.about.phase → P (noted l stream client.held payloads s) w

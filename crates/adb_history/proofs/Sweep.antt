@@ -6,7 +6,8 @@ use Rattle.adb_stream.specs.declared.row.Stream.{Stream}
 use Rattle.adb_client.specs.declared.phase.Phase.{Phase}
 use Rattle.adb_client.specs.declared.phase.Phase.TheVariants.{Streaming}
 use Rattle.adb_history.specs.Rows.{Client, Link, State, to_stream, none_kept, with_held, with_stream_part}
-use Rattle.adb_history.specs.Events.{quietly, client_closed}
+use Rattle.adb_history.specs.Events.{quietly}
+use Rattle.adb_history.specs.declared.ending.Ending.TheVariants.{ClientClosed}
 use Rattle.adb_history.specs.Links.{maxdata_of, owe_link, close_packet}
 use Rattle.adb_history.specs.Clients.{closes}
 use Rattle.adb_history.specs.Streams.{loses, client_loses, ends_telling}
@@ -66,13 +67,13 @@ module _ (Q : State → Type 0) (l : ℕ) (s : State) (q : UpTo Q l s) where
       now : State
       now = record (left l s x) { links = (all_go_up l x.stream (sent l s x) (left l s x)).state.links }
 
-      ends_of : (y : Stream) → y.client ≡ x.stream.client → (ends_telling l client_closed y now).state
+      ends_of : (y : Stream) → y.client ≡ x.stream.client → (ends_telling l ClientClosed y now).state
           ≡ closes x.stream.client (to_stream l none_kept (owe_link y.link (close_packet l y.part.remote) now).state)
       ends_of y same =
           let owed : State = (owe_link y.link (close_packet l y.part.remote) now).state in
           let here : owed.clients x.stream.client ≡ with_held (drop (total (sent l s x)) x.client.held) x.client =
           changed_here x.stream.client (with_held (drop (total (sent l s x)) x.client.held)) s.clients x.client x.here in
-          ends_state l client_closed y owed
+          ends_state l ClientClosed y owed
           ∙ (ap (λ c. (client_loses (owed.clients c) c (to_stream l none_kept owed)).state) same
           ∙ (ap (λ o. (client_loses o x.stream.client (to_stream l none_kept owed)).state) here
           ∙ streaming_loses l x.client.about.phase x.client.about.forwarded x.stream.client (to_stream l none_kept owed) x.streaming))

@@ -22,7 +22,8 @@ use Rattle.adb_reply.specs.declared.answer.Answer.{Answer}
 use Rattle.adb_reply.specs.declared.answer.Next.{Next}
 use Rattle.adb_reply.specs.declared.answer.Next.TheVariants.{Close, Select, Track, Open, Bind, Rebind, Unbind, UnbindAll, Stop}
 use Rattle.adb_history.specs.Rows.{Client, State, new_client, to_client, to_stream, none_kept, with_due, with_held, in_phase}
-use Rattle.adb_history.specs.Events.{Ending, lost}
+use Rattle.adb_history.specs.declared.ending.Ending.{Ending}
+use Rattle.adb_history.specs.declared.ending.Ending.TheVariants.{Lost}
 use Rattle.adb_history.specs.Links.{is_connected}
 use Rattle.adb_history.specs.Clients.{closing, closing_with}
 use Rattle.adb_history.specs.Streams.{stream_ids, asks_for, no_ids_left, opens, loses, client_loses, ends_row, all_end}
@@ -166,7 +167,7 @@ all_end_unread e t ending s h =
     all_end_kept {P = λ s w. UnreadBut e s.clients} (λ l ending stream s w is now. ends_unread e l ending stream s now) t ending s [] h
 
 first_unread : (e : ℕ → Type 0) (b : Bool) (t : ℕ) (s : State) → UnreadBut e s.clients → UnreadBut e (streams_end_first b t s).state.clients
-first_unread e true t s h = all_end_unread e t lost s h
+first_unread e true t s h = all_end_unread e t Lost s h
 first_unread e false t s h = h
 
 only_unread : (e : ℕ → Type 0) (c : ℕ) (clients : Rows (Option Client)) → UnreadBut e clients → UnreadBut e (only_client c clients)

@@ -8,7 +8,8 @@ use Rattle.adb_client.specs.declared.phase.Phase.{Phase}
 use Rattle.adb_client.specs.declared.phase.Phase.TheVariants.{Asking, Opening, Streaming, Binding, Closing}
 use Rattle.adb_reply.specs.Strings.{failed}
 use Rattle.adb_history.specs.Rows.{Client, Link, State, to_client, to_stream, none_kept, with_due, with_held, in_phase, with_stream_part}
-use Rattle.adb_history.specs.Events.{Made, Event, quietly, then_also, lost}
+use Rattle.adb_history.specs.Events.{Made, Event, quietly, then_also}
+use Rattle.adb_history.specs.declared.ending.Ending.TheVariants.{Lost}
 use Rattle.adb_history.specs.Links.{is_connected}
 use Rattle.adb_history.specs.Clients.{closing_with, closing}
 use Rattle.adb_history.specs.Streams.{loses, client_loses, tells_end, all_end}
@@ -221,7 +222,7 @@ module _ (s0 : State) (free : AreFree s0) where
       tells false = stream_steps l none_kept s h (λ a. tt)
 
   first_left : (b : Bool) (t : ℕ) (s : State) (w : List Event) → L s w → After L w (streams_end_first b t s)
-  first_left true t s w h = all_end_kept ends_left t lost s w h
+  first_left true t s w h = all_end_kept ends_left t Lost s w h
   first_left false t s w h = h
 
   serving : Serves L

@@ -12,7 +12,7 @@ use Rattle.adb_registry.specs.Lists.{short_list}
 use Rattle.adb_forward.specs.Forwards.{forward_row}
 use Rattle.adb_capture.specs.declared.entry.Entry.{Entry}
 use Rattle.adb_capture.specs.declared.entry.Entry.TheVariants.{Enter, Read, End, Bound, Recv, Detach}
-use Rattle.adb_history.specs.Events.{client_closed, peer_closed, out_of_turn, lost, stopped}
+use Rattle.adb_history.specs.declared.ending.Ending.TheVariants.{ClientClosed, PeerClosed, OutOfTurn, Lost, Stopped}
 use Rattle.adb_history.specs.Links.{server_cnxn, open_packet, okay_packet, write_packet, close_packet}
 use Rattle.adb_history.specs.Machine.{History, state}
 use Rattle.adb_history.specs.Bytes.{bytes_put, sent}
@@ -71,7 +71,7 @@ what_became_due_to_its_client : output_of 1 shell ≡ codes "OKAYOKAYhi!"
 unfolding meaning word_at identity_of last_value
 what_became_due_to_its_client = refl
 
-how_it_ended : ending_of 1 shell ≡ Some peer_closed
+how_it_ended : ending_of 1 shell ≡ Some PeerClosed
 unfolding meaning word_at identity_of last_value
 how_it_ended = refl
 
@@ -109,19 +109,19 @@ born_through_a_forward = refl
 
 -- ---- endings
 ends_out_of_turn : ending_of 1 (drained_from [] (shell_comes ++ Recv 1 (sends (write_packet 7 1 (codes "a") ∷ write_packet 7 1 (codes "b") ∷ [])) ∷ []))
-    ≡ Some out_of_turn
+    ≡ Some OutOfTurn
 unfolding meaning word_at identity_of last_value
 ends_out_of_turn = refl
 
-ends_by_its_client : ending_of 1 (drained_from [] (shell_comes ++ End 1 Eof ∷ [])) ≡ Some client_closed
+ends_by_its_client : ending_of 1 (drained_from [] (shell_comes ++ End 1 Eof ∷ [])) ≡ Some ClientClosed
 unfolding meaning word_at identity_of last_value
 ends_by_its_client = refl
 
-ends_with_its_link : ending_of 1 (drained_from [] (shell_comes ++ Detach 1 Eof ∷ [])) ≡ Some lost
+ends_with_its_link : ending_of 1 (drained_from [] (shell_comes ++ Detach 1 Eof ∷ [])) ≡ Some Lost
 unfolding meaning word_at identity_of last_value
 ends_with_its_link = refl
 
-ends_with_the_server : ending_of 1 (drained_from [] (shell_comes ++ asks 2 (codes "0009host:kill"))) ≡ Some stopped
+ends_with_the_server : ending_of 1 (drained_from [] (shell_comes ++ asks 2 (codes "0009host:kill"))) ≡ Some Stopped
 unfolding meaning word_at identity_of last_value
 ends_with_the_server = refl
 

@@ -8,7 +8,8 @@ use Rattle.adb_reply.specs.declared.answer.Next.{Next}
 use Rattle.adb_reply.specs.declared.answer.Next.TheVariants.{Track, Open, Bind}
 use Rattle.adb_capture.specs.declared.entry.Entry.TheVariants.{Read, Put}
 use Rattle.adb_history.specs.Rows.{Client}
-use Rattle.adb_history.specs.Events.{Ending, peer_closed, lost, broken}
+use Rattle.adb_history.specs.declared.ending.Ending.{Ending}
+use Rattle.adb_history.specs.declared.ending.Ending.TheVariants.{PeerClosed, Lost, Broken}
 use Rattle.adb_history.specs.Tracking.{tracked_list}
 use Rattle.adb_history.specs.Machine.{History, state}
 use Rattle.adb_history.specs.Bytes.{has_joined, has_failed, bytes_put}
@@ -47,9 +48,9 @@ last_list long c (_ ∷ older) = last_list long c older
 -- ---- what follows the replies
 -- a stream that never opened: its client is told so where its device or its link ended it
 abbrev pub tells_closed : Option Ending → Bool
-tells_closed (Some peer_closed) = true
-tells_closed (Some lost) = true
-tells_closed (Some broken) = true
+tells_closed (Some PeerClosed) = true
+tells_closed (Some Lost) = true
+tells_closed (Some Broken) = true
 tells_closed _ = false
 
 abbrev pub closed_reply : Bool → List ℕ
@@ -66,7 +67,7 @@ is_heard l b (e ∷ older) =
 -- another cause did, what it wrote while the stream lived, at least, and no more than all
 abbrev pub FollowsUpTo : Option Ending → (told before_close while_alive bytes : List ℕ) → Type 0
 FollowsUpTo None told before_close while_alive bytes = bytes ≡ told
-FollowsUpTo (Some peer_closed) told before_close while_alive bytes = bytes ≡ before_close
+FollowsUpTo (Some PeerClosed) told before_close while_alive bytes = bytes ≡ before_close
 FollowsUpTo (Some ending) told before_close while_alive bytes = IsPrefixOf while_alive bytes × IsPrefixOf bytes told
 
 -- what the device of a stream wrote to it, up to the stream's end

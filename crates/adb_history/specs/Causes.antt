@@ -9,7 +9,9 @@ use Rattle.adb_wire.specs.declared.packets.Packet.{Packet}
 use Rattle.adb_stream.specs.declared.credit.TheConstants.{CREDIT_WINDOW}
 use Rattle.adb_capture.specs.declared.entry.Entry.{Entry}
 use Rattle.adb_capture.specs.declared.entry.Entry.TheVariants.{End, Recv, Detach}
-use Rattle.adb_history.specs.Events.{Ending, client_closed, peer_closed, out_of_turn, lost, broken, client_failed, stopped, ending_in}
+use Rattle.adb_history.specs.Events.{ending_in}
+use Rattle.adb_history.specs.declared.ending.Ending.{Ending}
+use Rattle.adb_history.specs.declared.ending.Ending.TheVariants.{ClientClosed, PeerClosed, OutOfTurn, Lost, Broken, ClientFailed, Stopped}
 use Rattle.adb_history.specs.Machine.{History, told_at}
 use Rattle.adb_history.specs.Bytes.{is_orderly, bytes_received, brought}
 use Rattle.adb_history.specs.Book.{is_refused, is_killed}
@@ -139,31 +141,31 @@ WhereEnds h ending Cause =
 
 -- A stream whose client closed: all that the client wrote had gone up.
 abbrev pub EndsByClient : History → Type 0
-EndsByClient h = WhereEnds h client_closed IsClosedByClient
+EndsByClient h = WhereEnds h ClientClosed IsClosedByClient
 
 -- A stream whose device closed.
 abbrev pub EndsByPeer : History → Type 0
-EndsByPeer h = WhereEnds h peer_closed (λ l b e older. peer_closes l b e older ≡ true)
+EndsByPeer h = WhereEnds h PeerClosed (λ l b e older. peer_closes l b e older ≡ true)
 
 -- A stream whose device wrote out of turn.
 abbrev pub EndsOutOfTurn : History → Type 0
-EndsOutOfTurn h = WhereEnds h out_of_turn (λ l b e older. writes_early l b e older ≡ true)
+EndsOutOfTurn h = WhereEnds h OutOfTurn (λ l b e older. writes_early l b e older ≡ true)
 
 -- A stream whose link was lost.
 abbrev pub EndsByLoss : History → Type 0
-EndsByLoss h = WhereEnds h lost (λ l b e older. loses_link b e older ≡ true)
+EndsByLoss h = WhereEnds h Lost (λ l b e older. loses_link b e older ≡ true)
 
 -- A stream whose link was broken.
 abbrev pub EndsByBreak : History → Type 0
-EndsByBreak h = WhereEnds h broken (λ l b e older. breaks_link b e older ≡ true)
+EndsByBreak h = WhereEnds h Broken (λ l b e older. breaks_link b e older ≡ true)
 
 -- A stream whose client's connection failed, for that cause.
 abbrev pub EndsByFailure : History → Type 0
-EndsByFailure h = (cause : Cause) → WhereEnds h (client_failed cause) (λ l b e older. failure_of b.client e ≡ Some cause)
+EndsByFailure h = (cause : Cause) → WhereEnds h (ClientFailed cause) (λ l b e older. failure_of b.client e ≡ Some cause)
 
 -- A stream that ended when the server stopped.
 abbrev pub EndsByStop : History → Type 0
-EndsByStop h = WhereEnds h stopped (λ l b e older. stops_now e older ≡ true)
+EndsByStop h = WhereEnds h Stopped (λ l b e older. stops_now e older ≡ true)
 
 -- At an entry that leaves a stream alive stands none of these but its client's end.
 abbrev pub HasNoOtherCause : History → Type 0

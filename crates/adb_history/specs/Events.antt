@@ -1,20 +1,9 @@
 -- What the rules of the server make: what is kept then, and what they tell: what becomes due by them, and which streams end.
 use Rattle.std.specs.Prelude.{ℕ, if◌then◌else◌, nat_eq, List, [], ◌∷◌, ◌++◌, Option, Some, None}
-use Rattle.adb_outside.specs.declared.kinds.Cause.{Cause}
 use Rattle.adb_wire.specs.declared.packets.Packet.{Packet}
 use Rattle.adb_wire.specs.Packet.{spelling}
 use Rattle.adb_history.specs.Rows.{State}
-
--- Why a stream ended: its client closed, its device closed, the device wrote out of turn, the link was lost, the link was broken, the client's
--- connection failed, the server stopped.
-pub data Ending : Type 0 where
-  client_closed : Ending
-  peer_closed : Ending
-  out_of_turn : Ending
-  lost : Ending
-  broken : Ending
-  client_failed : (cause : Cause) → Ending
-  stopped : Ending
+use Rattle.adb_history.specs.declared.ending.Ending.{Ending}
 
 -- What a rule tells: bytes become due to a client; a packet becomes due to a link, with its check word; a stream ends.
 pub data Event : Type 0 where

@@ -8,7 +8,7 @@ use Rattle.adb_wire.specs.declared.command.Command.TheVariants.{Cnxn, Open, Okay
 use Rattle.adb_wire.specs.declared.packets.Packet.{Packet}
 use Rattle.adb_stream.specs.Flow.{has_credit}
 use Rattle.adb_stream.specs.declared.row.Stream.{Stream}
-use Rattle.adb_history.specs.Events.{client_closed, peer_closed}
+use Rattle.adb_history.specs.declared.ending.Ending.TheVariants.{ClientClosed, PeerClosed}
 use Rattle.adb_history.specs.Links.{server_cnxn, open_packet, close_packet, credit_word}
 use Rattle.adb_history.specs.Streams.{stream_ids}
 use Rattle.adb_history.specs.Rows.{Link}
@@ -143,7 +143,7 @@ CarriesRest h = OfEachStream h (λ l b. IsPrefixOf (carried_of l b h) (rest_of l
 
 -- And all of it, where the client closed and the device was told so.
 abbrev pub CarriesWholeRest : History → Type 0
-CarriesWholeRest h = OfEachStream h (λ l b. ending_of l h ≡ Some client_closed
+CarriesWholeRest h = OfEachStream h (λ l b. ending_of l h ≡ Some ClientClosed
     → Contains (sent b.link h) (close_packet l (remote_of l b h)) → carried_of l b h ≡ rest_of l b h)
 
 -- a link that lives, and to which nothing is due
@@ -153,7 +153,7 @@ HasSentAll (Some link) = link.due ≡ []
 
 -- And the device was told so, where the client's close ended the stream and nothing is due to its link.
 abbrev pub TellsClose : History → Type 0
-TellsClose h = OfEachStream h (λ l b. ending_of l h ≡ Some client_closed → HasSentAll ((state h).links b.link)
+TellsClose h = OfEachStream h (λ l b. ending_of l h ≡ Some ClientClosed → HasSentAll ((state h).links b.link)
     → Contains (sent b.link h) (close_packet l (remote_of l b h)))
 
 -- A client is handed what the device of its stream wrote, in order and once.
@@ -162,7 +162,7 @@ HandsTold h = OfEachStream h (λ l b. IsPrefixOf (handed_to l b h) (joined (told
 
 -- And all of it, where the device closed and the client was handed all that became due to it.
 abbrev pub HandsWholeTold : History → Type 0
-HandsWholeTold h = OfEachStream h (λ l b. ending_of l h ≡ Some peer_closed
+HandsWholeTold h = OfEachStream h (λ l b. ending_of l h ≡ Some PeerClosed
     → bytes_put b.client h ≡ output_of b.client h → handed_to l b h ≡ joined (told_before_close l b h))
 
 -- A device is written no more than it allowed.

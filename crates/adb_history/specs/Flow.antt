@@ -8,7 +8,8 @@ use Rattle.adb_stream.specs.declared.row.Stream.{Stream}
 use Rattle.adb_client.specs.declared.phase.Phase.{Phase}
 use Rattle.adb_client.specs.declared.phase.Phase.TheVariants.{Streaming}
 use Rattle.adb_history.specs.Rows.{Client, State, to_client, to_stream, with_held, with_stream_part}
-use Rattle.adb_history.specs.Events.{Made, quietly, then_also, client_closed}
+use Rattle.adb_history.specs.Events.{Made, quietly, then_also}
+use Rattle.adb_history.specs.declared.ending.Ending.TheVariants.{ClientClosed}
 use Rattle.adb_history.specs.Links.{write_packet, owe_link, maxdata_of}
 use Rattle.adb_history.specs.Streams.{ends_telling}
 
@@ -69,7 +70,7 @@ is_over ended (b ∷ held) flow = false
 abbrev pub closes_if : Bool → ℕ → Option Stream → State → Made
 closes_if over l None s = quietly s
 closes_if false l (Some stream) s = quietly s
-closes_if true l (Some stream) s = ends_telling l client_closed stream s
+closes_if true l (Some stream) s = ends_telling l ClientClosed stream s
 
 -- what a client holds goes up its stream, in writes; and then its end, where its input ended and all went up
 abbrev pub sends_up : ℕ → Stream → Client → List (List ℕ) → State → Made

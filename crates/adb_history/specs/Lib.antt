@@ -3,6 +3,7 @@ pub mod Linked
 pub mod Order
 pub mod Moves
 pub mod Rows
+pub mod Ending
 pub mod Events
 pub mod Links
 pub mod Clients

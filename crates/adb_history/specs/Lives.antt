@@ -1,7 +1,8 @@
 -- How a stream's life goes on in a history: what became due for it, and how it ended.
 use Rattle.std.specs.Prelude.{ℕ, if◌then◌else◌, List, [], ◌∷◌, drop, Option, is_some}
 use Rattle.adb_wire.specs.declared.packets.Packet.{Packet}
-use Rattle.adb_history.specs.Events.{Ending, owed_to, packets_to, ending_in}
+use Rattle.adb_history.specs.Events.{owed_to, packets_to, ending_in}
+use Rattle.adb_history.specs.declared.ending.Ending.{Ending}
 use Rattle.adb_history.specs.Machine.{History, told_at, told}
 use Rattle.adb_history.specs.Bytes.{bytes_read, sent}
 use Rattle.adb_history.specs.Births.{Birth, carried_in}

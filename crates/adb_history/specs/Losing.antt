@@ -9,7 +9,9 @@ use Rattle.adb_stream.specs.declared.row.Part.{Part}
 use Rattle.adb_client.specs.declared.phase.Phase.{Phase}
 use Rattle.adb_client.specs.declared.phase.Phase.TheVariants.{Asking, Opening, Streaming, Binding, Tracking, Closing, Gone}
 use Rattle.adb_history.specs.Rows.{Client, State, to_client, to_link, to_stream, none_kept, with_stream_part}
-use Rattle.adb_history.specs.Events.{Made, Event, Ending, quietly, then_also, ended, client_failed, stopped}
+use Rattle.adb_history.specs.Events.{Made, Event, quietly, then_also, ended}
+use Rattle.adb_history.specs.declared.ending.Ending.{Ending}
+use Rattle.adb_history.specs.declared.ending.Ending.TheVariants.{ClientFailed, Stopped}
 use Rattle.adb_history.specs.Links.{close_packet, owe_link}
 use Rattle.adb_history.specs.Clients.{closes}
 use Rattle.adb_history.specs.Streams.{all_end}
@@ -34,9 +36,9 @@ orphaned part = record part { orphan = true }
 abbrev pub stream_fails : Phase → Cause → Option Stream → State → Made
 stream_fails (Streaming l) cause (Some stream) s =
     then_also (owe_link stream.link (close_packet l stream.part.remote) (to_stream l none_kept s))
-    (λ s. record { state = s; told = ended l (client_failed cause) ∷ [] })
+    (λ s. record { state = s; told = ended l (ClientFailed cause) ∷ [] })
 stream_fails (Opening l) cause (Some stream) s =
-    record { state = to_stream l (with_stream_part (orphaned stream.part)) s; told = ended l (client_failed cause) ∷ [] }
+    record { state = to_stream l (with_stream_part (orphaned stream.part)) s; told = ended l (ClientFailed cause) ∷ [] }
 stream_fails _ cause stream s = quietly s
 
 -- the stream of a phase, where it has one
@@ -73,7 +75,7 @@ client_ends c NoThread (Some client) s = client_fails c NoThread client s
 -- ---- kill
 abbrev pub tells_stop : ℕ → Option Stream → List Event
 tells_stop l None = []
-tells_stop l (Some stream) = if stream.part.orphan then [] else ended l stopped ∷ []
+tells_stop l (Some stream) = if stream.part.orphan then [] else ended l Stopped ∷ []
 
 -- the streams 1 to k end, in rising id
 abbrev pub all_stop : ℕ → Rows (Option Stream) → List Event

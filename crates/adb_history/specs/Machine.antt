@@ -6,7 +6,8 @@ use Rattle.adb_capture.specs.Records.{number_of, data_of}
 use Rattle.adb_capture.specs.declared.entry.Entry.{Entry}
 use Rattle.adb_capture.specs.declared.entry.Entry.TheVariants.{Join, Enter, Read, End, Bound, Attach, Recv, Detach, Put, Send}
 use Rattle.adb_history.specs.Rows.{Client, Link, State, start}
-use Rattle.adb_history.specs.Events.{Made, Event, quietly, then_also, lost}
+use Rattle.adb_history.specs.Events.{Made, Event, quietly, then_also}
+use Rattle.adb_history.specs.declared.ending.Ending.TheVariants.{Lost}
 use Rattle.adb_history.specs.Flow.{up_all}
 use Rattle.adb_history.specs.Tracking.{offered}
 use Rattle.adb_history.specs.Losing.{link_ends, client_ends}
@@ -17,7 +18,7 @@ use Rattle.adb_history.specs.Handing.{puts, sends}
 -- detach: a link that is gone stays so
 abbrev pub unplugs_on : Option Link → ℕ → State → Made
 unplugs_on None t s = quietly s
-unplugs_on (Some link) t s = link_ends t lost s
+unplugs_on (Some link) t s = link_ends t Lost s
 
 abbrev pub unplugs : ℕ → State → Made
 unplugs t s = unplugs_on (s.links t) t s

@@ -20,7 +20,9 @@ use Rattle.adb_client.specs.declared.about.Want.{Want}
 use Rattle.adb_reply.specs.Laws.{TakesPayloads}
 use Rattle.adb_history.specs.Rows.{new_link, Client, Link, State, to_client, to_link, to_stream, none_kept, with_due, with_held, in_phase}
 use Rattle.adb_history.specs.Rows.{with_link_due, with_stream_part}
-use Rattle.adb_history.specs.Events.{Made, Event, Ending, due_to_client, due_to_link, ended, client_failed}
+use Rattle.adb_history.specs.Events.{Made, Event, due_to_client, due_to_link, ended}
+use Rattle.adb_history.specs.declared.ending.Ending.{Ending}
+use Rattle.adb_history.specs.declared.ending.Ending.TheVariants.{ClientFailed}
 use Rattle.adb_history.specs.Links.{is_connected, is_credit}
 use Rattle.adb_history.specs.Clients.{closes}
 use Rattle.adb_history.specs.Streams.{draw, ends_row}
@@ -140,10 +142,10 @@ pub record Moves (P : State → List Event → Type 0) : Type 0 where
       → P s w → After P w (ends_row l ending stream s)
   pub fails_open : (c l : ℕ) (failing : Failing) (s : State) (w : List Event)
       → (s.clients c ≡ Some failing.client) × (failing.client.about.phase ≡ Streaming l) × (s.streams l ≡ Some failing.stream)
-      → P s w → P (to_stream l none_kept (to_client c none_kept s)) (w ++ ended l (client_failed failing.cause) ∷ [])
+      → P s w → P (to_stream l none_kept (to_client c none_kept s)) (w ++ ended l (ClientFailed failing.cause) ∷ [])
   pub fails_asked : (c l : ℕ) (failing : Failing) (s : State) (w : List Event)
       → (s.clients c ≡ Some failing.client) × (failing.client.about.phase ≡ Opening l) × (s.streams l ≡ Some failing.stream)
-      → P s w → P (to_stream l (with_stream_part (orphaned failing.stream.part)) (to_client c none_kept s)) (w ++ ended l (client_failed failing.cause) ∷ [])
+      → P s w → P (to_stream l (with_stream_part (orphaned failing.stream.part)) (to_client c none_kept s)) (w ++ ended l (ClientFailed failing.cause) ∷ [])
   -- links, devices and forwards
   pub links : (t : ℕ) (f : Link → Link) (s : State) (w : List Event) → P s w → P (to_link t (λ link. Some (f link)) s) w
   pub link_ends : (t : ℕ) (ending : Ending) (s : State) (w : List Event) → P s w → After P w (link_ends t ending s)

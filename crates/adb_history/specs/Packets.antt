@@ -25,7 +25,8 @@ use Rattle.adb_stream.specs.declared.row.Stream.{Stream}
 use Rattle.adb_stream.specs.declared.row.Part.{Part}
 use Rattle.adb_client.specs.declared.phase.Phase.TheVariants.{Streaming}
 use Rattle.adb_history.specs.Rows.{Client, Link, State, to_client, to_link, to_stream, none_kept, in_phase, with_stream_part}
-use Rattle.adb_history.specs.Events.{Made, quietly, then_also, peer_closed, out_of_turn, lost, broken}
+use Rattle.adb_history.specs.Events.{Made, quietly, then_also}
+use Rattle.adb_history.specs.declared.ending.Ending.TheVariants.{PeerClosed, OutOfTurn, Lost, Broken}
 use Rattle.adb_history.specs.Links.{close_packet, okay_packet, credit_word, owe_link, is_connected}
 use Rattle.adb_history.specs.Clients.{owe_client}
 use Rattle.adb_history.specs.Streams.{ends_row, ends_telling, all_end}
@@ -54,17 +55,17 @@ goes_online t version maxdata identity s =
 -- on a link that had a CNXN, its streams end first
 abbrev pub streams_end_first : Bool → ℕ → State → Made
 streams_end_first false t s = quietly s
-streams_end_first true t s = all_end t lost s
+streams_end_first true t s = all_end t Lost s
 
 abbrev pub connects : ℕ → (version maxdata : ℕ) → Option Identity → State → Made
-connects t version maxdata None s = link_ends t broken s
+connects t version maxdata None s = link_ends t Broken s
 connects t version maxdata (Some identity) s =
     then_also (streams_end_first (is_connected t s.devices) t s) (λ s. quietly (goes_online t version maxdata identity s))
 
 -- CNXN: a device that is too old, takes too little or does not say who it is breaks its link
 abbrev pub cnxn : ℕ → (version maxdata : ℕ) → List ℕ → State → Made
 cnxn t version maxdata banner s =
-    if nat_lt version least_version || nat_lt maxdata least_maxdata then link_ends t broken s
+    if nat_lt version least_version || nat_lt maxdata least_maxdata then link_ends t Broken s
     else connects t version maxdata (identity_of banner) s
 
 -- ---- AUTH and STLS
@@ -137,13 +138,13 @@ accepts l (b ∷ payload) stream s =
 abbrev pub takes_write : (l remote : ℕ) → List ℕ → Stream → State → Made
 takes_write l remote payload stream s =
     if remote == 0 || not (remote == stream.part.remote) then quietly s
-    else (if is_out_of_turn stream.part.flow (length payload) then ends_telling l out_of_turn stream s
+    else (if is_out_of_turn stream.part.flow (length payload) then ends_telling l OutOfTurn stream s
     else accepts l payload stream s)
 
 -- ---- CLSE
 abbrev pub takes_close : (l remote : ℕ) → Stream → State → Made
 takes_close l remote stream s =
-    if remote == 0 || remote == stream.part.remote then ends_row l peer_closed stream s else quietly s
+    if remote == 0 || remote == stream.part.remote then ends_row l PeerClosed stream s else quietly s
 
 -- ---- one packet
 -- a packet of a link that had a CNXN, which is no CNXN
@@ -178,7 +179,7 @@ treat_all t (p ∷ packets) s = then_also (treat t p s) (treat_all t packets)
 abbrev pub faulty_on : Option Link → ℕ → Option PacketFault → State → Made
 faulty_on None t fault s = quietly s
 faulty_on (Some link) t None s = quietly s
-faulty_on (Some link) t (Some fault) s = link_ends t broken s
+faulty_on (Some link) t (Some fault) s = link_ends t Broken s
 
 abbrev pub faulty : ℕ → Option PacketFault → State → Made
 faulty t fault s = faulty_on (s.links t) t fault s

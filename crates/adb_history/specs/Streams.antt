@@ -8,7 +8,8 @@ use Rattle.adb_client.specs.declared.phase.Phase.{Phase}
 use Rattle.adb_client.specs.declared.phase.Phase.TheVariants.{Opening, Streaming}
 use Rattle.adb_reply.specs.Strings.{failed}
 use Rattle.adb_history.specs.Rows.{Client, State, to_client, to_stream, none_kept, in_phase}
-use Rattle.adb_history.specs.Events.{Made, Ending, quietly, then_also, ended}
+use Rattle.adb_history.specs.Events.{Made, quietly, then_also, ended}
+use Rattle.adb_history.specs.declared.ending.Ending.{Ending}
 use Rattle.adb_history.specs.Links.{open_packet, close_packet, owe_link, is_credit}
 use Rattle.adb_history.specs.Clients.{closes, closes_with}
 

@@ -16,7 +16,9 @@ use Rattle.adb_stream.specs.Flow.{is_out_of_turn, to_hand}
 use Rattle.adb_client.specs.declared.phase.Phase.TheVariants.{Asking, Opening, Streaming}
 use Rattle.adb_client.specs.declared.about.Want.{Want}
 use Rattle.adb_history.specs.Rows.{Client, Link, State, to_client, to_link, to_stream, none_kept, with_due, with_held, with_link_due, with_stream_part}
-use Rattle.adb_history.specs.Events.{Event, Ending, due_to_client, due_to_link, ended, client_failed}
+use Rattle.adb_history.specs.Events.{Event, due_to_client, due_to_link, ended}
+use Rattle.adb_history.specs.declared.ending.Ending.{Ending}
+use Rattle.adb_history.specs.declared.ending.Ending.TheVariants.{ClientFailed}
 use Rattle.adb_history.specs.Clients.{closes}
 use Rattle.adb_history.specs.Streams.{ends_row}
 use Rattle.adb_history.specs.Flow.{with_flow}
@@ -109,10 +111,10 @@ pub record Turns (scope : Scope) (asker : ℕ) (P : State → List Event → Typ
       → P s w → After P w (ends_row l ending stream s)
   pub fails_open : (c l : ℕ) (failing : Failing) (s : State) (w : List Event)
       → (s.clients c ≡ Some failing.client) × (failing.client.about.phase ≡ Streaming l) × (s.streams l ≡ Some failing.stream)
-      → P s w → P (to_stream l none_kept (to_client c none_kept s)) (w ++ ended l (client_failed failing.cause) ∷ [])
+      → P s w → P (to_stream l none_kept (to_client c none_kept s)) (w ++ ended l (ClientFailed failing.cause) ∷ [])
   pub fails_asked : (c l : ℕ) (failing : Failing) (s : State) (w : List Event) → scope.fails c
       → (s.clients c ≡ Some failing.client) × (failing.client.about.phase ≡ Opening l) × (s.streams l ≡ Some failing.stream)
-      → P s w → P (to_stream l (with_stream_part (orphaned failing.stream.part)) (to_client c none_kept s)) (w ++ ended l (client_failed failing.cause) ∷ [])
+      → P s w → P (to_stream l (with_stream_part (orphaned failing.stream.part)) (to_client c none_kept s)) (w ++ ended l (ClientFailed failing.cause) ∷ [])
   -- links, devices and forwards
   pub links : (t : ℕ) (f : Link → Link) (s : State) (w : List Event) → P s w → P (to_link t (λ link. Some (f link)) s) w
   pub link_ends : (t : ℕ) (ending : Ending) (s : State) (w : List Event) → (tells_closed (Some ending) ≡ true) × scope.cuts t → P s w

@@ -5,6 +5,7 @@
 
 mod broken;
 mod draining;
+mod ending;
 mod hand_out;
 pub mod order;
 mod refusal;
@@ -12,6 +13,7 @@ mod ties;
 
 pub use broken::{answers_can_be_broken, causes_can_be_broken, fifo_can_be_broken};
 pub use draining::draining_ends;
+pub use ending::Ending;
 pub use hand_out::{MAX_HAND_OUT, limits_are};
 pub use refusal::{Reason, Refusal};
 pub use ties::{

@@ -14,7 +14,7 @@ use std::collections::BTreeSet;
 use std::marker::Model;
 
 /// How many bytes of a client are held at most before it has no room.
-pub const MAX_HELD: usize = 65_540;
+pub const MAX_HELD: usize = adb_client::MAX_HELD;
 
 /// The number that definitions take from the code, written out.
 pub fn limits_are()

@@ -7,7 +7,8 @@ use Rattle.adb_stream.specs.declared.row.Stream.{Stream}
 use Rattle.adb_client.specs.declared.phase.Phase.{Phase}
 use Rattle.adb_client.specs.declared.phase.Phase.TheVariants.{Asking, Opening, Streaming, Binding, Tracking, Closing, Gone}
 use Rattle.adb_history.specs.Rows.{Client, Link, State, to_stream, none_kept, with_link_due}
-use Rattle.adb_history.specs.Events.{Ending, client_closed}
+use Rattle.adb_history.specs.declared.ending.Ending.{Ending}
+use Rattle.adb_history.specs.declared.ending.Ending.TheVariants.{ClientClosed}
 use Rattle.adb_history.specs.Links.{write_packet, close_packet, owe_link, check_on, wants_sums, maxdata_of}
 use Rattle.adb_history.specs.Streams.{loses, client_loses, tells_end, ends_telling}
 use Rattle.adb_history.specs.Flow.{payloads, noted, goes_up, all_go_up, closes_if, sends_up, is_over, flow_after, total, is_streaming, up_client, up_stream}
@@ -69,7 +70,7 @@ ended_sums l ending stream s k =
 closed_sums : (over : Bool) (l : ℕ) (row : Option Stream) (s : State) → SumsStay s (closes_if over l row s).state
 closed_sums true l None s k = refl
 closed_sums false l None s k = refl
-closed_sums true l (Some stream) s k = ended_sums l client_closed stream s k
+closed_sums true l (Some stream) s k = ended_sums l ClientClosed stream s k
 closed_sums false l (Some stream) s k = refl
 
 sent_sums : (l : ℕ) (stream : Stream) (payloads : List (List ℕ)) (s : State) → SumsStay s (all_go_up l stream payloads s).state

@@ -7,7 +7,8 @@ use Rattle.adb_stream.specs.declared.row.Stream.{Stream}
 use Rattle.adb_client.specs.declared.phase.Phase.{Phase}
 use Rattle.adb_client.specs.declared.phase.Phase.TheVariants.{Asking, Opening, Streaming, Binding, Tracking, Closing, Gone}
 use Rattle.adb_history.specs.Rows.{Client, State, to_stream, none_kept}
-use Rattle.adb_history.specs.Events.{Ending, quietly}
+use Rattle.adb_history.specs.Events.{quietly}
+use Rattle.adb_history.specs.declared.ending.Ending.{Ending}
 use Rattle.adb_history.specs.Streams.{loses, client_loses, tells_end, ends_row, ends_if_of, ends_of, all_end}
 use Rattle.adb_history.proofs.OwnedStep.{tells_end_state as told_state}
 

@@ -11,7 +11,8 @@ use Rattle.adb_stream.specs.Stream.{with_part}
 use Rattle.adb_stream.specs.declared.flow.Flow.{Flow}
 use Rattle.adb_stream.specs.declared.row.Stream.{Stream}
 use Rattle.adb_history.specs.Rows.{Client, State, to_stream, none_kept, with_held, with_stream_part}
-use Rattle.adb_history.specs.Events.{Ending, client_closed}
+use Rattle.adb_history.specs.declared.ending.Ending.{Ending}
+use Rattle.adb_history.specs.declared.ending.Ending.TheVariants.{ClientClosed}
 use Rattle.adb_history.specs.Links.{maxdata_of, close_packet, owe_link}
 use Rattle.adb_history.specs.Clients.{closing, closing_with, closes}
 use Rattle.adb_history.specs.Streams.{loses, client_loses, ends_telling}
@@ -220,7 +221,7 @@ module _ (id : ℕ) (stream : Stream) (client : Client) (s : State) (streaming :
           (closes_if b id (Some (with_part (with_flow (flow_after ps stream.part.flow) stream.part) stream)) sent).state
       by_end false = sent_beside
       by_end true = beside_then sent_beside (ends_beside id (with_part (with_flow (flow_after ps stream.part.flow) stream.part) stream)
-          (record client { held = drop (total ps) client.held }) sent streaming client_closed
+          (record client { held = drop (total ps) client.held }) sent streaming ClientClosed
           (client_then id stream ps client.held s ∙ ap (option_and_then (with_held (drop (total ps) client.held))) owner))
 
 module _ (id : ℕ) (stream : Stream) (old new : Tables) (here : at id old.streams.streams ≡ Some stream)

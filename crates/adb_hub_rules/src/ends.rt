@@ -3,7 +3,7 @@
 ghost use Rattle.std.specs.Prelude.{◌≡◌, ◌≢◌, ◌<◌, ℕ, Some};
 ghost use Rattle.adb_outside.specs.Tables.{at, without};
 ghost use Rattle.adb_stream.specs.Streams.{IsFirstOf, HasNoneOf};
-ghost use Rattle.adb_history.specs.Events.{Ending};
+ghost use Rattle.adb_history.specs.declared.ending.Ending.{Ending};
 ghost use Rattle.adb_history.specs.Streams.{client_loses, ends_row, ends_telling, all_end};
 ghost use Rattle.adb_hub_tables.specs.Tables.{state_of};
 ghost use Rattle.adb_hub_tables.specs.Places.{LinkRoom, ClientRoom, streams_on, IsCounted, IsProvided, Uses};

@@ -3,7 +3,7 @@
 ghost use Rattle.std.specs.Prelude.{◌≡◌, ℕ, is_some};
 ghost use Rattle.adb_outside.specs.Tables.{Puts};
 ghost use Rattle.adb_registry.specs.Registry.{detached};
-ghost use Rattle.adb_history.specs.Events.{Ending};
+ghost use Rattle.adb_history.specs.declared.ending.Ending.{Ending};
 ghost use Rattle.adb_history.specs.Forwarding.{forwards_without};
 ghost use Rattle.adb_history.specs.Losing.{forgets, link_ends, stream_of, stream_fails, input_ends, client_ends};
 ghost use Rattle.adb_hub_tables.specs.Tables.{phase_in, state_of, fails_in};

@@ -5,7 +5,7 @@ use Rattle.adb_outside.specs.Tables.{Rows, change_row}
 use Rattle.adb_reply.specs.Strings.{failed}
 use Rattle.adb_stream.specs.declared.row.Stream.{Stream}
 use Rattle.adb_history.specs.Rows.{Client, State, to_stream, none_kept}
-use Rattle.adb_history.specs.Events.{Ending}
+use Rattle.adb_history.specs.declared.ending.Ending.{Ending}
 use Rattle.adb_history.specs.Links.{close_packet, owe_link}
 use Rattle.adb_history.specs.Clients.{closing_with}
 use Rattle.adb_history.specs.Streams.{client_loses, ends_telling}

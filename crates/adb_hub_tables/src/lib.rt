@@ -5,6 +5,7 @@
 
 mod clients;
 mod devices;
+mod limits;
 mod links;
 mod marks;
 mod owes;
@@ -17,6 +18,7 @@ mod touched_map;
 mod tracking;
 mod words;
 
+pub use limits::limits_follow_the_payload;
 pub use owes::Owes;
 pub use places::{reserve_packets, reserve_slices};
 pub use ports::Port;

@@ -7,7 +7,9 @@ use Rattle.adb_outside.specs.Tables.{Rows, change_row}
 use Rattle.adb_outside.specs.declared.identity.Identity.{Identity}
 use Rattle.adb_stream.specs.declared.row.Stream.{Stream}
 use Rattle.adb_history.specs.Rows.{Link, State, to_stream, none_kept}
-use Rattle.adb_history.specs.Events.{Ending, quietly, lost}
+use Rattle.adb_history.specs.Events.{quietly}
+use Rattle.adb_history.specs.declared.ending.Ending.{Ending}
+use Rattle.adb_history.specs.declared.ending.Ending.TheVariants.{Lost}
 use Rattle.adb_history.specs.Links.{is_connected}
 use Rattle.adb_history.specs.Streams.{ends_row, ends_if_of, ends_of, all_end}
 use Rattle.adb_history.specs.Losing.{forgets, link_ends}
@@ -120,7 +122,7 @@ module _ (l : ℕ) where
   online_cleared t version maxdata identity s zeroth le on = go (is_connected t s.devices) refl (s.streams l) refl
     where
       go : (b : Bool) → is_connected t s.devices ≡ b → (o : Option Stream) → s.streams l ≡ o → (streams_end_first b t s).state.streams l ≡ None
-      go true e o is = all_cleared t lost s zeroth le (λ y at_l. (on y at_l).0)
+      go true e o is = all_cleared t Lost s zeroth le (λ y at_l. (on y at_l).0)
       go false e None is = is
       go false e (Some y) is = absurd (let clash : true ≡ false = sym (on y is).1 ∙ e in cc)
 
@@ -132,16 +134,16 @@ online_links t version maxdata identity s none = link_stays t t (with_sums (has_
     first : State
     first = (streams_end_first (is_connected t s.devices) t s).state
 
-    ends : (n : ℕ) → (ends_of t n lost s).state.links t ≡ None
+    ends : (n : ℕ) → (ends_of t n Lost s).state.links t ≡ None
     ends zero = none
-    ends (suc n) = go (ends n) ((ends_of t n lost s).state.streams (suc n))
+    ends (suc n) = go (ends n) ((ends_of t n Lost s).state.streams (suc n))
       where
-        by : (b : Bool) (stream : Stream) → (ends_of t n lost s).state.links t ≡ None
-            → (cond b (ends_row (suc n) lost stream (ends_of t n lost s).state) (quietly (ends_of t n lost s).state)).state.links t ≡ None
-        by true stream e = ap (λ (f : ℕ → Option Link). f t) (ends_links (suc n) lost stream (ends_of t n lost s).state) ∙ e
+        by : (b : Bool) (stream : Stream) → (ends_of t n Lost s).state.links t ≡ None
+            → (cond b (ends_row (suc n) Lost stream (ends_of t n Lost s).state) (quietly (ends_of t n Lost s).state)).state.links t ≡ None
+        by true stream e = ap (λ (f : ℕ → Option Link). f t) (ends_links (suc n) Lost stream (ends_of t n Lost s).state) ∙ e
         by false stream e = e
 
-        go : (ends_of t n lost s).state.links t ≡ None → (o : Option Stream) → (ends_if_of t (suc n) lost o (ends_of t n lost s).state).state.links t ≡ None
+        go : (ends_of t n Lost s).state.links t ≡ None → (o : Option Stream) → (ends_if_of t (suc n) Lost o (ends_of t n Lost s).state).state.links t ≡ None
         go e None = e
         go e (Some stream) = by (nat_eq stream.link t) stream e
 

@@ -7,7 +7,9 @@ use Rattle.adb_outside.specs.declared.identity.Identity.{Identity}
 use Rattle.adb_stream.specs.declared.row.Stream.{Stream}
 use Rattle.adb_client.specs.declared.phase.Phase.TheVariants.{Opening, Streaming, Closing}
 use Rattle.adb_history.specs.Rows.{Client, State, to_stream, none_kept, in_phase}
-use Rattle.adb_history.specs.Events.{Made, Event, Ending, quietly, then_also, due_to_client, due_to_link, ended, lost, client_failed, owed_to}
+use Rattle.adb_history.specs.Events.{Made, Event, quietly, then_also, due_to_client, due_to_link, ended, owed_to}
+use Rattle.adb_history.specs.declared.ending.Ending.{Ending}
+use Rattle.adb_history.specs.declared.ending.Ending.TheVariants.{Lost, ClientFailed}
 use Rattle.adb_history.specs.Clients.{owe_client}
 use Rattle.adb_history.specs.Links.{is_connected}
 use Rattle.adb_history.specs.Streams.{client_loses, tells_end, ends_row, all_end}
@@ -90,7 +92,7 @@ module _ (c : ℕ) (out : List ℕ) where
       })
 
   ends_first_done : (b : Bool) (t : ℕ) (s : State) (w : List Event) → IsDone c out s w → After (λ s w. IsDone c out s w) w (streams_end_first b t s)
-  ends_first_done true t s w h = all_end_done t lost s w h
+  ends_first_done true t s w h = all_end_done t Lost s w h
   ends_first_done false t s w h = after_quietly (λ s w. IsDone c out s w) w s h
 
   online_done : (t version maxdata : ℕ) (identity : Identity) (s : State) (w : List Event) → IsDone c out s w
@@ -201,12 +203,12 @@ module _ (c : ℕ) (out : List ℕ) where
       fails_open = λ n l failing s w at h. record {
         owned = owned_moves.fails_open n l failing s w at h.owned;
         row = at_none steady c n s.clients h.row;
-        told = none_told w (ended l (client_failed failing.cause) ∷ []) refl h.told;
+        told = none_told w (ended l (ClientFailed failing.cause) ∷ []) refl h.told;
       };
       fails_asked = λ n l failing s w may at h. record {
         owned = owned_moves.fails_asked n l failing s w at h.owned;
         row = at_none steady c n s.clients h.row;
-        told = none_told w (ended l (client_failed failing.cause) ∷ []) refl h.told;
+        told = none_told w (ended l (ClientFailed failing.cause) ∷ []) refl h.told;
       };
       links = λ t f s w h. record { owned = owned_moves.links t f s w h.owned; row = h.row; told = h.told };
       link_ends = λ t ending s w so h. link_ends_done t ending s w h;

@@ -7,7 +7,9 @@ use Rattle.adb_stream.specs.declared.row.Stream.{Stream}
 use Rattle.adb_client.specs.declared.phase.Phase.{Phase}
 use Rattle.adb_client.specs.declared.phase.Phase.TheVariants.{Streaming}
 use Rattle.adb_history.specs.Rows.{Client, State}
-use Rattle.adb_history.specs.Events.{Event, Ending, quietly, due_to_client, due_to_link, ended, stopped, ending_in}
+use Rattle.adb_history.specs.Events.{Event, quietly, due_to_client, due_to_link, ended, ending_in}
+use Rattle.adb_history.specs.declared.ending.Ending.{Ending}
+use Rattle.adb_history.specs.declared.ending.Ending.TheVariants.{Stopped}
 use Rattle.adb_history.specs.Clients.{owe_client}
 use Rattle.adb_history.specs.Streams.{loses, client_loses, ends_row, ends_if_of, ends_of, all_end}
 use Rattle.adb_history.specs.Losing.{tells_stop, all_stop}
@@ -68,11 +70,11 @@ module _ (l : ℕ) where
       ∙ (quiet_ending (ending_in l (all_stop n streams)) (ending_in l (tells_stop (suc n) (streams (suc n)))) (one (streams (suc n)))
       ∙ all_stop_ending n streams)
     where
-      at : (b : Bool) → tells_closed (cond b (Some stopped) None) ≡ false
+      at : (b : Bool) → tells_closed (cond b (Some Stopped) None) ≡ false
       at true = refl
       at false = refl
 
-      told : (b : Bool) → tells_closed (ending_in l (cond b [] (ended (suc n) stopped ∷ []))) ≡ false
+      told : (b : Bool) → tells_closed (ending_in l (cond b [] (ended (suc n) Stopped ∷ []))) ≡ false
       told true = refl
       told false = at (eqb (suc n) l)
 

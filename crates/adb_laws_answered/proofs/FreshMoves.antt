@@ -12,7 +12,9 @@ use Rattle.adb_client.specs.declared.phase.Phase.TheVariants.{Asking, Opening, S
 use Rattle.adb_capture.specs.declared.entry.Entry.{Entry}
 use Rattle.adb_capture.specs.declared.entry.Entry.TheVariants.{Join, Enter, Read, End, Bound, Attach, Recv, Put}
 use Rattle.adb_history.specs.Rows.{Client, State, new_client, to_client, to_stream, none_kept, in_phase}
-use Rattle.adb_history.specs.Events.{Made, Event, Ending, quietly, then_also, due_to_client, due_to_link, ended, lost, client_failed, stopped, ending_in}
+use Rattle.adb_history.specs.Events.{Made, Event, quietly, then_also, due_to_client, due_to_link, ended, ending_in}
+use Rattle.adb_history.specs.declared.ending.Ending.{Ending}
+use Rattle.adb_history.specs.declared.ending.Ending.TheVariants.{Lost, ClientFailed, Stopped}
 use Rattle.adb_history.specs.Clients.{closing, owe_client}
 use Rattle.adb_history.specs.Links.{is_connected}
 use Rattle.adb_history.specs.Streams.{client_loses, tells_end, ends_row, all_end}
@@ -69,9 +71,9 @@ all_stop_unended zero l streams lt = refl
 all_stop_unended (suc n) l streams lt =
     more_unended l (all_stop n streams) (tells_stop (suc n) (streams (suc n))) (all_stop_unended n l streams (omega (arith, lt))) (one (streams (suc n)))
   where
-    told : (b : Bool) → ending_in l (cond b [] (ended (suc n) stopped ∷ [])) ≡ None
+    told : (b : Bool) → ending_in l (cond b [] (ended (suc n) Stopped ∷ [])) ≡ None
     told true = refl
-    told false = one_unended (suc n) l (suc n) stopped None (omega arith) lt refl
+    told false = one_unended (suc n) l (suc n) Stopped None (omega arith) lt refl
 
     one : (o : Option Stream) → ending_in l (tells_stop (suc n) o) ≡ None
     one None = refl
@@ -119,7 +121,7 @@ module _ (joined : ℕ → Bool) where
       })
 
   ends_first_fresh : (b : Bool) (t : ℕ) (s : State) (w : List Event) → F s w → After (λ s w. IsFresh joined s w) w (streams_end_first b t s)
-  ends_first_fresh true t s w h = all_end_fresh t lost s w h
+  ends_first_fresh true t s w h = all_end_fresh t Lost s w h
   ends_first_fresh false t s w h = after_quietly (λ s w. IsFresh joined s w) w s h
 
   online_fresh : (t version maxdata : ℕ) (identity : Identity) (s : State) (w : List Event) → F s w
@@ -257,14 +259,14 @@ module _ (joined : ℕ → Bool) where
     fails_open = λ c k failing s w at h. record {
       owned = owned_moves.fails_open c k failing s w at h.owned;
       alone = λ n. at_none (steady (joined n)) n c s.clients (h.alone n);
-      unended = λ l lt. more_unended l w (ended k (client_failed failing.cause) ∷ []) (h.unended l lt)
-          (one_unended k l s.drawn (client_failed failing.cause) None (drawn_stream k failing.stream s h.owned at.2) lt refl);
+      unended = λ l lt. more_unended l w (ended k (ClientFailed failing.cause) ∷ []) (h.unended l lt)
+          (one_unended k l s.drawn (ClientFailed failing.cause) None (drawn_stream k failing.stream s h.owned at.2) lt refl);
     };
     fails_asked = λ c k failing s w may at h. record {
       owned = owned_moves.fails_asked c k failing s w at h.owned;
       alone = λ n. at_none (steady (joined n)) n c s.clients (h.alone n);
-      unended = λ l lt. more_unended l w (ended k (client_failed failing.cause) ∷ []) (h.unended l lt)
-          (one_unended k l s.drawn (client_failed failing.cause) None (drawn_stream k failing.stream s h.owned at.2) lt refl);
+      unended = λ l lt. more_unended l w (ended k (ClientFailed failing.cause) ∷ []) (h.unended l lt)
+          (one_unended k l s.drawn (ClientFailed failing.cause) None (drawn_stream k failing.stream s h.owned at.2) lt refl);
     };
     links = λ t f s w h. record { owned = owned_moves.links t f s w h.owned; alone = h.alone; unended = h.unended };
     link_ends = λ t ending s w told h. link_ends_fresh t ending s w h;

@@ -12,7 +12,9 @@ use Rattle.adb_client.specs.declared.phase.Phase.{Phase}
 use Rattle.adb_client.specs.declared.phase.Phase.TheVariants.{Opening, Streaming}
 use Rattle.adb_reply.specs.Strings.{failed}
 use Rattle.adb_history.specs.Rows.{Client, State, to_stream, none_kept, in_phase}
-use Rattle.adb_history.specs.Events.{Made, Event, Ending, quietly, then_also, due_to_client, due_to_link, ended, lost, client_failed, owed_to}
+use Rattle.adb_history.specs.Events.{Made, Event, quietly, then_also, due_to_client, due_to_link, ended, owed_to}
+use Rattle.adb_history.specs.declared.ending.Ending.{Ending}
+use Rattle.adb_history.specs.declared.ending.Ending.TheVariants.{Lost, ClientFailed}
 use Rattle.adb_history.specs.Clients.{owe_client}
 use Rattle.adb_history.specs.Streams.{loses, client_loses, tells_end, ends_row, all_end}
 use Rattle.adb_history.specs.Tracking.{mark_all}
@@ -117,7 +119,7 @@ module _ (c : ℕ) (r : Heard) (d : DeviceTable) where
       (marks_answers new all.state all.state (w ++ all.told) owned refl (all_end_answers t ending forgot w kept))
 
   ends_first_answers : (b : Bool) (t : ℕ) (s : State) (w : List Event) → Answers c r d s w → After (λ s w. Answers c r d s w) w (streams_end_first b t s)
-  ends_first_answers true t s w h = all_end_answers t lost s w h
+  ends_first_answers true t s w h = all_end_answers t Lost s w h
   ends_first_answers false t s w h = after_quietly (λ s w. Answers c r d s w) w s h
 
   module _ (new : DeviceTable) where
@@ -256,12 +258,12 @@ module _ (asker c : ℕ) (r : Heard) (apart : asker ≢ c) where
     fails_open = λ n l failing s w at h. record {
       owned = owned_moves.fails_open n l failing s w at h.owned;
       row = rows_none c r s.devices n s.clients h.row;
-      owes = owes_none c r w (ended l (client_failed failing.cause) ∷ []) refl h.owes;
+      owes = owes_none c r w (ended l (ClientFailed failing.cause) ∷ []) refl h.owes;
     };
     fails_asked = λ n l failing s w may at h. record {
       owned = owned_moves.fails_asked n l failing s w at h.owned;
       row = rows_none c r s.devices n s.clients h.row;
-      owes = owes_none c r w (ended l (client_failed failing.cause) ∷ []) refl h.owes;
+      owes = owes_none c r w (ended l (ClientFailed failing.cause) ∷ []) refl h.owes;
     };
     links = λ t f s w h. record { owned = owned_moves.links t f s w h.owned; row = h.row; owes = h.owes };
     link_ends = λ t ending s w so h. link_ends_answers c r s.devices (link_ends t ending s).state.devices t ending s w h;

@@ -6,7 +6,8 @@ use Rattle.std.specs.Prelude.{option_map}
 use Rattle.adb_outside.specs.Bytes.{IsPrefixOf}
 use Rattle.adb_reply.specs.Strings.{okay}
 use Rattle.adb_stream.specs.declared.row.Stream.{Stream}
-use Rattle.adb_history.specs.Events.{Ending, client_closed, peer_closed, out_of_turn, lost, broken, client_failed, stopped}
+use Rattle.adb_history.specs.declared.ending.Ending.{Ending}
+use Rattle.adb_history.specs.declared.ending.Ending.TheVariants.{ClientClosed, PeerClosed, OutOfTurn, Lost, Broken, ClientFailed, Stopped}
 use Rattle.adb_history.specs.Machine.{History, state, IsLegal}
 use Rattle.adb_history.specs.Book.{asked}
 use Rattle.adb_history.specs.Births.{Birth, born, Opening, since, opening_in, opening_of, told_in, told_after, told_before, told_to, joined}
@@ -29,15 +30,15 @@ UpTo ending l o while_alive bytes = FollowsUpTo ending (joined (told_after l o))
 
 -- where the stream ended
 ended_up_to : (ending : Option Ending) (told before while_alive bytes : List ℕ) → is_some ending ≡ true → IsPrefixOf while_alive bytes × IsPrefixOf bytes told
-    → (ending ≡ Some peer_closed → bytes ≡ before) → FollowsUpTo ending told before while_alive bytes
+    → (ending ≡ Some PeerClosed → bytes ≡ before) → FollowsUpTo ending told before while_alive bytes
 ended_up_to None told before while_alive bytes over within closed = absurd (let clash : false ≡ true = over in cc)
-ended_up_to (Some client_closed) told before while_alive bytes over within closed = within
-ended_up_to (Some peer_closed) told before while_alive bytes over within closed = closed refl
-ended_up_to (Some out_of_turn) told before while_alive bytes over within closed = within
-ended_up_to (Some lost) told before while_alive bytes over within closed = within
-ended_up_to (Some broken) told before while_alive bytes over within closed = within
-ended_up_to (Some (client_failed cause)) told before while_alive bytes over within closed = within
-ended_up_to (Some stopped) told before while_alive bytes over within closed = within
+ended_up_to (Some ClientClosed) told before while_alive bytes over within closed = within
+ended_up_to (Some PeerClosed) told before while_alive bytes over within closed = closed refl
+ended_up_to (Some OutOfTurn) told before while_alive bytes over within closed = within
+ended_up_to (Some Lost) told before while_alive bytes over within closed = within
+ended_up_to (Some Broken) told before while_alive bytes over within closed = within
+ended_up_to (Some (ClientFailed cause)) told before while_alive bytes over within closed = within
+ended_up_to (Some Stopped) told before while_alive bytes over within closed = within
 
 -- ---- what became due by the life of a stream
 -- what became due is what comes before the bytes of the stream, and these
@@ -103,7 +104,7 @@ module _ (h : History) (l : ℕ) (b : Birth) (is : born l h ≡ Some b) (f : Fol
 
   -- nothing came behind the replies
   ended_early : is_some (ending_of l h) ≡ true → (v.output ≡ f.cradle.replies) ⊎ (v.output ≡ unopened_output f.cradle.forwarded f.cradle.replies)
-      → (ending_of l h ≡ Some peer_closed → [] ≡ joined (told_before l (opening_of l b h))) → Told []
+      → (ending_of l h ≡ Some PeerClosed → [] ≡ joined (told_before l (opening_of l b h))) → Told []
   ended_early over which closed =
       ended_up_to (ending_of l h) (joined (told_after l (opening_of l b h))) (joined (told_before l (opening_of l b h))) while_alive [] over
       (([], append-nil while_alive ∙ none_alive f.cradle while_alive v.output alive_due which), (joined (told_after l (opening_of l b h)), refl)) closed

@@ -10,7 +10,9 @@ use Rattle.adb_wire.specs.declared.packets.Packet.{Packet}
 use Rattle.adb_stream.specs.declared.row.Stream.{Stream}
 use Rattle.adb_capture.specs.declared.entry.Entry.{Entry}
 use Rattle.adb_capture.specs.declared.entry.Entry.TheVariants.{Enter, Read}
-use Rattle.adb_history.specs.Events.{Ending, client_failed, owed_to, ending_in}
+use Rattle.adb_history.specs.Events.{owed_to, ending_in}
+use Rattle.adb_history.specs.declared.ending.Ending.{Ending}
+use Rattle.adb_history.specs.declared.ending.Ending.TheVariants.{ClientFailed}
 use Rattle.adb_history.specs.Asking.{Asked}
 use Rattle.adb_history.specs.Machine.{History, state, told, told_at, IsLegal}
 use Rattle.adb_history.specs.Bytes.{brought}
@@ -52,7 +54,7 @@ module _ (h : History) (legal : IsLegal h) (l : ℕ) (b : Birth) (is : born l h 
 
   alive : (orphan : Bool) (remote : ℕ) → EndsAs orphan (ending_of l h) → LivesAs orphan remote l f.cradle (since b h) (heard f.holds.seen)
       → IsDueBehind (first_of b h) (joined (told_to l b h)) (output_of b.client h)
-  alive true remote ended i = absurd (let clash : Some (client_failed ended.0) ≡ None = sym ended.1 ∙ lives in cc)
+  alive true remote ended i = absurd (let clash : Some (ClientFailed ended.0) ≡ None = sym ended.1 ∙ lives in cc)
   alive false zero none i =
       inl (ap (λ o. joined (told_after l o)) (ap (opening_in l) (sym (append-nil (since b h))) ∙ i.pending []))
   alive false (suc r) none i =

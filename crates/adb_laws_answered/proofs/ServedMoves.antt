@@ -11,7 +11,8 @@ use Rattle.adb_client.specs.declared.phase.Phase.{Phase}
 use Rattle.adb_client.specs.declared.phase.Phase.TheVariants.{Opening, Streaming}
 use Rattle.adb_reply.specs.Strings.{okay, failed}
 use Rattle.adb_history.specs.Rows.{Client, State, to_stream, none_kept, with_stream_part}
-use Rattle.adb_history.specs.Events.{Made, Event, Ending, then_also, ended, owed_to, ending_in}
+use Rattle.adb_history.specs.Events.{Made, Event, then_also, ended, owed_to, ending_in}
+use Rattle.adb_history.specs.declared.ending.Ending.{Ending}
 use Rattle.adb_history.specs.Streams.{loses, client_loses, tells_end, ends_row}
 use Rattle.adb_history.specs.Orderly.{phase_for}
 use Rattle.adb_history.specs.Answered.{tells_closed, closed_reply}

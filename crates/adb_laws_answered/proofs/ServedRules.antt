@@ -14,7 +14,9 @@ use Rattle.adb_stream.specs.declared.row.Stream.{Stream}
 use Rattle.adb_client.specs.declared.phase.Phase.TheVariants.{Opening, Streaming}
 use Rattle.adb_reply.specs.Strings.{okay}
 use Rattle.adb_history.specs.Rows.{Client, State, none_kept, in_phase, with_stream_part}
-use Rattle.adb_history.specs.Events.{Made, Event, Ending, quietly, due_to_client, due_to_link, ended, lost, client_failed, owed_to, ending_in}
+use Rattle.adb_history.specs.Events.{Made, Event, quietly, due_to_client, due_to_link, ended, owed_to, ending_in}
+use Rattle.adb_history.specs.declared.ending.Ending.{Ending}
+use Rattle.adb_history.specs.declared.ending.Ending.TheVariants.{Lost, ClientFailed}
 use Rattle.adb_history.specs.Clients.{owe_client}
 use Rattle.adb_history.specs.Links.{is_connected, is_credit}
 use Rattle.adb_history.specs.Streams.{draw, all_end}
@@ -66,7 +68,7 @@ module _ (heard : Bool) (c l : ℕ) (replies : List ℕ) where
       })
 
   ends_first_served : (b : Bool) (t : ℕ) (s : State) (w : List Event) → S s w → After (λ s w. IsServed heard c l replies s w) w (streams_end_first b t s)
-  ends_first_served true t s w h = all_end_served t lost s w refl h
+  ends_first_served true t s w h = all_end_served t Lost s w refl h
   ends_first_served false t s w h = after_quietly (λ s w. IsServed heard c l replies s w) w s h
 
   pub online_served : (t version maxdata : ℕ) (identity : Identity) (s : State) (w : List Event) → S s w
@@ -238,10 +240,10 @@ module _ (c l : ℕ) (replies : List ℕ) where
         h.own y (sym (ap (λ (b : Bool). cond b (Some (new_stream (s.drawn + 1) asker t (new_flow credit))) (s.streams l))
         (ne_eqb (s.drawn + 1) l (λ e. omega (arith, e, h.drawn)))) ∙ at_l)
 
-    fails_quiet : (k : ℕ) (cause : Cause) → tells_closed (ending_in l (ended k (client_failed cause) ∷ [])) ≡ false
+    fails_quiet : (k : ℕ) (cause : Cause) → tells_closed (ending_in l (ended k (ClientFailed cause) ∷ [])) ≡ false
     fails_quiet k cause = go (eqb k l)
       where
-        go : (b : Bool) → tells_closed (cond b (Some (client_failed cause)) None) ≡ false
+        go : (b : Bool) → tells_closed (cond b (Some (ClientFailed cause)) None) ≡ false
         go true = refl
         go false = refl
 
@@ -255,18 +257,18 @@ module _ (c l : ℕ) (replies : List ℕ) where
       fails_own : (f : Stream → Option Stream) (s : State) (w : List Event)
           → ((x y : Stream) → f x ≡ Some y → (y.client ≡ x.client) × (y.part.orphan ≡ true)) → IsServed b c l replies s w
           → (y : Stream) → change_row k (option_and_then f) s.streams l ≡ Some y
-          → IsItsOwn c (b ≡ false → ending_in l (w ++ ended k (client_failed cause) ∷ []) ≡ None) y
+          → IsItsOwn c (b ≡ false → ending_in l (w ++ ended k (ClientFailed cause) ∷ []) ≡ None) y
       fails_own f s w gone h y at_l = go (eqb k l) refl (s.streams l) refl at_l
         where
           go : (here : Bool) → eqb k l ≡ here → (o : Option Stream) → s.streams l ≡ o → cond here (option_and_then f o) o ≡ Some y
-              → IsItsOwn c (b ≡ false → ending_in l (w ++ ended k (client_failed cause) ∷ []) ≡ None) y
+              → IsItsOwn c (b ≡ false → ending_in l (w ++ ended k (ClientFailed cause) ∷ []) ≡ None) y
           go true e None is at = absurd (let clash : None ≡ Some y = at in cc)
           go true e (Some x) is at =
               let left = gone x y at in
               record { client = left.0 ∙ (h.own x is).client; live = λ o. absurd (let clash : true ≡ false = sym left.1 ∙ o in cc) }
           go false e o is at =
-              like_own b s.streams w h.own (ended k (client_failed cause) ∷ [])
-              (ap (λ (b : Bool). cond b (Some (client_failed cause)) None) e) y (is ∙ at)
+              like_own b s.streams w h.own (ended k (ClientFailed cause) ∷ [])
+              (ap (λ (b : Bool). cond b (Some (ClientFailed cause)) None) e) y (is ∙ at)
 
     -- What a client is handed that asked for a stream, through each move in which it asks nothing.
     pub served_turns : Turns everywhere asker (λ s w. IsServedSo c l replies s w)
@@ -432,7 +434,7 @@ module _ (c l : ℕ) (replies : List ℕ) where
           row = at_none (steady l b) c n s.clients h.row;
           own = fails_own b k failing.cause none_kept s w (λ z y e. absurd (let clash : None ≡ Some y = e in cc)) h;
           drawn = h.drawn;
-          out = out_quiet c l replies b w (ended k (client_failed failing.cause) ∷ []) refl (fails_quiet k failing.cause) h.out;
+          out = out_quiet c l replies b w (ended k (ClientFailed failing.cause) ∷ []) refl (fails_quiet k failing.cause) h.out;
         },
       );
       fails_asked = λ n k failing s w may at (b, h). (
@@ -442,7 +444,7 @@ module _ (c l : ℕ) (replies : List ℕ) where
           row = at_none (steady l b) c n s.clients h.row;
           own = fails_own b k failing.cause (with_stream_part (orphaned failing.stream.part)) s w (λ z y e. orphan_of failing.stream z y e) h;
           drawn = h.drawn;
-          out = out_quiet c l replies b w (ended k (client_failed failing.cause) ∷ []) refl (fails_quiet k failing.cause) h.out;
+          out = out_quiet c l replies b w (ended k (ClientFailed failing.cause) ∷ []) refl (fails_quiet k failing.cause) h.out;
         },
       );
       links = λ t f s w (b, h). (b, record { owned = owned_moves.links t f s w h.owned; row = h.row; own = h.own; drawn = h.drawn; out = h.out });

@@ -10,7 +10,8 @@ use Rattle.adb_wire.specs.declared.command.Command.TheVariants.{Cnxn, Clse}
 use Rattle.adb_wire.specs.declared.packets.Packet.{Packet}
 use Rattle.adb_stream.specs.declared.row.Stream.{Stream}
 use Rattle.adb_history.specs.Rows.{Link, State, none_kept}
-use Rattle.adb_history.specs.Events.{Made, Event, quietly, broken, peer_closed}
+use Rattle.adb_history.specs.Events.{Made, Event, quietly}
+use Rattle.adb_history.specs.declared.ending.Ending.TheVariants.{Broken, PeerClosed}
 use Rattle.adb_history.specs.Links.{is_connected}
 use Rattle.adb_history.specs.Streams.{ends_row}
 use Rattle.adb_history.specs.Losing.{link_ends}
@@ -124,15 +125,15 @@ module _ (x : Subject) where
           absurd (eqb-false p.arg0 0 e same)
       seals_so false false e f or zeroth = absurd (let clash : false ≡ true = or in cc)
 
-      closes_shown : (b : Bool) → (eqb p.arg0 0 || eqb p.arg0 y.part.remote) ≡ b → Shows (cond b (ends_row x.stream peer_closed y s) (quietly s))
+      closes_shown : (b : Bool) → (eqb p.arg0 0 || eqb p.arg0 y.part.remote) ≡ b → Shows (cond b (ends_row x.stream PeerClosed y s) (quietly s))
       closes_shown true e =
-          let m : Made = ends_row x.stream peer_closed y s in
+          let m : Made = ends_row x.stream PeerClosed y s in
           sealed_shown ps p heard y s m.state w (w ++ m.told) is
           (seals_so (eqb p.arg0 0) (eqb p.arg0 y.part.remote) refl refl e) h
-          (ends_streams x.stream x.stream peer_closed y s
+          (ends_streams x.stream x.stream PeerClosed y s
           ∙ (ap (λ (b : Bool). cond b (option_and_then none_kept (s.streams x.stream)) (s.streams x.stream)) (eq-eqb x.stream x.stream refl)
           ∙ none_of x.stream (s.streams x.stream)))
-          (ends_shown heard (record x { failed = true }) (seen x.stream ps) x.stream peer_closed y s w is (pardon x heard (seen x.stream ps) s w h)
+          (ends_shown heard (record x { failed = true }) (seen x.stream ps) x.stream PeerClosed y s w is (pardon x heard (seen x.stream ps) s w h)
           (λ here quiet owned. inr (inr refl)))
       closes_shown false e = after_quietly (λ s w. IsShown heard x (seen x.stream (ps ++ p ∷ [])) s w) w s
           (seen_on x heard (seen x.stream ps) (seen x.stream (ps ++ p ∷ [])) s w (seen_one x.stream ps p (close_one (first e))) h)
@@ -186,11 +187,11 @@ module _ (x : Subject) where
       on_link : (y : Stream) → s.streams x.stream ≡ Some y → y.link ≡ x.link
       on_link y is = (h.own y is).link
 
-      breaks : IsShown heard x (seen x.stream (ps ++ p ∷ [])) (link_ends x.link broken s).state (w ++ (link_ends x.link broken s).told)
+      breaks : IsShown heard x (seen x.stream (ps ++ p ∷ [])) (link_ends x.link Broken s).state (w ++ (link_ends x.link Broken s).told)
       breaks =
-          let after = link_ends_cut heard (record x { failed = true }) (seen x.stream ps) x.link broken s w (λ same. inr refl) (pardon x heard
+          let after = link_ends_cut heard (record x { failed = true }) (seen x.stream ps) x.link Broken s w (λ same. inr refl) (pardon x heard
           (seen x.stream ps) s w h) in
-          gone_then (link_ends x.link broken s) (link_ends_cleared x.stream x.link broken s h.owned.rows.streams.zero h.drawn on_link)
+          gone_then (link_ends x.link Broken s) (link_ends_cleared x.stream x.link Broken s h.owned.rows.streams.zero h.drawn on_link)
           (λ e. after.1 refl) after.0
 
       renews : (identity : Identity) → IsShown heard x (seen x.stream (ps ++ p ∷ [])) (connects_now x.link p.arg0 p.arg1 identity s).state
@@ -208,8 +209,8 @@ module _ (x : Subject) where
       connects_shown (Some identity) = renews identity
 
       cnxn_shown : (b : Bool) → IsShown heard x (seen x.stream (ps ++ p ∷ []))
-          (cond b (link_ends x.link broken s) (connects x.link p.arg0 p.arg1 (identity_of p.payload) s)).state
-          (w ++ (cond b (link_ends x.link broken s) (connects x.link p.arg0 p.arg1 (identity_of p.payload) s)).told)
+          (cond b (link_ends x.link Broken s) (connects x.link p.arg0 p.arg1 (identity_of p.payload) s)).state
+          (w ++ (cond b (link_ends x.link Broken s) (connects x.link p.arg0 p.arg1 (identity_of p.payload) s)).told)
       cnxn_shown true = breaks
       cnxn_shown false = connects_shown (identity_of p.payload)
 

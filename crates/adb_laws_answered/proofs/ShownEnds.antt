@@ -11,7 +11,9 @@ use Rattle.adb_client.specs.declared.phase.Phase.{Phase}
 use Rattle.adb_client.specs.declared.phase.Phase.TheVariants.{Opening, Streaming}
 use Rattle.adb_reply.specs.Strings.{failed}
 use Rattle.adb_history.specs.Rows.{Client, Link, State, to_stream, none_kept}
-use Rattle.adb_history.specs.Events.{Made, Event, Ending, then_also, owed_to, lost}
+use Rattle.adb_history.specs.Events.{Made, Event, then_also, owed_to}
+use Rattle.adb_history.specs.declared.ending.Ending.{Ending}
+use Rattle.adb_history.specs.declared.ending.Ending.TheVariants.{Lost}
 use Rattle.adb_history.specs.Links.{is_connected}
 use Rattle.adb_history.specs.Streams.{client_loses, tells_end, ends_row, all_end}
 use Rattle.adb_history.specs.Tracking.{mark_all}
@@ -268,6 +270,6 @@ module _ (heard : Bool) (x : Subject) (seen : Seen) where
     where
       ends_first : (b : Bool) → W (streams_end_first b t s).state (w ++ (streams_end_first b t s).told)
       ends_first false = after_quietly (λ s w. IsShown heard x seen s w) w s h
-      ends_first true = all_end_by {P = λ s w. IsShown heard x seen s w} t lost
-          (λ k stream s w at h. ends_shown heard x seen k lost stream s w at.0 h
+      ends_first true = all_end_by {P = λ s w. IsShown heard x seen s w} t Lost
+          (λ k stream s w at h. ends_shown heard x seen k Lost stream s w at.0 h
           (λ here quiet owned. inr (inr (reason (sym at.1 ∙ (h.own stream (ap s.streams (sym here) ∙ at.0)).link))))) s w h

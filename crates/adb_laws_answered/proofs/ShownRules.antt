@@ -10,7 +10,8 @@ use Rattle.adb_client.specs.declared.phase.Phase.{Phase}
 use Rattle.adb_client.specs.declared.phase.Phase.TheVariants.{Opening, Streaming}
 use Rattle.adb_history.specs.Rows.{Client, State, to_client, to_link, to_stream, none_kept, in_phase, with_due, with_held, with_link_due}
 use Rattle.adb_history.specs.Rows.{with_stream_part}
-use Rattle.adb_history.specs.Events.{Made, Event, quietly, ended, due_to_client, due_to_link, owed_to, client_failed}
+use Rattle.adb_history.specs.Events.{Made, Event, quietly, ended, due_to_client, due_to_link, owed_to}
+use Rattle.adb_history.specs.declared.ending.Ending.TheVariants.{ClientFailed}
 use Rattle.adb_history.specs.Links.{is_credit}
 use Rattle.adb_history.specs.Losing.{all_stop, stops, orphaned, input_ended}
 use Rattle.adb_history.specs.Reading.{tracks, awaits}
@@ -161,7 +162,7 @@ module _ (heard : Bool) (x : Subject) (seen : Seen) where
 
     fails_shown : (n k : ℕ) (failing : Failing) (s : State) (w : List Event)
         → (s.clients n ≡ Some failing.client) × (failing.client.about.phase ≡ Streaming k) × (s.streams k ≡ Some failing.stream) → W s w
-        → W (to_stream k none_kept (to_client n none_kept s)) (w ++ ended k (client_failed failing.cause) ∷ [])
+        → W (to_stream k none_kept (to_client n none_kept s)) (w ++ ended k (ClientFailed failing.cause) ∷ [])
     fails_shown n k failing s w at h = go (eqb k x.stream) refl
       where
         next : State
@@ -182,17 +183,17 @@ module _ (heard : Bool) (x : Subject) (seen : Seen) where
             let phase : PhaseFor (Streaming k) x.stream heard = subst (λ (p : Phase). PhaseFor p x.stream heard) at.1 served.phase in
             phase.1
 
-        go : (b : Bool) → eqb k x.stream ≡ b → W (to_stream k none_kept (to_client n none_kept s)) (w ++ ended k (client_failed failing.cause) ∷ [])
-        go false e = shown_steps heard x seen s (to_stream k none_kept (to_client n none_kept s)) w (ended k (client_failed failing.cause) ∷ [])
+        go : (b : Bool) → eqb k x.stream ≡ b → W (to_stream k none_kept (to_client n none_kept s)) (w ++ ended k (ClientFailed failing.cause) ∷ [])
+        go false e = shown_steps heard x seen s (to_stream k none_kept (to_client n none_kept s)) w (ended k (ClientFailed failing.cause) ∷ [])
             (steps_same x s (to_stream k none_kept (to_client n none_kept s)) (other_row k none_kept s.streams (eqb-false k x.stream e)) (λ e. e)) owned row
             (omega arith, refl) h
-        go true e = shown_gone heard x seen s (to_stream k none_kept (to_client n none_kept s)) w (ended k (client_failed failing.cause) ∷ []) owned row
+        go true e = shown_gone heard x seen s (to_stream k none_kept (to_client n none_kept s)) w (ended k (ClientFailed failing.cause) ∷ []) owned row
             (none_row k s.streams (eqb-true k x.stream e))
             (λ quiet. absurd (let clash : true ≡ false = sym (hears (eqb-true k x.stream e)) ∙ quiet in cc)) (omega arith, refl) h
 
     asked_shown : (n k : ℕ) (failing : Failing) (s : State) (w : List Event) → (n ≡ x.client → x.failed ≡ true)
         → (s.clients n ≡ Some failing.client) × (failing.client.about.phase ≡ Opening k) × (s.streams k ≡ Some failing.stream) → W s w
-        → W (to_stream k (with_stream_part (orphaned failing.stream.part)) (to_client n none_kept s)) (w ++ ended k (client_failed failing.cause) ∷ [])
+        → W (to_stream k (with_stream_part (orphaned failing.stream.part)) (to_client n none_kept s)) (w ++ ended k (ClientFailed failing.cause) ∷ [])
     asked_shown n k failing s w may at h = go (eqb k x.stream) refl
       where
         next : State
@@ -224,25 +225,25 @@ module _ (heard : Bool) (x : Subject) (seen : Seen) where
 
         out_orphan : k ≡ x.stream → (b : Bool) → ShownOut b x seen s (owed_to x.client w)
             → ShownOut b x seen (to_stream k (with_stream_part (orphaned failing.stream.part)) (to_client n none_kept s))
-            (owed_to x.client (w ++ ended k (client_failed failing.cause) ∷ []))
+            (owed_to x.client (w ++ ended k (ClientFailed failing.cause) ∷ []))
         out_orphan same true h = record {
           bytes = h.bytes;
-          out_is = none_more true x seen w (ended k (client_failed failing.cause) ∷ []) refl ∙ h.out_is;
+          out_is = none_more true x seen w (ended k (ClientFailed failing.cause) ∷ []) refl ∙ h.out_is;
           may = h.may;
           told = h.told;
         }
         out_orphan same false h = record {
           closed = h.closed;
-          out_is = none_more false x seen w (ended k (client_failed failing.cause) ∷ []) refl ∙ h.out_is;
+          out_is = none_more false x seen w (ended k (ClientFailed failing.cause) ∷ []) refl ∙ h.out_is;
           waits = λ y is o. absurd (let clash : true ≡ false = ap (λ (z : Stream). z.part.orphan) (orphan_is same y is) ∙ o in cc);
           gone = λ gone. inr (inr (fails same));
           none = h.none;
         }
 
         go : (b : Bool) → eqb k x.stream ≡ b
-            → W (to_stream k (with_stream_part (orphaned failing.stream.part)) (to_client n none_kept s)) (w ++ ended k (client_failed failing.cause) ∷ [])
+            → W (to_stream k (with_stream_part (orphaned failing.stream.part)) (to_client n none_kept s)) (w ++ ended k (ClientFailed failing.cause) ∷ [])
         go false e = shown_steps heard x seen s (to_stream k (with_stream_part (orphaned failing.stream.part)) (to_client n none_kept s)) w
-            (ended k (client_failed failing.cause) ∷ [])
+            (ended k (ClientFailed failing.cause) ∷ [])
             (steps_same x s (to_stream k (with_stream_part (orphaned failing.stream.part)) (to_client n none_kept s))
             (other_row k (with_stream_part (orphaned failing.stream.part)) s.streams (eqb-false k x.stream e)) (λ e. e)) owned row (omega arith, refl) h
         go true e =

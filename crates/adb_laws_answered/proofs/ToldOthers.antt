@@ -8,7 +8,9 @@ use Rattle.adb_client.specs.declared.phase.Phase.{Phase}
 use Rattle.adb_client.specs.declared.phase.Phase.TheVariants.{Opening, Streaming}
 use Rattle.adb_reply.specs.Strings.{failed}
 use Rattle.adb_history.specs.Rows.{Client, State, to_stream, none_kept}
-use Rattle.adb_history.specs.Events.{Event, Ending, quietly, ended, stopped, owed_to}
+use Rattle.adb_history.specs.Events.{Event, quietly, ended, owed_to}
+use Rattle.adb_history.specs.declared.ending.Ending.{Ending}
+use Rattle.adb_history.specs.declared.ending.Ending.TheVariants.{Stopped}
 use Rattle.adb_history.specs.Clients.{closing, owe_client}
 use Rattle.adb_history.specs.Streams.{loses, client_loses, ends_row}
 use Rattle.adb_history.specs.Losing.{forgets, tells_stop, all_stop, only_client}
@@ -55,7 +57,7 @@ all_stop_owed c (suc n) streams =
     owed_append c (all_stop n streams) (tells_stop (suc n) (streams (suc n)))
     ∙ (ap (λ x. x ++ owed_to c (tells_stop (suc n) (streams (suc n)))) (all_stop_owed c n streams) ∙ one (streams (suc n)))
   where
-    told : (b : Bool) → owed_to c (cond b [] (ended (suc n) stopped ∷ [])) ≡ []
+    told : (b : Bool) → owed_to c (cond b [] (ended (suc n) Stopped ∷ [])) ≡ []
     told true = refl
     told false = refl
 

@@ -5,7 +5,8 @@ use Rattle.adb_client.specs.declared.phase.Phase.{Phase}
 use Rattle.adb_client.specs.declared.phase.Phase.TheVariants.{Opening, Streaming, Closing}
 use Rattle.adb_reply.specs.Strings.{okay, failed}
 use Rattle.adb_history.specs.Rows.{Client, State}
-use Rattle.adb_history.specs.Events.{Event, Ending, owed_to, ending_in}
+use Rattle.adb_history.specs.Events.{Event, owed_to, ending_in}
+use Rattle.adb_history.specs.declared.ending.Ending.{Ending}
 use Rattle.adb_history.specs.Machine.{History, state, told}
 use Rattle.adb_history.specs.Book.{asked}
 use Rattle.adb_history.specs.Births.{Birth, born}

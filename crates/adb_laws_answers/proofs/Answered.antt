@@ -9,7 +9,8 @@ use Rattle.adb_stream.specs.declared.row.Stream.{Stream}
 use Rattle.adb_history.specs.Births.{Birth, Opening, born, births, since, opening_of, remote_of, told_in, told_before, before_close, joined}
 use Rattle.adb_history.specs.Book.{asked, is_killed}
 use Rattle.adb_history.specs.Bytes.{bytes_put, bytes_read, has_ended, is_lost, sent}
-use Rattle.adb_history.specs.Events.{Ending, peer_closed, out_of_turn, lost, broken, client_closed, client_failed, stopped}
+use Rattle.adb_history.specs.declared.ending.Ending.{Ending}
+use Rattle.adb_history.specs.declared.ending.Ending.TheVariants.{PeerClosed, OutOfTurn, Lost, Broken, ClientClosed, ClientFailed, Stopped}
 use Rattle.adb_history.specs.Lives.{ending_of, output_of, lived}
 use Rattle.adb_history.specs.Machine.{History, state, IsLegal}
 use Rattle.adb_history.specs.Rows.{Client}
@@ -79,12 +80,12 @@ module _ (laws : Laws) (setting : Setting) (short : setting.most < 2 ^ 32) (some
     (killed : is_killed h ≡ false) where
   -- ---- a stream that its device closed
   module _ (l : ℕ) (b : Birth) (birth : born l h ≡ Some b) (alone : b.forwarded ≡ false) (o : Opening) (opened : opening_of l b h ≡ Some o)
-      (ended : ending_of l h ≡ Some peer_closed) (gone : (state h).streams l ≡ None) (open_yet : has_ended b.client h ≡ false)
+      (ended : ending_of l h ≡ Some PeerClosed) (gone : (state h).streams l ≡ None) (open_yet : has_ended b.client h ≡ false)
       (w : HasEndedWhole setting h l b o) where
     f : Follows LifeOf h l b
     f = has_lives h legal l b birth
 
-    ending : f.holds.seen.ending ≡ Some peer_closed
+    ending : f.holds.seen.ending ≡ Some PeerClosed
     ending = ap (λ (v : View). v.ending) (sym f.holds.shows.1) ∙ ended
 
     was_open : WasOpen l f.cradle (since b h) f.holds.seen.output f.holds.seen.ending
@@ -92,8 +93,8 @@ module _ (laws : Laws) (setting : Setting) (short : setting.most < 2 ^ 32) (some
       where
         lives : (orphan : Bool) (remote : ℕ) → LivesAs orphan remote l f.cradle (since b h) (heard_of f.holds.seen) → ⊥
         lives true remote x = x.unheard.not_by_peer ending
-        lives false zero x = let clash : None ≡ Some peer_closed = sym x.ending ∙ ending in cc
-        lives false (suc r) x = let clash : None ≡ Some peer_closed = sym x.ending ∙ ending in cc
+        lives false zero x = let clash : None ≡ Some PeerClosed = sym x.ending ∙ ending in cc
+        lives false (suc r) x = let clash : None ≡ Some PeerClosed = sym x.ending ∙ ending in cc
 
         go : (s : Option SeenStream) → LivesIn s l f.cradle (since b h) (is_shut b.link h) (heard_of f.holds.seen)
             → WasOpen l f.cradle (since b h) f.holds.seen.output f.holds.seen.ending
@@ -201,23 +202,23 @@ module _ (laws : Laws) (setting : Setting) (short : setting.most < 2 ^ 32) (some
         go (suc k) is = omega arith
 
     -- it ended by its device's close
-    by_close : (y : Ending) → ending_of l h ≡ Some y → ending_of l h ≡ Some peer_closed
+    by_close : (y : Ending) → ending_of l h ≡ Some y → ending_of l h ≡ Some PeerClosed
     by_close y is = go y is (ends_by_link h legal l b birth open_yet killed y is)
       where
-        go : (z : Ending) → ending_of l h ≡ Some z → IsByLink z → ending_of l h ≡ Some peer_closed
-        go peer_closed e by = e
-        go out_of_turn e by = absurd (laws.in_turn setting h short plain legal tied l b birth own e)
-        go lost e by = absurd ((laws.outlive setting h short legal tied here l b birth own).lost e)
-        go broken e by = absurd ((laws.outlive setting h short legal tied here l b birth own).broken e)
-        go client_closed e by = absurd by
-        go (client_failed cause) e by = absurd by
-        go stopped e by = absurd by
+        go : (z : Ending) → ending_of l h ≡ Some z → IsByLink z → ending_of l h ≡ Some PeerClosed
+        go PeerClosed e by = e
+        go OutOfTurn e by = absurd (laws.in_turn setting h short plain legal tied l b birth own e)
+        go Lost e by = absurd ((laws.outlive setting h short legal tied here l b birth own).lost e)
+        go Broken e by = absurd ((laws.outlive setting h short legal tied here l b birth own).broken e)
+        go ClientClosed e by = absurd by
+        go (ClientFailed cause) e by = absurd by
+        go Stopped e by = absurd by
 
     gone_answered : (state h).streams l ≡ None
         → StreamIsAnswered setting h b
     gone_answered gone = go (ending_of l h) refl ((all_endings h legal l).gone gone some_id drawn)
       where
-        by : (o : Option Opening) → opening_of l b h ≡ o → is_some o ≡ true → ending_of l h ≡ Some peer_closed
+        by : (o : Option Opening) → opening_of l b h ≡ o → is_some o ≡ true → ending_of l h ≡ Some PeerClosed
             → StreamIsAnswered setting h b
         by None is there ended = absurd (let clash : false ≡ true = there in cc)
         by (Some o) is there ended =

@@ -11,7 +11,9 @@ use Rattle.adb_history.specs.Births.{Birth, born}
 use Rattle.adb_history.specs.Book.{is_killed}
 use Rattle.adb_history.specs.Bytes.{bytes_read, has_ended, has_failed, is_orderly}
 use Rattle.adb_history.specs.Causes.{has_closed_since, is_close_by}
-use Rattle.adb_history.specs.Events.{Ending, client_closed, peer_closed, out_of_turn, lost, broken, client_failed, stopped, ending_in}
+use Rattle.adb_history.specs.Events.{ending_in}
+use Rattle.adb_history.specs.declared.ending.Ending.{Ending}
+use Rattle.adb_history.specs.declared.ending.Ending.TheVariants.{ClientClosed, PeerClosed, OutOfTurn, Lost, Broken, ClientFailed, Stopped}
 use Rattle.adb_history.specs.Lives.{ending_of, lived}
 use Rattle.adb_history.specs.Machine.{rule, History, state, told, told_at, IsLegal}
 use Rattle.adb_history.proofs.Books.{all_books}
@@ -74,13 +76,13 @@ unclosed l c (e ∷ older) none =
 -- ---- endings
 -- one by its device or its link
 abbrev pub IsByLink : Ending → Type 0
-IsByLink peer_closed = Unit {0}
-IsByLink out_of_turn = Unit {0}
-IsByLink lost = Unit {0}
-IsByLink broken = Unit {0}
-IsByLink client_closed = ⊥
-IsByLink (client_failed cause) = ⊥
-IsByLink stopped = ⊥
+IsByLink PeerClosed = Unit {0}
+IsByLink OutOfTurn = Unit {0}
+IsByLink Lost = Unit {0}
+IsByLink Broken = Unit {0}
+IsByLink ClientClosed = ⊥
+IsByLink (ClientFailed cause) = ⊥
+IsByLink Stopped = ⊥
 
 -- the entry by which it ends
 module _ (l : ℕ) (b : Birth) (e : Entry) (older : History) (legal : IsLegal (e ∷ older)) (birth : born l (e ∷ older) ≡ Some b)
@@ -96,7 +98,7 @@ module _ (l : ℕ) (b : Birth) (e : Entry) (older : History) (legal : IsLegal (e
   its_client = x.kept.client ∙ ap (λ (a : Birth). a.client) same
 
   -- not by its client's close
-  not_closed : y ≡ client_closed → ⊥
+  not_closed : y ≡ ClientClosed → ⊥
   not_closed is =
       let f = all_by_client all_hold (e ∷ older) legal l e older ([], refl) (told_so ∙ ap Some is) in
       let one : f.birth ≡ b = (let both : Some f.birth ≡ Some b = sym (born_stays l e older f.birth f.is) ∙ birth in cc) in
@@ -116,24 +118,24 @@ module _ (l : ℕ) (b : Birth) (e : Entry) (older : History) (legal : IsLegal (e
     where
       go : (z : Ending) → y ≡ z → (e' : Entry) → has_ended b.client (e' ∷ older) ≡ false
           → WhyStep e' ((rule e (state older)).state.stopped ≡ true) x.row.client x.row.link y → IsByLink z
-      go peer_closed is e' none why = tt
-      go out_of_turn is e' none why = tt
-      go lost is e' none why = tt
-      go broken is e' none why = tt
-      go client_closed is e' none why = absurd (not_closed is)
+      go PeerClosed is e' none why = tt
+      go OutOfTurn is e' none why = tt
+      go Lost is e' none why = tt
+      go Broken is e' none why = tt
+      go ClientClosed is e' none why = absurd (not_closed is)
       go z is e' none (inr closed) = absurd (not_closed closed)
-      go stopped is (Read n bytes) none (inl why) = absurd (not_stopped why.1)
-      go (client_failed cause) is (Read n bytes) none (inl why) = absurd (not_stopped why.1)
-      go (client_failed cause) is (End n k) none (inl why) =
+      go Stopped is (Read n bytes) none (inl why) = absurd (not_stopped why.1)
+      go (ClientFailed cause) is (Read n bytes) none (inl why) = absurd (not_stopped why.1)
+      go (ClientFailed cause) is (End n k) none (inl why) =
           absurd (let clash : true ≡ false =
           sym (ap (λ (t : Bool). t || has_ended b.client older) (eq-eqb n b.client (sym why.1 ∙ its_client))) ∙ none in cc)
-      go stopped is (End n k) none (inl why) = absurd (let clash : stopped ≡ client_failed k = sym is ∙ why.0 in cc)
-      go (client_failed cause) is (Recv t bytes) none (inl why) =
+      go Stopped is (End n k) none (inl why) = absurd (let clash : Stopped ≡ ClientFailed k = sym is ∙ why.0 in cc)
+      go (ClientFailed cause) is (Recv t bytes) none (inl why) =
           absurd (subst (λ (z : Ending). OfLink t x.row.client x.row.link z) is why)
-      go stopped is (Recv t bytes) none (inl why) =
+      go Stopped is (Recv t bytes) none (inl why) =
           absurd (subst (λ (z : Ending). OfLink t x.row.client x.row.link z) is why)
-      go (client_failed cause) is (Detach t k) none (inl why) = absurd (let clash : client_failed cause ≡ lost = sym is ∙ why.0 in cc)
-      go stopped is (Detach t k) none (inl why) = absurd (let clash : stopped ≡ lost = sym is ∙ why.0 in cc)
+      go (ClientFailed cause) is (Detach t k) none (inl why) = absurd (let clash : ClientFailed cause ≡ Lost = sym is ∙ why.0 in cc)
+      go Stopped is (Detach t k) none (inl why) = absurd (let clash : Stopped ≡ Lost = sym is ∙ why.0 in cc)
       go z is (Join n) none (inl why) = absurd why
       go z is (Enter n port) none (inl why) = absurd why
       go z is (Bound n port) none (inl why) = absurd why

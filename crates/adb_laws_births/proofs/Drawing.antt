@@ -16,7 +16,8 @@ use Rattle.adb_reply.specs.Strings.{failed}
 use Rattle.std.specs.Prelude.{codes}
 use Rattle.adb_capture.specs.declared.entry.Entry.TheVariants.{Enter, Read}
 use Rattle.adb_history.specs.Rows.{Client, State, to_client, with_held}
-use Rattle.adb_history.specs.Events.{Made, Event, quietly, then_also, due_to_client, ended, stopped}
+use Rattle.adb_history.specs.Events.{Made, Event, quietly, then_also, due_to_client, ended}
+use Rattle.adb_history.specs.declared.ending.Ending.TheVariants.{Stopped}
 use Rattle.adb_history.specs.Links.{wants_sums, check_on, open_packet, is_connected, is_credit}
 use Rattle.adb_history.specs.Clients.{owe_client}
 use Rattle.adb_history.specs.Streams.{stream_ids, no_ids_left, asks_for, opens}
@@ -123,9 +124,9 @@ tells_from : (l : ℕ) (o : Option Stream) (streams : Rows (Option Stream)) → 
 tells_from l None streams = All-nil (IsFrom streams)
 tells_from l (Some stream) streams = go stream.part.orphan
   where
-    go : (b : Bool) → All (IsFrom streams) (cond b [] (ended l stopped ∷ []))
+    go : (b : Bool) → All (IsFrom streams) (cond b [] (ended l Stopped ∷ []))
     go true = All-nil (IsFrom streams)
-    go false = one_from streams (ended l stopped) tt
+    go false = one_from streams (ended l Stopped) tt
 
 stops_from : (k : ℕ) (rows streams : Rows (Option Stream)) → All (IsFrom streams) (all_stop k rows)
 stops_from zero rows streams = All-nil (IsFrom streams)

@@ -8,7 +8,8 @@ use Rattle.adb_outside.specs.Tables.{Rows, change_row, put_row}
 use Rattle.adb_stream.specs.declared.row.Part.{Part}
 use Rattle.adb_stream.specs.declared.row.Stream.{Stream}
 use Rattle.adb_history.specs.Rows.{none_kept, with_stream_part}
-use Rattle.adb_history.specs.Events.{Event, Ending, due_to_client, due_to_link, ended, ending_in}
+use Rattle.adb_history.specs.Events.{Event, due_to_client, due_to_link, ended, ending_in}
+use Rattle.adb_history.specs.declared.ending.Ending.{Ending}
 use Rattle.adb_history.specs.Orderly.{IsDrawnOnly}
 use Rattle.adb_history.proofs.Numbers.{change_drawn, put_drawn}
 use Rattle.adb_laws_births.specs.Ending.{EndsAs, HasEnding}

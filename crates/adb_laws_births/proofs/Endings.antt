@@ -14,7 +14,9 @@ use Rattle.adb_capture.specs.declared.entry.Entry.{Entry}
 use Rattle.adb_capture.specs.declared.entry.Entry.TheVariants.{Enter, Read}
 use Rattle.adb_reply.specs.Strings.{failed}
 use Rattle.adb_history.specs.Rows.{Client, State, to_stream, none_kept}
-use Rattle.adb_history.specs.Events.{Made, Event, Ending, quietly, due_to_client, due_to_link, ended, ending_in, client_failed, lost, stopped}
+use Rattle.adb_history.specs.Events.{Made, Event, quietly, due_to_client, due_to_link, ended, ending_in}
+use Rattle.adb_history.specs.declared.ending.Ending.{Ending}
+use Rattle.adb_history.specs.declared.ending.Ending.TheVariants.{ClientFailed, Lost, Stopped}
 use Rattle.adb_history.specs.Links.{is_connected, is_credit}
 use Rattle.adb_history.specs.Clients.{closes}
 use Rattle.adb_history.specs.Streams.{loses, client_loses, tells_end, all_end}
@@ -59,13 +61,13 @@ ends_kept l ending stream s w is h =
     tells false e = row_goes h l stream (w ++ ended l ending ∷ []) is (λ k apart. told_other l k w ending apart) (some_told l w ending)
 
 link_ends_first : (b : Bool) (t : ℕ) (s : State) (w : List Event) → P s w → After P w (streams_end_first b t s)
-link_ends_first true t s w h = all_end_kept ends_kept t lost s w h
+link_ends_first true t s w h = all_end_kept ends_kept t Lost s w h
 link_ends_first false t s w h = after_quietly P w s h
 
 -- a client fails whose stream is not opened: it is an orphan from then on
-asked_told : (orphan : Bool) (e : Option Ending) (cause : Cause) → EndsAs orphan e → EndsAs true (option_or e (Some (client_failed cause)))
-asked_told true e cause (first, is) = (first, ap (λ (o : Option Ending). option_or o (Some (client_failed cause))) is)
-asked_told false e cause none = (cause, ap (λ (o : Option Ending). option_or o (Some (client_failed cause))) none)
+asked_told : (orphan : Bool) (e : Option Ending) (cause : Cause) → EndsAs orphan e → EndsAs true (option_or e (Some (ClientFailed cause)))
+asked_told true e cause (first, is) = (first, ap (λ (o : Option Ending). option_or o (Some (ClientFailed cause))) is)
+asked_told false e cause none = (cause, ap (λ (o : Option Ending). option_or o (Some (ClientFailed cause))) none)
 
 -- ---- the server stops
 module _ (s : State) (w : List Event) (h : P s w) where
@@ -79,17 +81,17 @@ module _ (s : State) (w : List Event) (h : P s w) where
   stops_at l v None is some drawn same = ap is_some (told_none l v [] refl ∙ same) ∙ (h.has l).gone is some drawn
   stops_at l v (Some stream) is some drawn same = go stream.part.orphan refl
     where
-      go : (orphan : Bool) → stream.part.orphan ≡ orphan → is_some (ending_in l (v ++ cond orphan [] (ended l stopped ∷ []))) ≡ true
+      go : (orphan : Bool) → stream.part.orphan ≡ orphan → is_some (ending_in l (v ++ cond orphan [] (ended l Stopped ∷ []))) ≡ true
       go true e = ap is_some (told_none l v [] refl ∙ same) ∙ orphan_told stream.part.orphan (ending_in l w) ((h.has l).kept stream is) e
-      go false e = some_told l v stopped
+      go false e = some_told l v Stopped
 
   stops_other : (n l : ℕ) (o : Option Stream) → n ≢ l → (v : List Event) → ending_in l (v ++ tells_stop n o) ≡ ending_in l v
   stops_other n l None apart v = told_none l v [] refl
   stops_other n l (Some stream) apart v = go stream.part.orphan
     where
-      go : (orphan : Bool) → ending_in l (v ++ cond orphan [] (ended n stopped ∷ [])) ≡ ending_in l v
+      go : (orphan : Bool) → ending_in l (v ++ cond orphan [] (ended n Stopped ∷ [])) ≡ ending_in l v
       go true = told_none l v [] refl
-      go false = told_other n l v stopped apart
+      go false = told_other n l v Stopped apart
 
   all_stopped : (k l : ℕ) → k ≤ s.drawn → IsStopped k l
   all_stopped zero l le = record { within = λ some none. absurd (omega (arith, some, none)); past = λ out. told_none l w [] refl }
@@ -157,12 +159,12 @@ end_moves = record {
       row_goes h l stream w is (λ k apart. refl) (orphan_told stream.part.orphan (ending_in l w) ((h.has l).kept stream is) orphan);
   ends = ends_kept;
   fails_open = λ c l failing s w at h.
-      row_goes h l failing.stream (w ++ ended l (client_failed failing.cause) ∷ []) at.2
-      (λ k apart. told_other l k w (client_failed failing.cause) apart) (some_told l w (client_failed failing.cause));
+      row_goes h l failing.stream (w ++ ended l (ClientFailed failing.cause) ∷ []) at.2
+      (λ k apart. told_other l k w (ClientFailed failing.cause) apart) (some_told l w (ClientFailed failing.cause));
   fails_asked = λ c l failing s w at h.
-      part_changes h l failing.stream (w ++ ended l (client_failed failing.cause) ∷ []) at.2
-      (λ k apart. told_other l k w (client_failed failing.cause) apart) (orphaned failing.stream.part)
-      (subst (EndsAs true) (sym (told_end l w (client_failed failing.cause)))
+      part_changes h l failing.stream (w ++ ended l (ClientFailed failing.cause) ∷ []) at.2
+      (λ k apart. told_other l k w (ClientFailed failing.cause) apart) (orphaned failing.stream.part)
+      (subst (EndsAs true) (sym (told_end l w (ClientFailed failing.cause)))
       (asked_told failing.stream.part.orphan (ending_in l w) failing.cause ((h.has l).kept failing.stream at.2)));
   links = λ t f s w h. h;
   link_ends = λ t ending s w h.

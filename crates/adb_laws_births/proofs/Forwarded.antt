@@ -10,7 +10,9 @@ use Rattle.adb_reply.specs.Strings.{failed}
 use Rattle.adb_capture.specs.declared.entry.Entry.{Entry}
 use Rattle.adb_capture.specs.declared.entry.Entry.TheVariants.{Join, Enter, Read, Attach}
 use Rattle.adb_history.specs.Rows.{Client, State, new_client, to_client, to_stream, none_kept, with_due, with_held, in_phase}
-use Rattle.adb_history.specs.Events.{Event, Ending, lost}
+use Rattle.adb_history.specs.Events.{Event}
+use Rattle.adb_history.specs.declared.ending.Ending.{Ending}
+use Rattle.adb_history.specs.declared.ending.Ending.TheVariants.{Lost}
 use Rattle.adb_history.specs.Links.{is_connected}
 use Rattle.adb_history.specs.Clients.{closing_with, closing, closes}
 use Rattle.adb_history.specs.Streams.{loses, client_loses, ends_row, all_end}
@@ -104,7 +106,7 @@ module _ (f : ℕ → Bool) where
       (client_loses_came (s.clients stream.client) stream.client (to_stream l none_kept s) h)
 
   first_came : (b : Bool) (t : ℕ) (s : State) → AsCame f s.clients → AsCame f (streams_end_first b t s).state.clients
-  first_came true t s h = all_end_kept {P = λ s w. AsCame f s.clients} ends_came t lost s [] h
+  first_came true t s h = all_end_kept {P = λ s w. AsCame f s.clients} ends_came t Lost s [] h
   first_came false t s h = h
 
   only_came : (c : ℕ) (clients : Rows (Option Client)) → AsCame f clients → AsCame f (only_client c clients)

@@ -9,7 +9,8 @@ use Rattle.adb_client.specs.declared.phase.Phase.{Phase}
 use Rattle.adb_client.specs.declared.phase.Phase.TheVariants.{Opening, Streaming}
 use Rattle.adb_reply.specs.Strings.{failed}
 use Rattle.adb_history.specs.Rows.{Client, State, to_stream, none_kept}
-use Rattle.adb_history.specs.Events.{Made, Ending, quietly, due_to_client, ended}
+use Rattle.adb_history.specs.Events.{Made, quietly, due_to_client, ended}
+use Rattle.adb_history.specs.declared.ending.Ending.{Ending}
 use Rattle.adb_history.specs.Links.{close_packet, owe_link}
 use Rattle.adb_history.specs.Clients.{closes, closes_with}
 use Rattle.adb_history.specs.Streams.{loses, client_loses, tells_end, ends_row, ends_telling, ends_if_of, ends_of, all_end}

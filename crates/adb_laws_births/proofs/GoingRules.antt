@@ -22,7 +22,8 @@ use Rattle.adb_client.specs.declared.about.Want.{Want}
 use Rattle.adb_client.specs.declared.phase.Phase.{Phase}
 use Rattle.adb_client.specs.declared.phase.Phase.TheVariants.{Opening, Streaming, Binding, Closing, Gone}
 use Rattle.adb_history.specs.Rows.{Client, Link, State, to_client, to_stream, none_kept, with_stream_part}
-use Rattle.adb_history.specs.Events.{Made, quietly, due_to_client, due_to_link, ended, client_closed, client_failed, lost, broken}
+use Rattle.adb_history.specs.Events.{Made, quietly, due_to_client, due_to_link, ended}
+use Rattle.adb_history.specs.declared.ending.Ending.TheVariants.{ClientClosed, ClientFailed, Lost, Broken}
 use Rattle.adb_history.specs.Links.{wants_sums, owe_link, write_packet, close_packet, okay_packet, credit_packet, maxdata_of}
 use Rattle.adb_history.specs.Flow.{write_len, write_before, writes}
 use Rattle.adb_history.specs.Flow.{with_flow, flow_after, payloads, total, noted, goes_up, all_go_up, is_over, closes_if, sends_up}
@@ -121,7 +122,7 @@ goes_closes_if : (over : Bool) (l : ℕ) (o : Option Stream) (s : State) → s.s
     → ((stream : Stream) → s.streams l ≡ Some stream → stream.part.remote ≢ 0) → Goes s.streams s.drawn (closes_if over l o s)
 goes_closes_if over l None s is known = goes_quiet s
 goes_closes_if false l (Some stream) s is known = goes_quiet s
-goes_closes_if true l (Some stream) s is known = goes_ends_telling l client_closed stream s is (known stream is)
+goes_closes_if true l (Some stream) s is known = goes_ends_telling l ClientClosed stream s is (known stream is)
 
 goes_sends_up : (l : ℕ) (stream : Stream) (client : Client) (payloads : List (List ℕ)) (s : State) → s.streams l ≡ Some stream
     → (stream.part.remote ≢ 0) × AreShort payloads → Goes s.streams s.drawn (sends_up l stream client payloads s)
@@ -255,7 +256,7 @@ goes_fails_open : (l : ℕ) (cause : Cause) (stream : Stream) (s : State) → s.
 goes_fails_open l cause stream s is known =
     let p : Packet = close_packet l stream.part.remote in
     let told : Made = owe_link stream.link p (to_stream l none_kept s) in
-    goes_then s.streams s.drawn told (λ s. record { state = s; told = ended l (client_failed cause) ∷ [] })
+    goes_then s.streams s.drawn told (λ s. record { state = s; told = ended l (ClientFailed cause) ∷ [] })
     (record {
       rows = go_on_gone s.streams l;
       drawn_is = refl;
@@ -265,14 +266,14 @@ goes_fails_open l cause stream s is known =
         record { size = omega arith; word = check_short (wants_sums (s.links stream.link)) p },
       );
     })
-    (record { rows = go_on_same told.state.streams; drawn_is = refl; told = one_from told.state.streams (ended l (client_failed cause)) tt })
+    (record { rows = go_on_same told.state.streams; drawn_is = refl; told = one_from told.state.streams (ended l (ClientFailed cause)) tt })
 
 goes_fails_asked : (l : ℕ) (cause : Cause) (stream : Stream) (s : State) → s.streams l ≡ Some stream
     → Goes s.streams s.drawn (stream_fails (Opening l) cause (Some stream) s)
 goes_fails_asked l cause stream s is = record {
   rows = go_on_part s.streams l stream (orphaned stream.part) is (refl, refl);
   drawn_is = refl;
-  told = one_from s.streams (ended l (client_failed cause)) tt;
+  told = one_from s.streams (ended l (ClientFailed cause)) tt;
 }
 
 goes_stream_fails : (phase : Phase) (cause : Cause) (o : Option Stream) (s : State) → stream_of phase s.streams ≡ o
@@ -320,9 +321,9 @@ goes_bound (Some client) c port s = goes_bound_in client.about.phase client.abou
 
 pub goes_unplugs : (o : Option Link) (t : ℕ) (s : State) → Goes s.streams s.drawn (unplugs_on o t s)
 goes_unplugs None t s = goes_quiet s
-goes_unplugs (Some link) t s = goes_link_ends t lost s
+goes_unplugs (Some link) t s = goes_link_ends t Lost s
 
 pub goes_faulty : (o : Option Link) (t : ℕ) (fault : Option PacketFault) (s : State) → Goes s.streams s.drawn (faulty_on o t fault s)
 goes_faulty None t fault s = goes_quiet s
 goes_faulty (Some link) t None s = goes_quiet s
-goes_faulty (Some link) t (Some fault) s = goes_link_ends t broken s
+goes_faulty (Some link) t (Some fault) s = goes_link_ends t Broken s

@@ -16,7 +16,8 @@ use Rattle.adb_stream.specs.declared.row.Stream.{Stream}
 use Rattle.adb_capture.specs.declared.entry.Entry.{Entry}
 use Rattle.adb_capture.specs.declared.entry.Entry.TheVariants.{Attach, Recv, Send}
 use Rattle.adb_history.specs.Rows.{Link, State}
-use Rattle.adb_history.specs.Events.{Ending, ending_in}
+use Rattle.adb_history.specs.Events.{ending_in}
+use Rattle.adb_history.specs.declared.ending.Ending.{Ending}
 use Rattle.adb_history.specs.Packets.{receives_on}
 use Rattle.adb_history.specs.Machine.{History, state, told, told_at, rule, ups, step, IsLegal}
 use Rattle.adb_history.specs.Bytes.{bytes_sent, brought, sent}

@@ -20,7 +20,9 @@ use Rattle.adb_stream.specs.declared.row.Part.{Part}
 use Rattle.adb_stream.specs.declared.row.Stream.{Stream}
 use Rattle.adb_stream.specs.Flow.{first_credit, acknowledged, is_out_of_turn, accepted, has_credit}
 use Rattle.adb_history.specs.Rows.{Client, Link, State, to_stream, none_kept, with_stream_part}
-use Rattle.adb_history.specs.Events.{Made, Event, Ending, quietly, due_to_client, due_to_link, ended, peer_closed, out_of_turn, lost, broken}
+use Rattle.adb_history.specs.Events.{Made, Event, quietly, due_to_client, due_to_link, ended}
+use Rattle.adb_history.specs.declared.ending.Ending.{Ending}
+use Rattle.adb_history.specs.declared.ending.Ending.TheVariants.{PeerClosed, OutOfTurn, Lost, Broken}
 use Rattle.adb_history.specs.Links.{wants_sums, check_on, owe_link, close_packet, okay_packet, credit_word, is_connected}
 use Rattle.adb_history.specs.Clients.{owe_client}
 use Rattle.adb_history.specs.Streams.{ends_row, ends_telling}
@@ -159,11 +161,11 @@ module _ (t : ℕ) (p : Packet) (s : State) (h : IsLinked s) where
       (λ l b is on. absurd (cleared_link_ends l b ending is on))
 
   goes_first : (b : Bool) → Goes s.streams s.drawn (streams_end_first b t s)
-  goes_first true = goes_all_end t lost s
+  goes_first true = goes_all_end t Lost s
   goes_first false = goes_quiet s
 
   treats_connects : (version maxdata : ℕ) (who : Option Identity) → Treats t p s.streams s.drawn (connects t version maxdata who s)
-  treats_connects version maxdata None = treats_link_ends broken
+  treats_connects version maxdata None = treats_link_ends Broken
   treats_connects version maxdata (Some identity) =
       let first : Made = streams_end_first (is_connected t s.devices) t s in
       treats_goes t p s.streams s.drawn (connects t version maxdata (Some identity) s)
@@ -174,8 +176,8 @@ module _ (t : ℕ) (p : Packet) (s : State) (h : IsLinked s) where
   treats_cnxn : (version maxdata : ℕ) (banner : List ℕ) → Treats t p s.streams s.drawn (cnxn t version maxdata banner s)
   treats_cnxn version maxdata banner = go (nat_lt version least_version || nat_lt maxdata least_maxdata)
     where
-      go : (b : Bool) → Treats t p s.streams s.drawn (cond b (link_ends t broken s) (connects t version maxdata (identity_of banner) s))
-      go true = treats_link_ends broken
+      go : (b : Bool) → Treats t p s.streams s.drawn (cond b (link_ends t Broken s) (connects t version maxdata (identity_of banner) s))
+      go true = treats_link_ends Broken
       go false = treats_connects version maxdata (identity_of banner)
 
   -- ---- AUTH, STLS and OPEN
@@ -273,11 +275,11 @@ module _ (t : ℕ) (p : Packet) (s : State) (h : IsLinked s) where
     goes_write : (remote : ℕ) (payload : List ℕ) → Goes s.streams s.drawn (takes_write p.arg1 remote payload stream s)
     goes_write remote payload =
         let out : Bool = is_out_of_turn stream.part.flow (length payload) in
-        let late : Made = ends_telling p.arg1 out_of_turn stream s in
+        let late : Made = ends_telling p.arg1 OutOfTurn stream s in
         let taken : Made = accepts p.arg1 payload stream s in
         goes_if s.streams s.drawn (eqb remote 0 || not (eqb remote stream.part.remote)) (quietly s) (cond out late taken) (λ e. goes_quiet s)
         (λ known. goes_if s.streams s.drawn out late taken
-        (λ e. goes_ends_telling p.arg1 out_of_turn stream s is (written_to remote stream.part.remote known))
+        (λ e. goes_ends_telling p.arg1 OutOfTurn stream s is (written_to remote stream.part.remote known))
         (λ e. goes_accepts payload (written_to remote stream.part.remote known)))
 
     -- a row that is gone is another
@@ -288,16 +290,16 @@ module _ (t : ℕ) (p : Packet) (s : State) (h : IsLinked s) where
     treats_close : p.command ≡ Clse → Treats t p s.streams s.drawn (takes_close p.arg1 p.arg0 stream s)
     treats_close close = go (eqb p.arg0 0) (eqb p.arg0 stream.part.remote) refl
       where
-        gone : (l : ℕ) (b : Stream) → (ends_row p.arg1 peer_closed stream s).state.streams l ≡ Some b → p.arg1 ≢ l
-        gone l b there = ends_row_gone p.arg1 peer_closed stream s l b there
+        gone : (l : ℕ) (b : Stream) → (ends_row p.arg1 PeerClosed stream s).state.streams l ≡ Some b → p.arg1 ≢ l
+        gone l b there = ends_row_gone p.arg1 PeerClosed stream s l b there
 
         skips : eqb p.arg0 0 ≡ false → (l : ℕ) → Skips l p
         skips off l = skips_close l p close (ap (λ (x : Bool). x && nat_eq p.arg1 l) off)
 
         go : (a b : Bool) → eqb p.arg0 0 ≡ a
-            → Treats t p s.streams s.drawn (cond (a || b) (ends_row p.arg1 peer_closed stream s) (quietly s))
-        go true b e = gone_apart (ends_row p.arg1 peer_closed stream s) gone (goes_ends_row p.arg1 peer_closed stream s) (λ l. close_apart l p close)
-        go false true e = gone_apart (ends_row p.arg1 peer_closed stream s) gone (goes_ends_row p.arg1 peer_closed stream s) (λ l. close_apart l p close)
+            → Treats t p s.streams s.drawn (cond (a || b) (ends_row p.arg1 PeerClosed stream s) (quietly s))
+        go true b e = gone_apart (ends_row p.arg1 PeerClosed stream s) gone (goes_ends_row p.arg1 PeerClosed stream s) (λ l. close_apart l p close)
+        go false true e = gone_apart (ends_row p.arg1 PeerClosed stream s) gone (goes_ends_row p.arg1 PeerClosed stream s) (λ l. close_apart l p close)
         go false false e = treats_goes_at (quietly s) (goes_quiet s) (skips e)
 
     -- ---- OKAY

@@ -7,7 +7,8 @@ use Rattle.adb_capture.specs.declared.entry.Entry.{Entry}
 use Rattle.adb_capture.specs.declared.entry.Entry.TheVariants.{Recv}
 use Rattle.adb_stream.specs.Flow.{has_credit}
 use Rattle.adb_history.specs.Rows.{Link}
-use Rattle.adb_history.specs.Events.{Ending, packets_to, spelled_to}
+use Rattle.adb_history.specs.Events.{packets_to, spelled_to}
+use Rattle.adb_history.specs.declared.ending.Ending.{Ending}
 use Rattle.adb_history.specs.Streams.{stream_ids}
 use Rattle.adb_history.specs.Machine.{History, state, told, told_at}
 use Rattle.adb_history.specs.Bytes.{bytes_sent, brought, sent}

@@ -28,7 +28,7 @@ use Rattle.adb_laws_causes.proofs.Untouched.{Apart}
 use Rattle.adb_laws_causes.proofs.UntouchedEntries.{pair_apart}
 use Rattle.adb_laws_causes.proofs.Receiving.{here_at, there_at}
 use Rattle.adb_laws_causes.proofs.RuleSteps.{Standing, client_here}
-use Rattle.adb_history.specs.Events.{client_closed, lost, client_failed}
+use Rattle.adb_history.specs.declared.ending.Ending.TheVariants.{ClientClosed, Lost, ClientFailed}
 use Rattle.adb_history.specs.Bytes.{is_orderly}
 use Rattle.adb_history.specs.Births.{Birth}
 use Rattle.adb_history.specs.Lives.{ending_of}
@@ -60,7 +60,7 @@ record EndsNow (e : Entry) (older : History) (l : ℕ) (b : Birth) (x : Stream) 
   standing : Standing e older l b x
   closes : ClosesAt e older l
   lived : ending_of l older ≡ None
-  told : ending_in l (told_at e older) ≡ Some client_closed
+  told : ending_in l (told_at e older) ≡ Some ClientClosed
 
 abbrev Closed : Entry → History → ℕ → Birth → Stream → Type 0
 Closed e older l b x = EndsNow e older l b x → IsClosedByClient l b e older
@@ -116,16 +116,16 @@ detach_closed : (older : History) (l : ℕ) (b : Birth) (x : Stream) (cause : Ca
 detach_closed older l b x cause c =
     let p = c.standing.pair in
     let there = there_at x.link l x older c.standing.legal.0 (p.is, p.alive, refl) in
-    let told : ending_in l (unplugs_on (Some there.link) x.link (state older)).told ≡ Some lost =
-    link_ends_told x.link l x (state older) (here_at x.link l x older c.standing.legal.0 (p.is, p.alive, refl)) lost in
-    absurd (none_some lost (sym (ap (λ o. ending_in l (unplugs_on o x.link (state older)).told) (sym there.is) ∙ c.closes.rule_told) ∙ told))
+    let told : ending_in l (unplugs_on (Some there.link) x.link (state older)).told ≡ Some Lost =
+    link_ends_told x.link l x (state older) (here_at x.link l x older c.standing.legal.0 (p.is, p.alive, refl)) Lost in
+    absurd (none_some Lost (sym (ap (λ o. ending_in l (unplugs_on o x.link (state older)).told) (sym there.is) ∙ c.closes.rule_told) ∙ told))
 
 fail_closed : (older : History) (l : ℕ) (b : Birth) (x : Stream) (cause : Cause) → is_orderly cause ≡ false → Closed (End x.client cause) older l b x
 fail_closed older l b x cause bad c =
     let p = c.standing.pair in
     let k = client_of (state older) l x p.is p.alive (all_linked older c.standing.legal.0).owned in
     let told = end_told x.client l cause (state older) x p.is k k.is bad in
-    absurd (none_some (client_failed cause)
+    absurd (none_some (ClientFailed cause)
     (sym (ap (λ o. ending_in l (client_ends x.client cause o (state older)).told) (sym k.is) ∙ c.closes.rule_told) ∙ told))
 
 -- ---- it is done
@@ -224,11 +224,11 @@ module _ (older : History) (l : ℕ) (b : Birth) (x : Stream) (own : (x.client �
 pub all_by_client : AllHoldAsTold → (h : History) → IsLegal h → EndsByClient h
 all_by_client holds h legal l e older moment told =
     let time = time_of h legal e older moment in
-    let x = ends_at l e older client_closed time told in
+    let x = ends_at l e older ClientClosed time told in
     let before = holds older time.0 in
     let b = x.kept.birth in
     let p = pair_of l x.row (state older) (all_linked older time.0).owned x.is x.alive in
-    ends_for IsClosedByClient l e older client_closed x (closed_by older l b x.row (x.kept.client, x.kept.link) e (record {
+    ends_for IsClosedByClient l e older ClientClosed x (closed_by older l b x.row (x.kept.client, x.kept.link) e (record {
       standing = record {
         legal = time;
         born_now = x.kept.is;

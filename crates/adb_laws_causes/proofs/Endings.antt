@@ -7,7 +7,9 @@ use Rattle.adb_stream.specs.declared.row.Stream.{Stream}
 use Rattle.adb_capture.specs.declared.entry.Entry.{Entry}
 use Rattle.adb_capture.specs.declared.entry.Entry.TheVariants.{Read, End, Detach}
 use Rattle.adb_history.specs.Rows.{State}
-use Rattle.adb_history.specs.Events.{Ending, client_closed, lost, client_failed, stopped, ending_in}
+use Rattle.adb_history.specs.Events.{ending_in}
+use Rattle.adb_history.specs.declared.ending.Ending.{Ending}
+use Rattle.adb_history.specs.declared.ending.Ending.TheVariants.{ClientClosed, Lost, ClientFailed, Stopped}
 use Rattle.adb_history.specs.Flow.{up_all}
 use Rattle.adb_history.specs.Machine.{rule, History, state, told_at, told, IsLegal}
 use Rattle.adb_history.specs.Bytes.{is_orderly}
@@ -81,42 +83,42 @@ pub stopped_after : (e : Entry) (older : History) → (state (e ∷ older)).stop
 stopped_after e older = up_stopped (rule e (state older)).state.drawn (rule e (state older)).state
 
 stop_cause : (e : Entry) (older : History) (client link : ℕ) → IsLegal (e ∷ older)
-    → WhyStep e ((rule e (state older)).state.stopped ≡ true) client link stopped → stops_now e older ≡ true
+    → WhyStep e ((rule e (state older)).state.stopped ≡ true) client link Stopped → stops_now e older ≡ true
 stop_cause (Read c bytes) older client link legal (inl why) =
     let after : is_killed (Read c bytes ∷ older) ≡ true =
     sym (all_books (Read c bytes ∷ older) legal).killed ∙ (stopped_after (Read c bytes) older ∙ why.1) in
     let before : is_killed older ≡ false = sym (all_books older legal.0).killed ∙ legal.2.0 in
     ap (λ b. b && not (is_killed older)) after ∙ ap not before
-stop_cause (End c cause) older client link legal (inl why) = absurd (let clash : stopped ≡ client_failed cause = why.0 in cc)
-stop_cause (Detach t cause) older client link legal (inl why) = absurd (let clash : stopped ≡ lost = why.0 in cc)
+stop_cause (End c cause) older client link legal (inl why) = absurd (let clash : Stopped ≡ ClientFailed cause = why.0 in cc)
+stop_cause (Detach t cause) older client link legal (inl why) = absurd (let clash : Stopped ≡ Lost = why.0 in cc)
 stop_cause e older client link legal (inl why) = absurd why
-stop_cause e older client link legal (inr why) = absurd (let clash : stopped ≡ client_closed = why in cc)
+stop_cause e older client link legal (inr why) = absurd (let clash : Stopped ≡ ClientClosed = why in cc)
 
 pub all_by_stop : (h : History) → IsLegal h → EndsByStop h
 all_by_stop h legal l e older moment told =
     let time = time_of h legal e older moment in
-    let x = ends_at l e older stopped time told in
-    ends_for (λ l b e older. stops_now e older ≡ true) l e older stopped x (stop_cause e older x.row.client x.row.link time x.why)
+    let x = ends_at l e older Stopped time told in
+    ends_for (λ l b e older. stops_now e older ≡ true) l e older Stopped x (stop_cause e older x.row.client x.row.link time x.why)
 
 -- ---- a client failed
-failure_here : (n client : ℕ) (k cause : Cause) → (client_failed cause ≡ client_failed k) × (client ≡ n) × (is_orderly k ≡ false)
+failure_here : (n client : ℕ) (k cause : Cause) → (ClientFailed cause ≡ ClientFailed k) × (client ≡ n) × (is_orderly k ≡ false)
     → failure_of client (End n k) ≡ Some cause
 failure_here n client k cause is =
-    let same : k ≡ cause = (let both : client_failed cause ≡ client_failed k = is.0 in cc) in
+    let same : k ≡ cause = (let both : ClientFailed cause ≡ ClientFailed k = is.0 in cc) in
     ap (λ b. cond (b && not (is_orderly k)) (Some k) None) (eq-eqb n client (sym is.1))
     ∙ (ap (λ b. cond (not b) (Some k) None) is.2 ∙ ap Some same)
 
 failure_cause : (cause : Cause) (e : Entry) (older : History) (client link : ℕ)
-    → WhyStep e ((rule e (state older)).state.stopped ≡ true) client link (client_failed cause) → failure_of client e ≡ Some cause
+    → WhyStep e ((rule e (state older)).state.stopped ≡ true) client link (ClientFailed cause) → failure_of client e ≡ Some cause
 failure_cause cause (End n k) older client link (inl why) = failure_here n client k cause why
-failure_cause cause (Read c bytes) older client link (inl why) = absurd (let clash : client_failed cause ≡ stopped = why.0 in cc)
-failure_cause cause (Detach t k) older client link (inl why) = absurd (let clash : client_failed cause ≡ lost = why.0 in cc)
+failure_cause cause (Read c bytes) older client link (inl why) = absurd (let clash : ClientFailed cause ≡ Stopped = why.0 in cc)
+failure_cause cause (Detach t k) older client link (inl why) = absurd (let clash : ClientFailed cause ≡ Lost = why.0 in cc)
 failure_cause cause e older client link (inl why) = absurd why
-failure_cause cause e older client link (inr why) = absurd (let clash : client_failed cause ≡ client_closed = why in cc)
+failure_cause cause e older client link (inr why) = absurd (let clash : ClientFailed cause ≡ ClientClosed = why in cc)
 
 pub all_by_failure : (h : History) → IsLegal h → EndsByFailure h
 all_by_failure h legal cause l e older moment told =
     let time = time_of h legal e older moment in
-    let x = ends_at l e older (client_failed cause) time told in
-    ends_for (λ l b e older. failure_of b.client e ≡ Some cause) l e older (client_failed cause) x
+    let x = ends_at l e older (ClientFailed cause) time told in
+    ends_for (λ l b e older. failure_of b.client e ≡ Some cause) l e older (ClientFailed cause) x
     (subst (λ (n : ℕ). failure_of n e ≡ Some cause) x.kept.client (failure_cause cause e older x.row.client x.row.link x.why))

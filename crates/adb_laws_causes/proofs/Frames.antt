@@ -9,7 +9,9 @@ use Rattle.adb_stream.specs.declared.flow.Flow.TheVariants.{One, Credit}
 use Rattle.adb_stream.specs.declared.row.Stream.{Stream}
 use Rattle.adb_stream.specs.Flow.{first_credit, acknowledged, is_out_of_turn, accepted}
 use Rattle.adb_history.specs.Rows.{Client, Link, State, to_stream, none_kept, with_link_due, with_stream_part}
-use Rattle.adb_history.specs.Events.{Made, Ending, quietly, then_also, peer_closed, out_of_turn}
+use Rattle.adb_history.specs.Events.{Made, quietly, then_also}
+use Rattle.adb_history.specs.declared.ending.Ending.{Ending}
+use Rattle.adb_history.specs.declared.ending.Ending.TheVariants.{PeerClosed, OutOfTurn}
 use Rattle.adb_history.specs.Links.{close_packet, owe_link, check_on, wants_sums}
 use Rattle.adb_history.specs.Clients.{owe_client}
 use Rattle.adb_history.specs.Streams.{ends_row, ends_telling}
@@ -130,13 +132,13 @@ module _ (n l t : ℕ) where
 
   pub frame_write : (remote : ℕ) (payload : List ℕ) (x : Stream) (s : State) → Frame n l t s (takes_write n remote payload x s)
   frame_write remote payload x s =
-      let late = ends_telling n out_of_turn x s in
+      let late = ends_telling n OutOfTurn x s in
       let taken = accepts n payload x s in
       let out = is_out_of_turn x.part.flow (length payload) in
       frame_if s (eqb remote 0 || not (eqb remote x.part.remote)) (quietly s) (cond out late taken) (frame_quiet s)
-      (frame_if s out late taken (frame_telling out_of_turn x s) (frame_accepts payload x s))
+      (frame_if s out late taken (frame_telling OutOfTurn x s) (frame_accepts payload x s))
 
   -- ---- CLSE
   pub frame_close : (remote : ℕ) (x : Stream) (s : State) → Frame n l t s (takes_close n remote x s)
   frame_close remote x s =
-      frame_if s (eqb remote 0 || eqb remote x.part.remote) (ends_row n peer_closed x s) (quietly s) (frame_ends peer_closed x s) (frame_quiet s)
+      frame_if s (eqb remote 0 || eqb remote x.part.remote) (ends_row n PeerClosed x s) (quietly s) (frame_ends PeerClosed x s) (frame_quiet s)

@@ -15,7 +15,8 @@ use Rattle.adb_reply.specs.declared.answer.Next.TheVariants.{Close, Select, Trac
 use Rattle.adb_capture.specs.declared.entry.Entry.{Entry}
 use Rattle.adb_capture.specs.declared.entry.Entry.TheVariants.{Enter, Read}
 use Rattle.adb_history.specs.Rows.{Client, State, to_client, in_phase}
-use Rattle.adb_history.specs.Events.{Made, Ending, quietly, ending_in}
+use Rattle.adb_history.specs.Events.{Made, quietly, ending_in}
+use Rattle.adb_history.specs.declared.ending.Ending.{Ending}
 use Rattle.adb_history.specs.Links.{is_connected, is_credit}
 use Rattle.adb_history.specs.Clients.{owe_client}
 use Rattle.adb_history.specs.Streams.{stream_ids, asks_for, no_ids_left, opens}

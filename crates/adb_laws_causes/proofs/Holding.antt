@@ -1,6 +1,7 @@
 -- In every legal history each stream that lives and its client hold what the history tells.
 use Rattle.adb_history.specs.Rows.{Client}
-use Rattle.adb_history.specs.Events.{ending_in, Ending}
+use Rattle.adb_history.specs.Events.{ending_in}
+use Rattle.adb_history.specs.declared.ending.Ending.{Ending}
 use Rattle.adb_history.specs.Births.{births_at, born, Birth}
 use Rattle.adb_history.specs.Fifo.{HasBirths}
 use Rattle.std.specs.Prelude.{slice_get}

@@ -7,7 +7,9 @@ use Rattle.std.proofs.lemmas.Bool.{eq-eqb}
 use Rattle.adb_wire.specs.Cutting.{framed}
 use Rattle.adb_capture.specs.declared.entry.Entry.{Entry}
 use Rattle.adb_capture.specs.declared.entry.Entry.TheVariants.{Read, End, Recv, Detach}
-use Rattle.adb_history.specs.Events.{Ending, client_closed, peer_closed, out_of_turn, lost, broken, client_failed, stopped, ending_in}
+use Rattle.adb_history.specs.Events.{ending_in}
+use Rattle.adb_history.specs.declared.ending.Ending.{Ending}
+use Rattle.adb_history.specs.declared.ending.Ending.TheVariants.{ClientClosed, PeerClosed, OutOfTurn, Lost, Broken, ClientFailed, Stopped}
 use Rattle.adb_history.specs.Machine.{rule, History, state, told_at, IsLegal}
 use Rattle.adb_history.specs.Bytes.{bytes_received}
 use Rattle.adb_history.specs.Book.{is_refused}
@@ -28,7 +30,7 @@ pub record ByCut (t : ℕ) (bytes : List ℕ) (older : History) (l : ℕ) (endin
   pub given : brings x.kept.birth.link (Recv t bytes) older ≡ cut.given
   pub fault : (framed (bytes_received x.kept.birth.link (Recv t bytes ∷ older))).fault ≡ cut.fault
   pub sound : (framed (bytes_received x.kept.birth.link older)).fault ≡ None
-  pub why : StruckBy l x.row cut ending ⊎ (ending ≡ client_closed)
+  pub why : StruckBy l x.row cut ending ⊎ (ending ≡ ClientClosed)
 
 pub by_cut : (t : ℕ) (bytes : List ℕ) (older : History) (l : ℕ) (ending : Ending) (x : EndsAt l (Recv t bytes) older ending)
     → IsLegal (Recv t bytes ∷ older) × (x.row.link ≡ t) × (ending_in l (told_at (Recv t bytes) older) ≡ Some ending) → ByCut t bytes older l ending x
@@ -45,34 +47,34 @@ by_cut t bytes older l ending x at =
     }
 
 -- ---- the device closed
-peer_struck : (l : ℕ) (t : ℕ) (bytes : List ℕ) (older : History) (x : EndsAt l (Recv t bytes) older peer_closed) → (c : ByCut t bytes older l peer_closed x)
-    → StruckBy l x.row c.cut peer_closed ⊎ (peer_closed ≡ client_closed) → peer_closes l x.kept.birth (Recv t bytes) older ≡ true
+peer_struck : (l : ℕ) (t : ℕ) (bytes : List ℕ) (older : History) (x : EndsAt l (Recv t bytes) older PeerClosed) → (c : ByCut t bytes older l PeerClosed x)
+    → StruckBy l x.row c.cut PeerClosed ⊎ (PeerClosed ≡ ClientClosed) → peer_closes l x.kept.birth (Recv t bytes) older ≡ true
 peer_struck l t bytes older x c (inl (inl closes)) =
     ap (λ ps. closes_in (remote_of l x.kept.birth older) l ps) c.given ∙ (ap (λ n. closes_in n l c.cut.given) (sym x.kept.remote) ∙ closes)
-peer_struck l t bytes older x c (inl (inr fault)) = absurd (let clash : peer_closed ≡ broken = fault.0 in cc)
-peer_struck l t bytes older x c (inr closed) = absurd (let clash : peer_closed ≡ client_closed = closed in cc)
+peer_struck l t bytes older x c (inl (inr fault)) = absurd (let clash : PeerClosed ≡ Broken = fault.0 in cc)
+peer_struck l t bytes older x c (inr closed) = absurd (let clash : PeerClosed ≡ ClientClosed = closed in cc)
 
 -- an entry that ends a stream of which its device is told by packets alone
-peer_cause : (l : ℕ) (e : Entry) (older : History) (x : EndsAt l e older peer_closed) → IsLegal (e ∷ older) → ending_in l (told_at e older) ≡ Some peer_closed
-    → WhyStep e ((rule e (state older)).state.stopped ≡ true) x.row.client x.row.link peer_closed → peer_closes l x.kept.birth e older ≡ true
+peer_cause : (l : ℕ) (e : Entry) (older : History) (x : EndsAt l e older PeerClosed) → IsLegal (e ∷ older) → ending_in l (told_at e older) ≡ Some PeerClosed
+    → WhyStep e ((rule e (state older)).state.stopped ≡ true) x.row.client x.row.link PeerClosed → peer_closes l x.kept.birth e older ≡ true
 peer_cause l (Recv t bytes) older x time told (inl why) =
-    let c = by_cut t bytes older l peer_closed x (time, why, told) in
+    let c = by_cut t bytes older l PeerClosed x (time, why, told) in
     peer_struck l t bytes older x c c.why
-peer_cause l (Read n bytes) older x time told (inl why) = absurd (let clash : peer_closed ≡ stopped = why.0 in cc)
-peer_cause l (End n cause) older x time told (inl why) = absurd (let clash : peer_closed ≡ client_failed cause = why.0 in cc)
-peer_cause l (Detach t cause) older x time told (inl why) = absurd (let clash : peer_closed ≡ lost = why.0 in cc)
+peer_cause l (Read n bytes) older x time told (inl why) = absurd (let clash : PeerClosed ≡ Stopped = why.0 in cc)
+peer_cause l (End n cause) older x time told (inl why) = absurd (let clash : PeerClosed ≡ ClientFailed cause = why.0 in cc)
+peer_cause l (Detach t cause) older x time told (inl why) = absurd (let clash : PeerClosed ≡ Lost = why.0 in cc)
 peer_cause l e older x time told (inl why) = absurd why
-peer_cause l e older x time told (inr why) = absurd (let clash : peer_closed ≡ client_closed = why in cc)
+peer_cause l e older x time told (inr why) = absurd (let clash : PeerClosed ≡ ClientClosed = why in cc)
 
 pub all_by_peer : (h : History) → IsLegal h → EndsByPeer h
 all_by_peer h legal l e older moment told =
     let time = time_of h legal e older moment in
-    let x = ends_at l e older peer_closed time told in
-    ends_for (λ l b e older. peer_closes l b e older ≡ true) l e older peer_closed x (peer_cause l e older x time told x.why)
+    let x = ends_at l e older PeerClosed time told in
+    ends_for (λ l b e older. peer_closes l b e older ≡ true) l e older PeerClosed x (peer_cause l e older x time told x.why)
 
 -- ---- the device wrote out of turn
-turn_struck : (l : ℕ) (t : ℕ) (bytes : List ℕ) (older : History) (x : EndsAt l (Recv t bytes) older out_of_turn) → (c : ByCut t bytes older l out_of_turn x)
-    → HasFlows older → StruckBy l x.row c.cut out_of_turn ⊎ (out_of_turn ≡ client_closed) → writes_early l x.kept.birth (Recv t bytes) older ≡ true
+turn_struck : (l : ℕ) (t : ℕ) (bytes : List ℕ) (older : History) (x : EndsAt l (Recv t bytes) older OutOfTurn) → (c : ByCut t bytes older l OutOfTurn x)
+    → HasFlows older → StruckBy l x.row c.cut OutOfTurn ⊎ (OutOfTurn ≡ ClientClosed) → writes_early l x.kept.birth (Recv t bytes) older ≡ true
 turn_struck l t bytes older x c flows (inl (inl early)) =
     let b = x.kept.birth in
     let written = length (joined (told_to l b older)) in
@@ -81,57 +83,57 @@ turn_struck l t bytes older x c flows (inl (inl early)) =
     ap (λ ps. writes_early_in b (remote_of l b older) l written handed given ps) c.given
     ∙ (ap (λ n. writes_early_in b n l written handed given c.cut.given) (sym x.kept.remote)
     ∙ early b written handed given (flows l b x.row x.kept.is x.is x.alive))
-turn_struck l t bytes older x c flows (inl (inr fault)) = absurd (let clash : out_of_turn ≡ broken = fault.0 in cc)
-turn_struck l t bytes older x c flows (inr closed) = absurd (let clash : out_of_turn ≡ client_closed = closed in cc)
+turn_struck l t bytes older x c flows (inl (inr fault)) = absurd (let clash : OutOfTurn ≡ Broken = fault.0 in cc)
+turn_struck l t bytes older x c flows (inr closed) = absurd (let clash : OutOfTurn ≡ ClientClosed = closed in cc)
 
-turn_cause : (l : ℕ) (e : Entry) (older : History) (x : EndsAt l e older out_of_turn) → IsLegal (e ∷ older) × HasFlows older
-    × (ending_in l (told_at e older) ≡ Some out_of_turn) → WhyStep e ((rule e (state older)).state.stopped ≡ true) x.row.client x.row.link out_of_turn
+turn_cause : (l : ℕ) (e : Entry) (older : History) (x : EndsAt l e older OutOfTurn) → IsLegal (e ∷ older) × HasFlows older
+    × (ending_in l (told_at e older) ≡ Some OutOfTurn) → WhyStep e ((rule e (state older)).state.stopped ≡ true) x.row.client x.row.link OutOfTurn
     → writes_early l x.kept.birth e older ≡ true
 turn_cause l (Recv t bytes) older x at (inl why) =
-    let c = by_cut t bytes older l out_of_turn x (at.0, why, at.2) in
+    let c = by_cut t bytes older l OutOfTurn x (at.0, why, at.2) in
     turn_struck l t bytes older x c at.1 c.why
-turn_cause l (Read n bytes) older x at (inl why) = absurd (let clash : out_of_turn ≡ stopped = why.0 in cc)
-turn_cause l (End n cause) older x at (inl why) = absurd (let clash : out_of_turn ≡ client_failed cause = why.0 in cc)
-turn_cause l (Detach t cause) older x at (inl why) = absurd (let clash : out_of_turn ≡ lost = why.0 in cc)
+turn_cause l (Read n bytes) older x at (inl why) = absurd (let clash : OutOfTurn ≡ Stopped = why.0 in cc)
+turn_cause l (End n cause) older x at (inl why) = absurd (let clash : OutOfTurn ≡ ClientFailed cause = why.0 in cc)
+turn_cause l (Detach t cause) older x at (inl why) = absurd (let clash : OutOfTurn ≡ Lost = why.0 in cc)
 turn_cause l e older x at (inl why) = absurd why
-turn_cause l e older x at (inr why) = absurd (let clash : out_of_turn ≡ client_closed = why in cc)
+turn_cause l e older x at (inr why) = absurd (let clash : OutOfTurn ≡ ClientClosed = why in cc)
 
 pub all_out_of_turn : AllHoldAsTold → (h : History) → IsLegal h → EndsOutOfTurn h
 all_out_of_turn holds h legal l e older moment told =
     let time = time_of h legal e older moment in
-    let x = ends_at l e older out_of_turn time told in
-    ends_for (λ l b e older. writes_early l b e older ≡ true) l e older out_of_turn x
+    let x = ends_at l e older OutOfTurn time told in
+    ends_for (λ l b e older. writes_early l b e older ≡ true) l e older OutOfTurn x
     (turn_cause l e older x (time, holds_flows older time.0 (holds older time.0), told) x.why)
 
 -- ---- its link was lost
-lost_struck : (l : ℕ) (t : ℕ) (bytes : List ℕ) (older : History) (x : EndsAt l (Recv t bytes) older lost) → (c : ByCut t bytes older l lost x)
-    → StruckBy l x.row c.cut lost ⊎ (lost ≡ client_closed) → loses_link x.kept.birth (Recv t bytes) older ≡ true
+lost_struck : (l : ℕ) (t : ℕ) (bytes : List ℕ) (older : History) (x : EndsAt l (Recv t bytes) older Lost) → (c : ByCut t bytes older l Lost x)
+    → StruckBy l x.row c.cut Lost ⊎ (Lost ≡ ClientClosed) → loses_link x.kept.birth (Recv t bytes) older ≡ true
 lost_struck l t bytes older x c (inl (inl anew)) = ap (λ ps. list_any says_anew ps) c.given ∙ anew
-lost_struck l t bytes older x c (inl (inr fault)) = absurd (let clash : lost ≡ broken = fault.0 in cc)
-lost_struck l t bytes older x c (inr closed) = absurd (let clash : lost ≡ client_closed = closed in cc)
+lost_struck l t bytes older x c (inl (inr fault)) = absurd (let clash : Lost ≡ Broken = fault.0 in cc)
+lost_struck l t bytes older x c (inr closed) = absurd (let clash : Lost ≡ ClientClosed = closed in cc)
 
-lost_cause : (l : ℕ) (e : Entry) (older : History) (x : EndsAt l e older lost) → IsLegal (e ∷ older) → ending_in l (told_at e older) ≡ Some lost
-    → WhyStep e ((rule e (state older)).state.stopped ≡ true) x.row.client x.row.link lost → loses_link x.kept.birth e older ≡ true
+lost_cause : (l : ℕ) (e : Entry) (older : History) (x : EndsAt l e older Lost) → IsLegal (e ∷ older) → ending_in l (told_at e older) ≡ Some Lost
+    → WhyStep e ((rule e (state older)).state.stopped ≡ true) x.row.client x.row.link Lost → loses_link x.kept.birth e older ≡ true
 lost_cause l (Recv t bytes) older x time told (inl why) =
-    let c = by_cut t bytes older l lost x (time, why, told) in
+    let c = by_cut t bytes older l Lost x (time, why, told) in
     lost_struck l t bytes older x c c.why
 lost_cause l (Detach t cause) older x time told (inl why) =
     let b = x.kept.birth in
     ap (λ a. a || list_any says_anew (brings b.link (Detach t cause) older)) (eq-eqb t b.link (sym why.1 ∙ x.kept.link))
-lost_cause l (Read n bytes) older x time told (inl why) = absurd (let clash : lost ≡ stopped = why.0 in cc)
-lost_cause l (End n cause) older x time told (inl why) = absurd (let clash : lost ≡ client_failed cause = why.0 in cc)
+lost_cause l (Read n bytes) older x time told (inl why) = absurd (let clash : Lost ≡ Stopped = why.0 in cc)
+lost_cause l (End n cause) older x time told (inl why) = absurd (let clash : Lost ≡ ClientFailed cause = why.0 in cc)
 lost_cause l e older x time told (inl why) = absurd why
-lost_cause l e older x time told (inr why) = absurd (let clash : lost ≡ client_closed = why in cc)
+lost_cause l e older x time told (inr why) = absurd (let clash : Lost ≡ ClientClosed = why in cc)
 
 pub all_by_loss : (h : History) → IsLegal h → EndsByLoss h
 all_by_loss h legal l e older moment told =
     let time = time_of h legal e older moment in
-    let x = ends_at l e older lost time told in
-    ends_for (λ l b e older. loses_link b e older ≡ true) l e older lost x (lost_cause l e older x time told x.why)
+    let x = ends_at l e older Lost time told in
+    ends_for (λ l b e older. loses_link b e older ≡ true) l e older Lost x (lost_cause l e older x time told x.why)
 
 -- ---- its link was broken
-broken_struck : (l : ℕ) (t : ℕ) (bytes : List ℕ) (older : History) (x : EndsAt l (Recv t bytes) older broken) → (c : ByCut t bytes older l broken x)
-    → StruckBy l x.row c.cut broken ⊎ (broken ≡ client_closed) → breaks_link x.kept.birth (Recv t bytes) older ≡ true
+broken_struck : (l : ℕ) (t : ℕ) (bytes : List ℕ) (older : History) (x : EndsAt l (Recv t bytes) older Broken) → (c : ByCut t bytes older l Broken x)
+    → StruckBy l x.row c.cut Broken ⊎ (Broken ≡ ClientClosed) → breaks_link x.kept.birth (Recv t bytes) older ≡ true
 broken_struck l t bytes older x c (inl (inl refused)) =
     let b = x.kept.birth in
     let had = is_some (framed (bytes_received b.link (Recv t bytes ∷ older))).fault && not (is_some (framed (bytes_received b.link older)).fault) in
@@ -142,21 +144,21 @@ broken_struck l t bytes older x c (inl (inr fault)) =
     ap (λ f. (is_some f && not (is_some (framed (bytes_received b.link older)).fault)) || rest) c.fault
     ∙ (ap (λ f. (is_some c.cut.fault && not (is_some f)) || rest) c.sound
     ∙ ap (λ a. (a && true) || rest) fault.1)
-broken_struck l t bytes older x c (inr closed) = absurd (let clash : broken ≡ client_closed = closed in cc)
+broken_struck l t bytes older x c (inr closed) = absurd (let clash : Broken ≡ ClientClosed = closed in cc)
 
-broken_cause : (l : ℕ) (e : Entry) (older : History) (x : EndsAt l e older broken) → IsLegal (e ∷ older) → ending_in l (told_at e older) ≡ Some broken
-    → WhyStep e ((rule e (state older)).state.stopped ≡ true) x.row.client x.row.link broken → breaks_link x.kept.birth e older ≡ true
+broken_cause : (l : ℕ) (e : Entry) (older : History) (x : EndsAt l e older Broken) → IsLegal (e ∷ older) → ending_in l (told_at e older) ≡ Some Broken
+    → WhyStep e ((rule e (state older)).state.stopped ≡ true) x.row.client x.row.link Broken → breaks_link x.kept.birth e older ≡ true
 broken_cause l (Recv t bytes) older x time told (inl why) =
-    let c = by_cut t bytes older l broken x (time, why, told) in
+    let c = by_cut t bytes older l Broken x (time, why, told) in
     broken_struck l t bytes older x c c.why
-broken_cause l (Read n bytes) older x time told (inl why) = absurd (let clash : broken ≡ stopped = why.0 in cc)
-broken_cause l (End n cause) older x time told (inl why) = absurd (let clash : broken ≡ client_failed cause = why.0 in cc)
-broken_cause l (Detach t cause) older x time told (inl why) = absurd (let clash : broken ≡ lost = why.0 in cc)
+broken_cause l (Read n bytes) older x time told (inl why) = absurd (let clash : Broken ≡ Stopped = why.0 in cc)
+broken_cause l (End n cause) older x time told (inl why) = absurd (let clash : Broken ≡ ClientFailed cause = why.0 in cc)
+broken_cause l (Detach t cause) older x time told (inl why) = absurd (let clash : Broken ≡ Lost = why.0 in cc)
 broken_cause l e older x time told (inl why) = absurd why
-broken_cause l e older x time told (inr why) = absurd (let clash : broken ≡ client_closed = why in cc)
+broken_cause l e older x time told (inr why) = absurd (let clash : Broken ≡ ClientClosed = why in cc)
 
 pub all_by_break : (h : History) → IsLegal h → EndsByBreak h
 all_by_break h legal l e older moment told =
     let time = time_of h legal e older moment in
-    let x = ends_at l e older broken time told in
-    ends_for (λ l b e older. breaks_link b e older ≡ true) l e older broken x (broken_cause l e older x time told x.why)
+    let x = ends_at l e older Broken time told in
+    ends_for (λ l b e older. breaks_link b e older ≡ true) l e older Broken x (broken_cause l e older x time told x.why)

@@ -11,7 +11,9 @@ use Rattle.adb_capture.specs.declared.entry.Entry.{Entry}
 use Rattle.adb_capture.specs.declared.entry.Entry.TheVariants.{Enter, Read}
 use Rattle.adb_stream.specs.declared.row.Stream.{Stream}
 use Rattle.adb_history.specs.Rows.{State}
-use Rattle.adb_history.specs.Events.{Event, Ending, client_closed, ending_in}
+use Rattle.adb_history.specs.Events.{Event, ending_in}
+use Rattle.adb_history.specs.declared.ending.Ending.{Ending}
+use Rattle.adb_history.specs.declared.ending.Ending.TheVariants.{ClientClosed}
 use Rattle.adb_history.specs.Links.{is_connected}
 use Rattle.adb_history.specs.Streams.{stream_ids}
 use Rattle.adb_history.specs.Machine.{rule, ups, step, History, state, told_at, told, IsLegal}
@@ -69,7 +71,7 @@ drawn_grows e older new old =
 -- ---- a step
 -- what an entry may end, by its rule or by the up rule
 abbrev pub WhyStep : Entry → Type 0 → Reason
-WhyStep e kill = λ client link ending. WhyBy e kill client link ending ⊎ (ending ≡ client_closed)
+WhyStep e kill = λ client link ending. WhyBy e kill client link ending ⊎ (ending ≡ ClientClosed)
 
 weaker : (l : ℕ) (Why More : Reason) (o p : Option Stream) (events : List Event) → ((c t : ℕ) (y : Ending) → Why c t y → More c t y)
     → Fate l Why o p events → Fate l More o p events

@@ -17,7 +17,8 @@ use Rattle.adb_reply.specs.declared.answer.Next.TheVariants.{Open, Stop}
 use Rattle.adb_capture.specs.declared.entry.Entry.{Entry}
 use Rattle.adb_capture.specs.declared.entry.Entry.TheVariants.{Read, End, Bound}
 use Rattle.adb_history.specs.Rows.{Client, State, to_client, none_kept}
-use Rattle.adb_history.specs.Events.{Made, client_failed, ending_in}
+use Rattle.adb_history.specs.Events.{Made, ending_in}
+use Rattle.adb_history.specs.declared.ending.Ending.TheVariants.{ClientFailed}
 use Rattle.adb_history.specs.Clients.{owe_client}
 use Rattle.adb_history.specs.Streams.{stream_ids, asks_for, no_ids_left, opens}
 use Rattle.adb_history.specs.Losing.{stream_fails, stream_of, client_ends}
@@ -47,18 +48,18 @@ use Rattle.adb_laws_causes.proofs.Others.{Alive, alive_at, unstruck, rule_none, 
 module _ (phase : Phase) (c l : ℕ) where
   -- the failure of the client of a stream is told
   fails_told : (remote : ℕ) (cause : Cause) (s : State) → (x : Stream) → s.streams l ≡ Some x → phase ≡ phase_for l remote
-      → ending_in l (stream_fails phase cause (stream_of phase s.streams) (to_client c none_kept s)).told ≡ Some (client_failed cause)
+      → ending_in l (stream_fails phase cause (stream_of phase s.streams) (to_client c none_kept s)).told ≡ Some (ClientFailed cause)
   fails_told zero cause s x is in_phase =
       ap (λ p. ending_in l (stream_fails p cause (stream_of p s.streams) (to_client c none_kept s)).told) in_phase
       ∙ (ap (λ o. ending_in l (stream_fails (Opening l) cause o (to_client c none_kept s)).told) is
-      ∙ ap (λ b. cond b (Some (client_failed cause)) None) (eq-eqb l l refl))
+      ∙ ap (λ b. cond b (Some (ClientFailed cause)) None) (eq-eqb l l refl))
   fails_told (suc n) cause s x is in_phase =
       ap (λ p. ending_in l (stream_fails p cause (stream_of p s.streams) (to_client c none_kept s)).told) in_phase
       ∙ (ap (λ o. ending_in l (stream_fails (Streaming l) cause o (to_client c none_kept s)).told) is
-      ∙ ap (λ b. cond b (Some (client_failed cause)) None) (eq-eqb l l refl))
+      ∙ ap (λ b. cond b (Some (ClientFailed cause)) None) (eq-eqb l l refl))
 
 pub end_told : (c l : ℕ) (cause : Cause) (s : State) (x : Stream) → s.streams l ≡ Some x → (k : ClientOf s.clients l x) → s.clients c ≡ Some k.client
-    → is_orderly cause ≡ false → ending_in l (client_ends c cause (Some k.client) s).told ≡ Some (client_failed cause)
+    → is_orderly cause ≡ false → ending_in l (client_ends c cause (Some k.client) s).told ≡ Some (ClientFailed cause)
 end_told c l Fault s x is k here e = fails_told k.client.about.phase c l x.part.remote Fault s x is k.phase
 end_told c l Starved s x is k here e = fails_told k.client.about.phase c l x.part.remote Starved s x is k.phase
 end_told c l NoThread s x is k here e = fails_told k.client.about.phase c l x.part.remote NoThread s x is k.phase
@@ -73,7 +74,7 @@ module _ (l : ℕ) (b : Birth) (older : History) (a : Alive l b older) (legal : 
           let k = client_of (state older) l a.row a.is a.alive (all_linked older legal).owned in
           let here : (state older).clients n ≡ Some k.client = ap (state older).clients (same ∙ sym a.client) ∙ k.is in
           let told = end_told n l cause (state older) a.row a.is k here bad in
-          none_some (client_failed cause)
+          none_some (ClientFailed cause)
           (sym (ap (λ o. ending_in l (client_ends n cause o (state older)).told) (sym here) ∙ rule_none l b older a (End n cause) none) ∙ told)
 
       go : (c orderly : Bool) → eqb n b.client ≡ c → is_orderly cause ≡ orderly → is_some (cond (c && not orderly) (Some cause) None) ≡ false

@@ -13,7 +13,8 @@ use Rattle.adb_wire.specs.Cutting.{cut_packets, framed}
 use Rattle.adb_stream.specs.declared.row.Stream.{Stream}
 use Rattle.adb_capture.specs.declared.entry.Entry.{Entry}
 use Rattle.adb_capture.specs.declared.entry.Entry.TheVariants.{Recv, Detach}
-use Rattle.adb_history.specs.Events.{lost, ending_in}
+use Rattle.adb_history.specs.Events.{ending_in}
+use Rattle.adb_history.specs.declared.ending.Ending.TheVariants.{Lost}
 use Rattle.adb_history.specs.Streams.{stream_ids}
 use Rattle.adb_history.specs.Packets.{receives}
 use Rattle.adb_history.specs.Machine.{unplugs_on, rule, ups, History, state, told_at, IsLegal}
@@ -185,9 +186,9 @@ module _ (l : ℕ) (b : Birth) (older : History) (a : Alive l b older) where
       falls same =
           let on : ((state older).streams l ≡ Some a.row) × (a.row.part.orphan ≡ false) × (a.row.link ≡ t) = (a.is, a.alive, a.link ∙ sym same) in
           let there = there_at t l a.row older legal on in
-          let told : ending_in l (unplugs_on (Some there.link) t (state older)).told ≡ Some lost =
-          link_ends_told t l a.row (state older) (here_at t l a.row older legal on) lost in
-          none_some lost (sym (ap (λ o. ending_in l (unplugs_on o t (state older)).told) (sym there.is) ∙ rule_none (Detach t cause) none) ∙ told)
+          let told : ending_in l (unplugs_on (Some there.link) t (state older)).told ≡ Some Lost =
+          link_ends_told t l a.row (state older) (here_at t l a.row older legal on) Lost in
+          none_some Lost (sym (ap (λ o. ending_in l (unplugs_on o t (state older)).told) (sym there.is) ∙ rule_none (Detach t cause) none) ∙ told)
 
       go : (c : Bool) → eqb t b.link ≡ c → eqb t b.link ≡ false
       go false e = e

@@ -11,7 +11,8 @@ use Rattle.adb_wire.specs.declared.packets.Packet.{Packet}
 use Rattle.adb_stream.specs.declared.row.Stream.{Stream}
 use Rattle.adb_stream.specs.Flow.{is_out_of_turn}
 use Rattle.adb_history.specs.Rows.{Link, State}
-use Rattle.adb_history.specs.Events.{Made, peer_closed, out_of_turn, quietly}
+use Rattle.adb_history.specs.Events.{Made, quietly}
+use Rattle.adb_history.specs.declared.ending.Ending.TheVariants.{PeerClosed, OutOfTurn}
 use Rattle.adb_history.specs.Links.{credit_word, owe_link, is_connected}
 use Rattle.adb_history.specs.Streams.{ends_row, ends_telling}
 use Rattle.adb_history.specs.Packets.{at_stream, okay_open, okay_first, takes_okay}
@@ -119,20 +120,20 @@ module _ (t : ℕ) (x : Stream) (p : Packet) (s : State) (h : Pair p.arg1 x s) w
       some e = ((counts_is c) ∙ a_write p.arg0 x.part.remote e, counts_open x.part.remote p.arg0 (a_write p.arg0 x.part.remote e), never)
 
       taken : (b : Bool) → (counts x.part.remote p.arg1 p ≡ true) × (eqb x.part.remote 0 ≡ false) × (is_again x.part.remote p.arg1 p ≡ false)
-          → EffectOr p.arg1 x p h.client (cond b (ends_telling p.arg1 out_of_turn x s) (accepts p.arg1 p.payload x s))
-      taken true e = inr (gone_here p.arg1 p.arg1 out_of_turn x (owe_link x.link (close_packet p.arg1 x.part.remote) s).state h.is refl)
+          → EffectOr p.arg1 x p h.client (cond b (ends_telling p.arg1 OutOfTurn x s) (accepts p.arg1 p.payload x s))
+      taken true e = inr (gone_here p.arg1 p.arg1 OutOfTurn x (owe_link x.link (close_packet p.arg1 x.part.remote) s).state h.is refl)
       taken false e = inl (takes_effect p.arg1 x p s h p.payload refl e)
 
       go : (b : Bool) → (eqb p.arg0 0 || not (eqb p.arg0 x.part.remote)) ≡ b → EffectOr p.arg1 x p h.client (cond b (quietly s)
-          (cond (is_out_of_turn x.part.flow (length p.payload)) (ends_telling p.arg1 out_of_turn x s) (accepts p.arg1 p.payload x s)))
+          (cond (is_out_of_turn x.part.flow (length p.payload)) (ends_telling p.arg1 OutOfTurn x s) (accepts p.arg1 p.payload x s)))
       go true e = inl (nothing_done p.arg1 x p s h (quietly s) (u_quiet p.arg1 x.client s) ((counts_is c) ∙ no_write p.arg0 x.part.remote e) never)
       go false e = taken (is_out_of_turn x.part.flow (length p.payload)) (some e)
 
   close_effect : p.command ≡ Clse → EffectOr p.arg1 x p h.client (takes_close p.arg1 p.arg0 x s)
   close_effect c = go (eqb p.arg0 0 || eqb p.arg0 x.part.remote)
     where
-      go : (b : Bool) → EffectOr p.arg1 x p h.client (cond b (ends_row p.arg1 peer_closed x s) (quietly s))
-      go true = inr (gone_here p.arg1 p.arg1 peer_closed x s h.is refl)
+      go : (b : Bool) → EffectOr p.arg1 x p h.client (cond b (ends_row p.arg1 PeerClosed x s) (quietly s))
+      go true = inr (gone_here p.arg1 p.arg1 PeerClosed x s h.is refl)
       go false = inl (nothing_done p.arg1 x p s h (quietly s) (u_quiet p.arg1 x.client s)
           (ap (λ k. is_wrte k && not (nat_eq x.part.remote 0) && is_between x.part.remote p.arg1 p) c)
           (ap (λ k. is_okay k && not (nat_eq x.part.remote 0) && is_between x.part.remote p.arg1 p) c))

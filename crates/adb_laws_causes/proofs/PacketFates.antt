@@ -20,7 +20,9 @@ use Rattle.adb_stream.specs.declared.flow.Flow.TheVariants.{One, Credit}
 use Rattle.adb_stream.specs.declared.row.Stream.{Stream}
 use Rattle.adb_stream.specs.Flow.{first_credit, acknowledged, is_out_of_turn, accepted}
 use Rattle.adb_history.specs.Rows.{Client, Link, State, to_link, to_stream, none_kept, with_stream_part}
-use Rattle.adb_history.specs.Events.{Made, Ending, client_closed, peer_closed, out_of_turn, lost, broken, client_failed, stopped, quietly}
+use Rattle.adb_history.specs.Events.{Made, quietly}
+use Rattle.adb_history.specs.declared.ending.Ending.{Ending}
+use Rattle.adb_history.specs.declared.ending.Ending.TheVariants.{ClientClosed, PeerClosed, OutOfTurn, Lost, Broken, ClientFailed, Stopped}
 use Rattle.adb_history.specs.Links.{close_packet, credit_word, owe_link, is_connected}
 use Rattle.adb_history.specs.Clients.{owe_client}
 use Rattle.adb_history.specs.Streams.{ends_row, ends_telling}
@@ -37,9 +39,9 @@ use Rattle.adb_history.proofs.PacketMoves.{hears_streams}
 
 -- what the packets of a link and their fault may end: its streams
 abbrev pub ByLink : (t link : ℕ) → Ending → Type 0
-ByLink t link client_closed = ⊥
-ByLink t link (client_failed cause) = ⊥
-ByLink t link stopped = ⊥
+ByLink t link ClientClosed = ⊥
+ByLink t link (ClientFailed cause) = ⊥
+ByLink t link Stopped = ⊥
 ByLink t link _ = link ≡ t
 
 abbrev pub OfLink : ℕ → Reason
@@ -48,20 +50,20 @@ OfLink t = λ client link ending. ByLink t link ending
 module _ (l t : ℕ) where
   -- ---- CNXN, AUTH and STLS
   connects_fate : (version maxdata : ℕ) (who : Option Identity) (s : State) → FateOf l (OfLink t) s (connects t version maxdata who s)
-  connects_fate version maxdata None s = link_ends_fate l (OfLink t) t broken s (λ c. refl)
+  connects_fate version maxdata None s = link_ends_fate l (OfLink t) t Broken s (λ c. refl)
   connects_fate version maxdata (Some identity) s =
       let m = streams_end_first (is_connected t s.devices) t s in
       then_fate l (OfLink t) s m (λ s. quietly (goes_online t version maxdata identity s)) (first (is_connected t s.devices))
       (fate_same l (OfLink t) (m.state.streams l) [] refl)
     where
       first : (b : Bool) → FateOf l (OfLink t) s (streams_end_first b t s)
-      first true = all_end_fate l (OfLink t) t lost s (λ c. refl)
+      first true = all_end_fate l (OfLink t) t Lost s (λ c. refl)
       first false = quiet l (OfLink t) s
 
   cnxn_fate : (version maxdata : ℕ) (banner : List ℕ) (s : State) → FateOf l (OfLink t) s (cnxn t version maxdata banner s)
   cnxn_fate version maxdata banner s =
-      if_fate l (OfLink t) s (nat_lt version least_version || nat_lt maxdata least_maxdata) (link_ends t broken s)
-      (connects t version maxdata (identity_of banner) s) (λ e. link_ends_fate l (OfLink t) t broken s (λ c. refl))
+      if_fate l (OfLink t) s (nat_lt version least_version || nat_lt maxdata least_maxdata) (link_ends t Broken s)
+      (connects t version maxdata (identity_of banner) s) (λ e. link_ends_fate l (OfLink t) t Broken s (λ c. refl))
       (λ e. connects_fate version maxdata (identity_of banner) s)
 
   unauthorized_fate : (o : Option Row) (s : State) → FateOf l (OfLink t) s (unauthorized t o s)
@@ -125,18 +127,18 @@ module _ (l t : ℕ) where
   write_fate : (n remote : ℕ) (payload : List ℕ) (x : Stream) (s : State) → s.streams n ≡ Some x → x.link ≡ t
       → FateOf l (OfLink t) s (takes_write n remote payload x s)
   write_fate n remote payload x s is here =
-      let late = ends_telling n out_of_turn x s in
+      let late = ends_telling n OutOfTurn x s in
       let taken = accepts n payload x s in
       let out = is_out_of_turn x.part.flow (length payload) in
       if_fate l (OfLink t) s (eqb remote 0 || not (eqb remote x.part.remote)) (quietly s) (cond out late taken) (λ e. quiet l (OfLink t) s)
-      (λ known. if_fate l (OfLink t) s out late taken (λ e. telling_fate l (OfLink t) n out_of_turn x s is (λ same. here))
+      (λ known. if_fate l (OfLink t) s out late taken (λ e. telling_fate l (OfLink t) n OutOfTurn x s is (λ same. here))
       (λ turn. accepts_fate n payload x s is))
 
   -- ---- CLSE
   close_fate : (n remote : ℕ) (x : Stream) (s : State) → s.streams n ≡ Some x → x.link ≡ t → FateOf l (OfLink t) s (takes_close n remote x s)
   close_fate n remote x s is here =
-      if_fate l (OfLink t) s (eqb remote 0 || eqb remote x.part.remote) (ends_row n peer_closed x s) (quietly s)
-      (λ e. ends_fate l (OfLink t) n peer_closed x s is (λ same. here)) (λ e. quiet l (OfLink t) s)
+      if_fate l (OfLink t) s (eqb remote 0 || eqb remote x.part.remote) (ends_row n PeerClosed x s) (quietly s)
+      (λ e. ends_fate l (OfLink t) n PeerClosed x s is (λ same. here)) (λ e. quiet l (OfLink t) s)
 
   -- ---- one packet
   open_fate : (command : Command) (p : Packet) (s : State) → FateOf l (OfLink t) s (treat_open t command p s)
@@ -179,7 +181,7 @@ module _ (l t : ℕ) where
   faulty_on_fate : (o : Option Link) (fault : Option PacketFault) (s : State) → FateOf l (OfLink t) s (faulty_on o t fault s)
   faulty_on_fate None fault s = quiet l (OfLink t) s
   faulty_on_fate (Some link) None s = quiet l (OfLink t) s
-  faulty_on_fate (Some link) (Some fault) s = link_ends_fate l (OfLink t) t broken s (λ c. refl)
+  faulty_on_fate (Some link) (Some fault) s = link_ends_fate l (OfLink t) t Broken s (λ c. refl)
 
   pub faulty_fate : (fault : Option PacketFault) (s : State) → FateOf l (OfLink t) s (faulty t fault s)
   faulty_fate fault s = faulty_on_fate (s.links t) fault s

@@ -10,7 +10,9 @@ use Rattle.adb_wire.specs.Cutting.{cut_packets, framed}
 use Rattle.adb_stream.specs.declared.row.Stream.{Stream}
 use Rattle.adb_capture.specs.declared.entry.Entry.TheVariants.{Recv}
 use Rattle.adb_history.specs.Rows.{Link, State}
-use Rattle.adb_history.specs.Events.{Made, Ending, client_closed, ending_in}
+use Rattle.adb_history.specs.Events.{Made, ending_in}
+use Rattle.adb_history.specs.declared.ending.Ending.{Ending}
+use Rattle.adb_history.specs.declared.ending.Ending.TheVariants.{ClientClosed}
 use Rattle.adb_history.specs.Links.{is_connected}
 use Rattle.adb_history.specs.Packets.{receives_on, receives}
 use Rattle.adb_history.specs.Machine.{ups, History, state, told_at, IsLegal}
@@ -96,7 +98,7 @@ pub record RecvEnds (t : ℕ) (bytes : List ℕ) (older : History) (l : ℕ) (x 
   pub link : Link
   pub cut : Cutting
   pub brought : Brought t bytes older link cut
-  pub why : StruckBy l x cut ending ⊎ (ending ≡ client_closed)
+  pub why : StruckBy l x cut ending ⊎ (ending ≡ ClientClosed)
 
 module _ (t l : ℕ) (bytes : List ℕ) (x : Stream) (older : History) (legal : IsLegal (Recv t bytes ∷ older)) where
   -- the stream goes on with what its link brings, or falls
@@ -128,12 +130,12 @@ module _ (t l : ℕ) (bytes : List ℕ) (x : Stream) (older : History) (legal : 
       all : option_or (ending_in l (receives t bytes (state older)).told) (ending_in l (ups (receives t bytes (state older)).state).told) ≡ Some ending
       all = sym (ending_append l m.told (ups m.state).told) ∙ told
 
-      go : CutRun t l x c (receives t bytes (state older)) → StruckBy l x c ending ⊎ (ending ≡ client_closed)
+      go : CutRun t l x c (receives t bytes (state older)) → StruckBy l x c ending ⊎ (ending ≡ ClientClosed)
       go (inl runs) =
           let none : ending_in l m.told ≡ None =
           alive_told l (OfLink t) (state older) m runs.0.row (receives_fate l t bytes (state older)) (runs.0.is, runs.0.alive) in
-          let up : FateOf l (λ client link y. y ≡ client_closed) m.state (ups m.state) =
-          up_all_fate l (λ client link y. y ≡ client_closed) m.state.drawn m.state (λ client link. refl) in
+          let up : FateOf l (λ client link y. y ≡ ClientClosed) m.state (ups m.state) =
+          up_all_fate l (λ client link y. y ≡ ClientClosed) m.state.drawn m.state (λ client link. refl) in
           inr (up.ends ending (sym (ap (λ o. option_or o (ending_in l (ups m.state).told)) none) ∙ all)).why
       go (inr fell) =
           let both : Some fell.ending ≡ Some ending = sym (ap (λ o. option_or o (ending_in l (ups m.state).told)) fell.told) ∙ all in

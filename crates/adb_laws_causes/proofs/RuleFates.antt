@@ -22,7 +22,9 @@ use Rattle.adb_reply.specs.declared.answer.Next.TheVariants.{Select, Open, Stop}
 use Rattle.adb_capture.specs.declared.entry.Entry.{Entry}
 use Rattle.adb_capture.specs.declared.entry.Entry.TheVariants.{Enter, Read, End, Bound, Recv, Detach, Put}
 use Rattle.adb_history.specs.Rows.{Client, Link, State, to_client, to_stream, none_kept, with_stream_part}
-use Rattle.adb_history.specs.Events.{Event, Ending, ended, lost, client_failed, stopped, quietly, ending_in}
+use Rattle.adb_history.specs.Events.{Event, ended, quietly, ending_in}
+use Rattle.adb_history.specs.declared.ending.Ending.{Ending}
+use Rattle.adb_history.specs.declared.ending.Ending.TheVariants.{Lost, ClientFailed, Stopped}
 use Rattle.adb_history.specs.Links.{is_connected, is_credit}
 use Rattle.adb_history.specs.Clients.{owe_client}
 use Rattle.adb_history.specs.Streams.{stream_ids, draw, asks_for, no_ids_left, opens}
@@ -45,9 +47,9 @@ use Rattle.adb_laws_causes.proofs.PacketFates.{OfLink, receives_fate}
 -- what each entry may end, and why; kill says that the rule made one
 abbrev pub WhyBy : Entry → Type 0 → Reason
 WhyBy (Recv t bytes) kill = OfLink t
-WhyBy (Detach t cause) kill = λ client link ending. (ending ≡ lost) × (link ≡ t)
-WhyBy (End c cause) kill = λ client link ending. (ending ≡ client_failed cause) × (client ≡ c) × (is_orderly cause ≡ false)
-WhyBy (Read c bytes) kill = λ client link ending. (ending ≡ stopped) × kill
+WhyBy (Detach t cause) kill = λ client link ending. (ending ≡ Lost) × (link ≡ t)
+WhyBy (End c cause) kill = λ client link ending. (ending ≡ ClientFailed cause) × (client ≡ c) × (is_orderly cause ≡ false)
+WhyBy (Read c bytes) kill = λ client link ending. (ending ≡ Stopped) × kill
 WhyBy _ kill = λ client link ending. ⊥
 
 -- an entry that may draw a stream
@@ -74,7 +76,7 @@ drawn_row drawn l streams rows x is = (some (cases_eq 0 l), below (order l drawn
 -- ---- kill
 -- the streams that live are told to stop
 module _ (l : ℕ) (streams : Rows (Option Stream)) where
-  tells_one : (k : ℕ) (o : Option Stream) → ending_in l (tells_stop k o) ≡ cond (eqb k l) (cond (lives o) (Some stopped) None) None
+  tells_one : (k : ℕ) (o : Option Stream) → ending_in l (tells_stop k o) ≡ cond (eqb k l) (cond (lives o) (Some Stopped) None) None
   tells_one k None = go (eqb k l)
     where
       go : (b : Bool) → ending_in l [] ≡ cond b None None
@@ -86,24 +88,24 @@ module _ (l : ℕ) (streams : Rows (Option Stream)) where
       both true = refl
       both false = refl
 
-      go : (orphan : Bool) → ending_in l (cond orphan [] (ended k stopped ∷ [])) ≡ cond (eqb k l) (cond (not orphan) (Some stopped) None) None
+      go : (orphan : Bool) → ending_in l (cond orphan [] (ended k Stopped ∷ [])) ≡ cond (eqb k l) (cond (not orphan) (Some Stopped) None) None
       go true = both (eqb k l)
       go false = refl
 
-  pub stops_some : (k : ℕ) (y : Ending) → ending_in l (all_stop k streams) ≡ Some y → (y ≡ stopped) × (lives (streams l) ≡ true)
+  pub stops_some : (k : ℕ) (y : Ending) → ending_in l (all_stop k streams) ≡ Some y → (y ≡ Stopped) × (lives (streams l) ≡ true)
   stops_some zero y e = absurd (none_some y e)
   stops_some (suc k) y e =
       go (ending_in l (all_stop k streams)) refl (stops_some k y)
       (sym (ending_append l (all_stop k streams) (tells_stop (suc k) (streams (suc k)))) ∙ e)
     where
-      here : (same live : Bool) → eqb (suc k) l ≡ same → lives (streams (suc k)) ≡ live → cond same (cond live (Some stopped) None) None ≡ Some y
-          → (y ≡ stopped) × (lives (streams l) ≡ true)
-      here true true e f g = (let both : Some stopped ≡ Some y = g in cc, ap (λ n. lives (streams n)) (sym (eqb-true (suc k) l e)) ∙ f)
+      here : (same live : Bool) → eqb (suc k) l ≡ same → lives (streams (suc k)) ≡ live → cond same (cond live (Some Stopped) None) None ≡ Some y
+          → (y ≡ Stopped) × (lives (streams l) ≡ true)
+      here true true e f g = (let both : Some Stopped ≡ Some y = g in cc, ap (λ n. lives (streams n)) (sym (eqb-true (suc k) l e)) ∙ f)
       here true false e f g = absurd (none_some y g)
       here false live e f g = absurd (none_some y g)
 
-      go : (o : Option Ending) → ending_in l (all_stop k streams) ≡ o → (ending_in l (all_stop k streams) ≡ Some y → (y ≡ stopped) × (lives (streams l) ≡ true))
-          → option_or o (ending_in l (tells_stop (suc k) (streams (suc k)))) ≡ Some y → (y ≡ stopped) × (lives (streams l) ≡ true)
+      go : (o : Option Ending) → ending_in l (all_stop k streams) ≡ o → (ending_in l (all_stop k streams) ≡ Some y → (y ≡ Stopped) × (lives (streams l) ≡ true))
+          → option_or o (ending_in l (tells_stop (suc k) (streams (suc k)))) ≡ Some y → (y ≡ Stopped) × (lives (streams l) ≡ true)
       go (Some z) is ih e = ih (is ∙ e)
       go None is ih e = here (eqb (suc k) l) (lives (streams (suc k))) refl refl (sym (tells_one (suc k) (streams (suc k))) ∙ e)
 
@@ -113,9 +115,9 @@ module _ (l : ℕ) (streams : Rows (Option Stream)) where
       (or_none (ending_in l (all_stop k streams)) (ending_in l (tells_stop (suc k) (streams (suc k))))
       (sym (ending_append l (all_stop k streams) (tells_stop (suc k) (streams (suc k)))) ∙ e))
     where
-      here : (same live : Bool) → same ≡ true → lives (streams (suc k)) ≡ live → cond same (cond live (Some stopped) None) None ≡ None
+      here : (same live : Bool) → same ≡ true → lives (streams (suc k)) ≡ live → cond same (cond live (Some Stopped) None) None ≡ None
           → lives (streams (suc k)) ≡ false
-      here true true e f g = absurd (none_some stopped (sym g))
+      here true true e f g = absurd (none_some Stopped (sym g))
       here true false e f g = f
       here false live e f g = absurd (let clash : false ≡ true = e in cc)
 
@@ -127,7 +129,7 @@ module _ (l : ℕ) (streams : Rows (Option Stream)) where
       go (inr apart) ih none = ih (omega (arith, within.1, apart)) none.0
 
 module _ (l : ℕ) (Why : Reason) where
-  stops_fate : (c : ℕ) (s : State) → IsDrawnOnly s.drawn s.streams → ((n t : ℕ) → Why n t stopped) → FateOf l Why s (stops c s)
+  stops_fate : (c : ℕ) (s : State) → IsDrawnOnly s.drawn s.streams → ((n t : ℕ) → Why n t Stopped) → FateOf l Why s (stops c s)
   stops_fate c s rows why = record {
     was = λ y is. absurd (let clash : None ≡ Some y = is in cc);
     stays = λ e. sym (dead e (lives (s.streams l)) refl);
@@ -175,7 +177,7 @@ module _ (l : ℕ) (Why : Reason) where
 
   -- ---- read
   goes_on_fate : (next : Option Next) (c : ℕ) (s : State) → l ≢ s.drawn + 1 → IsDrawnOnly s.drawn s.streams
-      → ((goes_on next c s).state.stopped ≡ true → (n t : ℕ) → Why n t stopped) → FateOf l Why s (goes_on next c s)
+      → ((goes_on next c s).state.stopped ≡ true → (n t : ℕ) → Why n t Stopped) → FateOf l Why s (goes_on next c s)
   goes_on_fate None c s other rows why = quiet l Why s
   goes_on_fate (Some (Select id)) c s other rows why = quiet l Why s
   goes_on_fate (Some (Open t service)) c s other rows why = opens_fate false c t service s other
@@ -183,20 +185,20 @@ module _ (l : ℕ) (Why : Reason) where
   goes_on_fate _ c s other rows why = fate_same l Why (s.streams l) [] refl
 
   asks_fate : (q : Asked) (c : ℕ) (s : State) → l ≢ s.drawn + 1 → IsDrawnOnly s.drawn s.streams
-      → ((asks q c s).state.stopped ≡ true → (n t : ℕ) → Why n t stopped) → FateOf l Why s (asks q c s)
+      → ((asks q c s).state.stopped ≡ true → (n t : ℕ) → Why n t Stopped) → FateOf l Why s (asks q c s)
   asks_fate q c s other rows why =
       let owed = owe_client c q.replies (to_client c (has_asked q) s) in
       then_fate l Why s owed (goes_on q.next c) (fate_same l Why (s.streams l) _ refl) (goes_on_fate q.next c owed.state other rows why)
 
   reads_in_fate : (phase : Phase) (c : ℕ) (bytes : List ℕ) (client : Client) (s : State) → l ≢ s.drawn + 1 → IsDrawnOnly s.drawn s.streams
-      → ((reads_in phase c bytes client s).state.stopped ≡ true → (n t : ℕ) → Why n t stopped) → FateOf l Why s (reads_in phase c bytes client s)
+      → ((reads_in phase c bytes client s).state.stopped ≡ true → (n t : ℕ) → Why n t Stopped) → FateOf l Why s (reads_in phase c bytes client s)
   reads_in_fate Asking c bytes client s other rows why = asks_fate (asks_with s.devices s.forwards bytes (asked_before client)) c s other rows why
   reads_in_fate (Opening k) c bytes client s other rows why = fate_same l Why (s.streams l) [] refl
   reads_in_fate (Streaming k) c bytes client s other rows why = fate_same l Why (s.streams l) [] refl
   reads_in_fate _ c bytes client s other rows why = quiet l Why s
 
   reads_fate : (o : Option Client) (c : ℕ) (bytes : List ℕ) (s : State) → l ≢ s.drawn + 1 → IsDrawnOnly s.drawn s.streams
-      → ((reads_from o c bytes s).state.stopped ≡ true → (n t : ℕ) → Why n t stopped) → FateOf l Why s (reads_from o c bytes s)
+      → ((reads_from o c bytes s).state.stopped ≡ true → (n t : ℕ) → Why n t Stopped) → FateOf l Why s (reads_from o c bytes s)
   reads_fate None c bytes s other rows why = quiet l Why s
   reads_fate (Some client) c bytes s other rows why = reads_in_fate client.about.phase c bytes client s other rows why
 
@@ -216,7 +218,7 @@ module _ (l : ℕ) (Why : Reason) where
   -- ---- client end
   -- the stream of a client fails
   stream_fails_fate : (phase : Phase) (c : ℕ) (cause : Cause) (s : State) → ((n : ℕ) (x : Stream) → s.streams n ≡ Some x → stream_of phase s.streams ≡ Some x
-      → (x.part.orphan ≡ false) × Why x.client x.link (client_failed cause))
+      → (x.part.orphan ≡ false) × Why x.client x.link (ClientFailed cause))
       → FateOf l Why s (stream_fails phase cause (stream_of phase s.streams) (to_client c none_kept s))
   stream_fails_fate (Streaming k) c cause s why = go (s.streams k) refl
     where
@@ -225,13 +227,13 @@ module _ (l : ℕ) (Why : Reason) where
       go (Some x) is =
           let h = why k x is is in
           let gone = to_stream k none_kept s in
-          fate_retold l Why (s.streams l) (gone.streams l) (ended k (client_failed cause) ∷ []) _ refl
-          (fate_goes l Why k (client_failed cause) x s (is, h.0) (λ same. h.1))
+          fate_retold l Why (s.streams l) (gone.streams l) (ended k (ClientFailed cause) ∷ []) _ refl
+          (fate_goes l Why k (ClientFailed cause) x s (is, h.0) (λ same. h.1))
   stream_fails_fate (Opening k) c cause s why = go (s.streams k) refl
     where
       go : (o : Option Stream) → s.streams k ≡ o → FateOf l Why s (stream_fails (Opening k) cause o (to_client c none_kept s))
       go None is = quiet l Why s
-      go (Some x) is = (let h = why k x is is in fate_left l Why k (client_failed cause) x s (is, h.0) h.1)
+      go (Some x) is = (let h = why k x is is in fate_left l Why k (ClientFailed cause) x s (is, h.0) h.1)
   stream_fails_fate _ c cause s why = quiet l Why s
 
   input_fate : (phase : Phase) (c : ℕ) (s : State) → FateOf l Why s (quietly (input_ends phase c s))
@@ -311,7 +313,7 @@ module _ (l : ℕ) (s : State) (h : IsOwned s) where
 
   detach_fate : (t : ℕ) (cause : Cause) (o : Option Link) → FateOf l (WhyBy (Detach t cause) ⊥) s (unplugs_on o t s)
   detach_fate t cause None = quiet l (WhyBy (Detach t cause) ⊥) s
-  detach_fate t cause (Some link) = link_ends_fate l (WhyBy (Detach t cause) ⊥) t lost s (λ c. (refl, refl))
+  detach_fate t cause (Some link) = link_ends_fate l (WhyBy (Detach t cause) ⊥) t Lost s (λ c. (refl, refl))
 
   -- the rule of an entry, and a stream that it does not draw
   pub rule_fate : (e : Entry) → (draws e ≡ true → l ≢ s.drawn + 1) → FateOf l (WhyBy e ((rule e s).state.stopped ≡ true)) s (rule e s)

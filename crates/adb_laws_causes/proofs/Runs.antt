@@ -8,7 +8,9 @@ use Rattle.adb_wire.specs.Format.{is_cnxn}
 use Rattle.adb_wire.specs.declared.packets.Packet.{Packet}
 use Rattle.adb_stream.specs.declared.row.Stream.{Stream}
 use Rattle.adb_history.specs.Rows.{Link, State}
-use Rattle.adb_history.specs.Events.{Made, Ending, client_closed, peer_closed, out_of_turn, lost, broken, client_failed, stopped, then_also, ending_in}
+use Rattle.adb_history.specs.Events.{Made, then_also, ending_in}
+use Rattle.adb_history.specs.declared.ending.Ending.{Ending}
+use Rattle.adb_history.specs.declared.ending.Ending.TheVariants.{ClientClosed, PeerClosed, OutOfTurn, Lost, Broken, ClientFailed, Stopped}
 use Rattle.adb_history.specs.Losing.{link_ends}
 use Rattle.adb_history.specs.Packets.{least_version, least_maxdata}
 use Rattle.adb_history.specs.Packets.{treat}
@@ -50,11 +52,11 @@ pub record RunsOn (t l : ℕ) (x : Stream) (packets : List Packet) (m : Made) : 
 
 -- a packet ends it, for what it says
 abbrev pub Struck : ℕ → Stream → List Packet → Ending → Type 0
-Struck l x packets peer_closed = closes_in x.part.remote l packets ≡ true
-Struck l x packets out_of_turn = (b : Birth) (written handed given : ℕ) → FlowIs x.part.flow b.credit written handed given
+Struck l x packets PeerClosed = closes_in x.part.remote l packets ≡ true
+Struck l x packets OutOfTurn = (b : Birth) (written handed given : ℕ) → FlowIs x.part.flow b.credit written handed given
     → writes_early_in b x.part.remote l written handed given packets ≡ true
-Struck l x packets lost = list_any says_anew packets ≡ true
-Struck l x packets broken = list_any is_refused packets ≡ true
+Struck l x packets Lost = list_any says_anew packets ≡ true
+Struck l x packets Broken = list_any is_refused packets ≡ true
 Struck l x packets _ = ⊥
 
 pub record Fell (l : ℕ) (x : Stream) (packets : List Packet) (m : Made) : Type 0 where
@@ -87,18 +89,18 @@ counts_known remote l p e = go (nat_eq remote 0) (is_wrte p.command) e
 module _ (t l : ℕ) (x : Stream) (p : Packet) (packets : List Packet) (s : State) where
   -- what one packet strikes, it and those behind it do
   struck_first : (y : Ending) → Strikes l x p y → Struck l x (p ∷ packets) y
-  struck_first peer_closed e = ap (λ b. b || closes_in (remote_after x.part.remote l p) l packets) e
-  struck_first out_of_turn e = λ b written handed given f.
+  struck_first PeerClosed e = ap (λ b. b || closes_in (remote_after x.part.remote l p) l packets) e
+  struck_first OutOfTurn e = λ b written handed given f.
       ap (λ c. cond c (is_early b.credit written handed given (length p.payload)
       || writes_early_in b x.part.remote l (written + length p.payload) handed given packets)
       (writes_early_in b (remote_after x.part.remote l p) l written handed given packets)) e.0
       ∙ ap (λ c. c || writes_early_in b x.part.remote l (written + length p.payload) handed given packets)
       (sym (turn_is x.part.flow b.credit written handed given (length p.payload) f) ∙ e.1)
-  struck_first lost e = ap (λ b. b || list_any says_anew packets) e
-  struck_first broken e = ap (λ b. b || list_any is_refused packets) e
-  struck_first client_closed e = absurd e
-  struck_first (client_failed cause) e = absurd e
-  struck_first stopped e = absurd e
+  struck_first Lost e = ap (λ b. b || list_any says_anew packets) e
+  struck_first Broken e = ap (λ b. b || list_any is_refused packets) e
+  struck_first ClientClosed e = absurd e
+  struck_first (ClientFailed cause) e = absurd e
+  struck_first Stopped e = absurd e
 
   -- behind a packet with which the stream goes on
   module _ (a : Passes t l x p (treat t p s)) where
@@ -121,20 +123,20 @@ module _ (t l : ℕ) (x : Stream) (p : Packet) (packets : List Packet) (s : Stat
         go false e = ap (λ (n : ℕ). writes_early_in b n l written handed given packets) (sym a.next.remote)
 
     struck_behind : (y : Ending) → Struck l a.row packets y → Struck l x (p ∷ packets) y
-    struck_behind peer_closed e =
+    struck_behind PeerClosed e =
         ap (λ b. b || closes_in (remote_after x.part.remote l p) l packets) a.not_close
         ∙ (ap (λ (n : ℕ). closes_in n l packets) (sym a.next.remote) ∙ e)
-    struck_behind out_of_turn e = λ b written handed given f.
+    struck_behind OutOfTurn e = λ b written handed given f.
         early_behind b written handed given f
         ∙ e b (written_after x.part.remote l p written) handed given (a.next.flow b.credit written handed given f)
-    struck_behind lost e = ap (λ b. (b && not (is_refused p)) || list_any says_anew packets) a.not_cnxn ∙ e
-    struck_behind broken e =
+    struck_behind Lost e = ap (λ b. (b && not (is_refused p)) || list_any says_anew packets) a.not_cnxn ∙ e
+    struck_behind Broken e =
         ap (λ b. (b && (nat_lt p.arg0 least_version || nat_lt p.arg1 least_maxdata || is_none
         (identity_of p.payload))) || list_any is_refused packets) a.not_cnxn
         ∙ e
-    struck_behind client_closed e = absurd e
-    struck_behind (client_failed cause) e = absurd e
-    struck_behind stopped e = absurd e
+    struck_behind ClientClosed e = absurd e
+    struck_behind (ClientFailed cause) e = absurd e
+    struck_behind Stopped e = absurd e
 
     runs_behind : RunsOn t l a.row packets (treat_all t packets (treat t p s).state) → RunsOn t l x (p ∷ packets) (treat_all t (p ∷ packets) s)
     runs_behind r = record {
@@ -193,7 +195,7 @@ Cutting = Cut PacketFormat Packet PacketFault
 
 -- what the bytes that a link brings end
 abbrev pub StruckBy : ℕ → Stream → Cutting → Ending → Type 0
-StruckBy l x c ending = Struck l x c.given ending ⊎ ((ending ≡ broken) × (is_some c.fault ≡ true))
+StruckBy l x c ending = Struck l x c.given ending ⊎ ((ending ≡ Broken) × (is_some c.fault ≡ true))
 
 pub record CutFell (l : ℕ) (x : Stream) (c : Cutting) (m : Made) : Type 0 where
   pub ending : Ending
@@ -245,9 +247,9 @@ module _ (t l : ℕ) (x : Stream) (s : State) (h : Here t l x s) (c : Cutting) w
           alive_told l (OfLink t) (to_link t (with_rest c.rest) s) m r.row (treat_all_fate l t c.given (to_link t (with_rest c.rest) s)) (r.is, r.alive) in
           let here : Here t l r.row m.state = record { is = r.is; alive = r.alive; on = r.link ∙ h.on; live = r.live } in
           inr (record {
-            ending = broken;
-            told = ending_append l m.told (link_ends t broken m.state).told
-                ∙ (ap (λ o. option_or o (ending_in l (link_ends t broken m.state).told)) quiet ∙ link_ends_told t l r.row m.state here broken);
+            ending = Broken;
+            told = ending_append l m.told (link_ends t Broken m.state).told
+                ∙ (ap (λ o. option_or o (ending_in l (link_ends t Broken m.state).told)) quiet ∙ link_ends_told t l r.row m.state here Broken);
             why = inr (refl, ap is_some is);
           })
 

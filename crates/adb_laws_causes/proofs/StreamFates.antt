@@ -7,7 +7,9 @@ use Rattle.adb_stream.specs.declared.row.Stream.{Stream}
 use Rattle.adb_client.specs.declared.phase.Phase.{Phase}
 use Rattle.adb_client.specs.declared.phase.Phase.TheVariants.{Streaming}
 use Rattle.adb_history.specs.Rows.{Client, State, to_stream, none_kept}
-use Rattle.adb_history.specs.Events.{Made, Ending, client_closed, quietly, then_also, ending_in}
+use Rattle.adb_history.specs.Events.{Made, quietly, then_also, ending_in}
+use Rattle.adb_history.specs.declared.ending.Ending.{Ending}
+use Rattle.adb_history.specs.declared.ending.Ending.TheVariants.{ClientClosed}
 use Rattle.adb_history.specs.Links.{owe_link, close_packet, maxdata_of}
 use Rattle.adb_history.specs.Streams.{tells_end, loses, client_loses, ends_row, ends_telling, ends_if_of, ends_of, all_end}
 use Rattle.adb_history.specs.Tracking.{mark_all}
@@ -147,14 +149,14 @@ module _ (l : ℕ) (Why : Reason) where
   go_up_fate n x (p ∷ ps) s =
       then_fate l Why s (goes_up n x p s) (all_go_up n x ps) (fate_same l Why (s.streams l) _ refl) (go_up_fate n x ps (goes_up n x p s).state)
 
-  closes_if_fate : (over : Bool) (n : ℕ) (o : Option Stream) (s : State) → s.streams n ≡ o → (over ≡ true → n ≡ l → (c t : ℕ) → Why c t client_closed)
+  closes_if_fate : (over : Bool) (n : ℕ) (o : Option Stream) (s : State) → s.streams n ≡ o → (over ≡ true → n ≡ l → (c t : ℕ) → Why c t ClientClosed)
       → FateOf l Why s (closes_if over n o s)
   closes_if_fate over n None s is why = quiet l Why s
   closes_if_fate false n (Some x) s is why = quiet l Why s
-  closes_if_fate true n (Some x) s is why = telling_fate l Why n client_closed x s is (λ same. why refl same x.client x.link)
+  closes_if_fate true n (Some x) s is why = telling_fate l Why n ClientClosed x s is (λ same. why refl same x.client x.link)
 
   sends_fate : (n : ℕ) (x : Stream) (client : Client) (ps : List (List ℕ)) (s : State) → s.streams n ≡ Some x
-      → (is_over client.about.ended (drop (total ps) client.held) (flow_after ps x.part.flow) ≡ true → n ≡ l → (c t : ℕ) → Why c t client_closed)
+      → (is_over client.about.ended (drop (total ps) client.held) (flow_after ps x.part.flow) ≡ true → n ≡ l → (c t : ℕ) → Why c t ClientClosed)
       → FateOf l Why s (sends_up n x client ps s)
   sends_fate n x client ps s is why =
       let left = noted n x client.held ps s in
@@ -167,7 +169,7 @@ module _ (l : ℕ) (Why : Reason) where
       (closes_if_fate over n (sent.state.streams n) sent.state refl why)
 
   up_client_fate : (n : ℕ) (x : Stream) (o : Option Client) (s : State) → (s.streams n ≡ Some x) × (s.clients x.client ≡ o)
-      → ((y : Sending n s) → over n s y ≡ true → n ≡ l → (c t : ℕ) → Why c t client_closed) → FateOf l Why s (up_client n x o s)
+      → ((y : Sending n s) → over n s y ≡ true → n ≡ l → (c t : ℕ) → Why c t ClientClosed) → FateOf l Why s (up_client n x o s)
   up_client_fate n x None s is why = quiet l Why s
   up_client_fate n x (Some client) s is why =
       let ps = payloads x.part.flow (maxdata_of x.link s.devices) client.held in
@@ -175,14 +177,14 @@ module _ (l : ℕ) (Why : Reason) where
       (λ e. sends_fate n x client ps s is.0 (why (record { stream = x; client = client; there = is.0; here = is.1; streaming = e }))) (λ e. quiet l Why s)
 
   -- of the stream that it sends up
-  pub up_fate : (n : ℕ) (s : State) → ((y : Sending n s) → over n s y ≡ true → n ≡ l → (c t : ℕ) → Why c t client_closed) → FateOf l Why s (up n s)
+  pub up_fate : (n : ℕ) (s : State) → ((y : Sending n s) → over n s y ≡ true → n ≡ l → (c t : ℕ) → Why c t ClientClosed) → FateOf l Why s (up n s)
   up_fate n s why = go (s.streams n) refl
     where
       go : (o : Option Stream) → s.streams n ≡ o → FateOf l Why s (up_stream n o s)
       go None is = quiet l Why s
       go (Some x) is = up_client_fate n x (s.clients x.client) s (is, refl) why
 
-  pub up_all_fate : (k : ℕ) (s : State) → ((c t : ℕ) → Why c t client_closed) → FateOf l Why s (up_all k s)
+  pub up_all_fate : (k : ℕ) (s : State) → ((c t : ℕ) → Why c t ClientClosed) → FateOf l Why s (up_all k s)
   up_all_fate zero s why = quiet l Why s
   up_all_fate (suc k) s why =
       let m = up_all k s in

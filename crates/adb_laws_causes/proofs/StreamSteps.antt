@@ -7,7 +7,8 @@ use Rattle.adb_capture.specs.declared.entry.Entry.{Entry}
 use Rattle.adb_capture.specs.declared.entry.Entry.TheVariants.{Read, End, Recv, Detach, Put}
 use Rattle.adb_stream.specs.Flow.{has_credit}
 use Rattle.adb_history.specs.Rows.{Client}
-use Rattle.adb_history.specs.Events.{Made, ending_in, lost, client_failed}
+use Rattle.adb_history.specs.Events.{Made, ending_in}
+use Rattle.adb_history.specs.declared.ending.Ending.TheVariants.{Lost, ClientFailed}
 use Rattle.adb_history.specs.Machine.{rule, ups, History, state, IsLegal, unplugs_on}
 use Rattle.adb_history.specs.Bytes.{is_orderly}
 use Rattle.adb_history.specs.Births.{Birth, told_to, joined, handed_to}
@@ -127,9 +128,9 @@ detach_ruled : (older : History) (l : ℕ) (b : Birth) (x : Stream) (cause : Cau
 detach_ruled older l b x cause t on =
     let p = t.pair in
     let there = there_at x.link l x older t.legal.0 (p.is, p.alive, refl) in
-    let told : ending_in l (unplugs_on (Some there.link) x.link (state older)).told ≡ Some lost =
-    link_ends_told x.link l x (state older) (here_at x.link l x older t.legal.0 (p.is, p.alive, refl)) lost in
-    absurd (none_some lost (sym (ap (λ o. ending_in l (unplugs_on o x.link (state older)).told) (sym there.is)
+    let told : ending_in l (unplugs_on (Some there.link) x.link (state older)).told ≡ Some Lost =
+    link_ends_told x.link l x (state older) (here_at x.link l x older t.legal.0 (p.is, p.alive, refl)) Lost in
+    absurd (none_some Lost (sym (ap (λ o. ending_in l (unplugs_on o x.link (state older)).told) (sym there.is)
     ∙ rule_quiet (Detach x.link cause) older l b x t on) ∙ told))
 
 fail_ruled : (older : History) (l : ℕ) (b : Birth) (x : Stream) (cause : Cause) → is_orderly cause ≡ false → RulesOn (End x.client cause) older l b x
@@ -137,7 +138,7 @@ fail_ruled older l b x cause bad t on =
     let p = t.pair in
     let k = client_of (state older) l x p.is p.alive (all_linked older t.legal.0).owned in
     let told = end_told x.client l cause (state older) x p.is k k.is bad in
-    absurd (none_some (client_failed cause)
+    absurd (none_some (ClientFailed cause)
     (sym (ap (λ o. ending_in l (client_ends x.client cause o (state older)).told) (sym k.is) ∙ rule_quiet (End x.client cause) older l b x t on) ∙ told))
 
 module _ (older : History) (l : ℕ) (b : Birth) (x : Stream) (own : (x.client ≡ b.client) × (x.link ≡ b.link)) where

@@ -11,7 +11,9 @@ use Rattle.adb_stream.specs.declared.flow.Flow.TheVariants.{One, Credit}
 use Rattle.adb_stream.specs.declared.row.Stream.{Stream}
 use Rattle.adb_stream.specs.Flow.{first_credit, acknowledged, is_out_of_turn, accepted}
 use Rattle.adb_history.specs.Rows.{State, with_stream_part}
-use Rattle.adb_history.specs.Events.{Made, Ending, peer_closed, out_of_turn, quietly, ending_in}
+use Rattle.adb_history.specs.Events.{Made, quietly, ending_in}
+use Rattle.adb_history.specs.declared.ending.Ending.{Ending}
+use Rattle.adb_history.specs.declared.ending.Ending.TheVariants.{PeerClosed, OutOfTurn}
 use Rattle.adb_history.specs.Links.{close_packet, owe_link, is_connected}
 use Rattle.adb_history.specs.Streams.{ends_row, ends_telling}
 use Rattle.adb_history.specs.Flow.{with_flow}
@@ -279,12 +281,12 @@ module _ (t : ℕ) (x : Stream) (p : Packet) (s : State) (h : Here t p.arg1 x s)
       })
 
   late_turn : (p.command ≡ Wrte) × (counts x.part.remote p.arg1 p ≡ true) × (is_out_of_turn x.part.flow (length p.payload) ≡ true)
-      → Falls p.arg1 x p (ends_telling p.arg1 out_of_turn x s)
+      → Falls p.arg1 x p (ends_telling p.arg1 OutOfTurn x s)
   late_turn c = record {
-    ending = out_of_turn;
-    told = ended_told p.arg1 s (ends_telling p.arg1 out_of_turn x s) x out_of_turn (h.is, h.alive)
-        (telling_fate p.arg1 (λ c k z. z ≡ out_of_turn) p.arg1 out_of_turn x s h.is (λ same. refl))
-        (gone_here p.arg1 p.arg1 out_of_turn x (owe_link x.link (close_packet p.arg1 x.part.remote) s).state h.is refl);
+    ending = OutOfTurn;
+    told = ended_told p.arg1 s (ends_telling p.arg1 OutOfTurn x s) x OutOfTurn (h.is, h.alive)
+        (telling_fate p.arg1 (λ c k z. z ≡ OutOfTurn) p.arg1 OutOfTurn x s h.is (λ same. refl))
+        (gone_here p.arg1 p.arg1 OutOfTurn x (owe_link x.link (close_packet p.arg1 x.part.remote) s).state h.is refl);
     why = (c.1, c.2);
   }
 
@@ -292,12 +294,12 @@ module _ (t : ℕ) (x : Stream) (p : Packet) (s : State) (h : Here t p.arg1 x s)
   write_turn c = go (eqb p.arg0 0 || not (eqb p.arg0 x.part.remote)) refl
     where
       taken : (b : Bool) → is_out_of_turn x.part.flow (length p.payload) ≡ b → counts x.part.remote p.arg1 p ≡ true
-          → Turn t p.arg1 x p (cond b (ends_telling p.arg1 out_of_turn x s) (accepts p.arg1 p.payload x s))
+          → Turn t p.arg1 x p (cond b (ends_telling p.arg1 OutOfTurn x s) (accepts p.arg1 p.payload x s))
       taken true e counts = inr (late_turn (c, counts, e))
       taken false e counts = inl (takes_turn p.payload refl (c, counts, e))
 
       go : (b : Bool) → (eqb p.arg0 0 || not (eqb p.arg0 x.part.remote)) ≡ b → Turn t p.arg1 x p (cond b (quietly s)
-          (cond (is_out_of_turn x.part.flow (length p.payload)) (ends_telling p.arg1 out_of_turn x s) (accepts p.arg1 p.payload x s)))
+          (cond (is_out_of_turn x.part.flow (length p.payload)) (ends_telling p.arg1 OutOfTurn x s) (accepts p.arg1 p.payload x s)))
       go true e = inl (ignored t p.arg1 x p s (quietly s) h (record {
         remote = write_after c;
         counts = write_counts c ∙ no_write p.arg0 x.part.remote e;
@@ -321,12 +323,12 @@ module _ (t : ℕ) (x : Stream) (p : Packet) (s : State) (h : Here t p.arg1 x s)
   pub close_turn : p.command ≡ Clse → Turn t p.arg1 x p (takes_close p.arg1 p.arg0 x s)
   close_turn c = go (eqb p.arg0 0 || eqb p.arg0 x.part.remote) refl
     where
-      go : (b : Bool) → (eqb p.arg0 0 || eqb p.arg0 x.part.remote) ≡ b → Turn t p.arg1 x p (cond b (ends_row p.arg1 peer_closed x s) (quietly s))
+      go : (b : Bool) → (eqb p.arg0 0 || eqb p.arg0 x.part.remote) ≡ b → Turn t p.arg1 x p (cond b (ends_row p.arg1 PeerClosed x s) (quietly s))
       go true e = inr (record {
-        ending = peer_closed;
-        told = ended_told p.arg1 s (ends_row p.arg1 peer_closed x s) x peer_closed (h.is, h.alive)
-            (ends_fate p.arg1 (λ c k z. z ≡ peer_closed) p.arg1 peer_closed x s h.is (λ same. refl))
-            (gone_here p.arg1 p.arg1 peer_closed x s h.is refl);
+        ending = PeerClosed;
+        told = ended_told p.arg1 s (ends_row p.arg1 PeerClosed x s) x PeerClosed (h.is, h.alive)
+            (ends_fate p.arg1 (λ c k z. z ≡ PeerClosed) p.arg1 PeerClosed x s h.is (λ same. refl))
+            (gone_here p.arg1 p.arg1 PeerClosed x s h.is refl);
         why = close_is c ∙ e;
       })
       go false e = inl (ignored t p.arg1 x p s (quietly s) h (record {

@@ -11,7 +11,9 @@ use Rattle.adb_stream.specs.declared.flow.Flow.TheVariants.{One, Credit}
 use Rattle.adb_stream.specs.declared.row.Stream.{Stream}
 use Rattle.adb_stream.specs.Flow.{first_credit, acknowledged, is_out_of_turn, accepted}
 use Rattle.adb_history.specs.Rows.{State}
-use Rattle.adb_history.specs.Events.{Made, Ending, peer_closed, out_of_turn, lost, broken, ending_in}
+use Rattle.adb_history.specs.Events.{Made, ending_in}
+use Rattle.adb_history.specs.declared.ending.Ending.{Ending}
+use Rattle.adb_history.specs.declared.ending.Ending.TheVariants.{PeerClosed, OutOfTurn, Lost, Broken}
 use Rattle.adb_history.specs.Links.{is_connected}
 use Rattle.adb_history.specs.Packets.{cnxn}
 use Rattle.adb_history.specs.Book.{is_refused}
@@ -54,10 +56,10 @@ pub record Passes (t l : ℕ) (x : Stream) (p : Packet) (m : Made) : Type 0 wher
 
 -- what ends a stream so
 abbrev pub Strikes : ℕ → Stream → Packet → Ending → Type 0
-Strikes l x p peer_closed = is_close_of x.part.remote l p ≡ true
-Strikes l x p out_of_turn = (counts x.part.remote l p ≡ true) × (is_out_of_turn x.part.flow (length p.payload) ≡ true)
-Strikes l x p lost = (is_cnxn p.command && not (is_refused p)) ≡ true
-Strikes l x p broken = is_refused p ≡ true
+Strikes l x p PeerClosed = is_close_of x.part.remote l p ≡ true
+Strikes l x p OutOfTurn = (counts x.part.remote l p ≡ true) × (is_out_of_turn x.part.flow (length p.payload) ≡ true)
+Strikes l x p Lost = (is_cnxn p.command && not (is_refused p)) ≡ true
+Strikes l x p Broken = is_refused p ≡ true
 Strikes l x p _ = ⊥
 
 pub record Falls (l : ℕ) (x : Stream) (p : Packet) (m : Made) : Type 0 where

@@ -16,7 +16,9 @@ use Rattle.adb_wire.specs.declared.command.Command.TheVariants.{Cnxn, Open, Okay
 use Rattle.adb_wire.specs.declared.packets.Packet.{Packet}
 use Rattle.adb_stream.specs.declared.row.Stream.{Stream}
 use Rattle.adb_history.specs.Rows.{Link, State}
-use Rattle.adb_history.specs.Events.{Made, Ending, lost, broken, quietly, ending_in}
+use Rattle.adb_history.specs.Events.{Made, quietly, ending_in}
+use Rattle.adb_history.specs.declared.ending.Ending.{Ending}
+use Rattle.adb_history.specs.declared.ending.Ending.TheVariants.{Lost, Broken}
 use Rattle.adb_history.specs.Links.{close_packet, credit_word, owe_link, is_connected, is_connected_row, is_connected_state}
 use Rattle.adb_history.specs.Streams.{all_end}
 use Rattle.adb_history.specs.Losing.{forgets, link_ends}
@@ -44,8 +46,8 @@ module _ (t l : ℕ) (x : Stream) (s : State) (h : Here t l x s) where
       ending_append l (all_end t ending r).told [] ∙ ap (λ o. option_or o None) (all_end_told ending r refl refl)
 
 module _ (t l : ℕ) (x : Stream) (p : Packet) (s : State) (h : Here t l x s) where
-  breaks : is_refused p ≡ true → Turn t l x p (link_ends t broken s)
-  breaks refused = inr (record { ending = broken; told = link_ends_told t l x s h broken; why = refused })
+  breaks : is_refused p ≡ true → Turn t l x p (link_ends t Broken s)
+  breaks refused = inr (record { ending = Broken; told = link_ends_told t l x s h Broken; why = refused })
 
   connects_turn : (who : Option Identity) → p.command ≡ Cnxn → identity_of p.payload ≡ who
       → (nat_lt p.arg0 least_version || nat_lt p.arg1 least_maxdata) ≡ false → Turn t l x p (connects t p.arg0 p.arg1 who s)
@@ -57,9 +59,9 @@ module _ (t l : ℕ) (x : Stream) (p : Packet) (s : State) (h : Here t l x s) wh
       ap (λ k. is_cnxn k && (nat_lt p.arg0 least_version || nat_lt p.arg1 least_maxdata || is_none (identity_of p.payload))) c
       ∙ (ap (λ b. b || is_none (identity_of p.payload)) fits ∙ ap is_none is) in
       inr (record {
-        ending = lost;
-        told = subst (λ (b : Bool). ending_in l ((streams_end_first b t s).told ++ []) ≡ Some lost) (sym h.live.connected)
-            (ending_append l (all_end t lost s).told [] ∙ ap (λ o. option_or o None) (all_end_told t l x s h lost s refl refl));
+        ending = Lost;
+        told = subst (λ (b : Bool). ending_in l ((streams_end_first b t s).told ++ []) ≡ Some Lost) (sym h.live.connected)
+            (ending_append l (all_end t Lost s).told [] ∙ ap (λ o. option_or o None) (all_end_told t l x s h Lost s refl refl));
         why = ap (λ k. is_cnxn k && not (is_refused p)) c ∙ ap not accepted_now;
       })
 
@@ -67,7 +69,7 @@ module _ (t l : ℕ) (x : Stream) (p : Packet) (s : State) (h : Here t l x s) wh
   cnxn_turn c = go (nat_lt p.arg0 least_version || nat_lt p.arg1 least_maxdata) refl
     where
       go : (b : Bool) → (nat_lt p.arg0 least_version || nat_lt p.arg1 least_maxdata) ≡ b
-          → Turn t l x p (cond b (link_ends t broken s) (connects t p.arg0 p.arg1 (identity_of p.payload) s))
+          → Turn t l x p (cond b (link_ends t Broken s) (connects t p.arg0 p.arg1 (identity_of p.payload) s))
       go true e = breaks (ap (λ k. is_cnxn k && (nat_lt p.arg0 least_version || nat_lt p.arg1 least_maxdata || is_none (identity_of p.payload))) c
           ∙ ap (λ b. b || is_none (identity_of p.payload)) e)
       go false e = connects_turn (identity_of p.payload) c refl e

@@ -12,7 +12,9 @@ use Rattle.adb_client.specs.declared.phase.Phase.{Phase}
 use Rattle.adb_client.specs.declared.phase.Phase.TheVariants.{Asking, Opening, Streaming, Closing}
 use Rattle.adb_reply.specs.Strings.{failed}
 use Rattle.adb_history.specs.Rows.{Client, State, to_client, to_stream, none_kept, with_due, in_phase, with_stream_part}
-use Rattle.adb_history.specs.Events.{Made, Ending, peer_closed, out_of_turn, quietly, then_also, owed_to}
+use Rattle.adb_history.specs.Events.{Made, quietly, then_also, owed_to}
+use Rattle.adb_history.specs.declared.ending.Ending.{Ending}
+use Rattle.adb_history.specs.declared.ending.Ending.TheVariants.{PeerClosed, OutOfTurn}
 use Rattle.adb_history.specs.Links.{close_packet, okay_packet, owe_link}
 use Rattle.adb_history.specs.Clients.{owe_client, closing, closes, closes_with}
 use Rattle.adb_history.specs.Streams.{tells_end, loses, client_loses, ends_row, ends_telling, ends_if_of, ends_of, all_end}
@@ -229,12 +231,12 @@ module _ (l c : ℕ) where
 
     pub u_write : (remote : ℕ) (payload : List ℕ) (s : State) → Untouched l c s (takes_write n remote payload z s)
     u_write remote payload s =
-        let late = ends_telling n out_of_turn z s in
+        let late = ends_telling n OutOfTurn z s in
         let taken = accepts n payload z s in
         let out = is_out_of_turn z.part.flow (length payload) in
         u_if s (eqb remote 0 || not (eqb remote z.part.remote)) (quietly s) (cond out late taken) (λ e. u_quiet s)
-        (λ e. u_if s out late taken (λ e. u_telling n out_of_turn z s apart) (λ e. u_accepts payload s))
+        (λ e. u_if s out late taken (λ e. u_telling n OutOfTurn z s apart) (λ e. u_accepts payload s))
 
     pub u_close : (remote : ℕ) (s : State) → Untouched l c s (takes_close n remote z s)
     u_close remote s =
-        u_if s (eqb remote 0 || eqb remote z.part.remote) (ends_row n peer_closed z s) (quietly s) (λ e. u_ends n peer_closed z s apart) (λ e. u_quiet s)
+        u_if s (eqb remote 0 || eqb remote z.part.remote) (ends_row n PeerClosed z s) (quietly s) (λ e. u_ends n PeerClosed z s apart) (λ e. u_quiet s)

@@ -23,7 +23,8 @@ use Rattle.adb_stream.specs.Flow.{to_hand, credit_back, handed_to}
 use Rattle.adb_client.specs.declared.phase.Phase.{Phase}
 use Rattle.adb_client.specs.declared.phase.Phase.TheVariants.{Opening, Streaming}
 use Rattle.adb_history.specs.Rows.{Client, Link, State, to_client, to_link, to_stream, with_due, with_stream_part}
-use Rattle.adb_history.specs.Events.{Made, lost, broken, quietly}
+use Rattle.adb_history.specs.Events.{Made, quietly}
+use Rattle.adb_history.specs.declared.ending.Ending.TheVariants.{Lost, Broken}
 use Rattle.adb_history.specs.Links.{close_packet, okay_packet, credit_packet, credit_word, owe_link, is_connected}
 use Rattle.adb_history.specs.Tracking.{offered}
 use Rattle.adb_history.specs.Losing.{link_ends}
@@ -53,20 +54,20 @@ away_row l c t s m fate u h = record { apart = apart_fate l c (OfLink t) s m fat
 -- ---- what comes on another link
 module _ (l c t : ℕ) where
   far_connects : (version maxdata : ℕ) (who : Option Identity) (s : State) → Away l c t s → Untouched l c s (connects t version maxdata who s)
-  far_connects version maxdata None s h = u_link_ends l c t broken s (h.apart, h.link)
+  far_connects version maxdata None s h = u_link_ends l c t Broken s (h.apart, h.link)
   far_connects version maxdata (Some identity) s h =
       let m = streams_end_first (is_connected t s.devices) t s in
       u_then l c s m (λ s. quietly (goes_online t version maxdata identity s)) (first (is_connected t s.devices))
       (let marks = u_marks l c m.state in record { row = marks.row; client = marks.client; owed = refl; silent = tt })
     where
       first : (b : Bool) → Untouched l c s (streams_end_first b t s)
-      first true = u_all_end l c t lost s (h.apart, h.link)
+      first true = u_all_end l c t Lost s (h.apart, h.link)
       first false = u_quiet l c s
 
   far_cnxn : (version maxdata : ℕ) (banner : List ℕ) (s : State) → Away l c t s → Untouched l c s (cnxn t version maxdata banner s)
   far_cnxn version maxdata banner s h =
-      u_if l c s (nat_lt version least_version || nat_lt maxdata least_maxdata) (link_ends t broken s) (connects t version maxdata (identity_of banner) s)
-      (λ e. u_link_ends l c t broken s (h.apart, h.link)) (λ e. far_connects version maxdata (identity_of banner) s h)
+      u_if l c s (nat_lt version least_version || nat_lt maxdata least_maxdata) (link_ends t Broken s) (connects t version maxdata (identity_of banner) s)
+      (λ e. u_link_ends l c t Broken s (h.apart, h.link)) (λ e. far_connects version maxdata (identity_of banner) s h)
 
   pub far_unauthorized : (o : Option Row) (s : State) → Untouched l c s (unauthorized t o s)
   far_unauthorized None s = u_quiet l c s
@@ -128,7 +129,7 @@ module _ (l c t : ℕ) where
   pub far_faulty : (o : Option Link) (fault : Option PacketFault) (s : State) → Away l c t s → Untouched l c s (faulty_on o t fault s)
   far_faulty None fault s h = u_quiet l c s
   far_faulty (Some link) None s h = u_quiet l c s
-  far_faulty (Some link) (Some fault) s h = u_link_ends l c t broken s (h.apart, h.link)
+  far_faulty (Some link) (Some fault) s h = u_link_ends l c t Broken s (h.apart, h.link)
 
   far_cut : (cut : Cut PacketFormat Packet PacketFault) (s : State) → Away l c t s → Untouched l c s (receives_cut t cut s)
   far_cut cut s h =
@@ -148,7 +149,7 @@ module _ (l c t : ℕ) where
 
   pub far_unplugs : (s : State) → Away l c t s → (o : Option Link) → Untouched l c s (unplugs_on o t s)
   far_unplugs s h None = u_quiet l c s
-  far_unplugs s h (Some link) = u_link_ends l c t lost s (h.apart, h.link)
+  far_unplugs s h (Some link) = u_link_ends l c t Lost s (h.apart, h.link)
 
 -- ---- what another client is handed
 -- the stream of a phase is another one

@@ -11,7 +11,8 @@ use Rattle.adb_stream.specs.Flow.{has_credit}
 use Rattle.adb_client.specs.declared.phase.Phase.{Phase}
 use Rattle.adb_client.specs.declared.phase.Phase.TheVariants.{Streaming}
 use Rattle.adb_history.specs.Rows.{Client, State, to_stream, with_held, with_stream_part}
-use Rattle.adb_history.specs.Events.{Made, Event, client_closed, quietly, then_also, owed_to, packets_to, ending_in}
+use Rattle.adb_history.specs.Events.{Made, Event, quietly, then_also, owed_to, packets_to, ending_in}
+use Rattle.adb_history.specs.declared.ending.Ending.TheVariants.{ClientClosed}
 use Rattle.adb_history.specs.Links.{write_packet, owe_link, maxdata_of}
 use Rattle.adb_history.specs.Streams.{ends_telling}
 use Rattle.adb_history.specs.Flow.{payloads, total, with_flow, goes_up, all_go_up, flow_after, noted, is_over, closes_if}

@@ -11,7 +11,7 @@ use Rattle.adb_history.specs.Bytes.{bytes_put}
 use Rattle.adb_history.specs.Book.{asked}
 use Rattle.adb_history.specs.Births.{Birth, Opening, since, opening_in, opening_of, told_in, told_after, told_to, told_before, told_before_close}
 use Rattle.adb_history.specs.Births.{before_close, joined, lead_of, handed_to}
-use Rattle.adb_history.specs.Events.{peer_closed}
+use Rattle.adb_history.specs.declared.ending.Ending.TheVariants.{PeerClosed}
 use Rattle.adb_history.specs.Fifo.{HandsTold, HandsWholeTold}
 use Rattle.adb_laws_fifo_down.specs.Line.{Line, SeenStream, View}
 use Rattle.adb_laws_fifo_down.specs.Turns.{Turns}
@@ -165,7 +165,7 @@ module _ (l : ℕ) (b : Birth) (h : History) (f : Follows LifeOf h l b) where
           front_then (drop (lead_of b h) (bytes_put b.client h)) t.bytes (joined (told_in o.remote l o.later)) t.handed t.front
 
   -- ---- all of it
-  module _ (by_peer : f.holds.seen.ending ≡ Some peer_closed) (all : bytes_put b.client h ≡ f.holds.seen.output) where
+  module _ (by_peer : f.holds.seen.ending ≡ Some PeerClosed) (all : bytes_put b.client h ≡ f.holds.seen.output) where
     -- what its device had written when it closed
     whole_of : (o : Opening) → opening_in l (since b h) ≡ Some o
         → drop (lead_of b h) (bytes_put b.client h) ≡ joined (told_in o.remote l (before_close o.remote l o.later))
@@ -175,7 +175,7 @@ module _ (l : ℕ) (b : Birth) (h : History) (f : Follows LifeOf h l b) where
         same p e = let both : Some p ≡ Some o = sym e ∙ is in cc
 
         fresh : f.holds.seen.ending ≡ None → ⊥
-        fresh e = let clash : None ≡ Some peer_closed = sym e ∙ by_peer in cc
+        fresh e = let clash : None ≡ Some PeerClosed = sym e ∙ by_peer in cc
 
         alive : (orphan : Bool) (remote : ℕ) → LivesAs orphan remote l f.cradle (since b h) (heard f.holds.seen)
             → drop (lead_of b h) (bytes_put b.client h) ≡ joined (told_in o.remote l (before_close o.remote l o.later))

@@ -10,7 +10,8 @@ use Rattle.adb_wire.specs.declared.command.Command.{Command}
 use Rattle.adb_wire.specs.declared.command.Command.TheVariants.{Cnxn, Open, Okay, Wrte, Clse, Auth, Stls}
 use Rattle.adb_wire.specs.declared.packets.Packet.{Packet}
 use Rattle.adb_client.specs.declared.phase.Phase.TheVariants.{Streaming}
-use Rattle.adb_history.specs.Events.{Ending, peer_closed, out_of_turn}
+use Rattle.adb_history.specs.declared.ending.Ending.{Ending}
+use Rattle.adb_history.specs.declared.ending.Ending.TheVariants.{PeerClosed, OutOfTurn}
 use Rattle.adb_history.specs.Links.{credit_word}
 use Rattle.adb_history.specs.Births.{opening_by, opening_in}
 use Rattle.adb_laws_fifo_down.specs.Line.{SeenStream, SeenClient, View, over}
@@ -30,11 +31,11 @@ and_false true = refl
 and_false false = refl
 
 -- a CNXN is no close
-pub cnxn_no_close : (p : Packet) → cnxn_ending p ≢ peer_closed
+pub cnxn_no_close : (p : Packet) → cnxn_ending p ≢ PeerClosed
 cnxn_no_close p = by (Rattle.std.specs.Prelude.nat_lt p.arg0 Rattle.adb_history.specs.Packets.least_version
     || Rattle.std.specs.Prelude.nat_lt p.arg1 Rattle.adb_history.specs.Packets.least_maxdata) (identity_of p.payload)
   where
-    by : (c : Bool) (who : Option Identity) → ending_by c who ≢ peer_closed
+    by : (c : Bool) (who : Option Identity) → ending_by c who ≢ PeerClosed
     by true who e = cc
     by false None e = cc
     by false (Some identity) e = cc
@@ -91,16 +92,16 @@ module _ (l : ℕ) (k : Cradle) (packets : List Packet) (out : List ℕ) (v : Vi
 
           none : Life l k more false out (after_write l p.arg0 p.payload x v)
           none = subst (λ (c : Bool). Life l k more false out (cond c v
-              (cond (is_late x (length p.payload)) (over x.orphan out_of_turn v) (accepts_as l p.payload x v)))) (sym never) orphan_on
+              (cond (is_late x (length p.payload)) (over x.orphan OutOfTurn v) (accepts_as l p.payload x v)))) (sym never) orphan_on
 
           by : (c : Bool) → Life l k more false out (cond c (after_write l p.arg0 p.payload x v) v)
           by true = none
           by false = orphan_on
       orphan_goes Clse = by (eqb p.arg1 l) (eqb p.arg0 0 || eqb p.arg0 x.remote)
         where
-          by : (c d : Bool) → Life l k more false out (cond c (cond d (over x.orphan peer_closed v) v) v)
+          by : (c d : Bool) → Life l k more false out (cond c (cond d (over x.orphan PeerClosed v) v) v)
           by false d = orphan_on
-          by true true = orphan_over peer_closed
+          by true true = orphan_over PeerClosed
           by true false = orphan_on
       orphan_goes _ = orphan_on
 
@@ -211,7 +212,7 @@ module _ (l : ℕ) (k : Cradle) (packets : List Packet) (out : List ℕ) (v : Vi
 
           none : Life l k more false out (after_write l p.arg0 p.payload x v)
           none = subst (λ (c : Bool). Life l k more false out (cond c v
-              (cond (is_late x (length p.payload)) (over x.orphan out_of_turn v) (accepts_as l p.payload x v)))) (sym never) passes
+              (cond (is_late x (length p.payload)) (over x.orphan OutOfTurn v) (accepts_as l p.payload x v)))) (sym never) passes
 
           by : (c : Bool) → Life l k more false out (cond c (after_write l p.arg0 p.payload x v) v)
           by true = none
@@ -230,8 +231,8 @@ module _ (l : ℕ) (k : Cradle) (packets : List Packet) (out : List ℕ) (v : Vi
           by : (c d : Bool) → eqb p.arg1 l ≡ c → eqb p.arg0 0 ≡ d → Life l k more false out (cond c (after_close p.arg0 x v) v)
           by false d e f = waits_on (λ others. closes false d e f others ∙ ap (λ (c : Bool). cond c None (opening_in l others)) (and_false d))
           by true true e f =
-              subst (λ (c : Bool). Life l k more false out (cond c (over x.orphan peer_closed v) v)) (sym (same ∙ ap (λ (c : Bool). c || c) f))
-              (waits_over peer_closed (λ others. closes true true e f others))
+              subst (λ (c : Bool). Life l k more false out (cond c (over x.orphan PeerClosed v) v)) (sym (same ∙ ap (λ (c : Bool). c || c) f))
+              (waits_over PeerClosed (λ others. closes true true e f others))
           by true false e f =
-              subst (λ (c : Bool). Life l k more false out (cond c (over x.orphan peer_closed v) v)) (sym (same ∙ ap (λ (c : Bool). c || c) f))
+              subst (λ (c : Bool). Life l k more false out (cond c (over x.orphan PeerClosed v) v)) (sym (same ∙ ap (λ (c : Bool). c || c) f))
               (waits_on (λ others. closes true false e f others))

@@ -8,7 +8,8 @@ use Rattle.adb_wire.specs.declared.command.Command.{Command}
 use Rattle.adb_wire.specs.declared.command.Command.TheVariants.{Cnxn, Open, Okay, Wrte, Clse, Auth, Stls}
 use Rattle.adb_wire.specs.declared.packets.Packet.{Packet}
 use Rattle.adb_client.specs.declared.phase.Phase.TheVariants.{Streaming}
-use Rattle.adb_history.specs.Events.{Ending, peer_closed, out_of_turn}
+use Rattle.adb_history.specs.declared.ending.Ending.{Ending}
+use Rattle.adb_history.specs.declared.ending.Ending.TheVariants.{PeerClosed, OutOfTurn}
 use Rattle.adb_history.specs.Links.{okay_packet}
 use Rattle.adb_history.specs.Births.{opening_in, told_in, before_close, is_close_of, is_between, is_wrte, is_clse, joined}
 use Rattle.adb_laws_fifo_down.specs.Line.{SeenStream, SeenClient, View, over}
@@ -133,17 +134,17 @@ module _ (l : ℕ) (k : Cradle) (packets : List Packet) (out : List ℕ) (v : Vi
         ending = refl;
       }) unclosed
 
-      opened_over : (ending : Ending) → ending ≢ peer_closed → Life l k more false out (over x.orphan ending v)
+      opened_over : (ending : Ending) → ending ≢ PeerClosed → Life l k more false out (over x.orphan ending v)
       opened_over ending other =
           subst (λ (c : Bool). Life l k more false out (over c ending v)) (sym is_owned)
           (over_open l k more false out v o.client l ending o.here o.phase own_due
           (was_open_goes l k packets p v.output _ (open_story l k packets false out v (suc r) ending other o)))
 
       -- its device closes it
-      opened_closed : is_close_of o.opening.remote l p ≡ true → Life l k more false out (over x.orphan peer_closed v)
+      opened_closed : is_close_of o.opening.remote l p ≡ true → Life l k more false out (over x.orphan PeerClosed v)
       opened_closed closes =
-          subst (λ (c : Bool). Life l k more false out (over c peer_closed v)) (sym is_owned)
-          (over_open l k more false out v o.client l peer_closed o.here o.phase own_due (record {
+          subst (λ (c : Bool). Life l k more false out (over c PeerClosed v)) (sym is_owned)
+          (over_open l k more false out v o.client l PeerClosed o.here o.phase own_due (record {
             opening = later_too (p ∷ []) o.opening;
             opened = still_opened;
             bytes = joined (told_in remote l later);
@@ -251,8 +252,8 @@ module _ (l : ℕ) (k : Cradle) (packets : List Packet) (out : List ℕ) (v : Vi
           or_true false = refl
 
           in_turn : eqb p.arg1 l ≡ true → eqb p.arg0 o.opening.remote ≡ true → (c : Bool)
-              → Life l k more false out (cond c (over x.orphan out_of_turn v) (accepts_as l p.payload x v))
-          in_turn e f true = opened_over out_of_turn (λ q. cc)
+              → Life l k more false out (cond c (over x.orphan OutOfTurn v) (accepts_as l p.payload x v))
+          in_turn e f true = opened_over OutOfTurn (λ q. cc)
           in_turn e f false = accepted p.payload (told true true e f) unclosed
 
           some : eqb p.arg0 o.opening.remote ≡ true → eqb p.arg0 0 ≡ false
@@ -262,11 +263,11 @@ module _ (l : ℕ) (k : Cradle) (packets : List Packet) (out : List ℕ) (v : Vi
           by false d e f = seen_on unclosed (told false d e f ∙ ap (λ (c : Bool). cond c (p.payload ∷ []) []) (and_false d))
           by true false e f =
               subst (λ (c : Bool). Life l k more false out (cond c v
-              (cond (is_late x (length p.payload)) (over x.orphan out_of_turn v) (accepts_as l p.payload x v))))
+              (cond (is_late x (length p.payload)) (over x.orphan OutOfTurn v) (accepts_as l p.payload x v))))
               (sym (tests false f ∙ or_true (eqb p.arg0 0))) (seen_on unclosed (told true false e f))
           by true true e f =
               subst (λ (c : Bool). Life l k more false out (cond c v
-              (cond (is_late x (length p.payload)) (over x.orphan out_of_turn v) (accepts_as l p.payload x v))))
+              (cond (is_late x (length p.payload)) (over x.orphan OutOfTurn v) (accepts_as l p.payload x v))))
               (sym (tests true f ∙ ap (λ (c : Bool). c || false) (some f))) (in_turn e f (is_late x (length p.payload)))
       opened_goes Clse is = by (eqb p.arg1 l) (eqb p.arg0 0) (eqb p.arg0 o.opening.remote) refl refl refl
         where
@@ -299,7 +300,7 @@ module _ (l : ℕ) (k : Cradle) (packets : List Packet) (out : List ℕ) (v : Vi
           open_when false true f = absurd (cc)
 
           ended : (c : Bool) → (c ≡ true → is_close_of o.opening.remote l p ≡ true) → (c ≡ false → is_close_of o.opening.remote l p ≡ false)
-              → Life l k more false out (cond c (over x.orphan peer_closed v) v)
+              → Life l k more false out (cond c (over x.orphan PeerClosed v) v)
           ended true one other = opened_closed (one refl)
           ended false one other = seen_on (other refl) (tells_by Clse is)
 
@@ -307,7 +308,7 @@ module _ (l : ℕ) (k : Cradle) (packets : List Packet) (out : List ℕ) (v : Vi
               → Life l k more false out (cond c (after_close p.arg0 x v) v)
           by false d e f g i = seen_on (closes false d e f g i ∙ neither d e) (tells_by Clse is)
           by true d e f g i =
-              subst (λ (c : Bool). Life l k more false out (cond c (over x.orphan peer_closed v) v)) (sym (tests d e g i))
+              subst (λ (c : Bool). Life l k more false out (cond c (over x.orphan PeerClosed v) v)) (sym (tests d e g i))
               (ended (d || e) (λ q. closes true d e f g i ∙ closed_when d e q) (λ q. closes true d e f g i ∙ open_when d e q))
 
   -- ---- any

@@ -8,7 +8,8 @@ use Rattle.adb_outside.specs.declared.kinds.Cause.{Cause}
 use Rattle.adb_wire.specs.declared.packets.Packet.{Packet}
 use Rattle.adb_client.specs.declared.phase.Phase.{Phase}
 use Rattle.adb_client.specs.declared.phase.Phase.TheVariants.{Opening, Streaming, Closing}
-use Rattle.adb_history.specs.Events.{Ending, client_closed, peer_closed, lost, broken, client_failed, stopped}
+use Rattle.adb_history.specs.declared.ending.Ending.{Ending}
+use Rattle.adb_history.specs.declared.ending.Ending.TheVariants.{ClientClosed, PeerClosed, Lost, Broken, ClientFailed, Stopped}
 use Rattle.adb_history.specs.Births as birth
 use Rattle.adb_history.specs.Births.{opening_in, told_in, joined}
 use Rattle.adb_history.proofs.Outputs.{handed_off}
@@ -45,22 +46,22 @@ none_done : IsDone None
 none_done a e = absurd (let clash : None ≡ Some a = e in cc)
 
 -- ---- endings
-other_ending : (before : Option Ending) (ending : Ending) → before ≡ None → ending ≢ peer_closed → IsNotByPeer (first_of before (Some ending))
+other_ending : (before : Option Ending) (ending : Ending) → before ≡ None → ending ≢ PeerClosed → IsNotByPeer (first_of before (Some ending))
 other_ending before ending none other e =
     let first : first_of before (Some ending) ≡ Some ending = ap (λ (o : Option Ending). first_of o (Some ending)) none in
-    let both : Some ending ≡ Some peer_closed = sym first ∙ e in
+    let both : Some ending ≡ Some PeerClosed = sym first ∙ e in
     other (cc)
 
 -- an ending that is no close stays so
 stays_other : (before after : Option Ending) → IsStop after → IsNotByPeer before → IsNotByPeer (first_of before after)
 stays_other (Some ending) after stop h e = h e
-stays_other None after (inl is) h e = let clash : None ≡ Some peer_closed = sym is ∙ e in cc
-stays_other None after (inr is) h e = let both : Some stopped ≡ Some peer_closed = sym is ∙ e in cc
+stays_other None after (inl is) h e = let clash : None ≡ Some PeerClosed = sym is ∙ e in cc
+stays_other None after (inr is) h e = let both : Some Stopped ≡ Some PeerClosed = sym is ∙ e in cc
 
-was_peer : (before after : Option Ending) → IsStop after → first_of before after ≡ Some peer_closed → before ≡ Some peer_closed
+was_peer : (before after : Option Ending) → IsStop after → first_of before after ≡ Some PeerClosed → before ≡ Some PeerClosed
 was_peer (Some ending) after stop e = e
-was_peer None after (inl is) e = absurd (let clash : None ≡ Some peer_closed = sym is ∙ e in cc)
-was_peer None after (inr is) e = absurd (let both : Some stopped ≡ Some peer_closed = sym is ∙ e in cc)
+was_peer None after (inl is) e = absurd (let clash : None ≡ Some PeerClosed = sym is ∙ e in cc)
+was_peer None after (inr is) e = absurd (let both : Some Stopped ≡ Some PeerClosed = sym is ∙ e in cc)
 
 module _ (l : ℕ) (k : Cradle) (packets : List Packet) (shut : Bool) (out : List ℕ) (v : View) where
   pub lives_at : (x : SeenStream) → v.stream ≡ Some x → Life l k packets shut out v → LivesAs x.orphan x.remote l k packets (heard v)
@@ -114,7 +115,7 @@ module _ (l : ℕ) (k : Cradle) (packets : List Packet) (shut : Bool) (out : Lis
       (record { tied = tied; lives = (subst IsDone (sym gone) none_done, inr (inl unheard)) })
 
   -- what was open then, by another ending than its device's close
-  pub open_story : (remote : ℕ) (ending : Ending) → ending ≢ peer_closed → IsOpened remote l k packets (heard v)
+  pub open_story : (remote : ℕ) (ending : Ending) → ending ≢ PeerClosed → IsOpened remote l k packets (heard v)
       → WasOpen l k packets v.output (first_of v.ending (Some ending))
   open_story remote ending other h = record {
     opening = h.opening;
@@ -145,30 +146,30 @@ module _ (l : ℕ) (k : Cradle) (packets : List Packet) (shut : Bool) (out : Lis
       by (Some x) h = alive x.orphan x.remote h
 
   -- it is closed for its client
-  pub life_closes : (b : Line) (y : IsOpenIn b v) → b.id ≡ l → Life l k packets shut out v → Life l k packets shut out (over y.row.orphan client_closed v)
+  pub life_closes : (b : Line) (y : IsOpenIn b v) → b.id ≡ l → Life l k packets shut out v → Life l k packets shut out (over y.row.orphan ClientClosed v)
   life_closes b y same h = by y.row.orphan y.row.remote (lives_at y.row y.stream h)
     where
-      by : (orphan : Bool) (remote : ℕ) → LivesAs orphan remote l k packets (heard v) → Life l k packets shut out (over orphan client_closed v)
+      by : (orphan : Bool) (remote : ℕ) → LivesAs orphan remote l k packets (heard v) → Life l k packets shut out (over orphan ClientClosed v)
       by true remote i = absurd (let clash : None ≡ Some y.client = sym i.gone ∙ y.here in cc)
       by false zero i =
           let client : i.client ≡ y.client = (let both : Some i.client ≡ Some y.client = sym i.here ∙ y.here in cc) in
           let clash : Opening l ≡ Streaming b.id = sym i.phase ∙ (ap (λ (a : SeenClient). a.phase) client ∙ y.phase) in
           absurd (cc)
       by false (suc r) i =
-          over_open i.client l client_closed i.here i.phase (tied_at v.client i.client v.output out i.here h.tied)
-          (open_story (suc r) client_closed (λ e. cc) i)
+          over_open i.client l ClientClosed i.here i.phase (tied_at v.client i.client v.output out i.here h.tied)
+          (open_story (suc r) ClientClosed (λ e. cc) i)
 
-  -- its link is lost, or broken
-  pub life_breaks : (x : SeenStream) (ending : Ending) → shut ≡ true → v.stream ≡ Some x → (ending ≡ lost) ⊎ (ending ≡ broken) → Life l k packets shut out v
+  -- its link is Lost, or Broken
+  pub life_breaks : (x : SeenStream) (ending : Ending) → shut ≡ true → v.stream ≡ Some x → (ending ≡ Lost) ⊎ (ending ≡ Broken) → Life l k packets shut out v
       → Life l k packets shut out (over x.orphan ending v)
   life_breaks x ending over_now there which h = by x.orphan x.remote (lives_at x there h)
     where
-      other : ending ≢ peer_closed
+      other : ending ≢ PeerClosed
       other e = go which
         where
-          go : (ending ≡ lost) ⊎ (ending ≡ broken) → ⊥
-          go (inl is) = let clash : lost ≡ peer_closed = sym is ∙ e in cc
-          go (inr is) = let clash : broken ≡ peer_closed = sym is ∙ e in cc
+          go : (ending ≡ Lost) ⊎ (ending ≡ Broken) → ⊥
+          go (inl is) = let clash : Lost ≡ PeerClosed = sym is ∙ e in cc
+          go (inr is) = let clash : Broken ≡ PeerClosed = sym is ∙ e in cc
 
       by : (orphan : Bool) (remote : ℕ) → LivesAs orphan remote l k packets (heard v) → Life l k packets shut out (over orphan ending v)
       by true remote i = over_orphan ending i.gone h.tied i.unheard
@@ -185,10 +186,10 @@ module _ (l : ℕ) (k : Cradle) (packets : List Packet) (shut : Bool) (out : Lis
       unheard other output = record { output_is = output; not_by_peer = stays_other v.ending ending stop other }
 
       fresh : v.ending ≡ None → IsNotByPeer v.ending
-      fresh none e = let clash : None ≡ Some peer_closed = sym none ∙ e in cc
+      fresh none e = let clash : None ≡ Some PeerClosed = sym none ∙ e in cc
 
       was_open : (o : birth.Opening) (bytes : List ℕ) → opening_in l packets ≡ Some o → v.output ≡ lead k ++ bytes
-          → IsPrefixOf bytes (joined (told_in o.remote l o.later)) → (v.ending ≡ Some peer_closed → IsClosedAt l o bytes)
+          → IsPrefixOf bytes (joined (told_in o.remote l o.later)) → (v.ending ≡ Some PeerClosed → IsClosedAt l o bytes)
           → WasOpen l k packets v.output (first_of v.ending ending)
       was_open o bytes opened output front closed = record {
         opening = o;
@@ -218,7 +219,7 @@ module _ (l : ℕ) (k : Cradle) (packets : List Packet) (shut : Bool) (out : Lis
   -- its client fails
   module _ (cause : Cause) (a : SeenClient) (here : v.client ≡ Some a) (h : Life l k packets shut out v) where
     abbrev failing : Ending
-    failing = client_failed cause
+    failing = ClientFailed cause
 
     gone_front : IsPrefixOf out v.output
     gone_front = any_front v.client v.output out h.tied

@@ -8,7 +8,8 @@ use Rattle.adb_wire.specs.declared.command.Command.TheVariants.{Cnxn, Open, Okay
 use Rattle.adb_wire.specs.declared.packets.Packet.{Packet}
 use Rattle.adb_client.specs.declared.phase.Phase.{Phase}
 use Rattle.adb_client.specs.declared.phase.Phase.TheVariants.{Streaming}
-use Rattle.adb_history.specs.Events.{Ending, peer_closed, out_of_turn}
+use Rattle.adb_history.specs.declared.ending.Ending.{Ending}
+use Rattle.adb_history.specs.declared.ending.Ending.TheVariants.{PeerClosed, OutOfTurn}
 use Rattle.adb_history.specs.Births as birth
 use Rattle.adb_history.specs.Births.{told_in, is_between, is_wrte, opening_by, opening_in}
 use Rattle.adb_laws_fifo_down.specs.Line.{SeenStream, SeenClient, View, loss, lost_by, over}
@@ -67,9 +68,9 @@ module _ (l : ℕ) (p : Packet) (x : SeenStream) (v : View) where
         by true false = subst (λ (c : Bool). OpenTurn remote (cond c (opened_as x.orphan l p.arg0 x v) v)) (sym known_one) (stay Okay is refl)
     open_goes Clse is = by (eqb p.arg1 l) (eqb p.arg0 0 || eqb p.arg0 x.remote)
       where
-        by : (c d : Bool) → OpenTurn remote (cond c (cond d (over x.orphan peer_closed v) v) v)
+        by : (c d : Bool) → OpenTurn remote (cond c (cond d (over x.orphan PeerClosed v) v) v)
         by false d = stay Clse is refl
-        by true true = inr (inl (peer_closed, refl))
+        by true true = inr (inl (PeerClosed, refl))
         by true false = stay Clse is refl
     open_goes Wrte is = by (eqb p.arg1 l) (eqb p.arg0 remote) refl refl
       where
@@ -86,20 +87,20 @@ module _ (l : ℕ) (p : Packet) (x : SeenStream) (v : View) where
         or_true false = refl
 
         in_turn : eqb p.arg1 l ≡ true → eqb p.arg0 remote ≡ true → (c : Bool) → is_late x (length p.payload) ≡ c
-            → OpenTurn remote (cond c (over x.orphan out_of_turn v) (accepts_as l p.payload x v))
-        in_turn e f true g = inr (inl (out_of_turn, refl))
+            → OpenTurn remote (cond c (over x.orphan OutOfTurn v) (accepts_as l p.payload x v))
+        in_turn e f true g = inr (inl (OutOfTurn, refl))
         in_turn e f false g = inr (inr (record { is = refl; told = told true true e f; in_turn = g }))
 
         by : (c d : Bool) → eqb p.arg1 l ≡ c → eqb p.arg0 remote ≡ d → OpenTurn remote (cond c (after_write l p.arg0 p.payload x v) v)
         by false d e f = inl (record { is = refl; told = told false d e f ∙ ap (λ (c : Bool). cond c (p.payload ∷ []) []) (and_false d) })
         by true false e f =
             subst (λ (c : Bool). OpenTurn remote (cond c v
-            (cond (is_late x (length p.payload)) (over x.orphan out_of_turn v) (accepts_as l p.payload x v))))
+            (cond (is_late x (length p.payload)) (over x.orphan OutOfTurn v) (accepts_as l p.payload x v))))
             (sym (tests false f ∙ or_true (eqb p.arg0 0))) (inl (record { is = refl; told = told true false e f }))
         by true true e f =
             let unlike : eqb p.arg0 0 ≡ false = ne_eqb p.arg0 0 (λ g. some (sym (eqb-true p.arg0 remote f) ∙ g)) in
             subst (λ (c : Bool). OpenTurn remote (cond c v
-            (cond (is_late x (length p.payload)) (over x.orphan out_of_turn v) (accepts_as l p.payload x v))))
+            (cond (is_late x (length p.payload)) (over x.orphan OutOfTurn v) (accepts_as l p.payload x v))))
             (sym (tests true f ∙ ap (λ (c : Bool). c || false) unlike)) (in_turn e f (is_late x (length p.payload)) refl)
 
     pub open_turn : OpenTurn remote (treated_as l p.command p x v)
@@ -184,9 +185,9 @@ module _ (l : ℕ) (p : Packet) (x : SeenStream) (v : View) where
         by _ _ _ = same_turn
     fresh_goes Clse = by (eqb p.arg1 l) (eqb p.arg0 0 || eqb p.arg0 x.remote)
       where
-        by : (c d : Bool) → FreshTurn (cond c (cond d (over x.orphan peer_closed v) v) v)
+        by : (c d : Bool) → FreshTurn (cond c (cond d (over x.orphan PeerClosed v) v) v)
         by false d = same_turn
-        by true true = over_turn peer_closed
+        by true true = over_turn PeerClosed
         by true false = same_turn
     fresh_goes Wrte = by (eqb p.arg1 l)
       where
@@ -196,7 +197,7 @@ module _ (l : ℕ) (p : Packet) (x : SeenStream) (v : View) where
         by : (c : Bool) → FreshTurn (cond c (after_write l p.arg0 p.payload x v) v)
         by false = same_turn
         by true =
-            subst (λ (c : Bool). FreshTurn (cond c v (cond (is_late x (length p.payload)) (over x.orphan out_of_turn v) (accepts_as l p.payload x v))))
+            subst (λ (c : Bool). FreshTurn (cond c v (cond (is_late x (length p.payload)) (over x.orphan OutOfTurn v) (accepts_as l p.payload x v))))
             (sym never) same_turn
     fresh_goes _ = same_turn
 

@@ -6,7 +6,8 @@ use Rattle.adb_wire.specs.declared.packets.Packet.{Packet}
 use Rattle.adb_wire.specs.declared.format.PacketFault.{PacketFault}
 use Rattle.adb_wire.specs.declared.format.PacketFormat.{PacketFormat}
 use Rattle.adb_history.specs.Rows.{Link, State, to_link}
-use Rattle.adb_history.specs.Events.{Made, Event, lost}
+use Rattle.adb_history.specs.Events.{Made, Event}
+use Rattle.adb_history.specs.declared.ending.Ending.TheVariants.{Lost}
 use Rattle.adb_history.specs.Packets.{treat, treat_all, faulty, with_rest, receives_cut, receives_on}
 use Rattle.adb_history.specs.Machine.{unplugs_on}
 use Rattle.adb_history.specs.Moves.{After}
@@ -34,4 +35,4 @@ module _ (b : Line) (v : View) (t : ℕ) (apart : IsElsewhere b v t) where
 
   pub shows_unplugs : (o : Option Link) (s : State) (w : List Event) → Shows b v s w → After (Shows b v) w (unplugs_on o t s)
   shows_unplugs None s w h = after_quietly (Shows b v) w s h
-  shows_unplugs (Some link) s w h = shows_link_ends b v t apart lost s w h
+  shows_unplugs (Some link) s w h = shows_link_ends b v t apart Lost s w h

@@ -21,7 +21,8 @@ use Rattle.adb_stream.specs.declared.row.Stream.{Stream}
 use Rattle.adb_stream.specs.Flow.{first_credit, acknowledged, is_out_of_turn, accepted}
 use Rattle.adb_client.specs.declared.phase.Phase.TheVariants.{Streaming}
 use Rattle.adb_history.specs.Rows.{Client, Link, State, to_client, to_stream, none_kept, in_phase, with_stream_part}
-use Rattle.adb_history.specs.Events.{Made, Event, quietly, peer_closed, out_of_turn, lost, broken}
+use Rattle.adb_history.specs.Events.{Made, Event, quietly}
+use Rattle.adb_history.specs.declared.ending.Ending.TheVariants.{PeerClosed, OutOfTurn, Lost, Broken}
 use Rattle.adb_history.specs.Links.{close_packet, okay_packet, credit_word, owe_link, is_connected}
 use Rattle.adb_history.specs.Clients.{owe_client}
 use Rattle.adb_history.specs.Streams.{ends_row, ends_telling}
@@ -92,17 +93,17 @@ module _ (b : Line) (v : View) where
 
       shows_write : (remote : ℕ) (payload : List ℕ) → After (Shows b v) w (takes_write k remote payload x s)
       shows_write remote payload =
-          let late : Made = ends_telling k out_of_turn x s in
+          let late : Made = ends_telling k OutOfTurn x s in
           let taken : Made = accepts k payload x s in
           after_if (Shows b v) w (eqb remote 0 || not (eqb remote x.part.remote)) (quietly s) (cond (is_out_of_turn x.part.flow (length payload)) late taken)
           (λ e. after_quietly (Shows b v) w s h)
-          (λ e. after_if (Shows b v) w (is_out_of_turn x.part.flow (length payload)) late taken (λ f. shows_ends_telling b v s w h k out_of_turn x is other)
+          (λ e. after_if (Shows b v) w (is_out_of_turn x.part.flow (length payload)) late taken (λ f. shows_ends_telling b v s w h k OutOfTurn x is other)
           (λ f. shows_accepts payload))
 
       shows_close : (remote : ℕ) → After (Shows b v) w (takes_close k remote x s)
       shows_close remote =
-          after_if (Shows b v) w (eqb remote 0 || eqb remote x.part.remote) (ends_row k peer_closed x s) (quietly s)
-          (λ e. shows_ends b v s w h k peer_closed x is other) (λ e. after_quietly (Shows b v) w s h)
+          after_if (Shows b v) w (eqb remote 0 || eqb remote x.part.remote) (ends_row k PeerClosed x s) (quietly s)
+          (λ e. shows_ends b v s w h k PeerClosed x is other) (λ e. after_quietly (Shows b v) w s h)
 
   -- ---- packets that are of no stream
   module _ (s : State) (w : List Event) (h : Shows b v s w) where
@@ -145,22 +146,22 @@ module _ (b : Line) (v : View) where
   module _ (t : ℕ) (apart : IsElsewhere b v t) where
     shows_connects : (version maxdata : ℕ) (who : Option Identity) (s : State) (w : List Event) → Shows b v s w
         → After (Shows b v) w (connects t version maxdata who s)
-    shows_connects version maxdata None s w h = shows_link_ends b v t apart broken s w h
+    shows_connects version maxdata None s w h = shows_link_ends b v t apart Broken s w h
     shows_connects version maxdata (Some identity) s w h =
         let first : Made = streams_end_first (is_connected t s.devices) t s in
         after_then (Shows b v) w first (λ s. quietly (goes_online t version maxdata identity s)) (by (is_connected t s.devices))
         (λ u now. after_quietly (Shows b v) u (goes_online t version maxdata identity first.state) (shows_online first.state u now t version maxdata identity))
       where
         by : (c : Bool) → After (Shows b v) w (streams_end_first c t s)
-        by true = shows_all_end b v t apart lost s w h
+        by true = shows_all_end b v t apart Lost s w h
         by false = after_quietly (Shows b v) w s h
 
     module _ (s : State) (w : List Event) (h : Shows b v s w) where
       shows_cnxn : (version maxdata : ℕ) (banner : List ℕ) → After (Shows b v) w (cnxn t version maxdata banner s)
       shows_cnxn version maxdata banner =
-          after_if (Shows b v) w (nat_lt version least_version || nat_lt maxdata least_maxdata) (link_ends t broken s)
+          after_if (Shows b v) w (nat_lt version least_version || nat_lt maxdata least_maxdata) (link_ends t Broken s)
           (connects t version maxdata (identity_of banner) s)
-          (λ e. shows_link_ends b v t apart broken s w h) (λ e. shows_connects version maxdata (identity_of banner) s w h)
+          (λ e. shows_link_ends b v t apart Broken s w h) (λ e. shows_connects version maxdata (identity_of banner) s w h)
 
       shows_if_connected : (command : Command) (p : Packet) → After (Shows b v) w (cond (is_connected t s.devices) (treat_open t command p s) (quietly s))
       shows_if_connected command p =
@@ -184,4 +185,4 @@ module _ (b : Line) (v : View) where
       pub shows_faulty : (o : Option Link) (fault : Option PacketFault) → After (Shows b v) w (faulty_on o t fault s)
       shows_faulty None fault = after_quietly (Shows b v) w s h
       shows_faulty (Some link) None = after_quietly (Shows b v) w s h
-      shows_faulty (Some link) (Some fault) = shows_link_ends b v t apart broken s w h
+      shows_faulty (Some link) (Some fault) = shows_link_ends b v t apart Broken s w h

@@ -13,7 +13,9 @@ use Rattle.adb_reply.specs.Strings.{failed}
 use Rattle.adb_reply.specs.declared.answer.Next.{Next}
 use Rattle.adb_reply.specs.declared.answer.Next.TheVariants as what
 use Rattle.adb_history.specs.Rows.{Client, State, to_client, to_stream, none_kept, in_phase, with_stream_part}
-use Rattle.adb_history.specs.Events.{Made, Event, Ending, quietly, then_also, ended, client_failed}
+use Rattle.adb_history.specs.Events.{Made, Event, quietly, then_also, ended}
+use Rattle.adb_history.specs.declared.ending.Ending.{Ending}
+use Rattle.adb_history.specs.declared.ending.Ending.TheVariants.{ClientFailed}
 use Rattle.adb_history.specs.Links.{owe_link, open_packet, close_packet, is_credit}
 use Rattle.adb_history.specs.Clients.{owe_client, closes, closes_with, closing}
 use Rattle.adb_history.specs.Streams.{stream_ids, draw, asks_for, no_ids_left, opens, loses, client_loses, tells_end, ends_row, ends_telling, ends_if_of}
@@ -178,13 +180,13 @@ module _ (b : Line) (v : View) where
         let l_other : l ≢ b.id = apart l (inr refl) (λ e. cc) in
         let gone : State = to_stream l none_kept s in
         let owed : Made = owe_link x.link (close_packet l x.part.remote) gone in
-        after_then (Shows b v) w owed (λ s. record { state = s; told = ended l (client_failed cause) ∷ [] })
+        after_then (Shows b v) w owed (λ s. record { state = s; told = ended l (ClientFailed cause) ∷ [] })
         (shows_owe_link b v x.link (close_packet l x.part.remote) gone w refl (shows_stream b v l none_kept s w l_other none_keeps h))
-        (λ u now. shows_told b v (ended l (client_failed cause)) owed.state u (quiet_ended b l (client_failed cause) l_other) now)
+        (λ u now. shows_told b v (ended l (ClientFailed cause)) owed.state u (quiet_ended b l (ClientFailed cause) l_other) now)
     shows_stream_fails (Opening l) cause (Some x) apart =
         let l_other : l ≢ b.id = apart l (inl refl) (λ e. cc) in
         let left : State = to_stream l (with_stream_part (orphaned x.part)) s in
-        shows_told b v (ended l (client_failed cause)) left w (quiet_ended b l (client_failed cause) l_other)
+        shows_told b v (ended l (ClientFailed cause)) left w (quiet_ended b l (ClientFailed cause) l_other)
         (shows_stream b v l (with_stream_part (orphaned x.part)) s w l_other (part_keeps (orphaned x.part)) h)
     shows_stream_fails _ cause _ apart = after_quietly (Shows b v) w s h
 

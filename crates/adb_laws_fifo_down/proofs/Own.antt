@@ -10,7 +10,8 @@ use Rattle.adb_client.specs.declared.phase.Phase.{Phase}
 use Rattle.adb_client.specs.declared.phase.Phase.TheVariants.{Opening, Streaming}
 use Rattle.adb_reply.specs.Strings.{failed}
 use Rattle.adb_history.specs.Rows.{Client, State, to_client, to_stream, none_kept, with_due, with_stream_part}
-use Rattle.adb_history.specs.Events.{Made, Event, Ending, due_to_client, ended}
+use Rattle.adb_history.specs.Events.{Made, Event, due_to_client, ended}
+use Rattle.adb_history.specs.declared.ending.Ending.{Ending}
 use Rattle.adb_history.specs.Clients.{owe_client, closes, closes_with, closing, closing_with}
 use Rattle.adb_history.specs.Streams.{loses, client_loses, tells_end, ends_row}
 use Rattle.adb_history.specs.Moves.{After}

@@ -17,7 +17,9 @@ use Rattle.adb_stream.specs.declared.row.Part.{Part}
 use Rattle.adb_stream.specs.Flow.{first_credit, acknowledged, is_out_of_turn, accepted}
 use Rattle.adb_client.specs.declared.phase.Phase.TheVariants.{Streaming}
 use Rattle.adb_history.specs.Rows.{Client, Link, State, to_client, to_stream, none_kept, in_phase, with_due, with_stream_part}
-use Rattle.adb_history.specs.Events.{Made, Event, Ending, quietly, then_also, due_to_link, peer_closed, out_of_turn, lost, broken}
+use Rattle.adb_history.specs.Events.{Made, Event, quietly, then_also, due_to_link}
+use Rattle.adb_history.specs.declared.ending.Ending.{Ending}
+use Rattle.adb_history.specs.declared.ending.Ending.TheVariants.{PeerClosed, OutOfTurn, Lost, Broken}
 use Rattle.adb_history.specs.Links.{close_packet, okay_packet, credit_word, owe_link, is_connected, check_on, wants_sums}
 use Rattle.adb_history.specs.Clients.{owe_client}
 use Rattle.adb_history.specs.Streams.{ends_row, ends_telling, ends_if_of, ends_of, all_end}
@@ -208,22 +210,22 @@ module _ (b : Line) where
 
     own_takes_write : (remote : ℕ) (payload : List ℕ) → After (Shows b (after_write b.id remote payload (seen x) v)) w (takes_write b.id remote payload x s)
     own_takes_write remote payload =
-        let late : Made = ends_telling b.id out_of_turn x s in
+        let late : Made = ends_telling b.id OutOfTurn x s in
         let taken : Made = accepts b.id payload x s in
-        let ends : View = over x.part.orphan out_of_turn v in
+        let ends : View = over x.part.orphan OutOfTurn v in
         let goes : View = accepts_as b.id payload (seen x) v in
         shows_if w (eqb remote 0 || not (eqb remote x.part.remote)) v (cond (is_late (seen x) (length payload)) ends goes) (quietly s)
         (cond (is_out_of_turn x.part.flow (length payload)) late taken)
         (λ e. after_quietly (Shows b v) w s h)
         (λ e. subst (λ (c : Bool). After (Shows b (cond c ends goes)) w (cond (is_out_of_turn x.part.flow (length payload)) late taken))
         (late_is (length payload) x.part.flow)
-        (shows_if w (is_out_of_turn x.part.flow (length payload)) ends goes late taken (λ f. own_ends_telling out_of_turn) (λ f. own_accepts payload)))
+        (shows_if w (is_out_of_turn x.part.flow (length payload)) ends goes late taken (λ f. own_ends_telling OutOfTurn) (λ f. own_accepts payload)))
 
     -- ---- CLSE
     own_takes_close : (remote : ℕ) → After (Shows b (after_close remote (seen x) v)) w (takes_close b.id remote x s)
     own_takes_close remote =
-        shows_if w (eqb remote 0 || eqb remote x.part.remote) (over x.part.orphan peer_closed v) v (ends_row b.id peer_closed x s) (quietly s)
-        (λ e. own_ends b v peer_closed x s w there h) (λ e. after_quietly (Shows b v) w s h)
+        shows_if w (eqb remote 0 || eqb remote x.part.remote) (over x.part.orphan PeerClosed v) v (ends_row b.id PeerClosed x s) (quietly s)
+        (λ e. own_ends b v PeerClosed x s w there h) (λ e. after_quietly (Shows b v) w s h)
 
   -- ---- the streams of its link end
   -- the row that is seen
@@ -294,21 +296,21 @@ module _ (b : Line) where
   module _ (v : View) (x : SeenStream) (there : v.stream ≡ Some x) (real : IsReal b) (s : State) (w : List Event) (up : IsUp s) (h : Shows b v s w) where
     own_connects : (version maxdata : ℕ) (who : Option Identity) → After (Shows b (over x.orphan (ending_by false who) v)) w
         (connects b.link version maxdata who s)
-    own_connects version maxdata None = own_link_ends v x there broken s w real h
+    own_connects version maxdata None = own_link_ends v x there Broken s w real h
     own_connects version maxdata (Some identity) =
-        subst (λ (c : Bool). After (Shows b (over x.orphan lost v)) w (then_also (streams_end_first c b.link s)
+        subst (λ (c : Bool). After (Shows b (over x.orphan Lost v)) w (then_also (streams_end_first c b.link s)
         (λ s. quietly (goes_online b.link version maxdata identity s)))) (sym up.connected)
-        (after_then (Shows b (over x.orphan lost v)) w (all_end b.link lost s) (λ s. quietly (goes_online b.link version maxdata identity s))
-        (own_all_end v x there lost s w real h)
-        (λ u now. after_quietly (Shows b (over x.orphan lost v)) u (goes_online b.link version maxdata identity (all_end b.link lost s).state)
-        (shows_online b (over x.orphan lost v) (all_end b.link lost s).state u now b.link version maxdata identity)))
+        (after_then (Shows b (over x.orphan Lost v)) w (all_end b.link Lost s) (λ s. quietly (goes_online b.link version maxdata identity s))
+        (own_all_end v x there Lost s w real h)
+        (λ u now. after_quietly (Shows b (over x.orphan Lost v)) u (goes_online b.link version maxdata identity (all_end b.link Lost s).state)
+        (shows_online b (over x.orphan Lost v) (all_end b.link Lost s).state u now b.link version maxdata identity)))
 
     own_cnxn : (p : Packet) → After (Shows b (over x.orphan (cnxn_ending p) v)) w (cnxn b.link p.arg0 p.arg1 p.payload s)
     own_cnxn p = by (nat_lt p.arg0 least_version || nat_lt p.arg1 least_maxdata)
       where
         by : (c : Bool) → After (Shows b (over x.orphan (ending_by c (identity_of p.payload)) v)) w
-            (cond c (link_ends b.link broken s) (connects b.link p.arg0 p.arg1 (identity_of p.payload) s))
-        by true = own_link_ends v x there broken s w real h
+            (cond c (link_ends b.link Broken s) (connects b.link p.arg0 p.arg1 (identity_of p.payload) s))
+        by true = own_link_ends v x there Broken s w real h
         by false = own_connects p.arg0 p.arg1 (identity_of p.payload)
 
     -- ---- one packet

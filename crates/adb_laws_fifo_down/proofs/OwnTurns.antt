@@ -11,7 +11,9 @@ use Rattle.adb_stream.specs.declared.row.Stream.{Stream}
 use Rattle.adb_client.specs.declared.phase.Phase.{Phase}
 use Rattle.adb_client.specs.declared.phase.Phase.TheVariants.{Opening, Streaming, Closing}
 use Rattle.adb_history.specs.Rows.{Client, State, to_client, to_stream, none_kept, with_held, with_stream_part}
-use Rattle.adb_history.specs.Events.{Made, Event, Ending, ended, client_failed, stopped, owed_to, packets_to, ending_in}
+use Rattle.adb_history.specs.Events.{Made, Event, ended, owed_to, packets_to, ending_in}
+use Rattle.adb_history.specs.declared.ending.Ending.{Ending}
+use Rattle.adb_history.specs.declared.ending.Ending.TheVariants.{ClientFailed, Stopped}
 use Rattle.adb_history.specs.Links.{owe_link, close_packet}
 use Rattle.adb_history.specs.Clients.{closing}
 use Rattle.adb_history.specs.Losing.{orphaned, stream_fails, stream_of, client_fails, input_ends, tells_stop, all_stop, only_client, stops}
@@ -65,45 +67,45 @@ module _ (b : Line) (v : View) where
     gone_shows = own_client b v none_kept a s w is h
 
     open_fails : (o : Option Stream) → s.streams b.id ≡ o
-        → After (Shows b (row_fails (Streaming b.id) (client_failed cause) (option_map seen o) v)) w (stream_fails (Streaming b.id) cause o gone)
+        → After (Shows b (row_fails (Streaming b.id) (ClientFailed cause) (option_map seen o) v)) w (stream_fails (Streaming b.id) cause o gone)
     open_fails None there = after_quietly (Shows b (with_client None v)) w gone gone_shows
     open_fails (Some x) there =
         let none : View = with_stream None (with_client None v) in
         let left : State = to_stream b.id none_kept gone in
         let owed : Made = owe_link x.link (close_packet b.id x.part.remote) left in
-        after_next (Shows b none) (Shows b (row_fails (Streaming b.id) (client_failed cause) (Some (seen x)) v)) w owed
-        (λ s. record { state = s; told = ended b.id (client_failed cause) ∷ [] })
+        after_next (Shows b none) (Shows b (row_fails (Streaming b.id) (ClientFailed cause) (Some (seen x)) v)) w owed
+        (λ s. record { state = s; told = ended b.id (ClientFailed cause) ∷ [] })
         (shows_owe_link b none x.link (close_packet b.id x.part.remote) left w refl (own_stream b (with_client None v)
         none_kept x gone w there none_keeps gone_shows))
-        (λ u now. own_told_end b none (client_failed cause) owed.state u now)
+        (λ u now. own_told_end b none (ClientFailed cause) owed.state u now)
 
     asked_fails : (o : Option Stream) → s.streams b.id ≡ o
-        → After (Shows b (row_fails (Opening b.id) (client_failed cause) (option_map seen o) v)) w (stream_fails (Opening b.id) cause o gone)
+        → After (Shows b (row_fails (Opening b.id) (ClientFailed cause) (option_map seen o) v)) w (stream_fails (Opening b.id) cause o gone)
     asked_fails None there = after_quietly (Shows b (with_client None v)) w gone gone_shows
     asked_fails (Some x) there =
         let left : State = to_stream b.id (with_stream_part (orphaned x.part)) gone in
         let u : View = with_stream (Some (seen (record x { part = orphaned x.part }))) (with_client None v) in
-        own_told_end b u (client_failed cause) left w (own_part b (with_client None v) (orphaned x.part) x gone w there gone_shows)
+        own_told_end b u (ClientFailed cause) left w (own_part b (with_client None v) (orphaned x.part) x gone w there gone_shows)
 
     by_phase : (phase : Phase) → IsInLine b.id phase
-        → After (Shows b (row_fails phase (client_failed cause) (option_map seen (s.streams b.id)) v)) w
+        → After (Shows b (row_fails phase (ClientFailed cause) (option_map seen (s.streams b.id)) v)) w
         (stream_fails phase cause (stream_of phase s.streams) gone)
     by_phase (Streaming l) same =
-        subst (λ (k : ℕ). After (Shows b (row_fails (Streaming k) (client_failed cause) (option_map seen (s.streams b.id)) v)) w
+        subst (λ (k : ℕ). After (Shows b (row_fails (Streaming k) (ClientFailed cause) (option_map seen (s.streams b.id)) v)) w
         (stream_fails (Streaming k) cause (s.streams k) gone)) (sym same) (open_fails (s.streams b.id) refl)
     by_phase (Opening l) same =
-        subst (λ (k : ℕ). After (Shows b (row_fails (Opening k) (client_failed cause) (option_map seen (s.streams b.id)) v)) w
+        subst (λ (k : ℕ). After (Shows b (row_fails (Opening k) (ClientFailed cause) (option_map seen (s.streams b.id)) v)) w
         (stream_fails (Opening k) cause (s.streams k) gone)) (sym same) (asked_fails (s.streams b.id) refl)
     by_phase Closing i = after_quietly (Shows b (with_client None v)) w gone gone_shows
     by_phase _ i = absurd i
 
     pub own_fails : IsInLine b.id a.about.phase → After (Shows b (failed_by cause (seen_client a) v)) w (client_fails b.client cause a s)
     own_fails in_line =
-        subst (λ (o : Option SeenStream). After (Shows b (row_fails a.about.phase (client_failed cause) o v)) w (client_fails b.client cause a s))
+        subst (λ (o : Option SeenStream). After (Shows b (row_fails a.about.phase (ClientFailed cause) o v)) w (client_fails b.client cause a s))
         (ap (λ (u : View). u.stream) h.1) (by_phase a.about.phase in_line)
 
   -- ---- the server stops
-  -- what is told then is that streams stopped
+  -- what is told then is that streams Stopped
   record TellsStops (events : List Event) : Type 0 where
     bytes : owed_to b.client events ≡ []
     packets : packets_to b.link events ≡ []
@@ -113,11 +115,11 @@ module _ (b : Line) (v : View) where
   one_stop k None = record { bytes = refl; packets = refl; ending = inl refl }
   one_stop k (Some x) = by x.part.orphan
     where
-      told : (here : Bool) → IsStop (cond here (Some stopped) None)
+      told : (here : Bool) → IsStop (cond here (Some Stopped) None)
       told true = inr refl
       told false = inl refl
 
-      by : (c : Bool) → TellsStops (cond c [] (ended k stopped ∷ []))
+      by : (c : Bool) → TellsStops (cond c [] (ended k Stopped ∷ []))
       by true = record { bytes = refl; packets = refl; ending = inl refl }
       by false = record { bytes = refl; packets = refl; ending = told (eqb k b.id) }
 

@@ -11,7 +11,9 @@ use Rattle.adb_wire.specs.declared.format.PacketFault.{PacketFault}
 use Rattle.adb_wire.specs.declared.format.PacketFormat.{PacketFormat}
 use Rattle.adb_stream.specs.declared.row.Stream.{Stream}
 use Rattle.adb_history.specs.Rows.{Client, Link, State, to_link}
-use Rattle.adb_history.specs.Events.{Made, Event, Ending, quietly, client_closed, lost, broken}
+use Rattle.adb_history.specs.Events.{Made, Event, quietly}
+use Rattle.adb_history.specs.declared.ending.Ending.{Ending}
+use Rattle.adb_history.specs.declared.ending.Ending.TheVariants.{ClientClosed, Lost, Broken}
 use Rattle.adb_history.specs.Links.{is_connected}
 use Rattle.adb_history.specs.Losing.{link_ends, input_ends, client_ends}
 use Rattle.adb_history.specs.Packets.{treat, treat_all, faulty, faulty_on, with_rest, receives_cut}
@@ -47,7 +49,7 @@ module _ {b : Line} {P : Promise} (k : Turns b P) where
       by : After (Upped b h.seen) w (ups s) → After (Holds b P packets shut out) w (ups s)
       by (inl now) = record { seen = h.seen; shows = now; keeps = h.keeps }
       by (inr (y, now)) =
-          record { seen = over y.row.orphan client_closed h.seen; shows = now; keeps = k.closes packets shut out h.seen y h.keeps }
+          record { seen = over y.row.orphan ClientClosed h.seen; shows = now; keeps = k.closes packets shut out h.seen y h.keeps }
 
   -- ---- its link
   module _ (real : IsReal b) where
@@ -82,8 +84,8 @@ module _ {b : Line} {P : Promise} (k : Turns b P) where
         (holds_treat packets out p s w linked h)
         (λ u now. holds_treat_all given (packets ++ p ∷ []) out first.state u (treat_on_kept (serves linked_moves) s w linked (s.links b.link) b.link p) now))
 
-    -- it is lost, or broken
-    holds_lost : (packets : List Packet) (shut : Bool) (out : List ℕ) (ending : Ending) (s : State) (w : List Event) → (ending ≡ lost) ⊎ (ending ≡ broken)
+    -- it is Lost, or Broken
+    holds_lost : (packets : List Packet) (shut : Bool) (out : List ℕ) (ending : Ending) (s : State) (w : List Event) → (ending ≡ Lost) ⊎ (ending ≡ Broken)
         → Holds b P packets shut out s w → After (Holds b P packets true out) w (link_ends b.link ending s)
     holds_lost packets shut out ending s w which h = by h.seen.stream refl
       where
@@ -102,7 +104,7 @@ module _ {b : Line} {P : Promise} (k : Turns b P) where
     holds_faulty packets out None (Some fault) s w h =
         after_quietly (Holds b P packets true out) w s
         (record { seen = h.seen; shows = h.shows; keeps = k.shuts packets false out h.seen h.keeps })
-    holds_faulty packets out (Some link) (Some fault) s w h = holds_lost packets false out broken s w (inr refl) h
+    holds_faulty packets out (Some link) (Some fault) s w h = holds_lost packets false out Broken s w (inr refl) h
 
     -- the bytes of its link
     pub holds_cut : (packets : List Packet) (out : List ℕ) (c : Cut PacketFormat Packet PacketFault) (s : State) (w : List Event) → IsLinked s
@@ -120,7 +122,7 @@ module _ {b : Line} {P : Promise} (k : Turns b P) where
     holds_unplugs packets shut out None s w h =
         after_quietly (Holds b P packets true out) w s
         (record { seen = h.seen; shows = h.shows; keeps = k.shuts packets shut out h.seen h.keeps })
-    holds_unplugs packets shut out (Some link) s w h = holds_lost packets shut out lost s w (inl refl) h
+    holds_unplugs packets shut out (Some link) s w h = holds_lost packets shut out Lost s w (inl refl) h
 
   -- packets that come while the stream is gone
   pub more_packets : (more packets : List Packet) (out : List ℕ) (v : View) → v.stream ≡ None → P packets false out v → P (packets ++ more) false out v

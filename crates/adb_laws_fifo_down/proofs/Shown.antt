@@ -11,7 +11,8 @@ use Rattle.adb_stream.specs.declared.row.Stream.{Stream}
 use Rattle.adb_client.specs.declared.phase.Phase.{Phase}
 use Rattle.adb_client.specs.declared.phase.Phase.TheVariants.{Asking}
 use Rattle.adb_history.specs.Rows.{Client, State, to_client, to_stream, with_due}
-use Rattle.adb_history.specs.Events.{Event, Ending, due_to_client, due_to_link, ended, bytes_for, owed_to, packets_to, ending_in}
+use Rattle.adb_history.specs.Events.{Event, due_to_client, due_to_link, ended, bytes_for, owed_to, packets_to, ending_in}
+use Rattle.adb_history.specs.declared.ending.Ending.{Ending}
 use Rattle.adb_history.specs.Links.{owe_link}
 use Rattle.adb_history.specs.Clients.{owe_client}
 use Rattle.adb_history.specs.Streams.{draw}

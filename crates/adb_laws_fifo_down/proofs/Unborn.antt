@@ -13,7 +13,9 @@ use Rattle.adb_reply.specs.declared.answer.Next.TheVariants as what
 use Rattle.adb_capture.specs.declared.entry.Entry.{Entry}
 use Rattle.adb_capture.specs.declared.entry.Entry.TheVariants.{Join, Enter, Read, End, Bound, Attach, Recv, Detach, Put, Send}
 use Rattle.adb_history.specs.Rows.{Client, State, to_client}
-use Rattle.adb_history.specs.Events.{Made, Event, Ending, quietly, ended, stopped, ending_in}
+use Rattle.adb_history.specs.Events.{Made, Event, quietly, ended, ending_in}
+use Rattle.adb_history.specs.declared.ending.Ending.{Ending}
+use Rattle.adb_history.specs.declared.ending.Ending.TheVariants.{Stopped}
 use Rattle.adb_history.specs.Clients.{owe_client}
 use Rattle.adb_history.specs.Streams.{stream_ids, no_ids_left, asks_for, opens}
 use Rattle.adb_history.specs.Asking.{Asked, asks_with}
@@ -83,9 +85,9 @@ stop_none l (suc n) streams lt =
     ∙ (ap (λ (o : Option Ending). first_of o (ending_in l (tells_stop (suc n) (streams (suc n))))) (stop_none l n streams (omega (arith, lt)))
     ∙ one (streams (suc n)))
   where
-    told : (c : Bool) → ending_in l (cond c [] (ended (suc n) stopped ∷ [])) ≡ None
+    told : (c : Bool) → ending_in l (cond c [] (ended (suc n) Stopped ∷ [])) ≡ None
     told true = refl
-    told false = ap (λ (b : Bool). cond b (Some stopped) None) (ne_eqb (suc n) l (λ e. omega (arith, lt, e)))
+    told false = ap (λ (b : Bool). cond b (Some Stopped) None) (ne_eqb (suc n) l (λ e. omega (arith, lt, e)))
 
     one : (o : Option Stream) → ending_in l (tells_stop (suc n) o) ≡ None
     one None = refl

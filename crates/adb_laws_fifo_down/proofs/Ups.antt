@@ -10,7 +10,9 @@ use Rattle.adb_stream.specs.Flow.{wrote}
 use Rattle.adb_client.specs.declared.phase.Phase.{Phase}
 use Rattle.adb_client.specs.declared.phase.Phase.TheVariants.{Streaming}
 use Rattle.adb_history.specs.Rows.{Client, State, to_stream, with_stream_part}
-use Rattle.adb_history.specs.Events.{Made, Event, Ending, quietly, client_closed}
+use Rattle.adb_history.specs.Events.{Made, Event, quietly}
+use Rattle.adb_history.specs.declared.ending.Ending.{Ending}
+use Rattle.adb_history.specs.declared.ending.Ending.TheVariants.{ClientClosed}
 use Rattle.adb_history.specs.Links.{write_packet, maxdata_of}
 use Rattle.adb_history.specs.Flow.{payloads, total, with_flow, goes_up, all_go_up, flow_after, noted, is_over, closes_if, sends_up, is_streaming}
 use Rattle.adb_history.specs.Flow.{up_client, up_stream}
@@ -59,7 +61,7 @@ module _ (b : Line) where
         → After (Shows b v) w (closes_if c k o s)
     shows_closes_if c k None s w other is h = after_quietly (Shows b v) w s h
     shows_closes_if false k (Some x) s w other is h = after_quietly (Shows b v) w s h
-    shows_closes_if true k (Some x) s w other is h = shows_ends_telling b v s w h k client_closed x is other
+    shows_closes_if true k (Some x) s w other is h = shows_ends_telling b v s w h k ClientClosed x is other
 
     -- ---- another stream
     shows_sends_up : (k : ℕ) (x : Stream) (a : Client) (payloads : List (List ℕ)) (s : State) (w : List Event) → k ≢ b.id → Shows b v s w
@@ -88,7 +90,7 @@ module _ (b : Line) where
   module _ (v : View) where
     -- it stays, or is closed for its client
     abbrev pub Upped : State → List Event → Type 0
-    Upped s w = Shows b v s w ⊎ ((y : IsOpenIn b v) × Shows b (over y.row.orphan client_closed v) s w)
+    Upped s w = Shows b v s w ⊎ ((y : IsOpenIn b v) × Shows b (over y.row.orphan ClientClosed v) s w)
 
     -- ---- its own stream
     own_closes_if : (y : IsOpenIn b v) (c : Bool) (o : Option Stream) (s : State) (w : List Event) → s.streams b.id ≡ o → Shows b v s w
@@ -99,8 +101,8 @@ module _ (b : Line) where
         let row : y.row ≡ seen x = let same : Some y.row ≡ Some (seen x) = sym y.stream ∙ stream_seen b v s w (Some x) h is in cc in
         inr (
           y,
-          subst (λ (z : SeenStream). After (Shows b (over z.orphan client_closed v)) w (closes_if true b.id (Some x) s)) (sym row)
-              (own_ends_telling b v x s w is h client_closed),
+          subst (λ (z : SeenStream). After (Shows b (over z.orphan ClientClosed v)) w (closes_if true b.id (Some x) s)) (sym row)
+              (own_ends_telling b v x s w is h ClientClosed),
         )
 
     own_sends_up : (x : Stream) (a : Client) (payloads : List (List ℕ)) (s : State) (w : List Event) → IsOpenIn b v → s.streams b.id ≡ Some x → Shows b v s w
@@ -146,9 +148,9 @@ module _ (b : Line) where
     up_one k s w (inl h) (inl same) = subst (λ (n : ℕ). After Upped w (up n s)) (sym same) (own_up (s.streams b.id) s w refl h)
     up_one k s w (inl h) (inr other) = inl (shows_up v k (s.streams k) s w other h)
     up_one k s w (inr (y, h)) (inl same) =
-        let u : View = over y.row.orphan client_closed v in
-        inr (y, subst (λ (n : ℕ). After (Shows b u) w (up n s)) (sym same) (gone_up u (s.streams b.id) s w (over_gone y.row.orphan client_closed v) refl h))
-    up_one k s w (inr (y, h)) (inr other) = inr (y, shows_up (over y.row.orphan client_closed v) k (s.streams k) s w other h)
+        let u : View = over y.row.orphan ClientClosed v in
+        inr (y, subst (λ (n : ℕ). After (Shows b u) w (up n s)) (sym same) (gone_up u (s.streams b.id) s w (over_gone y.row.orphan ClientClosed v) refl h))
+    up_one k s w (inr (y, h)) (inr other) = inr (y, shows_up (over y.row.orphan ClientClosed v) k (s.streams k) s w other h)
 
     pub shows_ups : (n : ℕ) (s : State) (w : List Event) → Shows b v s w → After Upped w (up_all n s)
     shows_ups zero s w h = after_quietly Upped w s (inl h)

@@ -7,7 +7,8 @@ use Rattle.adb_outside.specs.declared.kinds.Cause.{Cause}
 use Rattle.adb_wire.specs.declared.packets.Packet.{Packet}
 use Rattle.adb_client.specs.declared.phase.Phase.{Phase}
 use Rattle.adb_client.specs.declared.phase.Phase.TheVariants.{Opening, Streaming, Closing}
-use Rattle.adb_history.specs.Events.{Ending, client_failed}
+use Rattle.adb_history.specs.declared.ending.Ending.{Ending}
+use Rattle.adb_history.specs.declared.ending.Ending.TheVariants.{ClientFailed}
 use Rattle.adb_history.specs.Births as birth
 use Rattle.adb_history.specs.Births.{opening_in, told_in, joined}
 use Rattle.adb_laws_fifo_down.specs.Line.{Line, SeenStream, SeenClient, View, over}
@@ -69,9 +70,9 @@ module _ (l : ℕ) (k : Cradle) where
     window_fails cause life = record {
       life = life;
       backed = subst (λ (ps : List Packet). IsBacked (opening_in l packets) l k.credit ps (handed_past k out))
-          (sym (fails_okays a.phase (client_failed cause) v.stream)) w.backed;
+          (sym (fails_okays a.phase (ClientFailed cause) v.stream)) w.backed;
       flow = subst (λ (ps : List Packet). FlowIn (failed_by cause a v).stream l k packets ps (handed_past k out))
-          (sym (fails_okays a.phase (client_failed cause) v.stream)) (fails_flow a.phase (client_failed cause) v.stream refl refl);
+          (sym (fails_okays a.phase (ClientFailed cause) v.stream)) (fails_flow a.phase (ClientFailed cause) v.stream refl refl);
     }
 
   -- ---- bytes are handed out to its client

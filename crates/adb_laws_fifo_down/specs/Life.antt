@@ -3,7 +3,8 @@ use Rattle.std.specs.Prelude.{ℕ, ◌≡◌, ◌≢◌, ◌⊎◌, Bool, true, 
 use Rattle.adb_outside.specs.Bytes.{IsPrefixOf}
 use Rattle.adb_wire.specs.declared.packets.Packet.{Packet}
 use Rattle.adb_client.specs.declared.phase.Phase.TheVariants.{Opening, Streaming, Closing}
-use Rattle.adb_history.specs.Events.{Ending, peer_closed}
+use Rattle.adb_history.specs.declared.ending.Ending.{Ending}
+use Rattle.adb_history.specs.declared.ending.Ending.TheVariants.{PeerClosed}
 use Rattle.adb_history.specs.Births as birth
 use Rattle.adb_history.specs.Births.{opening_in, told_in, before_close, joined}
 use Rattle.adb_laws_fifo_down.specs.Line.{SeenStream, SeenClient, View, fail_bytes}
@@ -42,7 +43,7 @@ unopened_output false replies = replies ++ fail_bytes
 
 -- its device did not close it
 abbrev pub IsNotByPeer : Option Ending → Type 0
-IsNotByPeer ending = ending ≢ Some peer_closed
+IsNotByPeer ending = ending ≢ Some PeerClosed
 
 -- what is seen of its client, and of its end
 pub record Heard : Type 0 where
@@ -96,7 +97,7 @@ pub record WasOpen (l : ℕ) (k : Cradle) (packets : List Packet) (output : List
   pub bytes : List ℕ
   pub output_is : output ≡ lead k ++ bytes
   pub front : IsPrefixOf bytes (joined (told_in opening.remote l opening.later))
-  pub closed : ending ≡ Some peer_closed → IsClosedAt l opening bytes
+  pub closed : ending ≡ Some PeerClosed → IsClosedAt l opening bytes
 
 -- a client that is there is closing
 abbrev pub IsDone : Option SeenClient → Type 0

@@ -10,7 +10,8 @@ use Rattle.adb_client.specs.declared.phase.Phase.TheVariants.{Opening, Streaming
 use Rattle.adb_reply.specs.Strings.{failed}
 use Rattle.adb_outside.specs.Tables.{Rows}
 use Rattle.adb_history.specs.Rows.{Client, State}
-use Rattle.adb_history.specs.Events.{Event, Ending, bytes_for, owed_to, packets_to, ending_in}
+use Rattle.adb_history.specs.Events.{Event, bytes_for, owed_to, packets_to, ending_in}
+use Rattle.adb_history.specs.declared.ending.Ending.{Ending}
 use Rattle.adb_history.specs.Fifo.{okays_of}
 
 -- The stream that is spoken of: its id, its client and its link; and how many streams are drawn by then, at least.

@@ -7,7 +7,8 @@ use Rattle.adb_wire.specs.declared.command.Command.{Command}
 use Rattle.adb_wire.specs.declared.command.Command.TheVariants.{Cnxn, Open, Okay, Wrte, Clse, Auth, Stls}
 use Rattle.adb_wire.specs.declared.packets.Packet.{Packet}
 use Rattle.adb_client.specs.declared.phase.Phase.TheVariants.{Streaming}
-use Rattle.adb_history.specs.Events.{Ending, peer_closed, out_of_turn, lost, broken}
+use Rattle.adb_history.specs.declared.ending.Ending.{Ending}
+use Rattle.adb_history.specs.declared.ending.Ending.TheVariants.{PeerClosed, OutOfTurn, Lost, Broken}
 use Rattle.adb_history.specs.Links.{okay_packet}
 use Rattle.adb_history.specs.Packets.{least_version, least_maxdata}
 use Rattle.adb_laws_fifo_down.specs.Line.{Line, SeenStream, SeenClient, View, over}
@@ -57,18 +58,18 @@ accepts_as l (b ∷ payload) x v = record v {
 abbrev pub after_write : (l remote : ℕ) → List ℕ → SeenStream → View → View
 after_write l remote payload x v =
     if remote == 0 || not (remote == x.remote) then v
-    else (if is_late x (length payload) then over x.orphan out_of_turn v else accepts_as l payload x v)
+    else (if is_late x (length payload) then over x.orphan OutOfTurn v else accepts_as l payload x v)
 
 -- ---- CLSE
 abbrev pub after_close : ℕ → SeenStream → View → View
-after_close remote x v = if remote == 0 || remote == x.remote then over x.orphan peer_closed v else v
+after_close remote x v = if remote == 0 || remote == x.remote then over x.orphan PeerClosed v else v
 
 -- ---- CNXN
 -- how the streams of a link end that says anew who it is
 abbrev pub ending_by : Bool → Option Identity → Ending
-ending_by true who = broken
-ending_by false None = broken
-ending_by false (Some identity) = lost
+ending_by true who = Broken
+ending_by false None = Broken
+ending_by false (Some identity) = Lost
 
 abbrev pub cnxn_ending : Packet → Ending
 cnxn_ending p = ending_by (nat_lt p.arg0 least_version || nat_lt p.arg1 least_maxdata) (identity_of p.payload)

@@ -6,7 +6,8 @@ use Rattle.adb_wire.specs.declared.packets.Packet.{Packet}
 use Rattle.adb_stream.specs.Credit.{given_back}
 use Rattle.adb_client.specs.declared.phase.Phase.{Phase}
 use Rattle.adb_client.specs.declared.phase.Phase.TheVariants.{Opening, Streaming, Closing}
-use Rattle.adb_history.specs.Events.{Ending, client_failed, stopped}
+use Rattle.adb_history.specs.declared.ending.Ending.{Ending}
+use Rattle.adb_history.specs.declared.ending.Ending.TheVariants.{ClientFailed, Stopped}
 use Rattle.adb_history.specs.Links.{okay_packet, credit_packet}
 use Rattle.adb_laws_fifo_down.specs.Line.{Line, SeenStream, SeenClient, View, first_of, closing_seen}
 
@@ -29,11 +30,11 @@ row_fails (Opening l) ending (Some x) v =
 row_fails _ ending o v = record v { client = None }
 
 abbrev pub failed_by : Cause → SeenClient → View → View
-failed_by cause a v = row_fails a.phase (client_failed cause) v.stream v
+failed_by cause a v = row_fails a.phase (ClientFailed cause) v.stream v
 
 -- ---- the server stops
 abbrev pub IsStop : Option Ending → Type 0
-IsStop ending = (ending ≡ None) ⊎ (ending ≡ Some stopped)
+IsStop ending = (ending ≡ None) ⊎ (ending ≡ Some Stopped)
 
 abbrev pub killed : Option Ending → View → View
 killed ending v = record v { stream = None; client = None; ending = first_of v.ending ending }

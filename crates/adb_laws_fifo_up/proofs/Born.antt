@@ -9,7 +9,9 @@ use Rattle.adb_client.specs.declared.phase.Phase.TheVariants.{Asking, Opening}
 use Rattle.adb_capture.specs.declared.entry.Entry.{Entry}
 use Rattle.adb_capture.specs.declared.entry.Entry.TheVariants.{Enter, Read}
 use Rattle.adb_history.specs.Rows.{Client, new_client, to_client}
-use Rattle.adb_history.specs.Events.{Ending, client_closed, ending_in}
+use Rattle.adb_history.specs.Events.{ending_in}
+use Rattle.adb_history.specs.declared.ending.Ending.{Ending}
+use Rattle.adb_history.specs.declared.ending.Ending.TheVariants.{ClientClosed}
 use Rattle.adb_history.specs.Asking.{Asked, asks_with}
 use Rattle.adb_history.specs.Reading.{comes, asked_before, has_asked}
 use Rattle.adb_history.specs.Machine.{History, state, told, told_at, May, IsLegal}
@@ -79,7 +81,7 @@ module _ (l c : ℕ) (rest : List ℕ) (older : History) (legal : IsLegal older)
       record {
         quiet = (un.silent above).carries;
         dry = un.dry above;
-        not_closed = λ e. (let clash : None ≡ Some client_closed = sym (un.silent above).lives ∙ e in cc);
+        not_closed = λ e. (let clash : None ≡ Some ClientClosed = sym (un.silent above).lives ∙ e in cc);
         none = λ _. un.none above;
         lives = λ _. (un.silent above).lives;
         unseen = λ _ n v see of. none n v see of;

@@ -8,7 +8,9 @@ use Rattle.adb_client.specs.declared.phase.Phase.TheVariants.{Asking, Opening, S
 use Rattle.adb_capture.specs.declared.entry.Entry.{Entry}
 use Rattle.adb_capture.specs.declared.entry.Entry.TheVariants.{Join, Enter, Read, Recv}
 use Rattle.adb_history.specs.Rows.{Client, State, new_client, to_client, with_held}
-use Rattle.adb_history.specs.Events.{Made, Event, Ending, client_closed, ending_in, quietly}
+use Rattle.adb_history.specs.Events.{Made, Event, ending_in, quietly}
+use Rattle.adb_history.specs.declared.ending.Ending.{Ending}
+use Rattle.adb_history.specs.declared.ending.Ending.TheVariants.{ClientClosed}
 use Rattle.adb_history.specs.Reading.{comes, comes_in_vain, reads_in, reads_from}
 use Rattle.adb_history.specs.Machine.{rule, ups, History, state, told, told_at, IsLegal}
 use Rattle.adb_history.specs.Bytes.{bytes_read}
@@ -98,7 +100,7 @@ module _ (l t c : ℕ) (rest : List ℕ) (s : State) (w : List Event) (h : Rises
     only = h.only;
     held = λ v see of. absurd (none v see of (s.clients c) refl);
     front = (h.front.0 ++ bytes, sym (append_assoc (carried t l w) h.front.0 bytes) ∙ ap (λ y. y ++ bytes) h.front.1);
-    whole = λ e. absurd (let clash : None ≡ Some client_closed = sym lives ∙ e in cc);
+    whole = λ e. absurd (let clash : None ≡ Some ClientClosed = sym lives ∙ e in cc);
   }
     where
       none : (v : Seen) → Sees (s.clients c) v → IsOf l v.phase → (o : Option Client) → s.clients c ≡ o → ⊥
@@ -115,7 +117,7 @@ module _ (l t c : ℕ) (rest : List ℕ) (s : State) (w : List Event) (h : Rises
     only = λ n v see of2. only n v see of2 (cases_eq c n);
     held = λ v see of2. (was.0, ap (λ y. carried t l w ++ y) (row v see) ∙ (sym (append_assoc (carried t l w) x.held bytes) ∙ ap (λ y. y ++ bytes) all));
     front = (h.front.0 ++ bytes, sym (append_assoc (carried t l w) h.front.0 bytes) ∙ ap (λ y. y ++ bytes) h.front.1);
-    whole = λ e. absurd (let clash : None ≡ Some client_closed = sym was.0 ∙ e in cc);
+    whole = λ e. absurd (let clash : None ≡ Some ClientClosed = sym was.0 ∙ e in cc);
   }
     where
       mine : (v : Seen) × Sees (s.clients c) v × IsOf l v.phase × (v.held ≡ x.held)

@@ -13,7 +13,8 @@ use Rattle.adb_client.specs.declared.phase.Phase.TheVariants.{Asking}
 use Rattle.adb_capture.specs.declared.entry.Entry.{Entry}
 use Rattle.adb_capture.specs.declared.entry.Entry.TheVariants.{Enter, Read, Recv}
 use Rattle.adb_history.specs.Rows.{Client, Link, State}
-use Rattle.adb_history.specs.Events.{Made, Event, client_closed, packets_to, spelled_to, ending_in}
+use Rattle.adb_history.specs.Events.{Made, Event, packets_to, spelled_to, ending_in}
+use Rattle.adb_history.specs.declared.ending.Ending.TheVariants.{ClientClosed}
 use Rattle.adb_history.specs.Links.{close_packet}
 use Rattle.adb_history.specs.Flow.{all_go_up, closes_if, sends_up}
 use Rattle.adb_history.specs.Losing.{stops}
@@ -44,7 +45,7 @@ pub record HasClose (l : ℕ) (w : List Event) : Type 0 where
 
 -- where a stream was told to end by its client's close, so was its device
 abbrev pub IsClosed : ℕ → List Event → Type 0
-IsClosed l w = ending_in l w ≡ Some client_closed → HasClose l w
+IsClosed l w = ending_in l w ≡ Some ClientClosed → HasClose l w
 
 has_first : (l : ℕ) (u w : List Event) → HasClose l u → HasClose l (u ++ w)
 has_first l u w h = record {
@@ -63,9 +64,9 @@ has_last l u w h = record {
 }
 
 closed_then : (l : ℕ) (u w : List Event) → IsClosed l u → IsClosed l w → IsClosed l (u ++ w)
-closed_then l u w first second e = go (ending_split l u w client_closed e)
+closed_then l u w first second e = go (ending_split l u w ClientClosed e)
   where
-    go : (ending_in l u ≡ Some client_closed) ⊎ (ending_in l w ≡ Some client_closed) → HasClose l (u ++ w)
+    go : (ending_in l u ≡ Some ClientClosed) ⊎ (ending_in l w ≡ Some ClientClosed) → HasClose l (u ++ w)
     go (inl f) = has_first l u w (first f)
     go (inr f) = has_last l u w (second f)
 
@@ -74,8 +75,8 @@ silent_closed l u silent e = absurd (silent_open l u silent e)
 
 -- ---- what a stream sends
 closes_closed : (b : Bool) (l : ℕ) (o : Option Stream) (s : State) → IsClosed l (closes_if b l o s).told
-closes_closed b l None s e = absurd (let clash : None ≡ Some client_closed = e in cc)
-closes_closed false l (Some stream) s e = absurd (let clash : None ≡ Some client_closed = e in cc)
+closes_closed b l None s e = absurd (let clash : None ≡ Some ClientClosed = e in cc)
+closes_closed false l (Some stream) s e = absurd (let clash : None ≡ Some ClientClosed = e in cc)
 closes_closed true l (Some stream) s e = record {
   link = stream.link;
   remote = stream.part.remote;
@@ -86,7 +87,7 @@ sends_closed : (l : ℕ) (s : State) (x : Sending l s) → IsClosed l (sends_up 
 sends_closed l s x =
     let up : Made = all_go_up l x.stream (writes l s x) (left l s x) in
     closed_then l up.told (closes_if (over l s x) l (up.state.streams l) up.state).told
-    (λ e. absurd (let clash : None ≡ Some client_closed = sym (go_up_lives l x.stream l (writes l s x) (left l s x)) ∙ e in cc))
+    (λ e. absurd (let clash : None ≡ Some ClientClosed = sym (go_up_lives l x.stream l (writes l s x) (left l s x)) ∙ e in cc))
     (closes_closed (over l s x) l (up.state.streams l) up.state)
 
 -- ---- all moves
@@ -96,7 +97,7 @@ module _ (l : ℕ) where
 
   goes_closed : (k : ℕ) (s : State) (m : Made) → Goes IsOther k s m → (k ≡ l) ⊎ (k ≡ l → ⊥) → IsClosed l m.told
   goes_closed k s m g (inl same) e =
-      absurd (end_such IsOther l m.told client_closed (subst (λ (n : ℕ). Goes IsOther n s m) same g).told e refl)
+      absurd (end_such IsOther l m.told ClientClosed (subst (λ (n : ℕ). Goes IsOther n s m) same g).told e refl)
   goes_closed k s m g (inr apart) e = silent_closed l m.told (silent_end IsOther k l (λ f. apart (sym f)) m.told g.told) e
 
   sent_closed : (k : ℕ) (s : State) (x : Sending k s) → (k ≡ l) ⊎ (k ≡ l → ⊥) → IsClosed l (sends_up k x.stream x.client (writes k s x) s).told
@@ -134,7 +135,7 @@ module _ (l : ℕ) where
 
   -- In every legal history the CLSE of a stream that its client closed became due.
   pub all_closed : (h : History) → IsLegal h → IsClosed l (told h)
-  all_closed [] legal = λ e. absurd (let clash : None ≡ Some client_closed = e in cc)
+  all_closed [] legal = λ e. absurd (let clash : None ≡ Some ClientClosed = e in cc)
   all_closed (e ∷ older) legal =
       step_climbs closed_climbs e (state older) (told older) (begins (state older) (told older) (all_closed older legal.0) e (all_owned older legal.0))
 

@@ -8,7 +8,9 @@ use Rattle.adb_client.specs.declared.phase.Phase.{Phase}
 use Rattle.adb_client.specs.declared.phase.Phase.TheVariants.{Asking, Opening, Streaming, Binding, Tracking, Closing, Gone}
 use Rattle.adb_reply.specs.Strings.{failed}
 use Rattle.adb_history.specs.Rows.{Client, State, to_client, to_stream, none_kept, with_stream_part}
-use Rattle.adb_history.specs.Events.{Made, Event, Ending, due_to_client, due_to_link, ended, quietly, then_also, client_failed, client_closed}
+use Rattle.adb_history.specs.Events.{Made, Event, due_to_client, due_to_link, ended, quietly, then_also}
+use Rattle.adb_history.specs.declared.ending.Ending.{Ending}
+use Rattle.adb_history.specs.declared.ending.Ending.TheVariants.{ClientFailed, ClientClosed}
 use Rattle.adb_history.specs.Links.{close_packet, owe_link}
 use Rattle.adb_history.specs.Births.{is_wrte}
 use Rattle.adb_history.specs.Clients.{owe_client, closing, closes}
@@ -164,7 +166,7 @@ telling_left k n ending stream s v h of = go stream.part.orphan h
     go false see = client_left (s.clients stream.client) stream.client gone refl n v see of
 
 -- ---- client end
-not_closed : (cause : Cause) → client_failed cause ≢ client_closed
+not_closed : (cause : Cause) → ClientFailed cause ≢ ClientClosed
 not_closed cause e = cc
 
 module _ (k c : ℕ) (cause : Cause) (x : Client) (stream : Stream) (s : State) (here : s.clients c ≡ Some x) (there : s.streams k ≡ Some stream) where

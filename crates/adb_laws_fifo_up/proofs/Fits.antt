@@ -14,7 +14,8 @@ use Rattle.adb_stream.specs.Flow.{is_idle, has_credit}
 use Rattle.adb_client.specs.declared.phase.Phase.{Phase}
 use Rattle.adb_client.specs.declared.phase.Phase.TheVariants.{Opening, Streaming}
 use Rattle.adb_history.specs.Rows.{State, to_stream, with_stream_part}
-use Rattle.adb_history.specs.Events.{Made, Event, client_closed, ending_in, packets_to}
+use Rattle.adb_history.specs.Events.{Made, Event, ending_in, packets_to}
+use Rattle.adb_history.specs.declared.ending.Ending.TheVariants.{ClientClosed}
 use Rattle.adb_history.specs.Links.{maxdata_of}
 use Rattle.adb_history.specs.Flow.{write_len, write_before, writes, payloads, total, flow_after, sends_up}
 use Rattle.adb_history.specs.Losing.{stops}
@@ -121,7 +122,7 @@ pub record Fits (l t : ℕ) (credit : Bool) (ps : List Packet) (s : State) (w : 
   pub within : used credit t l w ≤ allowed credit l (opening_in l ps)
   pub row : (y : Stream) → s.streams l ≡ Some y → IsRoom t l credit ps (used credit t l w) y
   pub open_row : (n : ℕ) (v : Seen) → Sees (s.clients n) v → v.phase ≡ Streaming l → (y : Stream) → s.streams l ≡ Some y → y.part.remote ≢ 0
-  pub done : ending_in l w ≡ Some client_closed → (s.streams l ≡ None) × IsAnsweredAll credit (used credit t l w) (allowed credit l (opening_in l ps))
+  pub done : ending_in l w ≡ Some ClientClosed → (s.streams l ≡ None) × IsAnsweredAll credit (used credit t l w) (allowed credit l (opening_in l ps))
 
 -- an OKAY to another stream
 abbrev pub Others : ℕ → State → ℕ → Type 0
@@ -139,7 +140,7 @@ module _ (l t : ℕ) (credit : Bool) (ps : List Packet) where
   }
 
   -- nothing of it is told
-  pub told_dry : (s : State) (w u : List Event) → Are (IsDry l) u → (ending_in l u ≡ Some client_closed → ⊥) → Fits l t credit ps s w
+  pub told_dry : (s : State) (w u : List Event) → Are (IsDry l) u → (ending_in l u ≡ Some ClientClosed → ⊥) → Fits l t credit ps s w
       → Fits l t credit ps s (w ++ u)
   told_dry s w u dry other h =
       let same : used credit t l (w ++ u) ≡ used credit t l w = used_dry credit t l w u dry in
@@ -148,10 +149,10 @@ module _ (l t : ℕ) (credit : Bool) (ps : List Packet) where
         within = omega (arith, h.within, same);
         row = λ y e. subst (λ (n : ℕ). IsRoom t l credit ps n y) (sym same) (h.row y e);
         open_row = h.open_row;
-        done = λ e. done same (ending_split l w u client_closed e);
+        done = λ e. done same (ending_split l w u ClientClosed e);
       }
     where
-      done : used credit t l (w ++ u) ≡ used credit t l w → (ending_in l w ≡ Some client_closed) ⊎ (ending_in l u ≡ Some client_closed)
+      done : used credit t l (w ++ u) ≡ used credit t l w → (ending_in l w ≡ Some ClientClosed) ⊎ (ending_in l u ≡ Some ClientClosed)
           → (s.streams l ≡ None) × IsAnsweredAll credit (used credit t l (w ++ u)) (allowed credit l (opening_in l ps))
       done same (inl e) = (
         (h.done e).0,
@@ -243,7 +244,7 @@ module _ (l t : ℕ) (credit : Bool) (ps : List Packet) where
 
   pub gone_fits : (s : State) (m : Made) (w : List Event) → Goes IsOther l s m → Fits l t credit ps s w → Fits l t credit ps m.state (w ++ m.told)
   gone_fits s m w g h =
-      told_dry m.state w m.told (end_are_dry IsOther l l m.told g.told) (λ e. end_such IsOther l m.told client_closed g.told e refl)
+      told_dry m.state w m.told (end_are_dry IsOther l l m.told g.told) (λ e. end_such IsOther l m.told ClientClosed g.told e refl)
       (view s m.state w (omega (arith, g.drawn)) (λ y e. row y (g.row y e)) (λ n v see phase. g.clients n v see) h)
     where
       row : (y : Stream) → IsRowOf g.stream y → (x : Stream) × (s.streams l ≡ Some x) × (y.link ≡ x.link) × IsLevel x.part y.part
@@ -297,10 +298,10 @@ module _ (l t : ℕ) (credit : Bool) (ps : List Packet) where
 
       done : (p : DeviceOpening) × (opening_in l ps ≡ Some p) × (p.remote ≡ x.stream.part.remote)
           × (used credit t l w + may_send x.stream.part.flow ≤ allowed credit l (Some p))
-          → (ending_in l w ≡ Some client_closed) ⊎ (ending_in l m.told ≡ Some client_closed) → IsLeft l s x m
+          → (ending_in l w ≡ Some ClientClosed) ⊎ (ending_in l m.told ≡ Some ClientClosed) → IsLeft l s x m
           → (m.state.streams l ≡ None) × IsAnsweredAll credit (used credit t l (w ++ m.told)) (allowed credit l (opening_in l ps))
       done at (inl e) fate = absurd (let clash : None ≡ Some x.stream = sym (h.done e).0 ∙ x.there in cc)
-      done at (inr e) (inl goes_on) = absurd (let clash : None ≡ Some client_closed = sym goes_on.0 ∙ e in cc)
+      done at (inr e) (inl goes_on) = absurd (let clash : None ≡ Some ClientClosed = sym goes_on.0 ∙ e in cc)
       done at (inr e) (inr over) = (
         over.2,
         answered credit mine.flow over.3 (used credit t l (w ++ m.told)) (allowed credit l (opening_in l ps))
@@ -322,7 +323,7 @@ module _ (l t : ℕ) (credit : Bool) (ps : List Packet) where
                   (at.0, at.1, at.2, omega (arith, sum credit, fits, at.3, ap may_send same.2));
             };
         open_row = λ n v see2 phase y e. clients n v phase y e;
-        done = λ e. done (at.0, at.1, at.2 ∙ sym is, at.3) (ending_split l w m.told client_closed e) o.fate;
+        done = λ e. done (at.0, at.1, at.2 ∙ sym is, at.3) (ending_split l w m.told ClientClosed e) o.fate;
       }
         where
           at : (p : DeviceOpening) × (opening_in l ps ≡ Some p) × (p.remote ≡ suc r)

@@ -16,7 +16,8 @@ use Rattle.adb_stream.specs.declared.row.Part.{Part}
 use Rattle.adb_stream.specs.declared.row.Stream.{Stream}
 use Rattle.adb_stream.specs.Flow.{first_credit, acknowledged, has_credit}
 use Rattle.adb_history.specs.Rows.{State, to_link, to_stream, none_kept, with_stream_part}
-use Rattle.adb_history.specs.Events.{Made, Event, client_closed, ending_in, quietly, peer_closed}
+use Rattle.adb_history.specs.Events.{Made, Event, ending_in, quietly}
+use Rattle.adb_history.specs.declared.ending.Ending.TheVariants.{ClientClosed, PeerClosed}
 use Rattle.adb_history.specs.Links.{credit_word, is_connected}
 use Rattle.adb_history.specs.Streams.{ends_row}
 use Rattle.adb_history.specs.Flow.{with_flow}
@@ -132,7 +133,7 @@ module _ (l t : ℕ) (credit : Bool) (ps : List Packet) where
       mine : IsRoom t l credit ps (used credit t l w) y
       mine = h.row y there
 
-      not_done : ending_in l w ≡ Some client_closed → ⊥
+      not_done : ending_in l w ≡ Some ClientClosed → ⊥
       not_done e = let clash : None ≡ Some y = sym (h.done e).0 ∙ there in cc
 
       same_row : (z : Stream) → s.streams l ≡ Some z → z ≡ y
@@ -286,15 +287,15 @@ module _ (l t : ℕ) (credit : Bool) (ps : List Packet) where
         go None none = let clash : None ≡ Some z = sym (none_comes l t p s (some, h.born) none) ∙ e in cc
         go (Some y) there =
             let on = connected s linked l t y there (h.row y there).link in
-            let same : treat t p s ≡ ends_row l peer_closed y s =
+            let same : treat t p s ≡ ends_row l PeerClosed y s =
             any_treated s linked l t y there (h.row y there).link p
             ∙ (ap (λ (c : Command). treat_any t c p s) close.command
             ∙ (ap (λ (b : Bool). cond b (treat_open t Clse p s) (quietly s)) on
             ∙ (ap (λ (n : ℕ). at_stream t (s.streams n) (takes_close n p.arg0) s) close.stream
             ∙ (ap (λ (o : Option Stream). at_stream t o (takes_close l p.arg0) s) there
             ∙ (ap (λ (b : Bool). cond b (takes_close l p.arg0 y s) (quietly s)) (eq-eqb y.link t (h.row y there).link)
-            ∙ ap (λ (b : Bool). cond (b || eqb p.arg0 y.part.remote) (ends_row l peer_closed y s) (quietly s)) (eq-eqb p.arg0 0 close.remote)))))) in
-            let clash : None ≡ Some z = sym (no_row_of Any l peer_closed y s there) ∙ subst (λ (m : Made). m.state.streams l ≡ Some z) same e in
+            ∙ ap (λ (b : Bool). cond (b || eqb p.arg0 y.part.remote) (ends_row l PeerClosed y s) (quietly s)) (eq-eqb p.arg0 0 close.remote)))))) in
+            let clash : None ≡ Some z = sym (no_row_of Any l PeerClosed y s there) ∙ subst (λ (m : Made). m.state.streams l ≡ Some z) same e in
             cc
 
     other_fits : (p.command ≡ Okay → p.arg1 ≢ l) → After (Fits l t credit (ps ++ p ∷ [])) w (treat t p s)

@@ -9,7 +9,8 @@ use Rattle.adb_stream.specs.declared.row.Stream.{Stream}
 use Rattle.adb_client.specs.declared.phase.Phase.{Phase}
 use Rattle.adb_client.specs.declared.phase.Phase.TheVariants.{Opening, Streaming}
 use Rattle.adb_history.specs.Rows.{Client, State, to_stream, with_stream_part}
-use Rattle.adb_history.specs.Events.{Made, Event, client_closed, ending_in}
+use Rattle.adb_history.specs.Events.{Made, Event, ending_in}
+use Rattle.adb_history.specs.declared.ending.Ending.TheVariants.{ClientClosed}
 use Rattle.adb_history.specs.Flow.{total, sends_up}
 use Rattle.adb_history.specs.Losing.{stops}
 use Rattle.adb_history.specs.Links.{maxdata_of}
@@ -64,12 +65,12 @@ module _ (l t c : ℕ) (rest : List ℕ) where
           ap (λ x. x ++ v.held) same ∙ (h.held v see of).1,
         );
         front = subst (λ x. IsPrefixOf x rest) (sym same) h.front;
-        whole = λ e. same ∙ closed (ending_split l w u client_closed e);
+        whole = λ e. same ∙ closed (ending_split l w u ClientClosed e);
       }
     where
-      closed : (ending_in l w ≡ Some client_closed) ⊎ (ending_in l u ≡ Some client_closed) → carried t l w ≡ rest
+      closed : (ending_in l w ≡ Some ClientClosed) ⊎ (ending_in l u ≡ Some ClientClosed) → carried t l w ≡ rest
       closed (inl e) = h.whole e
-      closed (inr e) = absurd (let clash : None ≡ Some client_closed = sym silent.lives ∙ e in cc)
+      closed (inr e) = absurd (let clash : None ≡ Some ClientClosed = sym silent.lives ∙ e in cc)
 
   same_rows : (s next : State) → ((m : ℕ) → next.streams m ≡ s.streams m) → ((y : Stream) → s.streams l ≡ Some y → (y.link ≡ t) × (y.client ≡ c))
       → (y : Stream) → next.streams l ≡ Some y → (y.link ≡ t) × (y.client ≡ c)
@@ -143,15 +144,15 @@ module _ (l t c : ℕ) (rest : List ℕ) where
     only = λ n v see of. h.only n v (g.clients n v see) of;
     held = λ v see of. held v see of g.left;
     front = subst (λ x. IsPrefixOf x rest) (sym same) h.front;
-    whole = λ e. same ∙ closed (ending_split l w m.told client_closed e);
+    whole = λ e. same ∙ closed (ending_split l w m.told ClientClosed e);
   }
     where
       same : carried t l (w ++ m.told) ≡ carried t l w
       same = carried_none t l w m.told (end_carries IsOther l t m.told g.told)
 
-      closed : (ending_in l w ≡ Some client_closed) ⊎ (ending_in l m.told ≡ Some client_closed) → carried t l w ≡ rest
+      closed : (ending_in l w ≡ Some ClientClosed) ⊎ (ending_in l m.told ≡ Some ClientClosed) → carried t l w ≡ rest
       closed (inl e) = h.whole e
-      closed (inr e) = absurd (end_such IsOther l m.told client_closed g.told e refl)
+      closed (inr e) = absurd (end_such IsOther l m.told ClientClosed g.told e refl)
 
       his : (g.client ≡ g.stream.client) ⊎ ((v : Seen) × Sees (s.clients g.client) v × IsOf l v.phase) → g.client ≡ c
       his (inl e) = e ∙ (h.mine g.stream g.is).1
@@ -216,8 +217,8 @@ module _ (l t c : ℕ) (rest : List ℕ) where
       )
       held v see of (inr over) = absurd (over.1 v (at_client v see) of)
 
-      whole : ending_in l (w ++ m.told) ≡ Some client_closed → IsLeft l s x m → carried t l (w ++ m.told) ≡ rest
-      whole e (inl goes_on) = absurd (let clash : None ≡ Some client_closed = sym (ending_none l w m.told before.0 goes_on.0) ∙ e in cc)
+      whole : ending_in l (w ++ m.told) ≡ Some ClientClosed → IsLeft l s x m → carried t l (w ++ m.told) ≡ rest
+      whole e (inl goes_on) = absurd (let clash : None ≡ Some ClientClosed = sym (ending_none l w m.told before.0 goes_on.0) ∙ e in cc)
       whole e (inr over) = sym (append-nil (carried t l (w ++ m.told))) ∙ (ap (λ y. carried t l (w ++ m.told) ++ y) (sym over.0) ∙ all)
 
   unsent_rises : (k : ℕ) (s : State) (x : Sending k s) (m : Made) (w : List Event) → l ≢ k → Sends k s x m → Rises l t c rest s w
@@ -247,7 +248,7 @@ module _ (l t c : ℕ) (rest : List ℕ) where
       only = λ m v see of. absurd (stops_unseen n s m v see);
       held = λ v see of. absurd (stops_unseen n s c v see);
       front = subst (λ x. IsPrefixOf x rest) (sym (carried_none t l w _ (stops_carries n s t l))) h.front;
-      whole = λ e. carried_none t l w _ (stops_carries n s t l) ∙ stopped n s w h (ending_split l w _ client_closed e);
+      whole = λ e. carried_none t l w _ (stops_carries n s t l) ∙ stopped n s w h (ending_split l w _ ClientClosed e);
     };
     sends = λ k s w x h. sends k s x w h (cases_eq k l);
   }
@@ -258,7 +259,7 @@ module _ (l t c : ℕ) (rest : List ℕ) where
       goes k s m w g h (inr apart) = other_rises k s m w (λ e. apart (sym e)) g h
 
       stopped : (n : ℕ) (s : State) (w : List Event) → Rises l t c rest s w
-          → (ending_in l w ≡ Some client_closed) ⊎ (ending_in l (stops n s).told ≡ Some client_closed) → carried t l w ≡ rest
+          → (ending_in l w ≡ Some ClientClosed) ⊎ (ending_in l (stops n s).told ≡ Some ClientClosed) → carried t l w ≡ rest
       stopped n s w h (inl e) = h.whole e
       stopped n s w h (inr e) = absurd (stops_other n s l e)
 

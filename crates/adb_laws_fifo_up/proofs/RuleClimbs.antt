@@ -26,7 +26,8 @@ use Rattle.adb_reply.specs.declared.answer.Next.TheVariants.{Close, Select, Trac
 use Rattle.adb_capture.specs.declared.entry.Entry.{Entry}
 use Rattle.adb_capture.specs.declared.entry.Entry.TheVariants.{Join, Enter, Read, End, Bound, Attach, Recv, Detach, Put, Send}
 use Rattle.adb_history.specs.Rows.{Client, Link, State, new_client, to_client, to_link, to_stream, none_kept, with_due, with_held, with_stream_part}
-use Rattle.adb_history.specs.Events.{Made, Event, quietly, lost}
+use Rattle.adb_history.specs.Events.{Made, Event, quietly}
+use Rattle.adb_history.specs.declared.ending.Ending.TheVariants.{Lost}
 use Rattle.adb_history.specs.Links.{server_cnxn, okay_packet, credit_packet, owe_link, is_connected}
 use Rattle.adb_history.specs.Clients.{owe_client, closes, closes_with}
 use Rattle.adb_history.specs.Streams.{opens}
@@ -221,7 +222,7 @@ module _ {Hears : State → ℕ → Type 0} {P : State → List Event → Type 0
 
     unplugs_climbs : (o : Option Link) (t : ℕ) → After P w (unplugs_on o t s)
     unplugs_climbs None t = after_quietly P w s h
-    unplugs_climbs (Some link) t = link_ends_climbs k lost not_lost t s w h
+    unplugs_climbs (Some link) t = link_ends_climbs k Lost not_lost t s w h
 
   -- ---- receive
   -- where clients and streams keep each other, an OKAY is heard

@@ -9,7 +9,9 @@ use Rattle.adb_wire.specs.declared.packets.Packet.{Packet}
 use Rattle.adb_client.specs.declared.phase.Phase.{Phase}
 use Rattle.adb_client.specs.declared.phase.Phase.TheVariants.{Asking, Opening, Streaming}
 use Rattle.adb_history.specs.Rows.{Client}
-use Rattle.adb_history.specs.Events.{client_closed, Event, Ending, due_to_client, due_to_link, ended, packets_to, ending_in}
+use Rattle.adb_history.specs.Events.{Event, due_to_client, due_to_link, ended, packets_to, ending_in}
+use Rattle.adb_history.specs.declared.ending.Ending.{Ending}
+use Rattle.adb_history.specs.declared.ending.Ending.TheVariants.{ClientClosed}
 use Rattle.adb_history.specs.Clients.{closing_with}
 use Rattle.adb_history.specs.Births.{carried_in, is_wrte}
 use Rattle.adb_laws_fifo_up.specs.Seen.{Seen, seen_in, Sees}
@@ -176,8 +178,8 @@ pub silent_up : (k l : ℕ) → l ≢ k → (u : List Event) → Are (IsUpOf k) 
 silent_up k l apart u h = silent_apart l u (are_weaker (IsUpOf k) (IsApart l) (up_apart k l apart) u h)
 
 -- what is silent is not closed
-pub silent_open : (l : ℕ) (u : List Event) → Silent l u → ending_in l u ≡ Some client_closed → ⊥
-silent_open l u h e = let clash : None ≡ Some client_closed = sym h.lives ∙ e in cc
+pub silent_open : (l : ℕ) (u : List Event) → Silent l u → ending_in l u ≡ Some ClientClosed → ⊥
+silent_open l u h e = let clash : None ≡ Some ClientClosed = sym h.lives ∙ e in cc
 
 -- ---- behind what was told
 pub ending_split : (l : ℕ) (u w : List Event) (ending : Ending) → ending_in l (u ++ w) ≡ Some ending

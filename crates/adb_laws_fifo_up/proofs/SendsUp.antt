@@ -12,7 +12,9 @@ use Rattle.adb_stream.specs.Flow.{is_idle}
 use Rattle.adb_client.specs.declared.phase.Phase.{Phase}
 use Rattle.adb_client.specs.declared.phase.Phase.TheVariants.{Streaming}
 use Rattle.adb_history.specs.Rows.{Client, Link, State, with_held, with_stream_part}
-use Rattle.adb_history.specs.Events.{Made, Event, Ending, due_to_client, due_to_link, ended, packets_to, ending_in, client_closed}
+use Rattle.adb_history.specs.Events.{Made, Event, due_to_client, due_to_link, ended, packets_to, ending_in}
+use Rattle.adb_history.specs.declared.ending.Ending.{Ending}
+use Rattle.adb_history.specs.declared.ending.Ending.TheVariants.{ClientClosed}
 use Rattle.adb_history.specs.Flow.{write_len, write_before, writes, payloads, total, with_flow, goes_up, all_go_up, flow_after, is_over}
 use Rattle.adb_history.specs.Flow.{closes_if, sends_up}
 use Rattle.adb_history.specs.Flow.{is_streaming}
@@ -222,13 +224,13 @@ module _ (k : ℕ) (s : State) (x : Sending k s) where
 
   ends_sending : (links : Rows (Option Link)) → over k s x ≡ true
       → Sends k s x (record {
-        state = (ends_telling k client_closed row_now (record (left k s x) { links = links })).state;
-        told = up.told ++ (ends_telling k client_closed row_now (record (left k s x) { links = links })).told;
+        state = (ends_telling k ClientClosed row_now (record (left k s x) { links = links })).state;
+        told = up.told ++ (ends_telling k ClientClosed row_now (record (left k s x) { links = links })).told;
       })
   ends_sending links e =
       let now : State = record (left k s x) { links = links } in
-      let m : Made = ends_telling k client_closed row_now now in
-      let g : Goes Any k now m = telling_goes Any k client_closed row_now now there_now tt in
+      let m : Made = ends_telling k ClientClosed row_now now in
+      let g : Goes Any k now m = telling_goes Any k ClientClosed row_now now there_now tt in
       let same : Some g.stream ≡ Some row_now = sym g.is ∙ there_now in
       let row : g.stream ≡ row_now = cc in
       record {
@@ -248,15 +250,15 @@ module _ (k : ℕ) (s : State) (x : Sending k s) where
         shut = λ f. closed g (shut_cases k up.told m.told f);
         fate = inr (
           over_holds_none x.client.about.ended held_now (flow_after (sent k s x) x.stream.part.flow) e,
-          λ v see of. telling_left k k client_closed row_now now v see of,
-          no_row_of Any k client_closed row_now (owe_link row_now.link (close_packet k row_now.part.remote) now).state there_now,
+          λ v see of. telling_left k k ClientClosed row_now now v see of,
+          no_row_of Any k ClientClosed row_now (owe_link row_now.link (close_packet k row_now.part.remote) now).state there_now,
           over_is_idle x.client.about.ended held_now (flow_after (sent k s x) x.stream.part.flow) e,
         );
       }
     where
-      closed : Goes Any k (record (left k s x) { links = links }) (ends_telling k client_closed row_now (record (left k s x) { links = links }))
-          → (is_shut k up.told ≡ true) ⊎ (is_shut k (ends_telling k client_closed row_now (record (left k s x) { links = links })).told ≡ true)
-          → (ends_telling k client_closed row_now (record (left k s x) { links = links })).state.streams k ≡ None
+      closed : Goes Any k (record (left k s x) { links = links }) (ends_telling k ClientClosed row_now (record (left k s x) { links = links }))
+          → (is_shut k up.told ≡ true) ⊎ (is_shut k (ends_telling k ClientClosed row_now (record (left k s x) { links = links })).told ≡ true)
+          → (ends_telling k ClientClosed row_now (record (left k s x) { links = links })).state.streams k ≡ None
       closed g (inl f) = let clash : false ≡ true = sym (go_up_open k x.stream (sent k s x) (left k s x)) ∙ f in cc
       closed g (inr f) = g.shut f
 

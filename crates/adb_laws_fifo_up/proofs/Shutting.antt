@@ -4,7 +4,8 @@ use Rattle.std.specs.Prelude.{◌&&◌, ◌||◌}
 use Rattle.std.proofs.lemmas.Bool.{ne_eqb}
 use Rattle.adb_wire.specs.declared.packets.Packet.{Packet}
 use Rattle.adb_wire.specs.declared.command.Command.{Command}
-use Rattle.adb_history.specs.Events.{Event, Ending, due_to_client, due_to_link, ended, packets_to}
+use Rattle.adb_history.specs.Events.{Event, due_to_client, due_to_link, ended, packets_to}
+use Rattle.adb_history.specs.declared.ending.Ending.{Ending}
 use Rattle.adb_history.specs.Births.{carried_in, count_from, is_wrte, is_clse}
 use Rattle.adb_laws_fifo_up.specs.Climbing.{carried, IsAside, IsEndOf, IsUpOf, Are, is_shut}
 use Rattle.adb_laws_fifo_up.proofs.Seeing.{aside_apart, up_apart, carried_none, IsApart, are_weaker, carried_in_append, packets_append}

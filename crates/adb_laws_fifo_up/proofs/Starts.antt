@@ -9,7 +9,8 @@ use Rattle.adb_stream.specs.declared.row.Stream.{Stream}
 use Rattle.adb_client.specs.declared.phase.Phase.{Phase}
 use Rattle.adb_client.specs.declared.phase.Phase.TheVariants.{Asking, Opening, Streaming}
 use Rattle.adb_history.specs.Rows.{Client, State, to_stream, with_stream_part}
-use Rattle.adb_history.specs.Events.{Made, Event, client_closed, ending_in}
+use Rattle.adb_history.specs.Events.{Made, Event, ending_in}
+use Rattle.adb_history.specs.declared.ending.Ending.TheVariants.{ClientClosed}
 use Rattle.adb_history.specs.Links.{is_credit}
 use Rattle.adb_history.specs.Flow.{sends_up}
 use Rattle.adb_history.specs.Losing.{stops}
@@ -26,7 +27,7 @@ use Rattle.adb_laws_fifo_up.proofs.Stops.{stops_dry, stops_carries, stops_other,
 pub record Starts (l c : ℕ) (rest : List ℕ) (s : State) (w : List Event) : Type 0 where
   pub quiet : (t : ℕ) → carried t l w ≡ []
   pub dry : Are (IsDry l) w
-  pub not_closed : ending_in l w ≡ Some client_closed → ⊥
+  pub not_closed : ending_in l w ≡ Some ClientClosed → ⊥
   pub none : s.drawn < l → s.streams l ≡ None
   pub lives : s.drawn < l → ending_in l w ≡ None
   pub unseen : s.drawn < l → (n : ℕ) (v : Seen) → Sees (s.clients n) v → IsOf l v.phase → ⊥
@@ -71,7 +72,7 @@ module _ (l c : ℕ) (rest : List ℕ) where
   told_aside s w u silent dry h = record {
     quiet = λ t. carried_none t l w u (silent.carries t) ∙ h.quiet t;
     dry = are_append (IsDry l) w u h.dry dry;
-    not_closed = λ e. closed (ending_split l w u client_closed e);
+    not_closed = λ e. closed (ending_split l w u ClientClosed e);
     none = h.none;
     lives = λ above. ending_none l w u (h.lives above) silent.lives;
     unseen = h.unseen;
@@ -80,9 +81,9 @@ module _ (l c : ℕ) (rest : List ℕ) where
     held = h.held;
   }
     where
-      closed : (ending_in l w ≡ Some client_closed) ⊎ (ending_in l u ≡ Some client_closed) → ⊥
+      closed : (ending_in l w ≡ Some ClientClosed) ⊎ (ending_in l u ≡ Some ClientClosed) → ⊥
       closed (inl e) = h.not_closed e
-      closed (inr e) = let clash : None ≡ Some client_closed = sym silent.lives ∙ e in cc
+      closed (inr e) = let clash : None ≡ Some ClientClosed = sym silent.lives ∙ e in cc
 
   part_starts : (k : ℕ) (stream : Stream) (part : Part) (s : State) (w : List Event) → s.streams k ≡ Some stream → Starts l c rest s w
       → Starts l c rest (to_stream k (with_stream_part part) s) w
@@ -150,7 +151,7 @@ module _ (l c : ℕ) (rest : List ℕ) where
   gone_starts s m w g h = record {
     quiet = λ t. carried_none t l w m.told (end_carries IsOther l t m.told g.told) ∙ h.quiet t;
     dry = are_append (IsDry l) w m.told h.dry (end_are_dry IsOther l l m.told g.told);
-    not_closed = λ e. closed (ending_split l w m.told client_closed e);
+    not_closed = λ e. closed (ending_split l w m.told ClientClosed e);
     none = λ above. absurd (drawn above);
     lives = λ above. absurd (drawn above);
     unseen = λ above n v see of. drawn above;
@@ -162,9 +163,9 @@ module _ (l c : ℕ) (rest : List ℕ) where
       drawn : m.state.drawn < l → ⊥
       drawn above = let clash : None ≡ Some g.stream = sym (h.none (omega (arith, above, g.drawn))) ∙ g.is in cc
 
-      closed : (ending_in l w ≡ Some client_closed) ⊎ (ending_in l m.told ≡ Some client_closed) → ⊥
+      closed : (ending_in l w ≡ Some ClientClosed) ⊎ (ending_in l m.told ≡ Some ClientClosed) → ⊥
       closed (inl e) = h.not_closed e
-      closed (inr e) = end_such IsOther l m.told client_closed g.told e refl
+      closed (inr e) = end_such IsOther l m.told ClientClosed g.told e refl
 
       his : (g.client ≡ g.stream.client) ⊎ ((v : Seen) × Sees (s.clients g.client) v × IsOf l v.phase) → g.client ≡ g.stream.client
       his (inl e) = e
@@ -220,7 +221,7 @@ module _ (l c : ℕ) (rest : List ℕ) where
     stops = λ n s w h. record {
       quiet = λ t. carried_none t l w _ (stops_carries n s t l) ∙ h.quiet t;
       dry = are_append (IsDry l) w _ h.dry (stops_dry n s l);
-      not_closed = λ e. stopped n s w h (ending_split l w _ client_closed e);
+      not_closed = λ e. stopped n s w h (ending_split l w _ ClientClosed e);
       none = λ above. refl;
       lives = λ above. ending_none l w _ (h.lives above) (stops_above n s l above);
       unseen = λ above m v see of. stops_unseen n s m v see;
@@ -237,7 +238,7 @@ module _ (l c : ℕ) (rest : List ℕ) where
       goes k s m w g h (inr apart) = other_starts k s m w (λ e. apart (sym e)) g h
 
       stopped : (n : ℕ) (s : State) (w : List Event) → Starts l c rest s w
-          → (ending_in l w ≡ Some client_closed) ⊎ (ending_in l (stops n s).told ≡ Some client_closed) → ⊥
+          → (ending_in l w ≡ Some ClientClosed) ⊎ (ending_in l (stops n s).told ≡ Some ClientClosed) → ⊥
       stopped n s w h (inl e) = h.not_closed e
       stopped n s w h (inr e) = stops_other n s l e
 

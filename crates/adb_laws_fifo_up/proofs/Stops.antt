@@ -6,7 +6,8 @@ use Rattle.std.proofs.lemmas.Bool.{ne_eqb}
 use Rattle.adb_outside.specs.Tables.{Rows}
 use Rattle.adb_stream.specs.declared.row.Stream.{Stream}
 use Rattle.adb_history.specs.Rows.{Client, State}
-use Rattle.adb_history.specs.Events.{Event, due_to_client, due_to_link, ended, ending_in, client_closed, stopped}
+use Rattle.adb_history.specs.Events.{Event, due_to_client, due_to_link, ended, ending_in}
+use Rattle.adb_history.specs.declared.ending.Ending.TheVariants.{ClientClosed, Stopped}
 use Rattle.adb_history.specs.Clients.{closing}
 use Rattle.adb_history.specs.Losing.{tells_stop, all_stop, stops}
 use Rattle.adb_laws_fifo_up.specs.Seen.{Seen, Sees}
@@ -18,7 +19,7 @@ use Rattle.adb_laws_fifo_up.proofs.Seeing.{none_unseen, closing_unseen, are_appe
 abbrev IsStop : ℕ → Event → Type 0
 IsStop n (due_to_client client bytes) = ⊥
 IsStop n (due_to_link link packet check) = ⊥
-IsStop n (ended stream ending) = (stream ≤ n) × (ending ≡ stopped)
+IsStop n (ended stream ending) = (stream ≤ n) × (ending ≡ Stopped)
 
 one_more : (n : ℕ) (e : Event) → IsStop n e → IsStop (suc n) e
 one_more n (due_to_client client bytes) h = h
@@ -31,7 +32,7 @@ are_stops (suc n) streams =
     are_append (IsStop (suc n)) (all_stop n streams) (tells_stop (suc n) (streams (suc n)))
     (are_weaker (IsStop n) (IsStop (suc n)) (one_more n) (all_stop n streams) (are_stops n streams)) (one (streams (suc n)))
   where
-    told : (b : Bool) → Are (IsStop (suc n)) (cond b [] (ended (suc n) stopped ∷ []))
+    told : (b : Bool) → Are (IsStop (suc n)) (cond b [] (ended (suc n) Stopped ∷ []))
     told true = tt
     told false = ((omega arith, refl), tt)
 
@@ -45,16 +46,16 @@ carries_nothing t l n (due_to_client client bytes ∷ u) h = absurd h.0
 carries_nothing t l n (due_to_link link packet check ∷ u) h = absurd h.0
 carries_nothing t l n (ended stream ending ∷ u) h = carries_nothing t l n u h.1
 
-only_stops : (l n : ℕ) (u : List Event) → Are (IsStop n) u → ending_in l u ≡ Some client_closed → ⊥
-only_stops l n [] h e = let clash : None ≡ Some client_closed = e in cc
+only_stops : (l n : ℕ) (u : List Event) → Are (IsStop n) u → ending_in l u ≡ Some ClientClosed → ⊥
+only_stops l n [] h e = let clash : None ≡ Some ClientClosed = e in cc
 only_stops l n (due_to_client client bytes ∷ u) h e = absurd h.0
 only_stops l n (due_to_link link packet check ∷ u) h e = absurd h.0
 only_stops l n (ended stream ending ∷ u) h e = go (eqb stream l) e (λ f. only_stops l n u h.1 f)
   where
-    go : (b : Bool) → cond b (Some ending) (ending_in l u) ≡ Some client_closed → (ending_in l u ≡ Some client_closed → ⊥) → ⊥
+    go : (b : Bool) → cond b (Some ending) (ending_in l u) ≡ Some ClientClosed → (ending_in l u ≡ Some ClientClosed → ⊥) → ⊥
     go true f later =
-        let same : ending ≡ client_closed = (let both : Some ending ≡ Some client_closed = f in cc) in
-        let clash : stopped ≡ client_closed = sym h.0.1 ∙ same in
+        let same : ending ≡ ClientClosed = (let both : Some ending ≡ Some ClientClosed = f in cc) in
+        let clash : Stopped ≡ ClientClosed = sym h.0.1 ∙ same in
         cc
     go false f later = later f
 
@@ -86,7 +87,7 @@ module _ (c : ℕ) (s : State) where
   pub stops_carries : (t l : ℕ) → carried t l (stops c s).told ≡ []
   stops_carries t l = carries_nothing t l s.drawn (all_stop s.drawn s.streams) (are_stops s.drawn s.streams)
 
-  pub stops_other : (l : ℕ) → ending_in l (stops c s).told ≡ Some client_closed → ⊥
+  pub stops_other : (l : ℕ) → ending_in l (stops c s).told ≡ Some ClientClosed → ⊥
   stops_other l e = only_stops l s.drawn (all_stop s.drawn s.streams) (are_stops s.drawn s.streams) e
 
   pub stops_above : (l : ℕ) → s.drawn < l → ending_in l (stops c s).told ≡ None

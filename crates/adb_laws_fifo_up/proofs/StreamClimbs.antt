@@ -21,7 +21,9 @@ use Rattle.adb_stream.specs.declared.row.Stream.{Stream}
 use Rattle.adb_stream.specs.Flow.{is_out_of_turn, accepted, has_credit}
 use Rattle.adb_client.specs.declared.phase.Phase.TheVariants.{Asking}
 use Rattle.adb_history.specs.Rows.{Client, Link, State, to_stream, with_stream_part}
-use Rattle.adb_history.specs.Events.{Made, Event, Ending, quietly, peer_closed, out_of_turn, lost, broken, client_closed}
+use Rattle.adb_history.specs.Events.{Made, Event, quietly}
+use Rattle.adb_history.specs.declared.ending.Ending.{Ending}
+use Rattle.adb_history.specs.declared.ending.Ending.TheVariants.{PeerClosed, OutOfTurn, Lost, Broken, ClientClosed}
 use Rattle.adb_history.specs.Links.{close_packet, okay_packet, open_packet, credit_word, owe_link, is_connected, is_credit, maxdata_of}
 use Rattle.adb_history.specs.Clients.{owe_client}
 use Rattle.adb_history.specs.Streams.{stream_ids, asks_for, no_ids_left, opens, ends_row, ends_telling, ends_if_of, ends_of, all_end}
@@ -40,16 +42,16 @@ use Rattle.adb_laws_fifo_up.proofs.Asides.{aside_same, aside_then, aside_owe, as
 use Rattle.adb_laws_fifo_up.proofs.Ends.{ends_goes, telling_goes, orphan_goes}
 
 -- a cause that is not the client's close
-not_peer : peer_closed ≢ client_closed
+not_peer : PeerClosed ≢ ClientClosed
 not_peer e = cc
 
-not_turn : out_of_turn ≢ client_closed
+not_turn : OutOfTurn ≢ ClientClosed
 not_turn e = cc
 
-not_broken : broken ≢ client_closed
+not_broken : Broken ≢ ClientClosed
 not_broken e = cc
 
-pub not_lost : lost ≢ client_closed
+pub not_lost : Lost ≢ ClientClosed
 not_lost e = cc
 
 pub level_taken : (n : ℕ) (part : Part) → IsLevel part (with_flow (accepted n part.flow) part)
@@ -114,7 +116,7 @@ module _ {Hears : State → ℕ → Type 0} {P : State → List Event → Type 0
         (k.draws c t x.client s w x.here x.in_phase h))
 
   -- ---- all streams of a link end
-  module _ (ending : Ending) (other : ending ≢ client_closed) where
+  module _ (ending : Ending) (other : ending ≢ ClientClosed) where
     ends_of_climbs : (t n : ℕ) (s : State) (w : List Event) → P s w → After P w (ends_of t n ending s)
     ends_of_climbs t zero s w h = after_quietly P w s h
     ends_of_climbs t (suc n) s w h =
@@ -152,11 +154,11 @@ module _ {Hears : State → ℕ → Type 0} {P : State → List Event → Type 0
 
   module _ (s : State) (w : List Event) (h : P s w) where
     first_climbs : (b : Bool) (t : ℕ) → After P w (streams_end_first b t s)
-    first_climbs true t = all_end_climbs lost not_lost t s w h
+    first_climbs true t = all_end_climbs Lost not_lost t s w h
     first_climbs false t = after_quietly P w s h
 
     connects_climbs : (t version maxdata : ℕ) (who : Option Identity) → After P w (connects t version maxdata who s)
-    connects_climbs t version maxdata None = link_ends_climbs broken not_broken t s w h
+    connects_climbs t version maxdata None = link_ends_climbs Broken not_broken t s w h
     connects_climbs t version maxdata (Some identity) =
         let first : Made = streams_end_first (is_connected t s.devices) t s in
         after_then P w first (λ s. quietly (goes_online t version maxdata identity s)) (first_climbs (is_connected t s.devices) t)
@@ -165,8 +167,8 @@ module _ {Hears : State → ℕ → Type 0} {P : State → List Event → Type 0
 
     cnxn_climbs : (t version maxdata : ℕ) (banner : List ℕ) → After P w (cnxn t version maxdata banner s)
     cnxn_climbs t version maxdata banner =
-        after_if P w (nat_lt version least_version || nat_lt maxdata least_maxdata) (link_ends t broken s) (connects t version maxdata (identity_of banner) s)
-        (λ e. link_ends_climbs broken not_broken t s w h) (λ e. connects_climbs t version maxdata (identity_of banner))
+        after_if P w (nat_lt version least_version || nat_lt maxdata least_maxdata) (link_ends t Broken s) (connects t version maxdata (identity_of banner) s)
+        (λ e. link_ends_climbs Broken not_broken t s w h) (λ e. connects_climbs t version maxdata (identity_of banner))
 
     unauthorized_climbs : (t : ℕ) (o : Option Row) → After P w (unauthorized t o s)
     unauthorized_climbs t None = after_quietly P w s h
@@ -220,19 +222,19 @@ module _ {Hears : State → ℕ → Type 0} {P : State → List Event → Type 0
 
     write_climbs : (l remote : ℕ) (payload : List ℕ) (stream : Stream) → s.streams l ≡ Some stream → After P w (takes_write l remote payload stream s)
     write_climbs l remote payload stream is =
-        let late : Made = ends_telling l out_of_turn stream s in
+        let late : Made = ends_telling l OutOfTurn stream s in
         let taken : Made = accepts l payload stream s in
         let out : Bool = is_out_of_turn stream.part.flow (length payload) in
         after_if P w (eqb remote 0 || not (eqb remote stream.part.remote)) (quietly s) (cond out late taken) (λ e. after_quietly P w s h)
         (λ known. after_if P w out late taken
-        (λ e. k.goes l s late w (telling_goes IsOther l out_of_turn stream s is not_turn) h)
+        (λ e. k.goes l s late w (telling_goes IsOther l OutOfTurn stream s is not_turn) h)
         (λ turn. accepts_climbs l payload stream is))
 
     -- ---- CLSE
     close_climbs : (l remote : ℕ) (stream : Stream) → s.streams l ≡ Some stream → After P w (takes_close l remote stream s)
     close_climbs l remote stream is =
-        after_if P w (eqb remote 0 || eqb remote stream.part.remote) (ends_row l peer_closed stream s) (quietly s)
-        (λ e. k.goes l s (ends_row l peer_closed stream s) w (ends_goes IsOther l stream s is peer_closed not_peer) h)
+        after_if P w (eqb remote 0 || eqb remote stream.part.remote) (ends_row l PeerClosed stream s) (quietly s)
+        (λ e. k.goes l s (ends_row l PeerClosed stream s) w (ends_goes IsOther l stream s is PeerClosed not_peer) h)
         (λ e. after_quietly P w s h)
 
     -- ---- one packet, of which an OKAY is heard
@@ -271,7 +273,7 @@ module _ {Hears : State → ℕ → Type 0} {P : State → List Event → Type 0
     pub faulty_climbs : (o : Option Link) (t : ℕ) (fault : Option PacketFault) → After P w (faulty_on o t fault s)
     faulty_climbs None t fault = after_quietly P w s h
     faulty_climbs (Some link) t None = after_quietly P w s h
-    faulty_climbs (Some link) t (Some fault) = link_ends_climbs broken not_broken t s w h
+    faulty_climbs (Some link) t (Some fault) = link_ends_climbs Broken not_broken t s w h
 
   pub up_all_climbs : (s : State) (w : List Event) → P s w → (n : ℕ) → After P w (up_all n s)
   up_all_climbs s w h n = up_all_sends k.sends s w h n

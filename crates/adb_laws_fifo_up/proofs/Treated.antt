@@ -12,7 +12,9 @@ use Rattle.adb_wire.specs.declared.command.Command.TheVariants.{Cnxn, Open, Okay
 use Rattle.adb_wire.specs.declared.packets.Packet.{Packet}
 use Rattle.adb_stream.specs.declared.row.Stream.{Stream}
 use Rattle.adb_history.specs.Rows.{Link, State}
-use Rattle.adb_history.specs.Events.{Made, Ending, due_to_link, quietly, lost, broken}
+use Rattle.adb_history.specs.Events.{Made, due_to_link, quietly}
+use Rattle.adb_history.specs.declared.ending.Ending.{Ending}
+use Rattle.adb_history.specs.declared.ending.Ending.TheVariants.{Lost, Broken}
 use Rattle.adb_history.specs.Links.{close_packet, credit_word, is_connected, is_connected_row}
 use Rattle.adb_history.specs.Streams.{ends_row, ends_if_of, ends_of}
 use Rattle.adb_history.specs.Losing.{forgets, link_ends}
@@ -67,16 +69,16 @@ module _ (t : ℕ) (ending : Ending) where
 module _ (t version maxdata m : ℕ) where
   connects_cleared : (who : Option Identity) (s : State) (x : Stream) → is_connected t s.devices ≡ true → (0 < m) × (m ≤ s.drawn)
       → (connects t version maxdata who s).state.streams m ≡ Some x → x.link ≢ t
-  connects_cleared None s x on within e = ends_cleared t broken s.drawn m (forgets t s) x within e
+  connects_cleared None s x on within e = ends_cleared t Broken s.drawn m (forgets t s) x within e
   connects_cleared (Some identity) s x on within e =
-      ends_cleared t lost s.drawn m s x within (subst (λ (b : Bool). (streams_end_first b t s).state.streams m ≡ Some x) on e)
+      ends_cleared t Lost s.drawn m s x within (subst (λ (b : Bool). (streams_end_first b t s).state.streams m ≡ Some x) on e)
 
   pub cnxn_cleared : (banner : List ℕ) (s : State) (x : Stream) → is_connected t s.devices ≡ true → (0 < m) × (m ≤ s.drawn)
       → (cnxn t version maxdata banner s).state.streams m ≡ Some x → x.link ≢ t
   cnxn_cleared banner s x on within e = go (nat_lt version least_version || nat_lt maxdata least_maxdata) e
     where
-      go : (b : Bool) → (cond b (link_ends t broken s) (connects t version maxdata (identity_of banner) s)).state.streams m ≡ Some x → x.link ≢ t
-      go true f = ends_cleared t broken s.drawn m (forgets t s) x within f
+      go : (b : Bool) → (cond b (link_ends t Broken s) (connects t version maxdata (identity_of banner) s)).state.streams m ≡ Some x → x.link ≢ t
+      go true f = ends_cleared t Broken s.drawn m (forgets t s) x within f
       go false f = connects_cleared (identity_of banner) s x on within f
 
 -- ---- a stream's link is there, and connected

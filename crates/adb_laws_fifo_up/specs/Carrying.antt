@@ -1,6 +1,6 @@
 -- What is kept of each stream that goes up.
 use Rattle.std.specs.Prelude.{ℕ, ◌≡◌, ◌≤◌, length, Some}
-use Rattle.adb_history.specs.Events.{client_closed}
+use Rattle.adb_history.specs.declared.ending.Ending.TheVariants.{ClientClosed}
 use Rattle.adb_history.specs.Machine.{History, state, told}
 use Rattle.adb_history.specs.Bytes.{bytes_read}
 use Rattle.adb_history.specs.Births.{Birth}
@@ -16,4 +16,4 @@ pub record IsCarried (l : ℕ) (b : Birth) (h : History) : Type 0 where
 
 -- Of a stream whose client closed all was answered, or with credit all went up.
 abbrev pub ClosedStreamsAreDone : History → Type 0
-ClosedStreamsAreDone h = OfEachStream h (λ l b. ending_of l h ≡ Some client_closed → IsDone b.credit l b h)
+ClosedStreamsAreDone h = OfEachStream h (λ l b. ending_of l h ≡ Some ClientClosed → IsDone b.credit l b h)

@@ -7,7 +7,9 @@ use Rattle.adb_stream.specs.declared.row.Stream.{Stream}
 use Rattle.adb_stream.specs.Flow.{acknowledged, has_credit}
 use Rattle.adb_client.specs.declared.phase.Phase.TheVariants.{Asking}
 use Rattle.adb_history.specs.Rows.{Client, State, to_stream, with_stream_part}
-use Rattle.adb_history.specs.Events.{Made, Event, Ending, due_to_client, due_to_link, ended, client_closed, packets_to, ending_in}
+use Rattle.adb_history.specs.Events.{Made, Event, due_to_client, due_to_link, ended, packets_to, ending_in}
+use Rattle.adb_history.specs.declared.ending.Ending.{Ending}
+use Rattle.adb_history.specs.declared.ending.Ending.TheVariants.{ClientClosed}
 use Rattle.adb_history.specs.Flow.{with_flow, sends_up}
 use Rattle.adb_history.specs.Losing.{stops}
 use Rattle.adb_history.specs.Packets.{opened}
@@ -100,7 +102,7 @@ pub record Goes (Such : Ending → Type 0) (k : ℕ) (s : State) (m : Made) : Ty
 
 -- an ending that is not the client's close
 abbrev pub IsOther : Ending → Type 0
-IsOther ending = ending ≢ client_closed
+IsOther ending = ending ≢ ClientClosed
 
 -- What each move keeps, of a state and what was told until then; where a stream may hear an OKAY.
 pub record Climbs (Hears : State → ℕ → Type 0) (P : State → List Event → Type 0) : Type 0 where

@@ -14,7 +14,9 @@ use Rattle.adb_client.specs.declared.phase.Phase.TheVariants.{Opening, Streaming
 use Rattle.adb_reply.specs.Strings.{failed}
 use Rattle.adb_history.specs.Births.{is_close_of, is_clse}
 use Rattle.adb_history.specs.Clients.{closing, closing_with, closes, owe_client}
-use Rattle.adb_history.specs.Events.{Made, Event, Ending, peer_closed, ended, quietly, then_also, owed_to, ending_in}
+use Rattle.adb_history.specs.Events.{Made, Event, ended, quietly, then_also, owed_to, ending_in}
+use Rattle.adb_history.specs.declared.ending.Ending.{Ending}
+use Rattle.adb_history.specs.declared.ending.Ending.TheVariants.{PeerClosed}
 use Rattle.adb_history.specs.Moves.{After, HasOne, serves}
 use Rattle.adb_history.specs.Turns.{serving}
 use Rattle.adb_history.specs.Owned.{IsOwned}
@@ -172,17 +174,17 @@ module _ (t l : ℕ) (x : Stream) (p : Packet) (s : State) (here : Here t l x s)
       by Stls k z f n m b e g = absurd (no g)
 
   -- it ends the row
-  pub close_ends : treat t p s ≡ ends_row l peer_closed x s
+  pub close_ends : treat t p s ≡ ends_row l PeerClosed x s
   close_ends = go (s.links t) here.live.link
     where
-      at_row : (n : ℕ) → n ≡ l → at_stream t (s.streams n) (takes_close n p.arg0) s ≡ ends_row l peer_closed x s
+      at_row : (n : ℕ) → n ≡ l → at_stream t (s.streams n) (takes_close n p.arg0) s ≡ ends_row l PeerClosed x s
       at_row n same =
           ap (λ (k : ℕ). at_stream t (s.streams k) (takes_close k p.arg0) s) same
           ∙ (ap (λ (o : Option Stream). at_stream t o (takes_close l p.arg0) s) here.is
           ∙ (ap (λ (b : Bool). cond b (takes_close l p.arg0 x s) (quietly s)) (eq-eqb x.link t here.on)
-          ∙ ap (λ (b : Bool). cond b (ends_row l peer_closed x s) (quietly s)) is_close.from))
+          ∙ ap (λ (b : Bool). cond b (ends_row l PeerClosed x s) (quietly s)) is_close.from))
 
-      go : (o : Option Link) → is_some o ≡ true → treat_on o t p s ≡ ends_row l peer_closed x s
+      go : (o : Option Link) → is_some o ≡ true → treat_on o t p s ≡ ends_row l PeerClosed x s
       go None e = absurd (let clash : false ≡ true = e in cc)
       go (Some link) e =
           ap (λ (k : Command). treat_any t k p s) is_close.command
@@ -207,8 +209,8 @@ or_first o y z e = (let both : Some y ≡ Some z = e in cc)
 
 module _ (came plugged t l : ℕ) (le : t ≤ plugged) where
   pub falls : (packets : List Packet) (x : Stream) (s : State) (w : List Event) (a : Client) → Here t l x s → IsOwned s → AreWithin came plugged s.streams
-      → s.clients x.client ≡ Some a → ending_in l (treat_all t packets s).told ≡ Some peer_closed → Fallen x.client a w (treat_all t packets s)
-  falls [] x s w a at owned within here closed = absurd (let clash : None ≡ Some peer_closed = closed in cc)
+      → s.clients x.client ≡ Some a → ending_in l (treat_all t packets s).told ≡ Some PeerClosed → Fallen x.client a w (treat_all t packets s)
+  falls [] x s w a at owned within here closed = absurd (let clash : None ≡ Some PeerClosed = closed in cc)
   falls (p ∷ packets) x s w a at owned within here closed =
       go (treat_turn t l x p s at)
       (λ y b v was mine streams row told. falls packets y (treat t p s).state v b was mine streams row told)
@@ -234,7 +236,7 @@ module _ (came plugged t l : ℕ) (le : t ≤ plugged) where
       Later : Type 0
       Later = (y : Stream) (b : Client) (v : List Event) → Here t l y (treat t p s).state → IsOwned (treat t p s).state
           → AreWithin came plugged (treat t p s).state.streams → (treat t p s).state.clients y.client ≡ Some b
-          → ending_in l (treat_all t packets (treat t p s).state).told ≡ Some peer_closed
+          → ending_in l (treat_all t packets (treat t p s).state).told ≡ Some PeerClosed
           → Fallen y.client b v (treat_all t packets (treat t p s).state)
 
       -- it goes on
@@ -249,7 +251,7 @@ module _ (came plugged t l : ℕ) (le : t ≤ plugged) where
           } in
           let none : ending_in l (treat t p s).told ≡ None =
           alive_told l (OfLink t) s (treat t p s) a'.row (treat_fate l t p s) (a'.is, a'.next.alive) in
-          let told : ending_in l (treat_all t packets (treat t p s).state).told ≡ Some peer_closed =
+          let told : ending_in l (treat_all t packets (treat t p s).state).told ≡ Some PeerClosed =
           sym (ap (λ (o : Option Ending). option_or o (ending_in l (treat_all t packets (treat t p s).state).told)) none) ∙ (sym split ∙ closed) in
           let f = subst (λ (c : ℕ). Fallen c e.client (w ++ (treat t p s).told) (treat_all t packets (treat t p s).state)) e.of
           (later e.row e.client (w ++ (treat t p s).told) there owned_now (changes.streams within)
@@ -277,12 +279,12 @@ module _ (came plugged t l : ℕ) (le : t ≤ plugged) where
           by r b out (inr left) more = inr left
 
       -- it falls
-      struck : treat t p s ≡ ends_row l peer_closed x s → Fallen x.client a w (treat_all t (p ∷ packets) s)
+      struck : treat t p s ≡ ends_row l PeerClosed x s → Fallen x.client a w (treat_all t (p ∷ packets) s)
       struck is =
           let row : pair.client ≡ a = (let both : Some pair.client ≡ Some a = sym pair.here ∙ here in cc) in
           let left : IsLeft x.client (a.due ++ owed_to x.client (treat t p s).told) (treat t p s) =
           subst (λ (m : Made). IsLeft x.client (a.due ++ owed_to x.client m.told) m) (sym is)
-          (ends_left l x a s at.alive here (ap (λ (k : Client). k.about.phase) (sym row) ∙ pair.phase) peer_closed) in
+          (ends_left l x a s at.alive here (ap (λ (k : Client). k.about.phase) (sym row) ∙ pair.phase) PeerClosed) in
           let first : IsDone x.client (owed_to x.client w ++ owed_to x.client (treat t p s).told) (treat t p s).state (w ++ (treat t p s).told) = record {
             owned = owned_now;
             row = left_closing x.client (a.due ++ owed_to x.client (treat t p s).told) (treat t p s) left;
@@ -312,7 +314,7 @@ module _ (came plugged t l : ℕ) (le : t ≤ plugged) where
       go (inl a') later =
           passes a' (effect a' (treat_effect t l x p s pair at (pair_apart l x s owned pair) a'.not_cnxn)) later
       go (inr f) later =
-          let all : option_or (Some f.ending) (ending_in l rest.told) ≡ Some peer_closed =
+          let all : option_or (Some f.ending) (ending_in l rest.told) ≡ Some PeerClosed =
           sym (ap (λ (o : Option Ending). option_or o (ending_in l rest.told)) f.told) ∙ (sym split ∙ closed) in
-          let same : f.ending ≡ peer_closed = or_first (ending_in l rest.told) f.ending peer_closed all in
+          let same : f.ending ≡ PeerClosed = or_first (ending_in l rest.told) f.ending PeerClosed all in
           struck (close_ends t l x p s at (subst (Strikes l x p) same f.why))

@@ -22,7 +22,9 @@ use Rattle.adb_history.specs.Book.{is_killed, devices}
 use Rattle.adb_history.specs.Bytes.{is_orderly, has_failed, bytes_put, brought}
 use Rattle.adb_history.specs.Causes.{closes_in}
 use Rattle.adb_history.specs.Clients.{closing_with}
-use Rattle.adb_history.specs.Events.{Made, Ending, peer_closed, client_closed, client_failed, broken, lost, stopped, then_also, owed_to, ending_in}
+use Rattle.adb_history.specs.Events.{Made, then_also, owed_to, ending_in}
+use Rattle.adb_history.specs.declared.ending.Ending.{Ending}
+use Rattle.adb_history.specs.declared.ending.Ending.TheVariants.{PeerClosed, ClientClosed, ClientFailed, Broken, Lost, Stopped}
 use Rattle.adb_history.specs.Handing.{lists_first, left_in, hands, client_left, takes_of, puts_to}
 use Rattle.adb_history.specs.Lives.{ending_of, output_of}
 use Rattle.adb_history.specs.Machine.{rule, ups, History, state, told, told_at, IsSomeOf, MayPut, May, IsLegal}
@@ -101,13 +103,13 @@ put_same c (Put n bytes) older other = ap (λ (b : Bool). cond b (bytes_put c ol
 put_same c _ older other = refl
 
 -- ---- behind the close of its stream
-module _ (l : ℕ) (b : Birth) (h : History) (legal : IsLegal h) (birth : born l h ≡ Some b) (closed : ending_of l h ≡ Some peer_closed) where
+module _ (l : ℕ) (b : Birth) (h : History) (legal : IsLegal h) (birth : born l h ≡ Some b) (closed : ending_of l h ≡ Some PeerClosed) where
   row_gone : (state h).streams l ≡ None
   row_gone = go ((state h).streams l) refl
     where
       by : (orphan : Bool) → EndsAs orphan (ending_of l h) → ⊥
-      by false e = let clash : None ≡ Some peer_closed = sym e ∙ closed in cc
-      by true e = let clash : Some (client_failed e.0) ≡ Some peer_closed = sym e.1 ∙ closed in cc
+      by false e = let clash : None ≡ Some PeerClosed = sym e ∙ closed in cc
+      by true e = let clash : Some (ClientFailed e.0) ≡ Some PeerClosed = sym e.1 ∙ closed in cc
 
       go : (o : Option Stream) → (state h).streams l ≡ o → (state h).streams l ≡ None
       go None is = is
@@ -134,7 +136,7 @@ module _ (l : ℕ) (b : Birth) (h : History) (legal : IsLegal h) (birth : born l
 
 -- ---- an entry behind it
 module _ (l : ℕ) (b : Birth) (e : Entry) (older : History) (legal : IsLegal (e ∷ older)) (birth : born l older ≡ Some b)
-    (closed : ending_of l older ≡ Some peer_closed) (killed : is_killed (e ∷ older) ≡ false) where
+    (closed : ending_of l older ≡ Some PeerClosed) (killed : is_killed (e ∷ older) ≡ false) where
   abbrev c : ℕ
   c = b.client
 
@@ -164,7 +166,7 @@ module _ (l : ℕ) (b : Birth) (e : Entry) (older : History) (legal : IsLegal (e
 
 -- ---- a hand-out
 module _ (l : ℕ) (b : Birth) (bytes : List ℕ) (older : History) (legal : IsLegal (Put b.client bytes ∷ older)) (birth : born l older ≡ Some b)
-    (closed : ending_of l older ≡ Some peer_closed) (killed : is_killed (Put b.client bytes ∷ older) ≡ false)
+    (closed : ending_of l older ≡ Some PeerClosed) (killed : is_killed (Put b.client bytes ∷ older) ≡ false)
     (gone : (state (Put b.client bytes ∷ older)).clients b.client ≡ None) (a : Client) (is : (state older).clients b.client ≡ Some a) where
   phase : a.about.phase ≡ Closing
   phase = is_closing l b older legal.0 birth closed a is
@@ -225,7 +227,7 @@ module _ (l : ℕ) (b : Birth) (bytes : List ℕ) (older : History) (legal : IsL
 -- ---- the bytes that close it
 module _ (l t : ℕ) (bytes : List ℕ) (older : History) (legal : IsLegal (Recv t bytes ∷ older)) (x : Stream)
     (is : ((state older).streams l ≡ Some x) × (x.part.orphan ≡ false) × (x.link ≡ t))
-    (closed : ending_in l (told_at (Recv t bytes) older) ≡ Some peer_closed)
+    (closed : ending_in l (told_at (Recv t bytes) older) ≡ Some PeerClosed)
     (gone : (state (Recv t bytes ∷ older)).clients x.client ≡ None) where
   there : LinkThere t (state older)
   there = there_at t l x older legal.0 is
@@ -271,32 +273,32 @@ module _ (l t : ℕ) (bytes : List ℕ) (older : History) (legal : IsLegal (Recv
   received = ap (λ (o : Option Link). receives_on o t bytes (state older)) there.is
 
   -- it fell by a packet of theirs
-  fell : ending_in l treated.told ≡ Some peer_closed
+  fell : ending_in l treated.told ≡ Some PeerClosed
   unfolding cut there
   fell = go (run t l cut.given x s here)
     where
-      ends : RecvEnds t bytes older l x peer_closed
-      ends = recv_ends t l bytes x older legal is peer_closed closed
+      ends : RecvEnds t bytes older l x PeerClosed
+      ends = recv_ends t l bytes x older legal is PeerClosed closed
 
       given : ends.cut.given ≡ cut.given
       given = sym ends.brought.given ∙ (brought_cut t bytes older there.link legal.0 there.is).given
 
-      struck : StruckBy l x ends.cut peer_closed ⊎ (peer_closed ≡ client_closed) → closes_in x.part.remote l cut.given ≡ true
+      struck : StruckBy l x ends.cut PeerClosed ⊎ (PeerClosed ≡ ClientClosed) → closes_in x.part.remote l cut.given ≡ true
       struck (inl (inl e)) = ap (λ (ps : List Packet). closes_in x.part.remote l ps) (sym given) ∙ e
-      struck (inl (inr e)) = absurd (let clash : peer_closed ≡ broken = e.0 in cc)
+      struck (inl (inr e)) = absurd (let clash : PeerClosed ≡ Broken = e.0 in cc)
       struck (inr e) = absurd (cc)
 
       all : option_or (ending_in l treated.told) (ending_in l ((faulty t cut.fault treated.state).told ++ (ups (receives t bytes (state older)).state).told))
-          ≡ Some peer_closed
+          ≡ Some PeerClosed
       all =
           sym (ending_append l treated.told ((faulty t cut.fault treated.state).told ++ (ups (receives t bytes (state older)).state).told))
           ∙ (ap (ending_in l) (sym (append_assoc treated.told (faulty t cut.fault treated.state).told (ups (receives t bytes (state older)).state).told))
           ∙ (ap (λ (m : Made). ending_in l (m.told ++ (ups (receives t bytes (state older)).state).told)) (sym received) ∙ closed))
 
-      go : Run t l x cut.given treated → ending_in l treated.told ≡ Some peer_closed
+      go : Run t l x cut.given treated → ending_in l treated.told ≡ Some PeerClosed
       go (inl runs) = absurd (let clash : true ≡ false = sym (struck ends.why) ∙ runs.not_close in cc)
       go (inr struck_down) =
-          let both : Some struck_down.ending ≡ Some peer_closed =
+          let both : Some struck_down.ending ≡ Some PeerClosed =
           sym (ap (λ (o : Option Ending). option_or o
           (ending_in l ((faulty t cut.fault treated.state).told ++ (ups (receives t bytes (state older)).state).told))) struck_down.told) ∙ all in
           struck_down.told ∙ both
@@ -342,9 +344,9 @@ module _ (l t : ℕ) (bytes : List ℕ) (older : History) (legal : IsLegal (Recv
 
 -- ---- the entry by which it is closed
 module _ (l : ℕ) (b : Birth) (e : Entry) (older : History) (legal : IsLegal (e ∷ older)) (birth : born l (e ∷ older) ≡ Some b)
-    (closed : ending_in l (told_at e older) ≡ Some peer_closed) (gone : (state (e ∷ older)).clients b.client ≡ None) where
-  x : EndsAt l e older peer_closed
-  x = ends_at l e older peer_closed legal closed
+    (closed : ending_in l (told_at e older) ≡ Some PeerClosed) (gone : (state (e ∷ older)).clients b.client ≡ None) where
+  x : EndsAt l e older PeerClosed
+  x = ends_at l e older PeerClosed legal closed
 
   same : x.row.client ≡ b.client
   same =
@@ -355,40 +357,40 @@ module _ (l : ℕ) (b : Birth) (e : Entry) (older : History) (legal : IsLegal (e
   closed_now : bytes_put b.client (e ∷ older) ≡ output_of b.client (e ∷ older)
   closed_now = go e legal closed gone x.why
     where
-      go : (e' : Entry) → IsLegal (e' ∷ older) → ending_in l (told_at e' older) ≡ Some peer_closed → (state (e' ∷ older)).clients b.client ≡ None
-          → WhyStep e' ((rule e' (state older)).state.stopped ≡ true) x.row.client x.row.link peer_closed
+      go : (e' : Entry) → IsLegal (e' ∷ older) → ending_in l (told_at e' older) ≡ Some PeerClosed → (state (e' ∷ older)).clients b.client ≡ None
+          → WhyStep e' ((rule e' (state older)).state.stopped ≡ true) x.row.client x.row.link PeerClosed
           → bytes_put b.client (e' ∷ older) ≡ output_of b.client (e' ∷ older)
       go (Recv t bytes) legal' closed' gone' (inl on) =
           subst (λ (c : ℕ). bytes_put c (Recv t bytes ∷ older) ≡ output_of c (Recv t bytes ∷ older)) same
           (close_put l t bytes older legal' x.row (x.is, x.alive, on) closed'
           (ap (state (Recv t bytes ∷ older)).clients same ∙ gone'))
-      go (Read n bytes) legal' closed' gone' (inl why) = absurd (let clash : peer_closed ≡ stopped = why.0 in cc)
-      go (End n cause) legal' closed' gone' (inl why) = absurd (let clash : peer_closed ≡ client_failed cause = why.0 in cc)
-      go (Detach t cause) legal' closed' gone' (inl why) = absurd (let clash : peer_closed ≡ lost = why.0 in cc)
+      go (Read n bytes) legal' closed' gone' (inl why) = absurd (let clash : PeerClosed ≡ Stopped = why.0 in cc)
+      go (End n cause) legal' closed' gone' (inl why) = absurd (let clash : PeerClosed ≡ ClientFailed cause = why.0 in cc)
+      go (Detach t cause) legal' closed' gone' (inl why) = absurd (let clash : PeerClosed ≡ Lost = why.0 in cc)
       go (Join n) legal' closed' gone' (inl why) = absurd why
       go (Enter n port) legal' closed' gone' (inl why) = absurd why
       go (Bound n port) legal' closed' gone' (inl why) = absurd why
       go (Attach t kind serial) legal' closed' gone' (inl why) = absurd why
       go (Put n bytes) legal' closed' gone' (inl why) = absurd why
       go (Send t bytes) legal' closed' gone' (inl why) = absurd why
-      go e' legal' closed' gone' (inr why) = absurd (let clash : peer_closed ≡ client_closed = why in cc)
+      go e' legal' closed' gone' (inr why) = absurd (let clash : PeerClosed ≡ ClientClosed = why in cc)
 
 -- ---- all histories
 pub all_put : (h : History) → IsLegal h → PutsAllOfClosed h
-all_put [] legal l b birth closed failed killed gone = absurd (let clash : None ≡ Some peer_closed = closed in cc)
+all_put [] legal l b birth closed failed killed gone = absurd (let clash : None ≡ Some PeerClosed = closed in cc)
 all_put (e ∷ older) legal l b birth closed failed killed gone =
     go (ending_of l older) refl (λ was over none.
     all_put older legal.0 l b was over (failed_before b.client e older failed) (killed_before e older legal killed) none)
   where
-    split : option_or (ending_of l older) (ending_in l (told_at e older)) ≡ Some peer_closed
+    split : option_or (ending_of l older) (ending_in l (told_at e older)) ≡ Some PeerClosed
     split = sym (ending_append l (told older) (told_at e older)) ∙ closed
 
     Before : Type 0
-    Before = born l older ≡ Some b → ending_of l older ≡ Some peer_closed → (state older).clients b.client ≡ None
+    Before = born l older ≡ Some b → ending_of l older ≡ Some PeerClosed → (state older).clients b.client ≡ None
         → bytes_put b.client older ≡ output_of b.client older
 
     -- the stream was born before it ended
-    was_born : ending_of l older ≡ Some peer_closed → born l older ≡ Some b
+    was_born : ending_of l older ≡ Some PeerClosed → born l older ≡ Some b
     was_born over = by (born_when l b e older birth)
       where
         by : (born l older ≡ Some b) ⊎ IsBornNow l b e older → born l older ≡ Some b
@@ -397,10 +399,10 @@ all_put (e ∷ older) legal l b birth closed failed killed gone =
             let drawn = (all_births older legal.0).drawn in
             let number = now.number in
             let none : ending_of l older ≡ None = (all_endings older legal.0 l).undrawn (inr (omega (arith, drawn, number))) in
-            absurd (let clash : None ≡ Some peer_closed = sym none ∙ over in cc)
+            absurd (let clash : None ≡ Some PeerClosed = sym none ∙ over in cc)
 
-    behind : born l older ≡ Some b → ending_of l older ≡ Some peer_closed
-        → (born l older ≡ Some b → ending_of l older ≡ Some peer_closed → (state older).clients b.client ≡ None
+    behind : born l older ≡ Some b → ending_of l older ≡ Some PeerClosed
+        → (born l older ≡ Some b → ending_of l older ≡ Some PeerClosed → (state older).clients b.client ≡ None
         → bytes_put b.client older ≡ output_of b.client older)
         → (o : Option Client) → (state older).clients b.client ≡ o → Spares b.client e ⊎ ((bytes : List ℕ) × (e ≡ Put b.client bytes))
         → bytes_put b.client (e ∷ older) ≡ output_of b.client (e ∷ older)
@@ -417,13 +419,13 @@ all_put (e ∷ older) legal l b birth closed failed killed gone =
         (subst (λ (x : Entry). (state (x ∷ older)).clients b.client ≡ None) put gone) a is)
 
     go : (o : Option Ending) → ending_of l older ≡ o
-        → (born l older ≡ Some b → ending_of l older ≡ Some peer_closed → (state older).clients b.client ≡ None
+        → (born l older ≡ Some b → ending_of l older ≡ Some PeerClosed → (state older).clients b.client ≡ None
         → bytes_put b.client older ≡ output_of b.client older)
         → bytes_put b.client (e ∷ older) ≡ output_of b.client (e ∷ older)
     go None is before =
         closed_now l b e older legal birth
         (ap (λ (o : Option Ending). option_or o (ending_in l (told_at e older))) (sym is) ∙ split) gone
     go (Some y) is before =
-        let over : ending_of l older ≡ Some peer_closed =
+        let over : ending_of l older ≡ Some PeerClosed =
         is ∙ (ap (λ (o : Option Ending). option_or o (ending_in l (told_at e older))) (sym is) ∙ split) in
         behind (was_born over) over before ((state older).clients b.client) refl (spares_or b.client e older failed)

@@ -28,7 +28,8 @@ use Rattle.adb_stream.specs.declared.flow.Flow.{Flow}
 use Rattle.adb_stream.specs.declared.flow.Flow.TheVariants.{One, Credit}
 use Rattle.adb_stream.specs.declared.row.Stream.{Stream}
 use Rattle.adb_history.specs.Rows.{Client, Link, State, to_link, to_stream, none_kept}
-use Rattle.adb_history.specs.Events.{Made, then_also, quietly, lost, broken, client_closed, out_of_turn, peer_closed}
+use Rattle.adb_history.specs.Events.{Made, then_also, quietly}
+use Rattle.adb_history.specs.declared.ending.Ending.TheVariants.{Lost, Broken, ClientClosed, OutOfTurn, PeerClosed}
 use Rattle.adb_history.specs.Links.{close_packet, okay_packet, write_packet, owe_link, is_connected, credit_word, maxdata_of}
 use Rattle.adb_history.specs.Clients.{owe_client}
 use Rattle.adb_history.specs.Streams.{ends_row, ends_telling, all_end}
@@ -73,7 +74,7 @@ all_up_texts l stream (payload ∷ payloads) s each h = all_up_texts l stream pa
 closes_if_texts : (over : Bool) (l : ℕ) (row : Option Stream) (s : State) → Texts s → Texts (flows.closes_if over l row s).state
 closes_if_texts over l None s h = h
 closes_if_texts false l (Some stream) s h = h
-closes_if_texts true l (Some stream) s h = ends_telling_texts l client_closed stream s h
+closes_if_texts true l (Some stream) s h = ends_telling_texts l ClientClosed stream s h
 
 sends_up_texts : (l : ℕ) (stream : Stream) (client : Client) (payloads : List (List ℕ)) (s : State) → AreBytes client.held → EachOfBytes payloads
     → Texts s → Texts (flows.sends_up l stream client payloads s).state
@@ -120,19 +121,19 @@ online_texts t version maxdata identity s h =
     (link_texts t (packets.with_sums (has_sums version)) s (λ x texts. record { rest = texts.rest; due = texts.due }) h)
 
 connects_texts : (t version maxdata : ℕ) (identity : Option Identity) (s : State) → Texts s → Texts (packets.connects t version maxdata identity s).state
-connects_texts t version maxdata None s h = link_ends_texts t broken s h
+connects_texts t version maxdata None s h = link_ends_texts t Broken s h
 connects_texts t version maxdata (Some identity) s h = go (is_connected t s.devices)
   where
     go : (connected : Bool) → Texts (then_also (packets.streams_end_first connected t s)
         (λ s. quietly (packets.goes_online t version maxdata identity s))).state
-    go true = online_texts t version maxdata identity (all_end t lost s).state (all_end_texts t lost s h)
+    go true = online_texts t version maxdata identity (all_end t Lost s).state (all_end_texts t Lost s h)
     go false = online_texts t version maxdata identity s h
 
 cnxn_texts : (t version maxdata : ℕ) (banner : List ℕ) (s : State) → Texts s → Texts (packets.cnxn t version maxdata banner s).state
 cnxn_texts t version maxdata banner s h = go (nat_lt version packets.least_version || nat_lt maxdata packets.least_maxdata)
   where
-    go : (refused : Bool) → Texts (cond refused (link_ends t broken s) (packets.connects t version maxdata (identity_of banner) s)).state
-    go true = link_ends_texts t broken s h
+    go : (refused : Bool) → Texts (cond refused (link_ends t Broken s) (packets.connects t version maxdata (identity_of banner) s)).state
+    go true = link_ends_texts t Broken s h
     go false = connects_texts t version maxdata (identity_of banner) s h
 
 unauthorized_texts : (t : ℕ) (row : Option Row) (s : State) → Texts s → Texts (packets.unauthorized t row s).state
@@ -187,17 +188,17 @@ write_texts : (l remote : ℕ) (payload : List ℕ) (stream : Stream) (s : State
 write_texts l remote payload stream s are h =
     go (remote == 0 || not (remote == stream.part.remote)) (is_out_of_turn stream.part.flow (length payload))
   where
-    go : (strange early : Bool) → Texts (cond strange (quietly s) (cond early (ends_telling l out_of_turn stream s)
+    go : (strange early : Bool) → Texts (cond strange (quietly s) (cond early (ends_telling l OutOfTurn stream s)
         (packets.accepts l payload stream s))).state
     go true early = h
-    go false true = ends_telling_texts l out_of_turn stream s h
+    go false true = ends_telling_texts l OutOfTurn stream s h
     go false false = accepts_texts l payload stream s are h
 
 close_texts : (l remote : ℕ) (stream : Stream) (s : State) → Texts s → Texts (packets.takes_close l remote stream s).state
 close_texts l remote stream s h = go (remote == 0 || remote == stream.part.remote)
   where
-    go : (own : Bool) → Texts (cond own (ends_row l peer_closed stream s) (quietly s)).state
-    go true = ends_row_texts l peer_closed stream s h
+    go : (own : Bool) → Texts (cond own (ends_row l PeerClosed stream s) (quietly s)).state
+    go true = ends_row_texts l PeerClosed stream s h
     go false = h
 
 at_stream_texts : (t : ℕ) (row : Option Stream) (rule : Stream → State → Made) (s : State) → ((stream : Stream) → Texts (rule stream s).state) → Texts s
@@ -244,7 +245,7 @@ all_texts t (p ∷ ps) s each h = all_texts t ps (packets.treat t p s).state eac
 faulty_texts : (row : Option Link) (t : ℕ) (fault : Option PacketFault) (s : State) → Texts s → Texts (packets.faulty_on row t fault s).state
 faulty_texts None t fault s h = h
 faulty_texts (Some link) t None s h = h
-faulty_texts (Some link) t (Some fault) s h = link_ends_texts t broken s h
+faulty_texts (Some link) t (Some fault) s h = link_ends_texts t Broken s h
 
 -- ---- bytes of a link
 record AreCut (c : Cut PacketFormat Packet PacketFault) : Type 0 where

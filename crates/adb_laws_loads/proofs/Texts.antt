@@ -16,7 +16,8 @@ use Rattle.adb_stream.specs.declared.row.Stream.{Stream}
 use Rattle.adb_reply.specs.Strings.{failed}
 use Rattle.adb_load.proofs.Records.{literal_bytes, words_bytes, joined_bytes as both_bytes}
 use Rattle.adb_history.specs.Rows.{Client, Link, State, to_client, to_link, to_stream, none_kept, with_due, with_held, in_phase, with_link_due}
-use Rattle.adb_history.specs.Events.{Ending, then_also, quietly}
+use Rattle.adb_history.specs.Events.{then_also, quietly}
+use Rattle.adb_history.specs.declared.ending.Ending.{Ending}
 use Rattle.adb_history.specs.Links.{open_packet, close_packet, owe_link, is_credit}
 use Rattle.adb_history.specs.Clients.{closing_with, closing, closes, closes_with}
 use Rattle.adb_history.specs.Streams.{opens, asks_for, no_ids_left, draw, loses, client_loses, tells_end, ends_row, ends_telling, ends_if_of, ends_of, all_end}

@@ -11,7 +11,8 @@ use Rattle.adb_wire.specs.declared.format.PacketFault.{PacketFault}
 use Rattle.adb_wire.specs.declared.format.PacketFormat.{PacketFormat}
 use Rattle.adb_stream.specs.declared.row.Stream.{Stream}
 use Rattle.adb_history.specs.Rows.{Link, State, to_link}
-use Rattle.adb_history.specs.Events.{quietly, broken}
+use Rattle.adb_history.specs.Events.{quietly}
+use Rattle.adb_history.specs.declared.ending.Ending.TheVariants.{Broken}
 use Rattle.adb_history.specs.Links.{credit_word, is_connected}
 use Rattle.adb_history.specs.Packets.{takes_okay, takes_write, takes_close, treat_open, treat_any, treat_on, treat, treat_all, faulty_on, with_rest}
 use Rattle.adb_history.specs.Packets.{receives_cut, receives_on, receives}
@@ -129,7 +130,7 @@ module _ (ids : List ℕ) (t : ℕ) where
   faulty_passes : (o : Option Link) (fault : Option PacketFault) (s : State) → IsLinked s → Passes ids s (faulty_on o t fault s).state
   faulty_passes None fault s h = passes_same ids s
   faulty_passes (Some link) None s h = passes_same ids s
-  faulty_passes (Some link) (Some fault) s h = link_ends_passes ids s h t broken
+  faulty_passes (Some link) (Some fault) s h = link_ends_passes ids s h t Broken
 
   cut_passes : (c : Cut PacketFormat Packet PacketFault) (s : State) → IsLinked s → AllNamed s (named_by c.given)
       → PassesWith ids (granted c.given) s (receives_cut t c s).state

@@ -23,7 +23,9 @@ use Rattle.adb_client.specs.declared.phase.Phase.{Phase}
 use Rattle.adb_client.specs.declared.phase.Phase.TheVariants.{Opening, Streaming}
 use Rattle.adb_reply.specs.Strings.{failed}
 use Rattle.adb_history.specs.Rows.{Client, State, to_stream, none_kept, with_due, with_stream_part}
-use Rattle.adb_history.specs.Events.{Made, Ending, quietly, lost, broken, out_of_turn, peer_closed}
+use Rattle.adb_history.specs.Events.{Made, quietly}
+use Rattle.adb_history.specs.declared.ending.Ending.{Ending}
+use Rattle.adb_history.specs.declared.ending.Ending.TheVariants.{Lost, Broken, OutOfTurn, PeerClosed}
 use Rattle.adb_history.specs.Links.{close_packet, owe_link, is_connected, is_connected_row, is_connected_state}
 use Rattle.adb_history.specs.Clients.{owe_client, closes}
 use Rattle.adb_history.specs.Streams.{loses, client_loses, ends_row, ends_telling, ends_if_of, ends_of, all_end}
@@ -212,11 +214,11 @@ module _ (ids : List ℕ) where
 
     -- ---- CNXN, AUTH and STLS
     first_were : (b : Bool) (t : ℕ) → Were s (streams_end_first b t s).state
-    first_were true t = ends_of_were t s.drawn lost s
+    first_were true t = ends_of_were t s.drawn Lost s
     first_were false t = all_same ids (kept_of s)
 
     connects_passes : (t version maxdata : ℕ) (who : Option Identity) → Passes s (connects t version maxdata who s).state
-    connects_passes t version maxdata None = link_ends_passes t broken
+    connects_passes t version maxdata None = link_ends_passes t Broken
     connects_passes t version maxdata (Some identity) = record {
       rows = all_then ids (kept_of s) (kept_of now) (kept_of (goes_online t version maxdata identity now)) (first_were (is_connected t s.devices) t)
           (marks_were ids (kept_of now));
@@ -236,8 +238,8 @@ module _ (ids : List ℕ) where
 
     pub cnxn_passes : (t version maxdata : ℕ) (banner : List ℕ) → Passes s (cnxn t version maxdata banner s).state
     cnxn_passes t version maxdata banner =
-        passes_if s (nat_lt version least_version || nat_lt maxdata least_maxdata) (link_ends t broken s) (connects t version maxdata (identity_of banner) s)
-        (λ e. link_ends_passes t broken) (λ e. connects_passes t version maxdata (identity_of banner))
+        passes_if s (nat_lt version least_version || nat_lt maxdata least_maxdata) (link_ends t Broken s) (connects t version maxdata (identity_of banner) s)
+        (λ e. link_ends_passes t Broken) (λ e. connects_passes t version maxdata (identity_of banner))
 
     -- a device that is not connected has no stream
     waiting_passes : (t : ℕ) (row : Row) → at t s.devices.rows ≡ Some row → row.state ≡ Offline → Passes s (unauthorized_from t Offline s)
@@ -291,16 +293,16 @@ module _ (ids : List ℕ) where
 
     pub write_passes : (l remote : ℕ) (payload : List ℕ) (stream : Stream) → s.streams l ≡ Some stream → Passes s (takes_write l remote payload stream s).state
     write_passes l remote payload stream is =
-        let late : Made = ends_telling l out_of_turn stream s in
+        let late : Made = ends_telling l OutOfTurn stream s in
         let taken : Made = accepts l payload stream s in
         let out : Bool = is_out_of_turn stream.part.flow (length payload) in
         passes_if s (eqb remote 0 || not (eqb remote stream.part.remote)) (quietly s) (cond out late taken) (λ e. passes_same s)
-        (λ e. passes_if s out late taken (λ e. telling_passes l out_of_turn stream s) (λ e. accepts_passes l payload stream is))
+        (λ e. passes_if s out late taken (λ e. telling_passes l OutOfTurn stream s) (λ e. accepts_passes l payload stream is))
 
     pub close_passes : (l remote : ℕ) (stream : Stream) → Passes s (takes_close l remote stream s).state
     close_passes l remote stream =
-        passes_if s (eqb remote 0 || eqb remote stream.part.remote) (ends_row l peer_closed stream s) (quietly s)
-        (λ e. ends_passes l peer_closed stream s) (λ e. passes_same s)
+        passes_if s (eqb remote 0 || eqb remote stream.part.remote) (ends_row l PeerClosed stream s) (quietly s)
+        (λ e. ends_passes l PeerClosed stream s) (λ e. passes_same s)
 
     -- ---- OKAY
     module _ (l remote : ℕ) (word : Option ℕ) (stream : Stream) (is : s.streams l ≡ Some stream) (named : IsAmong l ids)

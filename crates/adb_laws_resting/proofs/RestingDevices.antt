@@ -15,7 +15,9 @@ use Rattle.adb_stream.specs.declared.row.Stream.{Stream}
 use Rattle.adb_capture.specs.declared.entry.Entry.{Entry}
 use Rattle.adb_capture.specs.declared.entry.Entry.TheVariants.{Enter, Read, Attach}
 use Rattle.adb_history.specs.Rows.{State, to_stream, none_kept}
-use Rattle.adb_history.specs.Events.{Event, Ending, lost}
+use Rattle.adb_history.specs.Events.{Event}
+use Rattle.adb_history.specs.declared.ending.Ending.{Ending}
+use Rattle.adb_history.specs.declared.ending.Ending.TheVariants.{Lost}
 use Rattle.adb_history.specs.Links.{is_connected, maxdata_of}
 use Rattle.adb_history.specs.Streams.{ends_row, all_end}
 use Rattle.adb_history.specs.Losing.{forgets, link_ends}
@@ -67,7 +69,7 @@ link_ends_sized : (t : ℕ) (ending : Ending) (s : State) (w : List Event) → A
 link_ends_sized t ending s w h = all_end_sized t ending (forgets t s) w (All-without IsSized t s.devices.rows h)
 
 first_sized : (b : Bool) (t : ℕ) (s : State) → AreSized s.devices → AreSized (streams_end_first b t s).state.devices
-first_sized true t s h = all_end_sized t lost s [] h
+first_sized true t s h = all_end_sized t Lost s [] h
 first_sized false t s h = h
 
 online_sized : (t version maxdata : ℕ) (identity : Identity) (s : State) → AreSized s.devices

@@ -18,7 +18,8 @@ use Rattle.adb_stream.specs.declared.row.Stream.{Stream}
 use Rattle.adb_client.specs.declared.phase.Phase.{Phase}
 use Rattle.adb_client.specs.declared.phase.Phase.TheVariants.{Opening, Streaming}
 use Rattle.adb_history.specs.Rows.{Client, Link, State, new_link, to_link, to_stream, none_kept}
-use Rattle.adb_history.specs.Events.{Ending, lost}
+use Rattle.adb_history.specs.declared.ending.Ending.{Ending}
+use Rattle.adb_history.specs.declared.ending.Ending.TheVariants.{Lost}
 use Rattle.adb_history.specs.Links.{maxdata_of}
 use Rattle.adb_history.specs.Streams.{loses, client_loses, ends_row, all_end}
 use Rattle.adb_history.specs.Losing.{forgets, link_ends}
@@ -88,7 +89,7 @@ link_ends_calm t ending s rises h = marks_calm (all_end t ending (forgets t s)).
 
 pub unplugs_calm : (o : Option Link) (t : ℕ) (s : State) → IsRising s.devices.rows → AllCalm s → AllCalm (unplugs_on o t s).state
 unplugs_calm None t s rises h = h
-unplugs_calm (Some link) t s rises h = link_ends_calm t lost s rises h
+unplugs_calm (Some link) t s rises h = link_ends_calm t Lost s rises h
 
 -- ---- receive
 not_faulty : (o : Option Link) (t : ℕ) (s : State) → (faulty_on o t None s).state ≡ s

@@ -4,7 +4,7 @@ use Rattle.std.specs.Prelude.{option_and_then}
 use Rattle.adb_outside.specs.declared.kinds.Cause.{Cause}
 use Rattle.adb_capture.specs.declared.entry.Entry.TheVariants.{End}
 use Rattle.adb_history.specs.Rows.{Client, Link, State, to_client}
-use Rattle.adb_history.specs.Events.{Ending}
+use Rattle.adb_history.specs.declared.ending.Ending.{Ending}
 use Rattle.adb_history.specs.Losing.{client_ends, link_ends}
 use Rattle.adb_history.specs.Handing.{link_hands, sends, hands, client_left, takes_of}
 use Rattle.adb_history.specs.Machine.{step, ups}

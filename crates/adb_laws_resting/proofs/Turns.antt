@@ -5,7 +5,7 @@ use Rattle.adb_capture.specs.declared.entry.Entry.{Entry}
 use Rattle.adb_capture.specs.declared.entry.Entry.TheVariants.{Send, Detach}
 use Rattle.adb_laws_resting.specs.Resting.{StepIsRule}
 use Rattle.adb_history.specs.Rows.{Link, State}
-use Rattle.adb_history.specs.Events.{lost}
+use Rattle.adb_history.specs.declared.ending.Ending.TheVariants.{Lost}
 use Rattle.adb_history.specs.Handing.{sends}
 use Rattle.adb_history.specs.Losing.{link_ends}
 use Rattle.adb_history.specs.Machine.{rule, unplugs_on}
@@ -47,15 +47,15 @@ module _ (old new : Tables) (fit : IsFit old) (reached : IsReached (state_of old
   })
 
   -- a link is unplugged
-  pub unplugged : (t : ℕ) → is_some (s.links t) ≡ true → state_of new ≡ (link_ends t lost s).state → (cause : Cause) → Makes (Detach t cause) old new
+  pub unplugged : (t : ℕ) → is_some (s.links t) ≡ true → state_of new ≡ (link_ends t Lost s).state → (cause : Cause) → Makes (Detach t cause) old new
   unplugged t there state cause = rule_made (Detach t cause) old new fit (record {
     uses = uses;
     state = state ∙ ends (s.links t) there;
-    sums = λ k. subst (λ (next : State). SumsStay (s.links k) (next.links k)) (ends (s.links t) there) (sums_link_ends s (within s reached) t lost k);
+    sums = λ k. subst (λ (next : State). SumsStay (s.links k) (next.links k)) (ends (s.links t) there) (sums_link_ends s (within s reached) t Lost k);
     rests = (sends_nothing s reached).detach t cause;
   })
     where
-      ends : (row : Option Link) → is_some row ≡ true → (link_ends t lost s).state ≡ (unplugs_on row t s).state
+      ends : (row : Option Link) → is_some row ≡ true → (link_ends t Lost s).state ≡ (unplugs_on row t s).state
       ends None there = let clash : false ≡ true = there in cc
       ends (Some link) there = refl
 

@@ -11,7 +11,8 @@ use Rattle.adb_capture.specs.declared.entry.Entry.{Entry}
 use Rattle.adb_capture.specs.declared.entry.Entry.TheVariants.{Join, Enter, Read, Attach}
 use Rattle.adb_reply.specs.Strings.{failed}
 use Rattle.adb_history.specs.Rows.{Client, State, new_client, to_client, to_stream, none_kept, with_due, in_phase}
-use Rattle.adb_history.specs.Events.{Ending, lost}
+use Rattle.adb_history.specs.declared.ending.Ending.{Ending}
+use Rattle.adb_history.specs.declared.ending.Ending.TheVariants.{Lost}
 use Rattle.adb_history.specs.Links.{is_connected}
 use Rattle.adb_history.specs.Clients.{closing, closing_with}
 use Rattle.adb_history.specs.Streams.{loses, client_loses, ends_row, all_end}
@@ -145,7 +146,7 @@ all_end_wants t ending s h =
     all_end_kept {P = λ s w. AllWant s.clients} (λ l ending stream s w is now. ends_wants l ending stream s now) t ending s [] h
 
 first_wants : (b : Bool) (t : ℕ) (s : State) → AllWant s.clients → AllWant (streams_end_first b t s).state.clients
-first_wants true t s h = all_end_wants t lost s h
+first_wants true t s h = all_end_wants t Lost s h
 first_wants false t s h = h
 
 -- ---- moves

@@ -19,7 +19,8 @@ use Rattle.adb_stream.specs.Flow.{first_credit, acknowledged, is_out_of_turn, ac
 use Rattle.adb_stream.specs.declared.row.Stream.{Stream}
 use Rattle.adb_client.specs.declared.phase.Phase.TheVariants.{Streaming}
 use Rattle.adb_history.specs.Rows.{Client, Link, State, to_client, to_link, to_stream, none_kept, in_phase, with_stream_part}
-use Rattle.adb_history.specs.Events.{Made, quietly, peer_closed, out_of_turn, lost, broken}
+use Rattle.adb_history.specs.Events.{Made, quietly}
+use Rattle.adb_history.specs.declared.ending.Ending.TheVariants.{PeerClosed, OutOfTurn, Lost, Broken}
 use Rattle.adb_history.specs.Links.{close_packet, credit_word, is_connected}
 use Rattle.adb_history.specs.Clients.{owe_client}
 use Rattle.adb_history.specs.Streams.{ends_row, ends_telling}
@@ -35,10 +36,10 @@ use Rattle.adb_laws_steps.proofs.Ends.{ends_row_costs, ends_telling_costs, all_e
 -- ---- CNXN, AUTH and STLS
 end_first_costs : (before : Bool) (t : ℕ) (s : State) → InRange s → Costs 0 0 s (streams_end_first before t s)
 end_first_costs false t s range = costs_quiet s range
-end_first_costs true t s range = all_end_costs t lost s range
+end_first_costs true t s range = all_end_costs t Lost s range
 
 connects_costs : (t version maxdata : ℕ) (o : Option Identity) (s : State) → InRange s → Costs 0 0 s (connects t version maxdata o s)
-connects_costs t version maxdata None s range = link_ends_costs t broken s range
+connects_costs t version maxdata None s range = link_ends_costs t Broken s range
 connects_costs t version maxdata (Some identity) s range =
     costs_then 0 0 0 0 s (streams_end_first (is_connected t s.devices) t s) (λ (x : State). quietly (goes_online t version maxdata identity x))
     (end_first_costs (is_connected t s.devices) t s range)
@@ -48,8 +49,8 @@ connects_costs t version maxdata (Some identity) s range =
 cnxn_costs : (t version maxdata : ℕ) (banner : List ℕ) (s : State) → InRange s → Costs 0 0 s (cnxn t version maxdata banner s)
 cnxn_costs t version maxdata banner s range = go (nat_lt version least_version || nat_lt maxdata least_maxdata)
   where
-    go : (b : Bool) → Costs 0 0 s (cond b (link_ends t broken s) (connects t version maxdata (identity_of banner) s))
-    go true = link_ends_costs t broken s range
+    go : (b : Bool) → Costs 0 0 s (cond b (link_ends t Broken s) (connects t version maxdata (identity_of banner) s))
+    go true = link_ends_costs t Broken s range
     go false = connects_costs t version maxdata (identity_of banner) s range
 
 unauthorized_from_costs : (t : ℕ) (state : DeviceState) (s : State) → InRange s → Costs 0 0 s (quietly (unauthorized_from t state s))
@@ -123,16 +124,16 @@ takes_write_costs : (l remote : ℕ) (payload : List ℕ) (stream : Stream) (s :
 takes_write_costs l remote payload stream s range is some =
     go (remote == 0 || not (remote == stream.part.remote)) (is_out_of_turn stream.part.flow (length payload))
   where
-    go : (a b : Bool) → Costs 0 0 s (cond a (quietly s) (cond b (ends_telling l out_of_turn stream s) (accepts l payload stream s)))
+    go : (a b : Bool) → Costs 0 0 s (cond a (quietly s) (cond b (ends_telling l OutOfTurn stream s) (accepts l payload stream s)))
     go true b = costs_quiet s range
-    go false true = ends_telling_costs l out_of_turn stream s range is
+    go false true = ends_telling_costs l OutOfTurn stream s range is
     go false false = accepts_costs l payload stream s range some
 
 takes_close_costs : (l remote : ℕ) (stream : Stream) (s : State) → InRange s → s.streams l ≡ Some stream → Costs 0 0 s (takes_close l remote stream s)
 takes_close_costs l remote stream s range is = go (remote == 0 || remote == stream.part.remote)
   where
-    go : (b : Bool) → Costs 0 0 s (cond b (ends_row l peer_closed stream s) (quietly s))
-    go true = costs_within 0 0 24 0 s (ends_row l peer_closed stream s) (omega arith) (ends_row_costs l peer_closed stream s range is)
+    go : (b : Bool) → Costs 0 0 s (cond b (ends_row l PeerClosed stream s) (quietly s))
+    go true = costs_within 0 0 24 0 s (ends_row l PeerClosed stream s) (omega arith) (ends_row_costs l PeerClosed stream s range is)
     go false = costs_quiet s range
 
 at_stream_costs : (t l : ℕ) (o : Option Stream) (rule : Stream → State → Made) (s : State) → InRange s
@@ -194,7 +195,7 @@ treat_all_costs t (p ∷ ps) s range worth =
 faulty_costs : (o : Option Link) (t : ℕ) (fault : Option PacketFault) (s : State) → InRange s → Costs 0 0 s (faulty_on o t fault s)
 faulty_costs None t fault s range = costs_quiet s range
 faulty_costs (Some link) t None s range = costs_quiet s range
-faulty_costs (Some link) t (Some fault) s range = link_ends_costs t broken s range
+faulty_costs (Some link) t (Some fault) s range = link_ends_costs t Broken s range
 
 pub cut_costs : (t : ℕ) (c : Cut PacketFormat Packet PacketFault) (s : State) → InRange s → All IsWorthwhile c.given → Costs 0 0 s (receives_cut t c s)
 cut_costs t c s range worth =

@@ -8,7 +8,9 @@ use Rattle.adb_stream.specs.declared.row.Stream.{Stream}
 use Rattle.adb_client.specs.declared.phase.Phase.{Phase}
 use Rattle.adb_client.specs.declared.phase.Phase.TheVariants.{Opening, Streaming, Closing, Gone}
 use Rattle.adb_history.specs.Rows.{Client, Link, State, to_client, to_stream, none_kept, with_stream_part}
-use Rattle.adb_history.specs.Events.{Ending, quietly, ended, client_failed, stopped}
+use Rattle.adb_history.specs.Events.{quietly, ended}
+use Rattle.adb_history.specs.declared.ending.Ending.{Ending}
+use Rattle.adb_history.specs.declared.ending.Ending.TheVariants.{ClientFailed, Stopped}
 use Rattle.adb_history.specs.Links.{close_packet, owe_link}
 use Rattle.adb_history.specs.Streams.{loses, client_loses, tells_end, ends_row, ends_telling, ends_if_of, ends_of, all_end}
 use Rattle.adb_history.specs.Tracking.{mark_all}
@@ -90,13 +92,13 @@ stream_fails_costs (Streaming l) cause s range = go (s.streams l) refl
     go (Some stream) is =
         costs_within 24 0 24 0 s _ (omega arith)
         (costs_then 24 0 24 0 s (owe_link stream.link (close_packet l stream.part.remote) (to_stream l none_kept s))
-        (λ (x : State). record { state = x; told = ended l (client_failed cause) ∷ [] })
+        (λ (x : State). record { state = x; told = ended l (ClientFailed cause) ∷ [] })
         (costs_after 24 24 0 s (to_stream l none_kept s) _ (quiets_gone s range l stream is)
         (λ later. costs_owe (to_stream l none_kept s) later stream.link (close_packet l stream.part.remote)))
         (λ later. costs_aside 0 (owe_link stream.link (close_packet l stream.part.remote) (to_stream l none_kept s)).state
         (record {
           state = (owe_link stream.link (close_packet l stream.part.remote) (to_stream l none_kept s)).state;
-          told = ended l (client_failed cause) ∷ [];
+          told = ended l (ClientFailed cause) ∷ [];
         }) later refl refl (omega arith)))
 stream_fails_costs (Opening l) cause s range = go (s.streams l)
   where
@@ -130,7 +132,7 @@ stop_tolls : (l : ℕ) (o : Option Stream) → tolls (tells_stop l o) ≡ 0
 stop_tolls l None = refl
 stop_tolls l (Some stream) = go stream.part.orphan
   where
-    go : (b : Bool) → tolls (cond b [] (ended l stopped ∷ [])) ≡ 0
+    go : (b : Bool) → tolls (cond b [] (ended l Stopped ∷ [])) ≡ 0
     go true = refl
     go false = refl
 

@@ -6,7 +6,8 @@ use Rattle.adb_stream.specs.declared.flow.Flow.TheVariants.{One, Credit}
 use Rattle.adb_stream.specs.declared.row.Stream.{Stream}
 use Rattle.adb_wire.specs.declared.command.Command.TheVariants.{Wrte}
 use Rattle.adb_history.specs.Rows.{Client, State, with_stream_part}
-use Rattle.adb_history.specs.Events.{quietly, client_closed}
+use Rattle.adb_history.specs.Events.{quietly}
+use Rattle.adb_history.specs.declared.ending.Ending.TheVariants.{ClientClosed}
 use Rattle.adb_history.specs.Links.{maxdata_of}
 use Rattle.adb_history.specs.Flow.{write_len, write_before, writes, payloads, total, with_flow, goes_up, all_go_up, flow_after, noted, is_over, closes_if, sends_up}
 use Rattle.adb_history.specs.Flow.{is_streaming, up_client, up_stream, up, up_all}
@@ -51,7 +52,7 @@ all_go_up_costs l stream (payload ∷ more) s range some =
 closes_if_costs : (over : Bool) (l : ℕ) (o : Option Stream) (s : State) → InRange s → s.streams l ≡ o → Costs 0 0 s (closes_if over l o s)
 closes_if_costs over l None s range is = costs_quiet s range
 closes_if_costs false l (Some stream) s range is = costs_quiet s range
-closes_if_costs true l (Some stream) s range is = ends_telling_costs l client_closed stream s range is
+closes_if_costs true l (Some stream) s range is = ends_telling_costs l ClientClosed stream s range is
 
 sends_up_costs : (l : ℕ) (stream : Stream) (client : Client) (all : List (List ℕ)) (s : State) → InRange s → AllSome all
     → Costs 0 0 s (sends_up l stream client all s)

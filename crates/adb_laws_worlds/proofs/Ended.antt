@@ -12,7 +12,7 @@ use Rattle.adb_wire.specs.declared.packets.Packet.{Packet}
 use Rattle.adb_history.specs.Births.{Birth, Opening, born, since, opening_of, remote_in, is_between, is_close_of, before_close, is_clse, is_wrte, told_in}
 use Rattle.adb_history.specs.Births.{told_before, told_before_close, joined}
 use Rattle.adb_history.specs.Bytes.{brought, sent}
-use Rattle.adb_history.specs.Events.{peer_closed}
+use Rattle.adb_history.specs.declared.ending.Ending.TheVariants.{PeerClosed}
 use Rattle.adb_history.specs.Lives.{ending_of}
 use Rattle.adb_history.specs.Machine.{History, IsLegal}
 use Rattle.adb_laws_births.proofs.Crossing.{no_crossing}
@@ -190,12 +190,12 @@ none_are is_such (p ∷ ps) none = go (is_such p) refl none (none_are is_such ps
 
 module _ (setting : Setting) (short : setting.most < 2 ^ 32) (h : History) (legal : IsLegal h) (tied : IsJoined setting h)
     (still : IsStill (packets_owed setting) h) (l : ℕ) (b : Birth) (o : Opening) (birth : born l h ≡ Some b) (own : b.link ≡ 1)
-    (opened : opening_of l b h ≡ Some o) (ended : ending_of l h ≡ Some peer_closed) where
+    (opened : opening_of l b h ≡ Some o) (ended : ending_of l h ≡ Some PeerClosed) where
   -- ---- it was open, and its device closed it
   f : Follows LifeOf h l b
   f = has_lives h legal l b birth
 
-  ending : f.holds.seen.ending ≡ Some peer_closed
+  ending : f.holds.seen.ending ≡ Some PeerClosed
   ending = ap (λ (v : View). v.ending) (sym f.holds.shows.1) ∙ ended
 
   was_open : WasOpen l f.cradle (since b h) f.holds.seen.output f.holds.seen.ending
@@ -203,8 +203,8 @@ module _ (setting : Setting) (short : setting.most < 2 ^ 32) (h : History) (lega
     where
       lives : (orphan : Bool) (remote : ℕ) → LivesAs orphan remote l f.cradle (since b h) (heard_of f.holds.seen) → ⊥
       lives true remote x = x.unheard.not_by_peer ending
-      lives false zero x = let clash : None ≡ Some peer_closed = sym x.ending ∙ ending in cc
-      lives false (suc r) x = let clash : None ≡ Some peer_closed = sym x.ending ∙ ending in cc
+      lives false zero x = let clash : None ≡ Some PeerClosed = sym x.ending ∙ ending in cc
+      lives false (suc r) x = let clash : None ≡ Some PeerClosed = sym x.ending ∙ ending in cc
 
       go : (s : Option SeenStream) → LivesIn s l f.cradle (since b h) (is_shut b.link h) (heard_of f.holds.seen)
           → WasOpen l f.cradle (since b h) f.holds.seen.output f.holds.seen.ending

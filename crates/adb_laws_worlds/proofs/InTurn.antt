@@ -10,7 +10,7 @@ use Rattle.adb_wire.specs.declared.packets.Packet.{Packet}
 use Rattle.adb_history.specs.Births.{Birth, born, remote_of, told_to, joined, handed_to, count_from, is_okay, is_wrte, is_between}
 use Rattle.adb_history.specs.Bytes.{brought, sent}
 use Rattle.adb_history.specs.Causes.{brings, remote_after, is_early, writes_early_in, writes_early, given_to}
-use Rattle.adb_history.specs.Events.{out_of_turn}
+use Rattle.adb_history.specs.declared.ending.Ending.TheVariants.{OutOfTurn}
 use Rattle.adb_history.specs.Fifo.{whole_within, okays_of, IsWithinDown}
 use Rattle.adb_history.specs.Lives.{ending_of}
 use Rattle.adb_history.specs.Machine.{History, IsLegal}
@@ -109,11 +109,11 @@ joined_within n (payload ∷ payloads) le = go (nat_le (length payload) n) refl 
 
 module _ (setting : Setting) (short : setting.most < 2 ^ 32) (plain : setting.credit ≡ false) (h : History) (legal : IsLegal h)
     (tied : IsJoined setting h) (l : ℕ) (b : Birth) (birth : born l h ≡ Some b) (own : b.link ≡ 1) where
-  pub in_turn : ending_of l h ≢ Some out_of_turn
+  pub in_turn : ending_of l h ≢ Some OutOfTurn
   in_turn is = clash
     where
-      x : EndsNow l out_of_turn h
-      x = ends_now l out_of_turn h is
+      x : EndsNow l OutOfTurn h
+      x = ends_now l OutOfTurn h is
 
       time : IsLegal (x.entry ∷ x.older)
       time = time_of h legal x.entry x.older x.moment

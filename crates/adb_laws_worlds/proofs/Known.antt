@@ -16,7 +16,8 @@ use Rattle.adb_capture.specs.declared.entry.Entry.{Entry}
 use Rattle.adb_capture.specs.declared.entry.Entry.TheVariants.{Enter, Read}
 use Rattle.adb_history.specs.Births.{Birth, born, births, births_at, since, opening_by, opening_in, is_between, count_from, is_okay, is_clse, is_open}
 use Rattle.adb_history.specs.Bytes.{brought, sent}
-use Rattle.adb_history.specs.Events.{Ending, ending_in}
+use Rattle.adb_history.specs.Events.{ending_in}
+use Rattle.adb_history.specs.declared.ending.Ending.{Ending}
 use Rattle.adb_history.specs.Fifo.{okays_in, IsOpenOf, IsOwn}
 use Rattle.adb_history.specs.Links.{is_connected, credit_word}
 use Rattle.adb_history.specs.Lives.{ending_of}

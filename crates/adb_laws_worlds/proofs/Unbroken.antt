@@ -21,7 +21,9 @@ use Rattle.adb_history.specs.Book.{plugged, is_login, is_refused, is_broken, las
 use Rattle.adb_history.specs.Births.{Birth, born}
 use Rattle.adb_history.specs.Bytes.{is_lost, bytes_received, brought, sent}
 use Rattle.adb_history.specs.Causes.{IsMoment, brings, detaches, loses_link, breaks_link}
-use Rattle.adb_history.specs.Events.{Ending, lost, broken, ending_in}
+use Rattle.adb_history.specs.Events.{ending_in}
+use Rattle.adb_history.specs.declared.ending.Ending.{Ending}
+use Rattle.adb_history.specs.declared.ending.Ending.TheVariants.{Lost, Broken}
 use Rattle.adb_history.specs.Links.{is_connected, is_connected_state, is_connected_row}
 use Rattle.adb_history.specs.Lives.{ending_of}
 use Rattle.adb_history.specs.Machine.{History, state, told, told_at, IsLegal}
@@ -230,11 +232,11 @@ module _ (setting : Setting) (short : setting.most < 2 ^ 32) (h : History) (lega
     unlost = lost_stays x.moment.0 (x.entry ∷ x.older) (subst (λ (k : History). is_lost 1 k ≡ false) (sym x.moment.1) here)
 
   -- so it did not end with its link
-  not_lost : ending_of l h ≢ Some lost
+  not_lost : ending_of l h ≢ Some Lost
   not_lost is = clash
     where
-      x : EndsNow l lost h
-      x = ends_now l lost h is
+      x : EndsNow l Lost h
+      x = ends_now l Lost h is
 
       not_detached : (e : Entry) (older : History) → is_lost 1 (e ∷ older) ≡ false → detaches 1 e ≡ false
       not_detached (Detach n cause) older unlost = go (nat_eq n 1) unlost
@@ -253,16 +255,16 @@ module _ (setting : Setting) (short : setting.most < 2 ^ 32) (h : History) (lega
           let none : loses_link by.birth x.entry x.older ≡ false =
           ap (λ (t : ℕ). detaches t x.entry || list_any (λ p. is_cnxn p.command && not (is_refused p)) (brings t x.entry x.older)) first
           ∙ (ap (λ (c : Bool). c || list_any (λ p. is_cnxn p.command && not (is_refused p)) (brings 1 x.entry x.older))
-          (not_detached x.entry x.older (unlost lost x))
-          ∙ none_any (λ p. not (is_refused p)) (brings 1 x.entry x.older) (none_brought lost x)) in
+          (not_detached x.entry x.older (unlost Lost x))
+          ∙ none_any (λ p. not (is_refused p)) (brings 1 x.entry x.older) (none_brought Lost x)) in
           let both : true ≡ false = sym by.cause ∙ none in
           cc
 
-  not_broken : ending_of l h ≢ Some broken
+  not_broken : ending_of l h ≢ Some Broken
   not_broken is = clash
     where
-      x : EndsNow l broken h
-      x = ends_now l broken h is
+      x : EndsNow l Broken h
+      x = ends_now l Broken h is
 
       clash : ⊥
       clash =
@@ -270,7 +272,7 @@ module _ (setting : Setting) (short : setting.most < 2 ^ 32) (h : History) (lega
           let mine : by.birth ≡ b = birth_stays l b x.entry x.older x.moment.0 by.birth
           (subst (λ (k : History). born l k ≡ Some b) (sym x.moment.1) birth) by.is in
           let first : by.birth.link ≡ 1 = ap (λ (c : Birth). c.link) mine ∙ own in
-          let sound = (brings_sound setting short (x.entry ∷ x.older) (time broken x) (then_tied broken x)).sound in
+          let sound = (brings_sound setting short (x.entry ∷ x.older) (time Broken x) (then_tied Broken x)).sound in
           let none : breaks_link by.birth x.entry x.older ≡ false =
           ap (λ (t : ℕ). (is_some (framed (bytes_received t (x.entry ∷ x.older))).fault && not (is_some (framed (bytes_received t x.older)).fault))
           || list_any is_refused (brings t x.entry x.older)) first
@@ -278,7 +280,7 @@ module _ (setting : Setting) (short : setting.most < 2 ^ 32) (h : History) (lega
           || list_any is_refused (brings 1 x.entry x.older)) sound
           ∙ none_any (λ p. nat_lt p.arg0 least_version
           || nat_lt p.arg1 least_maxdata
-          || is_none (identity_of p.payload)) (brings 1 x.entry x.older) (none_brought broken x)) in
+          || is_none (identity_of p.payload)) (brings 1 x.entry x.older) (none_brought Broken x)) in
           let both : true ≡ false = sym by.cause ∙ none in
           cc
 

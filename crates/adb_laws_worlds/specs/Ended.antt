@@ -3,7 +3,7 @@ use Rattle.std.specs.Prelude.{ℕ, ◌≡◌, true, Some}
 use Rattle.adb_outside.specs.Bytes.{IsPrefixOf}
 use Rattle.adb_history.specs.Births.{Birth, born, opening_of, Opening, told_before_close, joined, handed_to}
 use Rattle.adb_history.specs.Bytes.{bytes_put, sent}
-use Rattle.adb_history.specs.Events.{peer_closed}
+use Rattle.adb_history.specs.declared.ending.Ending.TheVariants.{PeerClosed}
 use Rattle.adb_history.specs.Lives.{ending_of, output_of, rest_of}
 use Rattle.adb_history.specs.Machine.{History}
 use Rattle.adb_device_streams.specs.Asked.{service_of}
@@ -29,4 +29,4 @@ pub record HasEndedWhole (setting : Setting) (h : History) (l : ℕ) (b : Birth)
 -- So is each stream of the first link that was opened and that its device closed, where nothing is on its way.
 abbrev pub ClosedGaveAll : Setting → History → Type 0
 ClosedGaveAll setting h = IsStill (packets_owed setting) h → (l : ℕ) (b : Birth) (o : Opening) → born l h ≡ Some b → b.link ≡ 1
-    → opening_of l b h ≡ Some o → ending_of l h ≡ Some peer_closed → HasEndedWhole setting h l b o
+    → opening_of l b h ≡ Some o → ending_of l h ≡ Some PeerClosed → HasEndedWhole setting h l b o

@@ -2,7 +2,7 @@
 use Rattle.std.specs.Prelude.{ℕ, ◌+◌, ◌≡◌, ◌≢◌, ◌≤◌, false, List, Some}
 use Rattle.adb_wire.specs.declared.packets.Packet.{Packet}
 use Rattle.adb_history.specs.Births.{Birth, born, count_from, is_okay, is_open}
-use Rattle.adb_history.specs.Events.{out_of_turn}
+use Rattle.adb_history.specs.declared.ending.Ending.TheVariants.{OutOfTurn}
 use Rattle.adb_history.specs.Lives.{ending_of}
 use Rattle.adb_history.specs.Machine.{History}
 use Rattle.adb_daemon.specs.Device.{Setting, device_behind}
@@ -16,4 +16,4 @@ WritesAsAllowed setting = (l : ℕ) (packets : List Packet) → count_from is_op
 
 -- No stream of the first link ended by a write out of turn.
 abbrev pub AllInTurn : History → Type 0
-AllInTurn h = (l : ℕ) (b : Birth) → born l h ≡ Some b → b.link ≡ 1 → ending_of l h ≢ Some out_of_turn
+AllInTurn h = (l : ℕ) (b : Birth) → born l h ≡ Some b → b.link ≡ 1 → ending_of l h ≢ Some OutOfTurn

@@ -3,7 +3,7 @@ use Rattle.std.specs.Prelude.{ℕ, ◌≡◌, ◌≢◌, ◌≤◌, false, Some,
 use Rattle.adb_wire.specs.Cutting.{framed}
 use Rattle.adb_history.specs.Births.{Birth, born}
 use Rattle.adb_history.specs.Bytes.{is_lost, bytes_received, brought}
-use Rattle.adb_history.specs.Events.{lost, broken}
+use Rattle.adb_history.specs.declared.ending.Ending.TheVariants.{Lost, Broken}
 use Rattle.adb_history.specs.Lives.{ending_of}
 use Rattle.adb_history.specs.Machine.{History}
 use Rattle.adb_laws_pairs.specs.Counts.{how_many}
@@ -16,8 +16,8 @@ pub record BringsSound (h : History) : Type 0 where
 
 -- No stream of the first link ended with it, where the link was not lost.
 pub record OutlivesLink (l : ℕ) (h : History) : Type 0 where
-  pub lost : ending_of l h ≢ Some lost
-  pub broken : ending_of l h ≢ Some broken
+  pub lost : ending_of l h ≢ Some Lost
+  pub broken : ending_of l h ≢ Some Broken
 
 abbrev pub AllOutliveLink : History → Type 0
 AllOutliveLink h = is_lost 1 h ≡ false → (l : ℕ) (b : Birth) → born l h ≡ Some b → b.link ≡ 1 → OutlivesLink l h

@@ -9,7 +9,7 @@ use std::sync::{Condvar, Mutex, Wait};
 
 /// The most bytes that wait while one write goes out. Who records more waits for that write, which
 /// is the only place where a slow reader of the record is felt.
-pub const MAX_HELD: usize = 8_388_608;
+pub const MAX_UNWRITTEN: usize = 8_388_608;
 
 /// The bytes that wait, and what becomes of them.
 #[derive(Drop)]
@@ -55,7 +55,7 @@ impl Roll {
             if held.broken || held.over {
                 return false;
             }
-            if held.bytes.len() < MAX_HELD {
+            if held.bytes.len() < MAX_UNWRITTEN {
                 break;
             }
             held = self.changed.wait(rt, held);

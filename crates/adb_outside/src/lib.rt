@@ -3,6 +3,7 @@
 #![tactic(auto)]
 
 mod answers;
+mod asked;
 mod behind;
 mod byte_queue;
 mod decimal;
@@ -24,6 +25,7 @@ mod supply;
 mod text;
 
 pub use answers::Answers;
+pub use asked::MAX_ASKED;
 pub use byte_queue::ByteQueue;
 pub use decimal::read_number;
 pub use failing::Failing;

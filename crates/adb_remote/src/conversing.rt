@@ -16,15 +16,13 @@ use crate::turning::turn;
 use adb_connections::{PortIn, PortOut};
 use adb_outside::Text;
 use adb_remote_words::{MAX_WORD, Outcome, Reading, Remote, RemoteError, is_more};
+use adb_sync::WHOLE_CHUNK;
 use adb_sync_client::Step;
 use std::alloc::Global;
 use std::sync::Wait;
 
 /// The most bytes that are read at once: two whole chunks of a file, with their headers.
-pub const MAX_PIECE: usize = 131_088;
-
-/// The bytes of a chunk that is as long as one may be, with its header.
-const WHOLE_CHUNK: usize = 65_544;
+pub const MAX_PIECE: usize = 2 * WHOLE_CHUNK;
 
 /// The bytes before the chunks of a file: two OKAYs.
 const OKAYS: usize = 8;

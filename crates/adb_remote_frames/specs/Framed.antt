@@ -2,7 +2,7 @@
 use Rattle.std.specs.Prelude.{ℕ, zero, suc, ◌==◌, ◌||◌, not, bytes_eq, ◌+◌, ◌-◌, ◌≡◌, ◌≤◌, ◌<◌, nat_lt, cond, Bool, true, false, List, [], ◌∷◌, ◌++◌, length, take, drop, refl, Option, Some, None}
 use Rattle.std.specs.Prelude.{codes}
 use Rattle.adb_remote_frames.specs.declared.frame.TheConstants.{EXIT, STDERR, STDOUT}
-use Rattle.adb_remote_frames.specs.declared.packets.TheConstants.{MAX_OUTPUT}
+use Rattle.adb_remote_frames.specs.declared.packets.TheConstants.{MAX_OUTPUT_PACKET}
 use Rattle.std.proofs.lemmas.Slice.Eq.{bytes_eq-Decides}
 use Rattle.std.specs.List.{list_all}
 use Rattle.std.proofs.Common.{ap, arith}
@@ -77,7 +77,7 @@ list_said front n e = let said = counted_said 4 front n e in record { some = ome
 output_said : (digits : List ℕ) (n : ℕ) → output_head digits ≡ Says n → (length digits ≤ 4) × (5 ≤ n)
 output_said digits n e =
     let long = past_stray (nat_lt 4 (length digits)) _ n e in
-    let most = past_stray (nat_lt MAX_OUTPUT (little_number 4 digits)) _ n long.1 in
+    let most = past_stray (nat_lt MAX_OUTPUT_PACKET (little_number 4 digits)) _ n long.1 in
     let there = past_short (nat_lt (length digits) 4) _ n most.1 in
     let same : 5 + little_number 4 digits ≡ n = says_same (5 + little_number 4 digits) n there.1 in
     (grind (arith, nat_tests, long.0), omega (arith, same))

@@ -8,7 +8,7 @@ use Rattle.adb_outside.specs.declared.framer.Front.TheVariants.{More, Bad, Whole
 use Rattle.adb_outside.specs.Framing.{offset_past}
 use Rattle.adb_request.specs.Requests.{hex_number}
 use Rattle.adb_remote_frames.specs.declared.frame.TheConstants.{EXIT, STDERR, STDOUT}
-use Rattle.adb_remote_frames.specs.declared.packets.TheConstants.{MAX_OUTPUT}
+use Rattle.adb_remote_frames.specs.declared.packets.TheConstants.{MAX_OUTPUT_PACKET}
 use Rattle.adb_remote_frames.specs.declared.head.Awaited.{Awaited}
 use Rattle.adb_remote_frames.specs.declared.head.Awaited.TheVariants as awaited
 use Rattle.adb_remote_frames.specs.declared.head.Head.{Head}
@@ -45,7 +45,7 @@ status_head front =
 abbrev pub output_head : List ℕ → Head
 output_head digits =
     if nat_lt 4 (length digits) then Stray
-    else (if nat_lt MAX_OUTPUT (little_number 4 digits) then Stray
+    else (if nat_lt MAX_OUTPUT_PACKET (little_number 4 digits) then Stray
     else (if nat_lt (length digits) 4 then Short
     else Says (5 + little_number 4 digits)))
 

@@ -11,5 +11,5 @@ mod place;
 pub use frame::{EXIT, Frame, STDERR, STDOUT};
 pub use head::{Awaited, Head};
 pub use laws::limits_are;
-pub use packets::MAX_OUTPUT;
+pub use packets::MAX_OUTPUT_PACKET;
 pub use place::Place;

@@ -8,7 +8,7 @@ use crate::head::{Head, is_front};
 use byteorder::{ByteOrder, LittleEndian};
 
 /// The most bytes that a packet of output holds.
-pub const MAX_OUTPUT: u32 = 1_048_576;
+pub const MAX_OUTPUT_PACKET: u32 = 1_048_576;
 
 /// The length of a packet with one byte.
 const ONE: [u8; 4] = [1, 0, 0, 0];
@@ -36,7 +36,7 @@ fn output_head(digits: &[u8]) -> Head
     let mut whole = [0; 4];
     whole[..digits.len()].copy_from_slice(digits);
     let len = LittleEndian::read_u32(&whole);
-    if len > MAX_OUTPUT {
+    if len > MAX_OUTPUT_PACKET {
         return Head::Stray;
     }
     if digits.len() < 4 {

@@ -4,7 +4,7 @@ ghost use Rattle.std.specs.Prelude.{◌≡◌, ◌≤◌, ◌+◌, ◌++◌, len
 ghost use Rattle.adb_remote_words.specs.Words.{HasWords, first_word, request_of, second_word, transport_of};
 
 use crate::remote::Remote;
-use adb_outside::Text;
+use adb_outside::{MAX_ASKED, Text};
 use adb_request::hex4;
 use std::alloc::{AllocError, Global};
 
@@ -12,7 +12,7 @@ use std::alloc::{AllocError, Global};
 pub const FILE_MODE: u32 = 33_188;
 
 /// The most bytes of a path, of a command, and of a serial that is asked for.
-pub const MAX_WORD: usize = 1000;
+pub const MAX_WORD: usize = MAX_ASKED;
 
 /// The first request of a job, on the device of a serial where there is one.
 pub fn first_word(alloc: Global, job: &Remote, on: Option<&Text>) -> Result<Text, AllocError>

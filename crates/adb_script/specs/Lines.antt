@@ -7,7 +7,7 @@ use Rattle.adb_script.specs.declared.line.SessionLine.{SessionLine}
 use Rattle.adb_script.specs.declared.line.SessionLine.TheVariants as sessions
 use Rattle.adb_script.specs.declared.line.ScriptLine.{ScriptLine}
 use Rattle.adb_script.specs.declared.line.ScriptLine.TheVariants as lines
-use Rattle.adb_script.specs.declared.line.TheConstants.{COUNT_DIGITS, MAX_PUSHED, MAX_STREAMS, MAX_ECHOED}
+use Rattle.adb_script.specs.declared.line.TheConstants.{COUNT_DIGITS, MAX_PUSHED, MAX_ECHO_STREAMS, MAX_ECHOED}
 use Rattle.adb_script.specs.declared.word.TheConstants.{MAX_WORD}
 
 -- what one session is asked: to push so many bytes to a path, to pull, stat or list one, or to run a command
@@ -50,7 +50,7 @@ abbrev pub echo_line : Option ℕ → Option ℕ → Option Line
 echo_line None size = None
 echo_line (Some streams) None = None
 echo_line (Some streams) (Some size) =
-    if nat_lt 0 streams && nat_le streams MAX_STREAMS && nat_le (streams * size) MAX_ECHOED then Some (Echoes streams size) else None
+    if nat_lt 0 streams && nat_le streams MAX_ECHO_STREAMS && nat_le (streams * size) MAX_ECHOED then Some (Echoes streams size) else None
 
 -- a line of a name, a word and a count
 abbrev pub count_line : List ℕ → List ℕ → List ℕ → Option Line

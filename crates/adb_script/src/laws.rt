@@ -9,7 +9,7 @@ ghost use Rattle.adb_script.specs.Meanings.{IsPulled, pulled_by, pushed_by};
 ghost use Rattle.adb_script.specs.Pattern.{pattern};
 ghost use Rattle.adb_sync_client.specs.declared.step.Step.{Step};
 ghost use Rattle.adb_script.specs.declared.asking.TheConstants.{FILE_MODE};
-ghost use Rattle.adb_script.specs.declared.line.TheConstants.{COUNT_DIGITS, MAX_ECHOED, MAX_PUSHED, MAX_STREAMS};
+ghost use Rattle.adb_script.specs.declared.line.TheConstants.{COUNT_DIGITS, MAX_ECHOED, MAX_PUSHED, MAX_ECHO_STREAMS};
 ghost use Rattle.adb_script.specs.declared.output.TheConstants.{CLOSE_STDIN, EXIT, STDERR, STDOUT};
 ghost use Rattle.adb_script.specs.declared.pushing.TheConstants.{MAX_MODE, MIN_MODE};
 ghost use Rattle.adb_script.specs.declared.script.TheConstants.{MAX_LINES, MAX_SCRIPT};
@@ -24,7 +24,7 @@ pub fn limits_are()
     ensures word { MAX_WORD ≡ 1000 }
     ensures digits { COUNT_DIGITS ≡ 8 }
     ensures pushed { MAX_PUSHED ≡ 16777216 }
-    ensures streams { MAX_STREAMS ≡ 64 }
+    ensures streams { MAX_ECHO_STREAMS ≡ 64 }
     ensures echoed { MAX_ECHOED ≡ 67108864 }
     ensures mode { FILE_MODE ≡ 33188 }
     ensures least_mode { MIN_MODE ≡ 32768 }

@@ -9,7 +9,7 @@ pub const COUNT_DIGITS: usize = 8;
 pub const MAX_PUSHED: u32 = 16_777_216;
 
 /// The most streams of an echo.
-pub const MAX_STREAMS: u32 = 64;
+pub const MAX_ECHO_STREAMS: u32 = 64;
 
 /// The most bytes that the streams of an echo may send together.
 pub const MAX_ECHOED: u32 = 67_108_864;

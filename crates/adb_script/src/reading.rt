@@ -5,7 +5,7 @@ ghost use Rattle.adb_script.specs.Lines.{count_line, count_of, command_line, ech
 ghost use Rattle.adb_script.specs.Lines.{is_space, line_of_words, path_line, push_line, seen, words_of};
 
 use crate::line::{
-    COUNT_DIGITS, EchoLine, MAX_ECHOED, MAX_PUSHED, MAX_STREAMS, ScriptLine, SessionLine,
+    COUNT_DIGITS, EchoLine, MAX_ECHO_STREAMS, MAX_ECHOED, MAX_PUSHED, ScriptLine, SessionLine,
 };
 use crate::word::Word;
 use adb_outside::read_number;
@@ -109,7 +109,7 @@ fn echo_line<'a>(streams: Option<u128>, size: Option<u128>) -> Option<ScriptLine
 {
     let (streams, size) = (streams?, size?);
     let most = u128::from(MAX_ECHOED);
-    if streams == 0 || streams > u128::from(MAX_STREAMS) {
+    if streams == 0 || streams > u128::from(MAX_ECHO_STREAMS) {
         return None;
     }
     if size > most || streams * size > most {

@@ -3,21 +3,19 @@
 ghost use Rattle.std.specs.Prelude.{◌≡◌, ◌++◌, [], List, ℕ, IfOk, OnOk};
 ghost use Rattle.adb_sync_client.specs.Reading.{StandsFor};
 
+use adb_sync::WHOLE_CHUNK;
 use adb_sync_client::{PathAsk, PathValue, Step};
 use std::alloc::AllocError;
 
-/// How many bytes are fed at once: a chunk of the most bytes, with its header.
-const PIECE: usize = 65_544;
-
 /// What all the bytes of the answer to a request mean, of which none was fed before. They are fed in
-/// pieces, so that no more than one stands beside what they tell, which is given away.
+/// pieces of a whole chunk, so that no more than one stands beside what they tell, which is given away.
 pub fn read_whole<V: PathValue>(ask: &mut PathAsk<V>, answer: &[u8]) -> Result<Step<V>, AllocError>
     ensures { IfOk result (λ step. StandsFor V.kind [] ask.old.read
         → step ≡ V.value answer.now) }
 {
     let mut rest = answer;
-    while rest.len() > PIECE {
-        let (piece, more) = rest.split_at(PIECE);
+    while rest.len() > WHOLE_CHUNK {
+        let (piece, more) = rest.split_at(WHOLE_CHUNK);
         feed_piece(ask, piece)?;
         rest = more;
     }

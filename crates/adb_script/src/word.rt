@@ -3,10 +3,11 @@
 ghost use Rattle.std.specs.Prelude.{◌≡◌, ◌≤◌, if◌then◌else◌, Some, None, length};
 ghost use Rattle.adb_script.specs.Lines.{is_word};
 
+use adb_outside::MAX_ASKED;
 use std::marker::Model;
 
 /// The most bytes of a path, and of a command.
-pub const MAX_WORD: usize = 1_000;
+pub const MAX_WORD: usize = MAX_ASKED;
 
 /// A path or a command of a line: 1 to 1,000 bytes of the script. Contracts see those bytes.
 #[derive(Drop)]

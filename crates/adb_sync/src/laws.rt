@@ -3,6 +3,7 @@
 ghost use Rattle.std.specs.Prelude.{◌≡◌, ◌<◌, ◌^◌, ◌++◌, ◌∷◌, [], List, ℕ, Bool, true, Some};
 ghost use Rattle.adb_outside.specs.Framing.{joined};
 ghost use Rattle.adb_sync.specs.declared.layout.TheConstants.{WORD_BYTES, MAX_PATH, MAX_CHUNK};
+ghost use Rattle.adb_sync.specs.declared.writers.TheConstants.{WHOLE_CHUNK};
 ghost use Rattle.adb_sync.specs.declared.ask.SyncAsk.{SyncAsk};
 ghost use Rattle.adb_sync.specs.declared.answer.SyncAnswer.{SyncAnswer};
 ghost use Rattle.adb_sync.specs.declared.error.SyncFault.{SyncFault};
@@ -79,4 +80,5 @@ pub fn limits_are()
     ensures word { WORD_BYTES ≡ 4 }
     ensures path { MAX_PATH ≡ 1024 }
     ensures chunk { MAX_CHUNK ≡ 65536 }
+    ensures whole { WHOLE_CHUNK ≡ 65544 }
 {}

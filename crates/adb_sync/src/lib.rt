@@ -30,4 +30,4 @@ pub use laws::{
     ask_cut_is_right, ask_faults_stay, limits_are, written_answers_are_read, written_asks_are_read,
 };
 pub use layout::MAX_CHUNK;
-pub use writers::{write_answer, write_ask};
+pub use writers::{WHOLE_CHUNK, write_answer, write_ask};

@@ -67,6 +67,9 @@ pub fn write_answer(alloc: Global, answer: &SyncAnswer, out: &mut Text) -> Resul
 /// How many bytes stand before those of a chunk.
 pub const CHUNK_HEADER_BYTES: usize = 8;
 
+/// The length of the longest chunk with its header.
+pub const WHOLE_CHUNK: usize = CHUNK_HEADER_BYTES + MAX_CHUNK as usize;
+
 /// What stands before the bytes of a chunk of so many bytes, for who hands a chunk out of a buffer
 /// of his own: with them behind it, it is what `write_answer` writes of the chunk. It takes no
 /// memory.

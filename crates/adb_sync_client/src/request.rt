@@ -3,12 +3,12 @@
 ghost use Rattle.std.specs.Prelude.{◌≡◌, IfOk};
 ghost use Rattle.adb_sync.specs.Asks.{IsAsk, ask_bytes};
 
-use adb_outside::{ByteQueue, Text};
+use adb_outside::{ByteQueue, MAX_ASKED, Text};
 use adb_sync::{SyncAsk, write_ask};
 use std::alloc::{AllocError, Global};
 
 /// The most bytes of a path.
-pub const MAX_ASKED_PATH: usize = 1000;
+pub const MAX_ASKED_PATH: usize = MAX_ASKED;
 
 /// The bytes of a request, to be taken from the front.
 pub fn spelled(alloc: Global, ask: &SyncAsk) -> Result<ByteQueue, AllocError>

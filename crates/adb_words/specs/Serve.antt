@@ -3,7 +3,7 @@ use Rattle.std.specs.Prelude.{ℕ, ◌+◌, Bool, true, false, nat_le, if◌then
 use Rattle.std.specs.Prelude.{Option, Some, None, option_map, option_and_then}
 use Rattle.adb_outside.specs.Serial.{is_serial}
 use Rattle.adb_words.specs.declared.serve.Serve.{Serve}
-use Rattle.adb_words.specs.declared.command.TheConstants.{MAX_DEVICES, DEFAULT_PORT}
+use Rattle.adb_words.specs.declared.command.TheConstants.{MAX_SERVED, DEFAULT_PORT}
 use Rattle.adb_words.specs.Words.{number_within}
 use Rattle.adb_words.specs.Given.{Layout, Given, given_in, values_of}
 
@@ -55,7 +55,7 @@ each_of read (text ∷ texts) = option_and_then (λ x. option_map (λ xs. x ∷ 
 -- the server of the values of `--port`, `--record`, `--device` and `--connect`
 abbrev pub serving_by : List (List ℕ) → List (List ℕ) → List (List ℕ) → List (List ℕ) → Option Serving
 serving_by ports records devices connects =
-    if nat_le (length devices + length connects) MAX_DEVICES then
+    if nat_le (length devices + length connects) MAX_SERVED then
     option_and_then (λ port. option_and_then (λ flag. option_and_then (λ serials. option_map
     (λ dialled. record { port = port; records = flag; devices = serials; connects = dialled })
     (each_of (number_within 1 65535) connects)) (each_of serial_of devices)) (flag_of records)) (port_of 0 ports)

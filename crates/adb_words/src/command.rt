@@ -2,6 +2,7 @@
 
 ghost use Rattle.std.specs.Prelude.{◌≡◌};
 
+use adb_outside::MAX_ASKED;
 use std::alloc::AllocError;
 
 /// The most streams of a load.
@@ -13,18 +14,18 @@ pub const MAX_DIGITS: usize = 20;
 /// The port of a server, where no word says another.
 pub const DEFAULT_PORT: u16 = 5037;
 
-/// The most devices that a server makes.
-pub const MAX_DEVICES: usize = 16;
+/// The maximum number of devices that the words of `serve` may name.
+pub const MAX_SERVED: usize = 16;
 
 /// The most bytes of a path or a command that a tool is given.
-pub const MAX_OPERAND: usize = 1000;
+pub const MAX_OPERAND: usize = MAX_ASKED;
 
 /// The numbers that definitions take from the code, written out.
 pub fn limits_are()
     ensures streams { MAX_STREAMS ≡ 10000 }
     ensures digits { MAX_DIGITS ≡ 20 }
     ensures port { DEFAULT_PORT ≡ 5037 }
-    ensures devices { MAX_DEVICES ≡ 16 }
+    ensures devices { MAX_SERVED ≡ 16 }
     ensures operand { MAX_OPERAND ≡ 1000 }
 {}
 

@@ -10,7 +10,7 @@ ghost use Rattle.adb_words.specs.Given.{given_in};
 ghost use Rattle.adb_words.specs.Serve.{each_of, flag_of, is_serve, port_of, serial_of};
 ghost use Rattle.adb_words.specs.Serve.{serve_layout, serve_of, served_by, served_in, serving};
 
-use crate::command::{DEFAULT_PORT, MAX_DEVICES, WordsError};
+use crate::command::{DEFAULT_PORT, MAX_SERVED, WordsError};
 use crate::given::{given_of, port_only, values_in, with_flag, with_option};
 use crate::load::number_within;
 use adb_outside::{Text, is_serial};
@@ -121,7 +121,7 @@ fn serve_in(alloc: Global, matches: &ArgMatches<'_>) -> Result<Serve, WordsError
 {
     let devices = values_in(&*matches, "device", &[]);
     let connects = values_in(&*matches, "connect", &[]);
-    if devices.len() > MAX_DEVICES || connects.len() > MAX_DEVICES - devices.len() {
+    if devices.len() > MAX_SERVED || connects.len() > MAX_SERVED - devices.len() {
         return Err(WordsError::Usage);
     }
     let port = port_in(values_in(&*matches, "port", &[]), 0)?;

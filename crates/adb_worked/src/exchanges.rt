@@ -9,7 +9,7 @@ use byteorder::{ByteOrder, LittleEndian};
 use std::alloc::{AllocError, Global};
 
 /// The most bytes of a payload that the device takes.
-const MAX_PAYLOAD: u32 = 4_096;
+const SMALL_MAXDATA: u32 = 4_096;
 
 /// How many bytes a header has, and where it has the length of the payload.
 const HEADER: usize = 24;
@@ -31,9 +31,9 @@ pub fn told(alloc: Global, name: &str, host: &[u8], piece: usize) -> Result<Text
 fn device(alloc: Global, credit: bool) -> Result<Daemon, AllocError> {
     let files = Files::new(alloc);
     if credit {
-        return Daemon::new(alloc, files, MAX_PAYLOAD);
+        return Daemon::new(alloc, files, SMALL_MAXDATA);
     }
-    Daemon::plain(alloc, files, MAX_PAYLOAD)
+    Daemon::plain(alloc, files, SMALL_MAXDATA)
 }
 
 fn play(alloc: Global, daemon: &mut Daemon, host: &[u8], piece: usize) -> Result<Text, AllocError>

@@ -14,7 +14,8 @@ use Rattle.adb_capture.specs.declared.entry.Entry.TheVariants.{End}
 use Rattle.adb_stream.specs.declared.row.Stream.{Stream}
 use Rattle.adb_history.specs.Births.{Birth, born, carried_in, count_from, is_open, is_wrte, remote_of}
 use Rattle.adb_history.specs.Bytes.{bytes_read, sent}
-use Rattle.adb_history.specs.Events.{Ending, ending_in}
+use Rattle.adb_history.specs.Events.{ending_in}
+use Rattle.adb_history.specs.declared.ending.Ending.{Ending}
 use Rattle.adb_history.specs.Fifo.{CarriesRest, IsKeptAs, IsOwn}
 use Rattle.adb_history.specs.Lives.{ending_of, lived, packets_of, rest_of}
 use Rattle.adb_history.specs.Machine.{History, IsLegal, state, told, told_at}

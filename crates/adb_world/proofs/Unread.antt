@@ -10,7 +10,8 @@ use Rattle.adb_capture.specs.declared.entry.Entry.{Entry}
 use Rattle.adb_capture.specs.declared.entry.Entry.TheVariants.{Read}
 use Rattle.adb_history.specs.Births.{Birth, born, count_from, is_open}
 use Rattle.adb_history.specs.Bytes.{bytes_read}
-use Rattle.adb_history.specs.Events.{Ending, ending_in, packets_to}
+use Rattle.adb_history.specs.Events.{ending_in, packets_to}
+use Rattle.adb_history.specs.declared.ending.Ending.{Ending}
 use Rattle.adb_history.specs.Links.{open_packet}
 use Rattle.adb_history.specs.Lives.{ending_of, lived, packets_of}
 use Rattle.adb_history.specs.Machine.{History, told, told_at}

@@ -24,7 +24,7 @@ use std::alloc::{AllocError, Global};
 use std::collections::BTreeMap;
 
 /// The most bytes of a payload of the model device.
-const MAX_PAYLOAD: u32 = 65_536;
+const DEVICE_MAXDATA: u32 = 65_536;
 
 /// A hub, the model device on its link, and the sessions by the numbers of their clients.
 #[derive(Drop)]
@@ -43,7 +43,7 @@ impl Parts {
         ensures sessions { IfOk result (λ parts. parts.sessions.entries ≡ []) }
         ensures given { IfOk result (λ parts. parts.given ≡ 0) }
     {
-        let device = Daemon::plain(alloc, Files::new(alloc), MAX_PAYLOAD)?;
+        let device = Daemon::plain(alloc, Files::new(alloc), DEVICE_MAXDATA)?;
         let mut hub = Hub::new(alloc);
         plug_in(&mut hub)?;
         Ok(Parts {

@@ -250,13 +250,13 @@ impl World {
 }
 
 /// A block of the size up to which memory that is given back is kept for what is asked for next.
-const KEPT: usize = 33_550_000;
+const KEPT_BLOCK: usize = 33_550_000;
 
 /// Takes a block and gives it back, where there is one: from then on glibc returns no block of its
 /// size or less to the system (`mallopt(3)`, `M_MMAP_THRESHOLD`), so that the bytes that move come
 /// to the same pages again. None of it is touched.
 fn keep_memory(alloc: Global) {
-    let block: Result<Vec<u8>, AllocError> = Vec::with_capacity(alloc, KEPT);
+    let block: Result<Vec<u8>, AllocError> = Vec::with_capacity(alloc, KEPT_BLOCK);
     drop(block);
 }
 

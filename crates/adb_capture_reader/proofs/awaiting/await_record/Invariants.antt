@@ -1,5 +1,5 @@
 use Rattle.std.proofs.Common.{◌≡◌, ◌+◌, ◌-◌, length, false}
-use Rattle.adb_capture.specs.declared.limits.TheConstants.{HEADER_LEN, MAX_DATA}
+use Rattle.adb_capture.specs.declared.limits.TheConstants.{RECORD_HEADER_LEN, MAX_DATA}
 use Rattle.adb_outside.specs.Outside.{Counts}
 use Rattle.adb_capture_reader.specs.Reading.{HoldsFew, HoldsLittle}
 use Rattle.adb_capture_reader.specs.Awaiting.{HoldsLittlePast}
@@ -17,4 +17,4 @@ invariant-loop-found g l = record {
 }
 
 abbrev pub decreases-loop-found : goal.decreases-loop-found
-decreases-loop-found g l = (HEADER_LEN + MAX_DATA) - length l.held
+decreases-loop-found g l = (RECORD_HEADER_LEN + MAX_DATA) - length l.held

@@ -1,5 +1,5 @@
 use Rattle.std.proofs.Common.{rules, ◌-◌, length, take, drop, Some, ◌∙◌, ap}
-use Rattle.adb_capture.specs.declared.limits.TheConstants.{HEADER_LEN}
+use Rattle.adb_capture.specs.declared.limits.TheConstants.{RECORD_HEADER_LEN}
 use Rattle.adb_capture_reader.specs.Forms.{entry_by}
 use Rattle.adb_capture.specs.Records.{owner_in}
 use Rattle.adb_capture.proofs.Spellings.{whole_header, whole_read, entry_read}
@@ -22,6 +22,6 @@ unreachable-requires c = whole_read c.args.offset c.args.bytes.now c.requires (c
 
 pub returns : goal.returns
 returns c =
-    let content = take (length c.args.bytes.now - HEADER_LEN) (drop HEADER_LEN c.args.bytes.now) in
+    let content = take (length c.args.bytes.now - RECORD_HEADER_LEN) (drop RECORD_HEADER_LEN c.args.bytes.now) in
     entry_read c.args.offset c.args.bytes.now _ c.requires
     (ap (λ n. Some (entry_by c.in-Some.form n content)) c.owner.ensures ∙ c.in-Some.ensures (owner_in c.args.bytes.now))

@@ -1,6 +1,6 @@
 use Rattle.std.proofs.Common.{◌<◌, ◌≤◌, ◌-◌, length, take, arith}
 use Rattle.std.proofs.lemmas.List.{length-take}
-use Rattle.adb_commands.specs.declared.script_input.TheConstants.{MAX_READ}
+use Rattle.adb_commands.specs.declared.script_input.TheConstants.{MAX_SCRIPT_READ}
 use Rattle.adb_commands.proofs.ScriptReading.{piece_of_more}
 use Rattle.adb_commands.proofs.script_input.read_piece.Goals as goal
 
@@ -13,6 +13,6 @@ returns-clause-piece g c =
       omega (arith, long, c.told-buffer, c.min-room.ensures, c.if-room-eq0.false),
       grind (arith, long, c.told-buffer, c.min-room.ensures, c.if-room-eq0.false),
     ) in
-    let less : length (take room c.args.buffer.now) ≤ MAX_READ - length c.args.script.now =
+    let less : length (take room c.args.buffer.now) ≤ MAX_SCRIPT_READ - length c.args.script.now =
     omega (arith, long, c.told-buffer, c.min-room.ensures, c.len.ensures) in
     piece_of_more _ _ c.args.script.now c.read_into.new.script _ _ c.read_into.result some less c.read_into.ensures.piece
