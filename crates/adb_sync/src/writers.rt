@@ -8,7 +8,7 @@ ghost use Rattle.adb_sync.specs.Answers.{IsAnswer, answer_bytes};
 
 use crate::answer::SyncAnswer;
 use crate::ask::SyncAsk;
-use crate::layout::WORD_BYTES;
+use crate::layout::{MAX_CHUNK, WORD_BYTES};
 use adb_outside::Text;
 use byteorder::{ByteOrder, LittleEndian};
 use std::alloc::{AllocError, Global};
