@@ -47,7 +47,7 @@ module _ (l c : ℕ) (n : ℕ) (other : n ≢ l) where
   u_closes : (over : Bool) (o : Option Stream) (s : State) → s.streams n ≡ o → Apart l c s → Untouched l c s (closes_if over n o s)
   u_closes over None s is h = u_quiet l c s
   u_closes false (Some z) s is h = u_quiet l c s
-  u_closes true (Some z) s is h = u_telling l c n client_closed z s (other, h.alone n z is other)
+  u_closes true (Some z) s is h = u_telling l c n ClientClosed z s (other, h.alone n z is other)
 
   u_sends : (z : Stream) (client : Client) (ps : List (List ℕ)) (s : State) → s.streams n ≡ Some z → Apart l c s → Untouched l c s (sends_up n z client ps s)
   u_sends z client ps s is h =
@@ -108,7 +108,7 @@ GoesOnWith l x k sent s =
 -- or it is over, and ends
 abbrev pub EndsWith : ℕ → Stream → Client → List (List ℕ) → Made → Type 0
 EndsWith l x k sent m =
-    (is_over k.about.ended (drop (total sent) k.held) (flow_after sent x.part.flow) ≡ true) × (ending_in l m.told ≡ Some client_closed)
+    (is_over k.about.ended (drop (total sent) k.held) (flow_after sent x.part.flow) ≡ true) × (ending_in l m.told ≡ Some ClientClosed)
     × (m.state.streams l ≡ None)
 
 pub record UpEffect (l : ℕ) (x : Stream) (k : Client) (m : Made) : Type 0 where
@@ -139,12 +139,12 @@ module _ (l : ℕ) (s : State) (x : Stream) (h : Pair l x s) where
 -- the end of a stream whose client has it open tells the client nothing
 telling_quiet : (l c : ℕ) (y : Stream) (now : State) (k : Client) → y.part.orphan ≡ false → now.clients y.client ≡ Some k
     → is_streaming l k.about.phase ≡ true
-    → (owed_to c (ends_telling l client_closed y now).told ≡ []) × AreSilent l (ends_telling l client_closed y now).told
+    → (owed_to c (ends_telling l ClientClosed y now).told ≡ []) × AreSilent l (ends_telling l ClientClosed y now).told
 telling_quiet l c y now k alive here streaming =
-    subst (λ (orphan : Bool). Quiet (then_also (tells_end orphan l client_closed gone) (λ s. client_loses (s.clients y.client) y.client s))) (sym alive)
+    subst (λ (orphan : Bool). Quiet (then_also (tells_end orphan l ClientClosed gone) (λ s. client_loses (s.clients y.client) y.client s))) (sym alive)
     (subst (λ (o : Option Client). Quiet (record {
       state = (client_loses o y.client gone).state;
-      told = ended l client_closed ∷
+      told = ended l ClientClosed ∷
           (client_loses o y.client gone).told;
     }))
     (sym here) (both (loses_quiet l c y.client k.about.forwarded k.about.phase gone streaming)))
@@ -160,7 +160,7 @@ telling_quiet l c y now k alive here streaming =
     both : (owed_to c (loses k.about.forwarded k.about.phase y.client gone).told ≡ []) × AreSilent l (loses k.about.forwarded k.about.phase y.client gone).told
         → Quiet (record {
           state = (loses k.about.forwarded k.about.phase y.client gone).state;
-          told = ended l client_closed ∷ (loses k.about.forwarded k.about.phase y.client gone).told;
+          told = ended l ClientClosed ∷ (loses k.about.forwarded k.about.phase y.client gone).told;
         })
     both q = (q.0, (record { write = refl; credit = refl }, q.1))
 
@@ -204,15 +204,15 @@ module _ (l : ℕ) (s : State) (x : Stream) (h : Pair l x s) (ps : List (List �
 
   -- it is over
   ends_effect : is_streaming l h.client.about.phase ≡ true → is_over h.client.about.ended (drop (total ps) h.client.held) (flow_after ps x.part.flow) ≡ true
-      → UpEffect l x h.client (then_also sent (λ r. ends_telling l client_closed (record x { part = with_flow (flow_after ps x.part.flow) x.part }) r))
+      → UpEffect l x h.client (then_also sent (λ r. ends_telling l ClientClosed (record x { part = with_flow (flow_after ps x.part.flow) x.part }) r))
   ends_effect streaming over =
       let y = record x { part = part } in
       let now = sent.state in
-      let m = ends_telling l client_closed y now in
+      let m = ends_telling l ClientClosed y now in
       let q = telling_quiet l x.client y now (record h.client { held = drop (total ps) h.client.held }) h.alive client_left_is streaming in
-      let none : m.state.streams l ≡ None = gone_here l l client_closed y (owe_link y.link (close_packet l y.part.remote) now).state row_left refl in
-      let told : ending_in l m.told ≡ Some client_closed =
-      ended_told l now m y client_closed (row_left, h.alive) (telling_fate l (λ c k z. z ≡ client_closed) l client_closed y now row_left (λ same. refl)) none in
+      let none : m.state.streams l ≡ None = gone_here l l ClientClosed y (owe_link y.link (close_packet l y.part.remote) now).state row_left refl in
+      let told : ending_in l m.told ≡ Some ClientClosed =
+      ended_told l now m y ClientClosed (row_left, h.alive) (telling_fate l (λ c k z. z ≡ ClientClosed) l ClientClosed y now row_left (λ same. refl)) none in
       let both = tally_append l x.link sent.told m.told (joined ps) [] (length ps) 0 0 0
       (record { bytes = go_carried l x ps left; count = go_writes l x ps left; given = go_credits l x ps left }) (tally_silent l x.link m.told q.1) in
       record {
