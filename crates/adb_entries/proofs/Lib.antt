@@ -2,3 +2,4 @@ pub mod Attaching
 pub mod HandOuts
 pub mod Fewer
 pub mod Adding
+mod Endless

@@ -1,10 +1,12 @@
 -- What the calls of a machine make of a history that it holds.
-use Rattle.std.specs.Prelude.{ℕ, List, ◌≡◌, if◌then◌else◌, ◌∷◌, Option, Some, None, Result, Ok, Err}
+use Rattle.std.specs.Prelude.{ℕ, List, [], ◌≡◌, if◌then◌else◌, ◌∷◌, ◌++◌, Option, Some, None, Result, Ok, Err}
 use Rattle.adb_capture.specs.declared.entry.Entry.{Entry}
 use Rattle.adb_history.specs.Machine.{History, state}
 use Rattle.adb_history.specs.Kept.{Kept, IsLawful}
 use Rattle.adb_history.specs.Drained.{next_out, put_to, send_on}
 use Rattle.adb_history.specs.Accepted.{refusal_of, is_input}
+use Rattle.adb_hub_tables.specs.declared.endings.Ended.{Ended}
+use Rattle.adb_hub_tables.specs.Endings.{Log, endings_at}
 use Rattle.adb_hub.specs.declared.answers.Handed.{Handed}
 use Rattle.adb_hub.specs.declared.answers.Handed.TheVariants as handed
 use Rattle.adb_entries.specs.declared.refused.Refused.{Refused}
@@ -45,3 +47,11 @@ abbrev pub bytes_of : Handed → Option (List ℕ)
 bytes_of (handed.Bytes bytes) = Some bytes
 bytes_of handed.Nothing = None
 bytes_of handed.Done = None
+
+-- which streams end where an entry is applied; a hand-out that was recorded is passed over
+abbrev pub applied_endings : Entry → History → List Ended
+applied_endings e h = if is_input e then endings_at e h else []
+
+-- A log has, after what it had, the streams that end there.
+abbrev pub ReportsApplied : Entry → History → Log → Log → Type 0
+ReportsApplied e h before after = after.list ≡ before.list ++ applied_endings e h

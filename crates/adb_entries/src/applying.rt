@@ -1,18 +1,18 @@
 //! Making an entry.
 
-ghost use Rattle.std.specs.Prelude.{◌≡◌, ◌+◌, nat_eq, false, OnErr};
+ghost use Rattle.std.specs.Prelude.{◌≡◌, ◌+◌, nat_eq, false, OnErr, OnOk};
 ghost use Rattle.adb_outside.specs.declared.kinds.Kind.{Kind};
 ghost use Rattle.adb_capture.specs.Lent.{entry_lent};
 ghost use Rattle.adb_capture.specs.declared.entry.Entry.{Entry};
 ghost use Rattle.adb_history.specs.Machine.{History};
 ghost use Rattle.adb_history.specs.Kept.{IsLawful};
-ghost use Rattle.adb_entries.specs.Machine.{Applies};
+ghost use Rattle.adb_entries.specs.Machine.{Applies, ReportsApplied};
 ghost use Rattle.adb_entries.specs.Refused.{applied_as};
 
 use crate::refused::Refused;
 use adb_capture::Lent;
 use adb_history::Reason;
-use adb_hub::{Hub, HubError, Life};
+use adb_hub::{Endings, Hub, HubError, Life, others_end_no_stream};
 use adb_outside::Kind;
 
 /// Makes the next entry of the history that a hub holds; its bytes are lent. A hand-out that was
@@ -32,6 +32,32 @@ pub fn apply(hub: &mut Hub, entry: Lent<'_>) -> Result<(), Refused>
         Lent::Attach { link, kind, serial } => attach(hub, link, kind, serial),
         Lent::Recv { link, bytes } => lived(hub.recv(link, bytes)),
         Lent::Detach { link, cause } => lived(hub.detach(link, cause)),
+        Lent::Put { .. } | Lent::Send { .. } => Ok(()),
+    }
+}
+
+/// Makes the next entry as `apply` does, and appends the streams that end at it to the log, in
+/// order.
+/// After an error the log has what it had.
+pub fn apply_reporting(hub: &mut Hub, entry: Lent<'_>, ends: &mut Endings) -> Result<(), Refused>
+    requires { hub.old.stopped ≡ false }
+    ensures applied { (h : History) → IsLawful hub.old h
+        → Applies h (entry_lent entry.entry) result hub.new }
+    ensures reports { (h : History) → IsLawful hub.old h
+        → OnOk result (ReportsApplied (entry_lent entry.entry) h ends.old ends.new) }
+    ensures err { OnErr result (hub.new ≡ hub.old) }
+    ensures quiet { OnErr result (ends.new.list ≡ ends.old.list) }
+{
+    others_end_no_stream();
+    match entry {
+        Lent::Join { client } => join(hub, client),
+        Lent::Enter { client, port } => enter(hub, client, port),
+        Lent::Read { client, bytes } => lived(hub.read_reporting(client, bytes, ends)),
+        Lent::End { client, cause } => lived(hub.end_reporting(client, cause, ends)),
+        Lent::Bound { client, port } => lived(hub.bound(client, port)),
+        Lent::Attach { link, kind, serial } => attach(hub, link, kind, serial),
+        Lent::Recv { link, bytes } => lived(hub.recv_reporting(link, bytes, ends)),
+        Lent::Detach { link, cause } => lived(hub.detach_reporting(link, cause, ends)),
         Lent::Put { .. } | Lent::Send { .. } => Ok(()),
     }
 }

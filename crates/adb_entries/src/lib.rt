@@ -6,6 +6,6 @@ mod applying;
 mod handing;
 mod refused;
 
-pub use applying::apply;
+pub use applying::{apply, apply_reporting};
 pub use handing::hand_next;
 pub use refused::Refused;

@@ -1,3 +1,4 @@
 pub mod Sound
 pub mod Refusal
 pub mod Answers
+pub mod Endings

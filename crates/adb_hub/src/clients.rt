@@ -1,6 +1,6 @@
 //! Clients: how they come, what comes from them, and how they end.
 
-ghost use Rattle.std.specs.Prelude.{◌≡◌, ◌≢◌, ◌+◌, ◌^◌, ◌<◌, List, IfOk, OnErr, Err, Some};
+ghost use Rattle.std.specs.Prelude.{◌≡◌, ◌≢◌, ◌+◌, ◌^◌, ◌<◌, List, IfOk, OnErr, OnOk, Err, Some};
 ghost use Rattle.std.specs.Prelude.{if◌then◌else◌};
 ghost use Rattle.adb_capture.specs.declared.entry.Entry.{Entry};
 ghost use Rattle.adb_history.specs.Kept.{IsLawful};
@@ -8,6 +8,7 @@ ghost use Rattle.adb_history.specs.Machine.{state};
 ghost use Rattle.adb_history.specs.Accepted.{is_drawn};
 ghost use Rattle.adb_history.specs.Held.{held_of};
 ghost use Rattle.adb_hub_tables.specs.Tables.{client_row, state_of};
+ghost use Rattle.adb_hub.specs.Endings.{Reports};
 ghost use Rattle.adb_hub.specs.Refusal.{unless_stopped, unless_drawn};
 ghost use Rattle.adb_hub.specs.Answers.{Answers, AnswersClient, err_if, next_client};
 ghost use Rattle.adb_hub.specs.Answers.{life_of, room_of, room_past, port_of};
@@ -16,7 +17,7 @@ use crate::answers::{Life, Room};
 use crate::error::HubError;
 use crate::hub::{Hub, MAX_HELD};
 use adb_client::{Client, Phase};
-use adb_hub_tables::Tables;
+use adb_hub_tables::{Endings, Tables};
 use adb_outside::Cause;
 
 impl Hub {
@@ -52,7 +53,29 @@ impl Hub {
         ensures err { OnErr result (self.new ≡ self.old) }
     {
         self.look_for_client(client)?;
-        adb_hub_clients::read(&mut self.tables, client, piece)?;
+        let mut ends = Endings::new(self.tables.alloc);
+        adb_hub_clients::read(&mut self.tables, &mut ends, client, piece)?;
+        Ok(self.client_life(client))
+    }
+
+    /// Submits bytes of a client as `read` does, and appends the streams that end to the log, in
+    /// order. After an error the log has what it had.
+    pub fn read_reporting(
+        &mut self,
+        client: u32,
+        piece: &[u8],
+        ends: &mut Endings,
+    ) -> Result<Life, HubError>
+        ensures read { (h : List Entry) → IsLawful self.old h
+            → AnswersClient client (Entry.Read client piece.now) result h self.new }
+        ensures reports { (h : List Entry) → IsLawful self.old h
+            → OnOk result (Reports (Entry.Read client piece.now) h ends.old ends.new) }
+        ensures err { OnErr result (self.new ≡ self.old) }
+        ensures quiet { OnErr result (ends.new.list ≡ ends.old.list) }
+    {
+        self.look_for_client(client)?;
+        ends.reserve(self.tables.streams.len())?;
+        adb_hub_clients::read(&mut self.tables, ends, client, piece)?;
         Ok(self.client_life(client))
     }
 
@@ -65,7 +88,29 @@ impl Hub {
         ensures memory { result ≢ Err HubError.OutOfMemory }
     {
         self.look_for_client(client)?;
-        adb_hub_clients::end(&mut self.tables, client, cause);
+        let mut ends = Endings::new(self.tables.alloc);
+        adb_hub_clients::end(&mut self.tables, &mut ends, client, cause);
+        Ok(self.client_life(client))
+    }
+
+    /// Ends a client's input as `end` does, and appends the stream that ends, if any, to the log.
+    /// It fails too if the log's memory can't be allocated. After an error the log has what it had.
+    pub fn end_reporting(
+        &mut self,
+        client: u32,
+        cause: Cause,
+        ends: &mut Endings,
+    ) -> Result<Life, HubError>
+        ensures ended { (h : List Entry) → IsLawful self.old h
+            → AnswersClient client (Entry.End client cause) result h self.new }
+        ensures reports { (h : List Entry) → IsLawful self.old h
+            → OnOk result (Reports (Entry.End client cause) h ends.old ends.new) }
+        ensures err { OnErr result (self.new ≡ self.old) }
+        ensures quiet { OnErr result (ends.new.list ≡ ends.old.list) }
+    {
+        self.look_for_client(client)?;
+        ends.reserve(self.tables.streams.len())?;
+        adb_hub_clients::end(&mut self.tables, ends, client, cause);
         Ok(self.client_life(client))
     }
 

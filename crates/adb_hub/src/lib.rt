@@ -4,6 +4,7 @@
 
 mod answers;
 mod clients;
+mod endings;
 mod error;
 mod hand_outs;
 mod hub;
@@ -11,6 +12,8 @@ mod links;
 
 pub use adb_capture::Owner;
 pub use adb_hub_links::Whole;
+pub use adb_hub_tables::{Ended, Endings};
 pub use answers::{Handed, Life, Room, Summary};
+pub use endings::others_end_no_stream;
 pub use error::HubError;
 pub use hub::{Hub, MAX_HELD, limits_are};

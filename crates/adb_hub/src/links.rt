@@ -1,11 +1,12 @@
 //! Links to devices: how they come, what comes on them, and how they go.
 
-ghost use Rattle.std.specs.Prelude.{◌≡◌, ◌≢◌, ◌+◌, List, OnErr, Err};
+ghost use Rattle.std.specs.Prelude.{◌≡◌, ◌≢◌, ◌+◌, List, OnErr, OnOk, Err};
 ghost use Rattle.adb_outside.specs.declared.kinds.Kind.{Kind};
 ghost use Rattle.adb_capture.specs.declared.entry.Entry.{Entry};
 ghost use Rattle.adb_history.specs.Accepted.{is_drawn};
 ghost use Rattle.adb_history.specs.Kept.{IsLawful};
 ghost use Rattle.adb_history.specs.Machine.{state};
+ghost use Rattle.adb_hub.specs.Endings.{Reports};
 ghost use Rattle.adb_hub.specs.Refusal.{unless_stopped, unless_drawn};
 ghost use Rattle.adb_hub.specs.Answers.{Answers, AnswersLink, life_of, err_if};
 
@@ -15,6 +16,7 @@ use crate::error::HubError;
 use crate::hand_outs::are_bytes;
 use crate::hub::Hub;
 use adb_hub_links::Whole;
+use adb_hub_tables::Endings;
 use adb_outside::{Cause, Kind};
 
 impl Hub {
@@ -39,7 +41,29 @@ impl Hub {
         ensures err { OnErr result (self.new ≡ self.old) }
     {
         self.look_for_link(link)?;
-        adb_hub_links::recv(&mut self.tables, link, piece)?;
+        let mut ends = Endings::new(self.tables.alloc);
+        adb_hub_links::recv(&mut self.tables, &mut ends, link, piece)?;
+        Ok(self.link_life(link))
+    }
+
+    /// Submits bytes of a link as `recv` does, and appends the streams that end to the log, in
+    /// order. After an error the log has what it had.
+    pub fn recv_reporting(
+        &mut self,
+        link: u32,
+        piece: &[u8],
+        ends: &mut Endings,
+    ) -> Result<Life, HubError>
+        ensures received { (h : List Entry) → IsLawful self.old h
+            → AnswersLink link (Entry.Recv link piece.now) result h self.new }
+        ensures reports { (h : List Entry) → IsLawful self.old h
+            → OnOk result (Reports (Entry.Recv link piece.now) h ends.old ends.new) }
+        ensures err { OnErr result (self.new ≡ self.old) }
+        ensures quiet { OnErr result (ends.new.list ≡ ends.old.list) }
+    {
+        self.look_for_link(link)?;
+        ends.reserve(self.tables.streams.len())?;
+        adb_hub_links::recv(&mut self.tables, ends, link, piece)?;
         Ok(self.link_life(link))
     }
 
@@ -52,7 +76,8 @@ impl Hub {
     {
         self.look_for_link(link)?;
         are_bytes(packet.as_slice());
-        adb_hub_links::recv_whole(&mut self.tables, link, packet)?;
+        let mut ends = Endings::new(self.tables.alloc);
+        adb_hub_links::recv_whole(&mut self.tables, &mut ends, link, packet)?;
         Ok(self.link_life(link))
     }
 
@@ -65,7 +90,29 @@ impl Hub {
         ensures memory { result ≢ Err HubError.OutOfMemory }
     {
         self.look_for_link(link)?;
-        adb_hub_links::detach(&mut self.tables, link);
+        let mut ends = Endings::new(self.tables.alloc);
+        adb_hub_links::detach(&mut self.tables, &mut ends, link);
+        Ok(self.link_life(link))
+    }
+
+    /// Unplugs a device as `detach` does, and appends the streams that end to the log, in order. It
+    /// fails too if the log's memory can't be allocated. After an error the log has what it had.
+    pub fn detach_reporting(
+        &mut self,
+        link: u32,
+        cause: Cause,
+        ends: &mut Endings,
+    ) -> Result<Life, HubError>
+        ensures detached { (h : List Entry) → IsLawful self.old h
+            → AnswersLink link (Entry.Detach link cause) result h self.new }
+        ensures reports { (h : List Entry) → IsLawful self.old h
+            → OnOk result (Reports (Entry.Detach link cause) h ends.old ends.new) }
+        ensures err { OnErr result (self.new ≡ self.old) }
+        ensures quiet { OnErr result (ends.new.list ≡ ends.old.list) }
+    {
+        self.look_for_link(link)?;
+        ends.reserve(self.tables.streams.len())?;
+        adb_hub_links::detach(&mut self.tables, ends, link);
         Ok(self.link_life(link))
     }
 

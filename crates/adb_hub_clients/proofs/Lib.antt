@@ -13,3 +13,5 @@ mod Answering
 mod Listed
 mod Planned
 mod Stepping
+mod Recorded
+mod Continuing

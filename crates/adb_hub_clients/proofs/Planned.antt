@@ -4,9 +4,11 @@ use Rattle.std.proofs.Common.{eqb}
 use Rattle.std.specs.Prelude.{option_map, option_and_then}
 use Rattle.std.proofs.lemmas.Bool.{eqb-true, eq-eqb}
 use Rattle.std.proofs.lemmas.List.{drop_all}
-use Rattle.adb_outside.specs.Tables.{at, change_row}
+use Rattle.adb_outside.specs.Tables.{Rows, at, change_row}
+use Rattle.adb_stream.specs.declared.row.Stream.{Stream}
 use Rattle.adb_client.specs.Client.{SeenClient}
 use Rattle.adb_history.specs.Rows.{Client, State, to_client, with_due}
+use Rattle.adb_history.specs.Events.{then_also}
 use Rattle.adb_history.specs.Clients.{owe_client}
 use Rattle.adb_history.specs.Asking.{Asked, reads_on, asks_with}
 use Rattle.adb_history.specs.Reading.{asked_before, has_asked, asks, goes_on}
@@ -16,11 +18,13 @@ use Rattle.adb_laws_resting.specs.Wanted.{IsSoundNext}
 use Rattle.adb_laws_resting.proofs.WantedReads.{sound_next}
 use Rattle.adb_hub_tables.specs.declared.tables.Tables.{Tables}
 use Rattle.adb_hub_tables.specs.Tables.{client_row, state_of}
+use Rattle.adb_hub_tables.specs.Endings.{Log, logged}
+use Rattle.adb_hub_tables.proofs.Reporting.{TellsSame}
 use Rattle.adb_hub_rules.specs.Up.{IsSized}
 use Rattle.adb_hub_clients.specs.Leaving.{HoldsAtLeast}
 use Rattle.adb_hub_clients.specs.Taking.{takes_in, holding}
 use Rattle.adb_hub_clients.specs.Asking.{after_requests, hears, FitsNext}
-use Rattle.adb_hub_clients.specs.Planning.{PlansAt, PlansWhole, answered}
+use Rattle.adb_hub_clients.specs.Planning.{PlansAt, PlansWhole, answered, answers}
 use Rattle.adb_hub_clients.specs.declared.hearing.Heard.{Heard}
 use Rattle.adb_hub_clients.proofs.Answering.{next_fits}
 
@@ -73,6 +77,13 @@ pub planned : (plan : Plan) (c : ℕ) (row : Client) (t : Tables) → PlansAt t 
 planned plan c row t plans here =
     ap (λ (s : State). (goes_on plan.next c s).state) (heard_is plan c row (state_of t) here)
     ∙ ap (λ (q : Asked). (asks q c (state_of t)).state) (seen_row c t row (at c t.clients.entries) here plan plans)
+
+-- and tells the same ends
+pub planned_tells : (plan : Plan) (c : ℕ) (row : Client) (t : Tables) → PlansAt t (at c t.clients.entries) (Some plan) → (state_of t).clients c ≡ Some row
+    → TellsSame (goes_on plan.next c (hears (heard_of plan) c (state_of t))).told (answers c row (state_of t)).told
+planned_tells plan c row t plans here = λ rows log.
+    ap (λ (s : State). logged rows (goes_on plan.next c s).told log) (heard_is plan c row (state_of t) here)
+    ∙ ap (λ (q : Asked). logged rows (asks q c (state_of t)).told log) (seen_row c t row (at c t.clients.entries) here plan plans)
 
 -- what follows a plan fits in a packet
 pub plan_fits : (plan : Plan) (c : ℕ) (t : Tables) → PlansAt t (at c t.clients.entries) (Some plan) → IsSized t → FitsNext plan.next
@@ -154,11 +165,37 @@ module _ (plan : Plan) (c : ℕ) (piece : List ℕ) (t : Tables) (plans : PlansW
           ap (λ (s : State). (goes_on plan.next c s).state) (heard_is (record plan { used = 0 }) c row (state_of t) here)
           ∙ (ap (λ rest. (asks (asked_past rest 0) c (state_of t)).state) none ∙ sym (ap (λ (q : Asked). (asks q c (state_of t)).state) reads))
 
+  -- and tells the same ends
+  pub whole_tells : (row : Client) → (state_of t).clients c ≡ Some row
+      → TellsSame (goes_on plan.next c (hears (heard_of (record plan { used = 0 })) c (state_of t))).told
+      (asks (asks_with t.devices t.forwards piece (asked_before row)) c (state_of t)).told
+  whole_tells row here = λ rows log. by_row rows log (at c t.clients.entries) here plans
+    where
+      or_row : Option Client → Client
+      or_row None = row
+      or_row (Some row) = row
+
+      by_row : (rows : Rows (Option Stream)) (log : Log) (found : Option SeenClient) → option_map client_row found ≡ Some row → PlansWhole t found piece plan
+          → logged rows (goes_on plan.next c (hears (heard_of (record plan { used = 0 })) c (state_of t))).told log
+          ≡ logged rows (asks (asks_with t.devices t.forwards piece (asked_before row)) c (state_of t)).told log
+      by_row rows log None is plans = absurd plans
+      by_row rows log (Some client) is plans =
+          let same : client_row client ≡ row = ap or_row is in
+          let none : row.held ≡ [] = sym (ap (λ (row : Client). row.held) same) ∙ plans.none in
+          let past : drop plan.used piece ≡ [] = drop_all plan.used piece (omega (arith, plans.asked.all)) in
+          let reads : asks_with t.devices t.forwards piece (asked_before row) ≡ asked_past [] plan.used =
+          ap (λ held. reads_on t.devices t.forwards (length (held ++ piece)) (record (asked_before row) { rest = held ++ piece })) none
+          ∙ (ap (λ (row : Client). reads_on t.devices t.forwards (length piece) (asking piece row.about.selected)) (sym same)
+          ∙ (sym plans.asked.asked ∙ ap (λ rest. asked_past rest plan.used) past)) in
+          ap (λ (s : State). logged rows (goes_on plan.next c s).told log) (heard_is (record plan { used = 0 }) c row (state_of t) here)
+          ∙ (ap (λ rest. logged rows (asks (asked_past rest 0) c (state_of t)).told log) none
+          ∙ sym (ap (λ (q : Asked). logged rows (asks q c (state_of t)).told log) reads))
+
 -- ---- a piece that is held before
 -- what is asked replaces what was held
-pub asks_anew : (q : Asked) (c : ℕ) (piece : List ℕ) (s : State) → (asks q c (takes_in c piece s)).state ≡ (asks q c s).state
+pub asks_anew : (q : Asked) (c : ℕ) (piece : List ℕ) (s : State) → asks q c (takes_in c piece s) ≡ asks q c s
 asks_anew q c piece s =
-    ap (λ (then : State). (goes_on q.next c (owe_client c q.replies then).state).state) (λ i. record s { clients = λ k. by_test (eqb c k) (s.clients k) i })
+    ap (λ (then : State). then_also (owe_client c q.replies then) (goes_on q.next c)) (λ i. record s { clients = λ k. by_test (eqb c k) (s.clients k) i })
   where
     by_row : (row : Option Client) → option_and_then (has_asked q) (option_and_then (holding piece) row) ≡ option_and_then (has_asked q) row
     by_row None = refl

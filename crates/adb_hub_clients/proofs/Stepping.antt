@@ -1,7 +1,7 @@
 -- The step of what comes from a client, and of a client that comes through a forward.
-use Rattle.std.proofs.Common.{ℕ, ◌+◌, ◌≡◌, ◌++◌, List, Bool, true, false, Option, Some, None, refl, sym, ◌∙◌, ap, subst, cond, eqb, arith, ◌⊎◌}
+use Rattle.std.proofs.Common.{ℕ, ◌+◌, ◌≡◌, ◌++◌, List, [], Bool, true, false, Option, Some, None, refl, sym, ◌∙◌, ap, subst, cond, eqb, arith, ◌⊎◌}
 use Rattle.std.proofs.Common.{inl, inr}
-use Rattle.std.specs.Prelude.{option_and_then}
+use Rattle.std.specs.Prelude.{option_and_then, Result, Ok, Err, OnOk}
 use Rattle.std.proofs.lemmas.Bool.{eqb-true}
 use Rattle.adb_outside.specs.Tables.{at, change_row}
 use Rattle.adb_client.specs.declared.phase.Phase.{Phase}
@@ -12,7 +12,10 @@ use Rattle.adb_history.specs.Rows.{Client, State, to_client, with_held}
 use Rattle.adb_history.specs.Flow.{up}
 use Rattle.adb_history.specs.Asking.{asks_with}
 use Rattle.adb_history.specs.Reading.{asked_before, asks, reads_in, reads_from, reads}
-use Rattle.adb_history.specs.Machine.{step}
+use Rattle.adb_history.specs.Events.{Made}
+use Rattle.adb_history.specs.Machine.{step, ups}
+use Rattle.adb_hub_tables.proofs.Reporting.{TellsSame}
+use Rattle.adb_hub_rules.proofs.Rests.{rule_tells, quiet_rule_tells}
 use Rattle.adb_history.specs.Orderly.{IsOrderly}
 use Rattle.adb_history.proofs.OrderlyStates.{orderly}
 use Rattle.adb_laws_resting.specs.Resting.{SendsNothingBy, GoesUpAlone, AllSized, has_open_stream, is_open_phase}
@@ -57,6 +60,11 @@ makes e old new made is leaves = record { state = leaves.state ∙ is; fit = lea
 pub keeps : (old new : Tables) → Leaves (state_of old) new → Keeps old new
 keeps old new leaves = record { state = leaves.state; fit = leaves.fit }
 
+-- what holds, holds at Ok
+pub on_ok : {T E : Type 0} (r : Result T E) (P : Type 0) → P → OnOk r P
+on_ok (Ok x) P p = p
+on_ok (Err e) P p = tt
+
 -- ---- a client, by its phase
 pub record HasPhase (s : State) (c : ℕ) (phase : Phase) : Type 0 where
   pub row : Client
@@ -89,8 +97,11 @@ deaf_of phase (inr (inr (inr is))) = ap is_deaf is
 
 module _ (s : State) (c : ℕ) (bytes : List ℕ) where
   -- what comes of a client in a phase
+  reads_as : {phase : Phase} (h : HasPhase s c phase) → reads c bytes s ≡ reads_in phase c bytes h.row s
+  reads_as h = ap (λ (found : Option Client). reads_from found c bytes s) h.here ∙ ap (λ (phase : Phase). reads_in phase c bytes h.row s) h.is
+
   reads_by : {phase : Phase} (h : HasPhase s c phase) → (reads c bytes s).state ≡ (reads_in phase c bytes h.row s).state
-  reads_by h = ap (λ (found : Option Client). (reads_from found c bytes s).state) h.here ∙ ap (λ (phase : Phase). (reads_in phase c bytes h.row s).state) h.is
+  reads_by h = ap (λ (m : Made). m.state) (reads_as h)
 
   -- a piece more is held
   holds_more : (row : Client) → s.clients c ≡ Some row → takes_in c bytes s ≡ to_client c (with_held (row.held ++ bytes)) s
@@ -120,6 +131,31 @@ module _ (s : State) (c : ℕ) (bytes : List ℕ) where
     asking_step is row here =
         let phase : row.about.phase ≡ Asking = ap phase_in (sym here) ∙ is in
         sym (reads_by {phase = Asking} (record { row = row; here = here; is = phase })) ∙ rule_alone {phase = Asking} (s.clients c) refl is refl
+
+    -- and what it tells
+    rests_alone : {phase : Phase} (found : Option Client) → s.clients c ≡ found → phase_in found ≡ phase → is_open_phase phase ≡ false
+        → TellsSame (reads c bytes s).told (step s (Read c bytes)).told
+    rests_alone found here is closed = rule_tells (Read c bytes) s (sym (rule_alone found here is closed))
+
+    pub asking_tells : phase_in (s.clients c) ≡ Asking → (row : Client) → s.clients c ≡ Some row
+        → TellsSame (asks (asks_with s.devices s.forwards bytes (asked_before row)) c s).told (step s (Read c bytes)).told
+    asking_tells is row here =
+        let phase : row.about.phase ≡ Asking = ap phase_in (sym here) ∙ is in
+        let same = reads_as {phase = Asking} (record { row = row; here = here; is = phase }) in
+        subst (λ (m : Made). TellsSame m.told (step s (Read c bytes)).told) same (rests_alone {phase = Asking} (s.clients c) refl is refl)
+
+    pub opening_tells : (l : ℕ) → phase_in (s.clients c) ≡ Opening l → TellsSame [] (step s (Read c bytes)).told
+    opening_tells l is =
+        let h = has_phase s c (Opening l) (s.clients c) refl is refl in
+        subst (λ (m : Made). TellsSame m.told (step s (Read c bytes)).told) (reads_as h) (rests_alone {phase = Opening l} (s.clients c) refl is refl)
+
+    pub streaming_tells : (l : ℕ) → phase_in (s.clients c) ≡ Streaming l → TellsSame (up l (takes_in c bytes s)).told (step s (Read c bytes)).told
+    streaming_tells l is =
+        let h = has_phase s c (Streaming l) (s.clients c) refl is refl in
+        let quiet : TellsSame [] (reads c bytes s).told = subst (λ (m : Made). TellsSame [] m.told) (sym (reads_as h)) (λ rows log. refl) in
+        let goes = (goes_alone s reached).read_by c l bytes (record { client = h.row; here = h.here; in_phase = h.is }) in
+        let same : ups (reads c bytes s).state ≡ up l (takes_in c bytes s) = goes ∙ ap (up l) (reads_by h ∙ sym (holds_more h.row h.here)) in
+        subst (λ (m : Made). TellsSame m.told (step s (Read c bytes)).told) same (quiet_rule_tells (Read c bytes) s quiet)
 
     pub asking_row : phase_in (s.clients c) ≡ Asking → HasPhase s c Asking
     asking_row is = has_phase s c Asking (s.clients c) refl is refl
@@ -156,6 +192,24 @@ module _ (s : State) (c : ℕ) (bytes : List ℕ) where
     unread : (found : Option Client) → is_deaf (phase_in found) ≡ true → (reads_from found c bytes s).state ≡ s
     unread None deaf = refl
     unread (Some row) deaf = deaf_row row.about.phase row deaf
+
+    deaf_told : (phase : Phase) (row : Client) → is_deaf phase ≡ true → TellsSame [] (reads_in phase c bytes row s).told
+    deaf_told Asking row deaf = absurd (let clash : true ≡ false = sym deaf in cc)
+    deaf_told (Opening l) row deaf = λ rows log. refl
+    deaf_told (Streaming l) row deaf = λ rows log. refl
+    deaf_told Binding row deaf = λ rows log. refl
+    deaf_told Tracking row deaf = λ rows log. refl
+    deaf_told Closing row deaf = λ rows log. refl
+    deaf_told Gone row deaf = λ rows log. refl
+
+    unread_told : (found : Option Client) → is_deaf (phase_in found) ≡ true → TellsSame [] (reads_from found c bytes s).told
+    unread_told None deaf = λ rows log. refl
+    unread_told (Some row) deaf = deaf_told row.about.phase row deaf
+
+    pub deaf_tells : (phase : Phase) → phase_in (s.clients c) ≡ phase → is_deaf phase ≡ true → TellsSame [] (step s (Read c bytes)).told
+    deaf_tells phase is deaf = λ rows log.
+        unread_told (s.clients c) (ap is_deaf is ∙ deaf) rows log
+        ∙ rests_alone {phase = phase} (s.clients c) refl is (closed_phase phase deaf) rows log
 
     -- nothing is read of a client that waits, tracks, closes or is gone
     pub deaf_step : (phase : Phase) → phase_in (s.clients c) ≡ phase → is_deaf phase ≡ true → s ≡ (step s (Read c bytes)).state

@@ -1,9 +1,9 @@
 -- What a client that asked was heard to ask, and what follows.
-use Rattle.std.specs.Prelude.{ℕ, ◌+◌, ◌≤◌, ◌++◌, drop, length, Option, Some, None}
+use Rattle.std.specs.Prelude.{Bool, true, false, ℕ, ◌+◌, ◌≤◌, ◌++◌, drop, length, Option, Some, None}
 use Rattle.adb_wire.specs.declared.headers.TheConstants.{MAX_PAYLOAD}
 use Rattle.adb_client.specs.Client.{SeenClient}
 use Rattle.adb_reply.specs.declared.answer.Next.{Next}
-use Rattle.adb_reply.specs.declared.answer.Next.TheVariants.{Open}
+use Rattle.adb_reply.specs.declared.answer.Next.TheVariants.{Open, Stop}
 use Rattle.adb_history.specs.Rows.{Client, State, to_client}
 use Rattle.adb_hub_clients.specs.declared.hearing.Heard.{Heard}
 
@@ -32,3 +32,8 @@ CanHearAt heard (Some client) = CanHear heard client
 abbrev pub FitsNext : Option Next → Type 0
 FitsNext (Some (Open transport service)) = length service + 1 ≤ MAX_PAYLOAD
 FitsNext _ = Unit {0}
+
+-- whether the server stops
+abbrev pub is_stop : Option Next → Bool
+is_stop (Some Stop) = true
+is_stop _ = false

@@ -2,6 +2,7 @@
 use Rattle.std.specs.Prelude.{ℕ, ◌≡◌, ◌≤◌, List, [], length, Option, Some, None}
 use Rattle.adb_client.specs.Client.{SeenClient}
 use Rattle.adb_history.specs.Rows.{Client, State}
+use Rattle.adb_history.specs.Events.{Made}
 use Rattle.adb_history.specs.Asking.{reads_on, asks_with}
 use Rattle.adb_history.specs.Reading.{asked_before, asks}
 use Rattle.adb_hub_clients.specs.Leaving.{Leaves}
@@ -22,9 +23,12 @@ PlansAt t (Some client) (Some plan) = Plans t client plan
 PlansAt t None (Some plan) = ⊥
 PlansAt t (Some client) None = ⊥
 
--- what is kept when all whole requests that a client holds are answered
+-- what is made when all whole requests that a client holds are answered, and what is kept then
+abbrev pub answers : ℕ → Client → State → Made
+answers c row s = asks (reads_on s.devices s.forwards (length row.held) (asking row.held row.about.selected)) c s
+
 abbrev pub answered : ℕ → Client → State → State
-answered c row s = (asks (reads_on s.devices s.forwards (length row.held) (asking row.held row.about.selected)) c s).state
+answered c row s = (answers c row s).state
 
 -- There is a client that holds nothing, and a piece asks this of it.
 pub record IsAskedWhole (t : Tables) (client : SeenClient) (piece : List ℕ) (plan : Plan) : Type 0 where

@@ -2,32 +2,44 @@
 
 ghost use Rattle.std.specs.Prelude.{◌≡◌, Some, None, IfOk, IfSome, OnOk, OnErr};
 ghost use Rattle.adb_outside.specs.Tables.{at};
+ghost use Rattle.adb_history.specs.Asking.{asks_with};
 ghost use Rattle.adb_history.specs.Rows.{Client as Row};
-ghost use Rattle.adb_history.specs.Reading.{goes_on};
+ghost use Rattle.adb_history.specs.Reading.{asked_before, asks, goes_on};
 ghost use Rattle.adb_laws_resting.specs.Wanted.{IsSoundNext};
+ghost use Rattle.adb_hub_tables.specs.Endings.{Records};
 ghost use Rattle.adb_hub_tables.specs.Fit.{IsFit};
 ghost use Rattle.adb_hub_tables.specs.Tables.{state_of};
 ghost use Rattle.adb_hub_rules.specs.Up.{IsSized};
-ghost use Rattle.adb_hub_clients.specs.Asking.{hears, FitsNext};
+ghost use Rattle.adb_hub_clients.specs.Asking.{hears, is_stop, FitsNext};
 ghost use Rattle.adb_hub_clients.specs.Leaving.{Leaves, HoldsAtLeast};
-ghost use Rattle.adb_hub_clients.specs.Planning.{Answers, PlansAt, PlansWhole, answered};
+ghost use Rattle.adb_hub_clients.specs.Planning.{Answers, PlansAt, PlansWhole, answered, answers};
 
-use crate::following::follow;
+use crate::following::{end, follow};
 use crate::hearing::{Heard, reserve_replies};
 use crate::plan::{Plan, make_plan, plan_piece};
+use crate::stopping::record_all;
 use crate::taking::{take_back, take_in};
-use adb_hub_tables::Tables;
+use adb_hub_tables::{Endings, Tables};
 use adb_reply::Next;
 use std::alloc::AllocError;
 
 /// A piece came from a client that asks: its whole requests are answered. A piece that is a whole
 /// request, the usual one, is not held before.
-pub(crate) fn ask(tables: &mut Tables, client: u32, piece: &[u8]) -> Result<(), AllocError>
+pub(crate) fn ask(
+    tables: &mut Tables,
+    ends: &mut Endings,
+    client: u32,
+    piece: &[u8],
+) -> Result<(), AllocError>
     requires fit { IsFit tables.old }
     requires sized { IsSized tables.old }
     requires ports { at 0 tables.old.forwards ≡ None }
     ensures made { OnOk result (Answers client piece.now tables.old tables.new) }
+    ensures told { OnOk result ((row : Row) → (state_of tables.old).clients client ≡ Some row
+        → Records (asks (asks_with tables.old.devices tables.old.forwards piece.now
+        (asked_before row)) client (state_of tables.old)).told ends.old tables.old ends.new) }
     ensures kept { OnErr result (Leaves (state_of tables.old) tables.new) }
+    ensures quiet { OnErr result (ends.new ≡ ends.old) }
 {
     match whole_plan(tables, client, piece)? {
         Some(plan) => {
@@ -36,9 +48,9 @@ pub(crate) fn ask(tables: &mut Tables, client: u32, piece: &[u8]) -> Result<(), 
                 used: 0,
                 selected: plan.selected,
             };
-            make(tables, client, &heard, plan.next)
+            make(tables, ends, client, &heard, plan.next)
         }
-        None => hold_and_answer(tables, client, piece),
+        None => hold_and_answer(tables, ends, client, piece),
     }
 }
 
@@ -56,15 +68,24 @@ fn whole_plan(tables: &Tables, client: u32, piece: &[u8]) -> Result<Option<Plan>
 }
 
 /// A piece is held behind what a client sent, and the whole requests are answered.
-fn hold_and_answer(tables: &mut Tables, client: u32, piece: &[u8]) -> Result<(), AllocError>
+fn hold_and_answer(
+    tables: &mut Tables,
+    ends: &mut Endings,
+    client: u32,
+    piece: &[u8],
+) -> Result<(), AllocError>
     requires fit { IsFit tables.old }
     requires sized { IsSized tables.old }
     requires ports { at 0 tables.old.forwards ≡ None }
     ensures made { OnOk result (Answers client piece.now tables.old tables.new) }
+    ensures told { OnOk result ((row : Row) → (state_of tables.old).clients client ≡ Some row
+        → Records (asks (asks_with tables.old.devices tables.old.forwards piece.now
+        (asked_before row)) client (state_of tables.old)).told ends.old tables.old ends.new) }
     ensures kept { OnErr result (Leaves (state_of tables.old) tables.new) }
+    ensures quiet { OnErr result (ends.new ≡ ends.old) }
 {
     take_in(tables, client, piece)?;
-    match answer(tables, client) {
+    match answer(tables, ends, client) {
         Ok(()) => Ok(()),
         Err(error) => {
             take_back(tables, client, piece.len());
@@ -74,13 +95,16 @@ fn hold_and_answer(tables: &mut Tables, client: u32, piece: &[u8]) -> Result<(),
 }
 
 /// The whole requests that a client holds are answered.
-fn answer(tables: &mut Tables, client: u32) -> Result<(), AllocError>
+fn answer(tables: &mut Tables, ends: &mut Endings, client: u32) -> Result<(), AllocError>
     requires fit { IsFit tables.old }
     requires sized { IsSized tables.old }
     requires ports { at 0 tables.old.forwards ≡ None }
     ensures made { OnOk result ((row : Row) → (state_of tables.old).clients client ≡ Some row
         → Leaves (answered client row (state_of tables.old)) tables.new) }
+    ensures told { OnOk result ((row : Row) → (state_of tables.old).clients client ≡ Some row
+        → Records (answers client row (state_of tables.old)).told ends.old tables.old ends.new) }
     ensures kept { OnErr result (Leaves (state_of tables.old) tables.new) }
+    ensures quiet { OnErr result (ends.new ≡ ends.old) }
 {
     match plan_of(tables, client)? {
         Some(plan) => {
@@ -89,7 +113,7 @@ fn answer(tables: &mut Tables, client: u32) -> Result<(), AllocError>
                 used: plan.used,
                 selected: plan.selected,
             };
-            make(tables, client, &heard, plan.next)
+            make(tables, ends, client, &heard, plan.next)
         }
         None => Ok(()),
     }
@@ -112,6 +136,7 @@ fn plan_of(tables: &Tables, client: u32) -> Result<Option<Plan>, AllocError>
 /// Requests are heard, in places that are made for the replies, and what follows is done.
 fn make(
     tables: &mut Tables,
+    ends: &mut Endings,
     client: u32,
     heard: &Heard,
     next: Option<Next>,
@@ -122,8 +147,23 @@ fn make(
     requires follows { IsSoundNext tables.old.forwards next }
     ensures made { OnOk result (Leaves (goes_on next client
         (hears heard.now client (state_of tables.old))).state tables.new) }
+    ensures told { OnOk result (Records (goes_on next client
+        (hears heard.now client (state_of tables.old))).told ends.old tables.old ends.new) }
     ensures kept { OnErr result (Leaves (state_of tables.old) tables.new) }
+    ensures quiet { OnErr result (ends.new ≡ ends.old) }
 {
     reserve_replies(tables, client, heard)?;
+    if is_stop(&next) {
+        record_all(&tables.streams, ends);
+        end(tables, client, heard);
+        return Ok(());
+    }
     follow(tables, client, heard, next)
+}
+
+/// Returns whether the server stops.
+fn is_stop(next: &Option<Next>) -> bool
+    ensures { result ≡ is_stop next.now }
+{
+    matches!(next, Some(Next::Stop))
 }

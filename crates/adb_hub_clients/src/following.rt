@@ -348,7 +348,7 @@ fn remove_forwards(tables: &mut Tables)
 }
 
 /// The server stops.
-fn end(tables: &mut Tables, client: u32, heard: &Heard)
+pub(crate) fn end(tables: &mut Tables, client: u32, heard: &Heard)
     requires fit { IsFit tables.old }
     requires ready { CanHearAt heard.now (at client tables.old.clients.entries) }
     ensures { Leaves (goes_on (Some Next.Stop) client

@@ -2,6 +2,7 @@
 
 ghost use Rattle.std.specs.Prelude.{◌≡◌, ◌+◌, OnOk, OnErr};
 ghost use Rattle.adb_capture.specs.declared.entry.Entry.TheVariants.{Enter, Read};
+ghost use Rattle.adb_hub_tables.specs.Endings.{Tells};
 ghost use Rattle.adb_hub_tables.specs.Fit.{IsFit, IsReached, Makes, Keeps};
 ghost use Rattle.adb_hub_tables.specs.Tables.{state_of};
 
@@ -11,7 +12,7 @@ use crate::sending::send;
 use crate::taking::take_in;
 use adb_client::Phase;
 use adb_hub_rules::phase_of;
-use adb_hub_tables::Tables;
+use adb_hub_tables::{Endings, Tables};
 use std::alloc::AllocError;
 
 /// A client came through the forward of a port: a stream is asked for on the device that the
@@ -28,17 +29,25 @@ pub fn enter(tables: &mut Tables, client: u32, port: u16) -> Result<(), AllocErr
 }
 
 /// Bytes came from a client: they are its requests, or go up its stream, or are held until its
-/// stream is there. After want of memory all is as before.
-pub fn read(tables: &mut Tables, client: u32, piece: &[u8]) -> Result<(), AllocError>
+/// stream is there. After want of memory all is as before. The streams that end are recorded, in
+/// the log's spare places.
+pub fn read(
+    tables: &mut Tables,
+    ends: &mut Endings,
+    client: u32,
+    piece: &[u8],
+) -> Result<(), AllocError>
     requires fit { IsFit tables.old }
     requires reached { IsReached (state_of tables.old) }
     ensures made { OnOk result (Makes (Read client piece.now) tables.old tables.new) }
+    ensures told { OnOk result (Tells (Read client piece.now) ends.old tables.old ends.new) }
     ensures kept { OnErr result (Keeps tables.old tables.new) }
+    ensures quiet { OnErr result (ends.new ≡ ends.old) }
 {
     match phase_of(tables, client) {
-        Phase::Asking => ask(tables, client, piece),
+        Phase::Asking => ask(tables, ends, client, piece),
         Phase::Opening(_) => take_in(tables, client, piece),
-        Phase::Streaming(id) => send(tables, client, id, piece),
+        Phase::Streaming(id) => send(tables, ends, client, id, piece),
         Phase::Binding | Phase::Tracking | Phase::Closing | Phase::Gone => Ok(()),
     }
 }

@@ -3,6 +3,7 @@
 ghost use Rattle.std.specs.Prelude.{◌≡◌, ℕ, IfOk, OnOk, OnErr, Some, false};
 ghost use Rattle.adb_outside.specs.Tables.{at};
 ghost use Rattle.adb_history.specs.Flow.{up};
+ghost use Rattle.adb_hub_tables.specs.Endings.{Records};
 ghost use Rattle.adb_hub_tables.specs.Fit.{IsFit};
 ghost use Rattle.adb_hub_tables.specs.Tables.{state_of};
 ghost use Rattle.adb_hub_rules.specs.Up.{IsReadyUp, IsSized};
@@ -13,7 +14,7 @@ ghost use Rattle.adb_hub_clients.specs.Sending.{IsPreparedAt, can_send_at};
 use crate::places::make_packets;
 use crate::taking::{take_back, take_in};
 use adb_hub_rules::{close_idle, up};
-use adb_hub_tables::{Tables, make_ready};
+use adb_hub_tables::{Endings, Tables, make_ready};
 use adb_stream::Stream;
 use std::alloc::AllocError;
 
@@ -21,6 +22,7 @@ use std::alloc::AllocError;
 /// lets it.
 pub(crate) fn send(
     tables: &mut Tables,
+    ends: &mut Endings,
     client: u32,
     id: u32,
     piece: &[u8],
@@ -29,10 +31,14 @@ pub(crate) fn send(
     requires sized { IsSized tables.old }
     ensures made { OnOk result
         (Leaves (up id (takes_in client piece.now (state_of tables.old))).state tables.new) }
+    ensures told { OnOk result (Records
+        (up id (takes_in client piece.now (state_of tables.old))).told
+        ends.old tables.old ends.new) }
     ensures kept { OnErr result (Leaves (state_of tables.old) tables.new) }
+    ensures quiet { OnErr result (ends.new ≡ ends.old) }
 {
     take_in(tables, client, piece)?;
-    match advance(tables, id) {
+    match advance(tables, ends, id) {
         Ok(()) => Ok(()),
         Err(error) => {
             take_back(tables, client, piece.len());
@@ -43,20 +49,23 @@ pub(crate) fn send(
 
 /// What is held of the client of a stream goes up, as far as the stream lets it. No more is made
 /// ready, and nothing where it lets nothing go now.
-fn advance(tables: &mut Tables, id: u32) -> Result<(), AllocError>
+fn advance(tables: &mut Tables, ends: &mut Endings, id: u32) -> Result<(), AllocError>
     requires fit { IsFit tables.old }
     requires sized { IsSized tables.old }
     ensures made { OnOk result (Leaves (up id (state_of tables.old)).state tables.new) }
+    ensures told { OnOk result (Records (up id (state_of tables.old)).told
+        ends.old tables.old ends.new) }
     ensures kept { OnErr result (Leaves (state_of tables.old) tables.new) }
+    ensures quiet { OnErr result (ends.new ≡ ends.old) }
     ensures held { OnErr result ((c n : ℕ) → HoldsAtLeast n (at c tables.old.clients.entries)
         → HoldsAtLeast n (at c tables.new.clients.entries)) }
 {
     if !can_send(tables, id) {
-        rest(tables, id);
+        rest(tables, ends, id);
         return Ok(());
     }
     make_up_ready(tables, id)?;
-    go_up(tables, id);
+    go_up(tables, ends, id);
     Ok(())
 }
 
@@ -71,22 +80,24 @@ fn can_send(tables: &Tables, id: u32) -> bool
 }
 
 /// The up rule for a stream that lets nothing be sent now.
-fn rest(tables: &mut Tables, id: u32)
+fn rest(tables: &mut Tables, ends: &mut Endings, id: u32)
     requires fit { IsFit tables.old }
     requires idle { can_send_at (at id tables.old.streams.streams) ≡ false }
-    ensures { Leaves (up id (state_of tables.old)).state tables.new }
+    ensures made { Leaves (up id (state_of tables.old)).state tables.new }
+    ensures told { Records (up id (state_of tables.old)).told ends.old tables.old ends.new }
 {
-    close_idle(tables, id);
+    close_idle(tables, ends, id);
 }
 
 /// What is held of the client of a stream goes up, as far as the stream lets it.
-fn go_up(tables: &mut Tables, id: u32)
+fn go_up(tables: &mut Tables, ends: &mut Endings, id: u32)
     requires fit { IsFit tables.old }
     requires ready { IsReadyUp id tables.old }
     requires sized { IsSized tables.old }
-    ensures { Leaves (up id (state_of tables.old)).state tables.new }
+    ensures made { Leaves (up id (state_of tables.old)).state tables.new }
+    ensures told { Records (up id (state_of tables.old)).told ends.old tables.old ends.new }
 {
-    up(tables, id);
+    up(tables, ends, id);
 }
 
 /// Makes ready what is held of the client of a stream, and places on its link for what it may send.

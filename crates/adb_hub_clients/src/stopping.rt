@@ -1,13 +1,18 @@
 //! How the server stops (SERVICES.TXT, `host:kill`).
 
+ghost use Rattle.std.specs.Prelude.{◌≡◌, ◌+◌, ℕ, length, nat_lt};
 ghost use Rattle.adb_outside.specs.Tables.{at};
-ghost use Rattle.adb_history.specs.Losing.{stops};
+ghost use Rattle.adb_history.specs.Losing.{all_stop, stops};
+ghost use Rattle.adb_hub_tables.specs.Endings.{Records};
+ghost use Rattle.adb_hub_tables.specs.declared.tables.Tables.{Tables as Held};
 ghost use Rattle.adb_hub_tables.specs.Fit.{IsFit};
 ghost use Rattle.adb_hub_tables.specs.Tables.{state_of};
 ghost use Rattle.adb_hub_clients.specs.Leaving.{Leaves, IsOnAny};
-ghost use Rattle.adb_hub_clients.specs.Stopping.{alone};
+ghost use Rattle.adb_hub_clients.specs.Stopping.{alone, recorded_at, one_left};
 
-use adb_hub_tables::Tables;
+use adb_history::Ending;
+use adb_hub_tables::{Ended, Endings, Tables};
+use adb_stream::Streams;
 
 /// The server stops: nothing is kept but the client that asked for it, which is handed what is due
 /// to it. It takes no memory.
@@ -17,6 +22,42 @@ pub fn stop(tables: &mut Tables, client: u32)
 {
     tables.close_client(client);
     forget_others(tables, client);
+}
+
+/// Records that all streams end because the server stops, in rising id. A log without a spare place
+/// records none, and costs nothing.
+pub(crate) fn record_all(streams: &Streams, ends: &mut Endings)
+    ensures { (t : Held) → t.streams ≡ streams.now
+        → Records (all_stop streams.now.drawn (λ l. at l streams.now.streams))
+        ends.old t ends.new }
+{
+    streams.are_sound();
+    let mut left = streams.len();
+    let mut id = 0u32;
+    while left > 0 && id < u32::MAX && ends.has_spare() {
+        id += 1;
+        left = record_at(streams, ends, id, left);
+    }
+}
+
+/// Records that the stream of an id ends, if it lives; returns how many are left of `left`.
+fn record_at(streams: &Streams, ends: &mut Endings, id: u32, left: usize) -> usize
+    ensures log { ends.new ≡ recorded_at id (at id streams.now.streams) ends.old }
+    ensures left { result ≡ one_left (at id streams.now.streams) left }
+{
+    match streams.get(id) {
+        Some(stream) => {
+            let ended = Ended {
+                stream: id,
+                client: stream.client,
+                link: stream.link,
+                ending: Ending::Stopped,
+            };
+            ends.push_unless(stream.part.orphan, ended);
+            left.saturating_sub(1)
+        }
+        None => left,
+    }
 }
 
 /// Of all that is kept one client alone stays.

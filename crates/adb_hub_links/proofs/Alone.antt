@@ -9,11 +9,12 @@ use Rattle.adb_history.specs.Machine.{May, IsInRange}
 use Rattle.adb_hub_tables.specs.declared.ports.Port.{Port}
 use Rattle.adb_hub_tables.specs.declared.tables.Tables.{Tables}
 use Rattle.adb_hub_tables.specs.Tables.{state_of}
+use Rattle.adb_hub_tables.specs.Endings.{Log, Records, Tells}
 use Rattle.adb_hub_tables.specs.Fit.{IsFit, IsReached, Makes}
 use Rattle.adb_hub_links.specs.Cutting.{cut_of}
-use Rattle.adb_hub_links.specs.Settling.{LeavesNamed, HasSettled}
+use Rattle.adb_hub_links.specs.Settling.{LeavesNamed, HasSettled, settles}
 use Rattle.adb_hub_links.specs.Whole.{StandsAlone, IsFreshAt, alone}
-use Rattle.adb_hub_links.proofs.Received.{Comes, piece_leaves, piece_made}
+use Rattle.adb_hub_links.proofs.Received.{Comes, piece_leaves, piece_made, piece_told}
 
 -- its entry is in range
 pub whole_in_range : (link : ℕ) (bytes : List ℕ) → link < 2 ^ 32 → IsBytes bytes → IsInRange (Recv link bytes)
@@ -46,3 +47,6 @@ module _ {link : ℕ} {bytes : List ℕ} {old : Tables} (h : ComesAlone link byt
 
   pub alone_made : (new : Tables) → HasSettled link (alone p) no_bytes old new → Makes (Recv link bytes) old new
   alone_made new settled = piece_made h.comes cut_here refl new settled
+
+  pub alone_told : {before after : Log} → Records (settles link (alone p) (state_of old)).told before old after → Tells (Recv link bytes) before old after
+  alone_told records = piece_told h.comes cut_here records

@@ -1,6 +1,6 @@
 -- What is reserved changes nothing that the machine sees.
-use Rattle.std.proofs.Common.{ℕ, Option, Some, None, ◌∙◌, ap}
-use Rattle.std.specs.Prelude.{Result, Ok, Err, OnErr}
+use Rattle.std.proofs.Common.{ℕ, Option, Some, None, ◌∙◌, ap, subst}
+use Rattle.std.specs.Prelude.{Result, Ok, Err, OnErr, OnOk}
 use Rattle.adb_outside.specs.Tables.{at}
 use Rattle.adb_link.specs.Linked.{Linked}
 use Rattle.adb_wire.specs.Deframing.{Deframing}
@@ -10,10 +10,13 @@ use Rattle.adb_history.specs.Machine.{step, ups}
 use Rattle.adb_hub_tables.specs.declared.ports.Port.{Port}
 use Rattle.adb_hub_tables.specs.declared.tables.Tables.{Tables}
 use Rattle.adb_hub_tables.specs.Places.{StaysRead}
+use Rattle.adb_hub_tables.specs.Tables.{state_of}
+use Rattle.adb_hub_tables.specs.Endings.{Log, Records, Tells}
 use Rattle.adb_hub_tables.specs.Fit.{Keeps, Makes}
 use Rattle.adb_hub_tables.specs.Widening.{WidensPort, WidensRow, Widens}
+use Rattle.adb_hub_tables.proofs.Reporting.{records_same}
 use Rattle.adb_hub_tables.proofs.Widening.{widened_state}
-use Rattle.adb_hub_links.specs.Settling.{behind, HasSettled}
+use Rattle.adb_hub_links.specs.Settling.{behind, HasSettled, settles}
 
 -- ---- one after another
 pub keeps_then : {old middle new : Tables} → Keeps old middle → Keeps middle new → Keeps old new
@@ -21,6 +24,18 @@ keeps_then h k = record { state = k.state ∙ h.state; fit = k.fit }
 
 pub makes_then : {e : Entry} {old middle new : Tables} → Keeps old middle → Makes e middle new → Makes e old new
 makes_then {e} h made = record { state = made.state ∙ ap (λ (s : State). (step s e).state) h.state; fit = made.fit }
+
+pub tells_then : (e : Entry) {old middle : Tables} {before after : Log} → Keeps old middle → Tells e before middle after → Tells e before old after
+tells_then e {old} {middle} {before} {after} h told =
+    records_same {old = old} {new = middle} (λ l. ap (λ (s : State). s.streams l) h.state)
+    (subst (λ (s : State). Records (step s e).told before middle after) h.state told)
+
+-- where places were reserved before
+pub settled_told : (link : ℕ) (c : Deframing) {before after : Log} (old middle : Tables) → Widens old middle
+    → Records (settles link c (state_of middle)).told before middle after → Records (settles link c (state_of old)).told before old after
+settled_told link c {before} {after} old middle h told =
+    records_same {old = old} {new = middle} (λ l. ap (λ (s : State). s.streams l) (widened_state old middle h))
+    (subst (λ (s : State). Records (settles link c s).told before middle after) (widened_state old middle h) told)
 
 -- what came in stays as it was, also behind places that were reserved
 read_reserved : (old middle new : Option Port) → WidensRow WidensPort old middle → StaysRead middle new → StaysRead old new
@@ -38,6 +53,11 @@ settled_reserved {link} {c} {incoming} old middle new h settled = record {
   apart = λ k other.
       read_reserved (at k old.links.entries) (at k middle.links.entries) (at k new.links.entries) (h.links k) (settled.apart k other);
 }
+
+-- what holds, holds at Ok
+pub on_ok : {T E : Type 0} (r : Result T E) (P : Type 0) → P → OnOk r P
+on_ok (Ok x) P p = p
+on_ok (Err e) P p = tt
 
 -- what holds, holds at an error
 pub on_err : {T E : Type 0} (r : Result T E) (P : Type 0) → P → OnErr r P

@@ -11,7 +11,8 @@ use Rattle.adb_history.specs.Links.{maxdata_of}
 use Rattle.adb_history.specs.Flow.{up, up_all}
 use Rattle.adb_history.specs.Machine.{History, IsLegal, state, rule}
 use Rattle.adb_history.specs.Bytes.{is_lost, bytes_received}
-use Rattle.adb_history.specs.Packets.{receives_on}
+use Rattle.adb_history.specs.Events.{Made}
+use Rattle.adb_history.specs.Packets.{receives_on, receives_cut}
 use Rattle.adb_history.proofs.Received.{ReadTie, framed_piece, received}
 use Rattle.adb_history.proofs.Sweep.{up_to}
 use Rattle.adb_hub_rules.specs.Sweep.{CoversUp}
@@ -31,8 +32,11 @@ up_all_devices (suc k) s = up_devices (suc k) (up_all k s).state ∙ up_all_devi
 
 module _ (h : History) (link : ℕ) (piece : List ℕ) (row : Link) (here : (state h).links link ≡ Some row) where
   -- the rule cuts what the link keeps, and the piece
+  pub receives_piece : rule (Recv link piece) (state h) ≡ receives_cut link (cut_behind row piece) (state h)
+  receives_piece = ap (λ (o : Option Link). receives_on o link piece (state h)) here
+
   pub behind_piece : (rule (Recv link piece) (state h)).state ≡ behind link (cut_behind row piece) (state h)
-  behind_piece = ap (λ (o : Option Link). (receives_on o link piece (state h)).state) here
+  behind_piece = ap (λ (m : Made). m.state) receives_piece
 
   pub leaves_named : IsLegal h → LeavesNamed link (cut_behind row piece) (state h)
   leaves_named legal =

@@ -1,5 +1,6 @@
 -- One packet, and the stream that it names, are what the packets of a cut are, and the streams that those name.
 use Rattle.std.proofs.Common.{ℕ, ◌+◌, ◌≡◌, ◌≢◌, Bool, true, false, List, [], ◌∷◌, Option, Some, None, ◌⊎◌, inl, inr, refl, sym, ◌∙◌, ap, subst, arith}
+use Rattle.std.proofs.lemmas.List.{append-nil}
 use Rattle.std.specs.Prelude.{option_map, option_to_list}
 use Rattle.std.proofs.lemmas.Bool.{cases_eq, eq-eqb, ne_eqb}
 use Rattle.adb_outside.specs.Tables.{at}
@@ -9,7 +10,8 @@ use Rattle.adb_stream.specs.declared.row.Stream.{Stream}
 use Rattle.adb_wire.specs.declared.packets.Packet.{Packet}
 use Rattle.adb_wire.specs.Deframing.{Deframing, no_bytes}
 use Rattle.adb_history.specs.Rows.{State}
-use Rattle.adb_history.specs.Packets.{treat}
+use Rattle.adb_history.specs.Events.{Event, then_also}
+use Rattle.adb_history.specs.Packets.{faulty, treat, treat_all}
 use Rattle.adb_hub_rules.specs.declared.came.Came.{Came}
 use Rattle.adb_hub_rules.specs.Came.{packet_of, slices_of, slices_for, slices_in, takes_slice}
 use Rattle.adb_hub_tables.specs.declared.ports.Port.{Port}
@@ -18,6 +20,8 @@ use Rattle.adb_hub_tables.specs.Tables.{state_of}
 use Rattle.adb_hub_tables.specs.Tracked.{IsAmong}
 use Rattle.adb_hub_tables.specs.Places.{ClientRoom, LinkRoom, Takes}
 use Rattle.adb_hub_tables.specs.Widening.{WidensClients, WidensPort, WidensRow}
+use Rattle.adb_hub_tables.specs.Endings.{logged}
+use Rattle.adb_hub_tables.proofs.Reporting.{TellsSame, logged_then}
 use Rattle.adb_hub_tables.proofs.Using.{more_places, more_room}
 use Rattle.adb_hub_tables.proofs.Widening.{client_room}
 use Rattle.adb_history.specs.Links.{maxdata_of}
@@ -28,7 +32,7 @@ use Rattle.adb_hub_links.specs.Reserving.{IsCutAt, all_writes}
 use Rattle.adb_hub_links.specs.Settling.{CanSettle, reading}
 use Rattle.adb_hub_links.specs.Whole.{IsFreshAt}
 use Rattle.adb_hub_links.proofs.Namings.{same_id, names_more}
-use Rattle.adb_hub_links.proofs.Settled.{Settling, no_fault}
+use Rattle.adb_hub_links.proofs.Settled.{Settling, no_fault, no_fault_told}
 
 -- ---- the stream that it names
 names_first : (named : Option ℕ) → NamesAlso named [] (option_to_list named)
@@ -114,3 +118,13 @@ module _ {link : ℕ} {came : Came} {ids : List ℕ} {old : Tables} (can : CanSe
 
       treated : State
       treated = (treat link (packet_of came) (state_of old)).state
+
+-- a packet alone tells the ends that it tells in a list of its own
+pub one_told : (link : ℕ) (p : Packet) (s : State)
+    → TellsSame (treat link p s).told (then_also (treat_all link (p ∷ []) s) (faulty link None)).told
+one_told link p s = λ rows log.
+    let treated = treat link p s in
+    let all = treat_all link (p ∷ []) s in
+    ap (λ (told : List Event). logged rows told log) (sym (append-nil treated.told))
+    ∙ (no_fault_told (all.state.links link) link all.state rows (logged rows all.told log)
+    ∙ sym (logged_then rows all.told (faulty link None all.state).told log))

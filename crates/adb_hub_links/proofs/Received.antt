@@ -10,6 +10,7 @@ use Rattle.adb_wire.specs.declared.packets.Packet.{Packet}
 use Rattle.adb_wire.specs.Deframing.{Deframing}
 use Rattle.adb_capture.specs.declared.entry.Entry.TheVariants.{Recv}
 use Rattle.adb_history.specs.Rows.{State}
+use Rattle.adb_history.specs.Events.{Made, then_also}
 use Rattle.adb_history.specs.Machine.{History, IsLegal, IsInRange, May, state, step, ups}
 use Rattle.adb_history.specs.Bytes.{bytes_received}
 use Rattle.adb_history.specs.Tied.{IsReadAs}
@@ -19,12 +20,13 @@ use Rattle.adb_hub_tables.specs.declared.tables.Tables.{Tables}
 use Rattle.adb_hub_rules.specs.Came.{packets_of}
 use Rattle.adb_hub_tables.specs.Tables.{link_row, state_of}
 use Rattle.adb_hub_tables.specs.Places.{StaysRead}
+use Rattle.adb_hub_tables.specs.Endings.{Log, Records, Tells}
 use Rattle.adb_hub_tables.specs.Fit.{IsReadOut, IsReadOutAt, IsFit, IsReached, Keeps, Makes}
 use Rattle.adb_laws_resting.specs.Named.{cut_behind}
 use Rattle.adb_hub_links.specs.declared.cutting.Cutting.{Cutting}
 use Rattle.adb_hub_links.specs.Cutting.{IsCutTo, cut_of, cut_in}
-use Rattle.adb_hub_links.specs.Settling.{behind, LeavesNamed, HasSettled}
-use Rattle.adb_hub_links.proofs.Lawful.{behind_piece, leaves_named, whole, received_apart}
+use Rattle.adb_hub_links.specs.Settling.{LeavesNamed, HasSettled, settles}
+use Rattle.adb_hub_links.proofs.Lawful.{receives_piece, leaves_named, whole, received_apart}
 
 -- numbers and bytes of the code are in their ranges
 pub in_range : (link : ℕ) (piece : List ℕ) → link < 2 ^ 32 → ((i : ℕ) → get_or piece i 0 < 256) → IsInRange (Recv link piece)
@@ -91,14 +93,20 @@ module _ {link : ℕ} {piece : List ℕ} {old : Tables} {port : Port} (h : Comes
         (subst (LeavesNamed link (cut_behind (link_row port) piece)) (sym is_past)
         (leaves_named h.reached.history link piece (link_row port) shown_past h.reached.legal))
 
+    -- what the packets and the up rule make is the step
+    step_is : settles link c (state_of old) ≡ step (state_of old) (Recv link piece)
+    step_is =
+        ap (λ (d : Deframing). settles link d (state_of old)) cut_is
+        ∙ (ap (settles link (cut_behind (link_row port) piece)) is_past
+        ∙ (ap (λ (m : Made). then_also m ups) (sym (receives_piece h.reached.history link piece (link_row port) shown_past))
+        ∙ ap (λ (s : State). step s (Recv link piece)) (sym is_past)))
+
+    pub piece_told : {before after : Log} → Records (settles link c (state_of old)).told before old after → Tells (Recv link piece) before old after
+    piece_told {before} {after} records = subst (λ (m : Made). Records m.told before old after) step_is records
+
     module _ {incoming : Deframing} (rest : incoming ≡ record c { given = [] }) (new : Tables) (settled : HasSettled link c incoming old new) where
       step_made : state_of new ≡ (step (state_of old) (Recv link piece)).state
-      step_made =
-          settled.state
-          ∙ (ap (λ (d : Deframing). (ups (behind link d (state_of old))).state) cut_is
-          ∙ (ap (λ (s : State). (ups (behind link (cut_behind (link_row port) piece) s)).state) is_past
-          ∙ (ap (λ (s : State). (ups s).state) (sym (behind_piece h.reached.history link piece (link_row port) shown_past))
-          ∙ ap (λ (s : State). (step s (Recv link piece)).state) (sym is_past))))
+      step_made = settled.state ∙ ap (λ (m : Made). m.state) step_is
 
       now_is : state_of new ≡ state (Recv link piece ∷ h.reached.history)
       now_is = step_made ∙ ap (λ (s : State). (step s (Recv link piece)).state) is_past

@@ -1,5 +1,5 @@
 -- All that packets of a link leave, and the up rule behind them.
-use Rattle.std.proofs.Common.{ℕ, ◌+◌, ◌≡◌, ◌≤◌, cond, Bool, true, List, length, Option, Some, None, refl, sym, ◌∙◌, ap, subst, arith}
+use Rattle.std.proofs.Common.{ℕ, ◌+◌, ◌≡◌, ◌≤◌, cond, Bool, true, List, [], length, Option, Some, None, refl, sym, ◌∙◌, ap, subst, arith}
 use Rattle.std.specs.Prelude.{option_map, is_some}
 use Rattle.std.proofs.lemmas.Bool.{eq-eqb}
 use Rattle.adb_outside.specs.Tables.{at}
@@ -18,6 +18,8 @@ use Rattle.adb_hub_tables.specs.declared.ports.Port.{Port}
 use Rattle.adb_hub_tables.specs.declared.tables.Tables.{Tables}
 use Rattle.adb_hub_rules.specs.Came.{packets_of, slices_in}
 use Rattle.adb_hub_tables.specs.Tables.{state_of}
+use Rattle.adb_hub_tables.specs.Endings.{Log, Records, Reports}
+use Rattle.adb_hub_tables.proofs.Reporting.{TellsSame, records_same, reports_then}
 use Rattle.adb_hub_tables.specs.Places.{LinkRoom, ClientRoom, StaysHeld, StaysRead, IsProvided, Takes}
 use Rattle.adb_hub_rules.specs.Sweep.{CoversUp, IsReadyEach, UsesEach, writes_on}
 use Rattle.adb_hub_rules.specs.Up.{IsSized}
@@ -27,7 +29,7 @@ use Rattle.adb_hub_tables.proofs.Using.{more_room}
 use Rattle.adb_laws_resting.specs.Named.{granted, AllStay, AreNamed}
 use Rattle.adb_hub_links.specs.Cutting.{cut_with}
 use Rattle.adb_hub_links.specs.Reserving.{all_writes, IsReserved}
-use Rattle.adb_hub_links.specs.Settling.{PutsIncoming, reading, behind, CanSettle, HasSettled}
+use Rattle.adb_hub_links.specs.Settling.{PutsIncoming, reading, behind, CanSettle, HasSettled, settles}
 use Rattle.adb_hub_links.proofs.Putting.{put_state, put_room, put_provided}
 use Rattle.adb_hub_links.proofs.Readying.{ready_behind}
 
@@ -35,6 +37,10 @@ use Rattle.adb_hub_links.proofs.Readying.{ready_behind}
 pub no_fault : (o : Option Link) (link : ℕ) (s : State) → (faulty_on o link None s).state ≡ s
 no_fault None link s = refl
 no_fault (Some row) link s = refl
+
+pub no_fault_told : (o : Option Link) (link : ℕ) (s : State) → TellsSame [] (faulty_on o link None s).told
+no_fault_told None link s = λ rows log. refl
+no_fault_told (Some row) link s = λ rows log. refl
 
 -- What came in was put in its place, and then packets were treated.
 pub record Settling (link : ℕ) (came : List Came) (incoming : Deframing) (ids : List ℕ) (old middle new : Tables) : Type 0 where
@@ -128,3 +134,17 @@ module _ {link : ℕ} {came : List Came} {incoming : Deframing} {ids : List ℕ}
           (subst (StaysRead (at link middle.links.entries)) is (reads link)));
       apart = λ k other. subst (λ (row : Option Port). StaysRead row (at k last.links.entries)) (h.puts.apart k other) (reads k);
     }
+
+    -- what the log records
+    pub settled_told : {before middle_log after : Log}
+        → Reports (then_also (treat_all link (packets_of came) (state_of middle)) (faulty link incoming.fault)).told before middle middle_log new
+        → ((k : ℕ) → CoversUp ids k (state_of new) → Reports (up_all k (state_of new)).told middle_log new after last)
+        → Records (settles link (cut_with incoming came) (state_of old)).told before old after
+    settled_told {before} {middle_log} {after} treated all =
+        let s = put_state link incoming old middle h.puts in
+        let received = subst (λ (s : State). Reports (then_also (treat_all link (packets_of came) s) (faulty link incoming.fault)).told before middle middle_log new)
+        s treated in
+        let goes_up = all new.streams.drawn
+        (subst (λ (s : State). CoversUp ids s.drawn s) (sym behind_is) (h.can.leaves.covers ids (are_named h.can.reserved))) in
+        let up = subst (λ (s : State). Reports (ups s).told middle_log new after last) behind_is goes_up in
+        records_same {old = old} {new = middle} (λ l. ap (λ (t : Tables). at l t.streams.streams) h.puts.others) (reports_then received up).log

@@ -3,6 +3,7 @@ use Rattle.std.specs.Prelude.{ℕ, ◌≡◌, ◌≢◌, List, ◌++◌, Some, o
 use Rattle.adb_outside.specs.Tables.{at}
 use Rattle.adb_wire.specs.Deframing.{Deframing}
 use Rattle.adb_history.specs.Rows.{State}
+use Rattle.adb_history.specs.Events.{Made, then_also}
 use Rattle.adb_history.specs.Packets.{receives_cut}
 use Rattle.adb_history.specs.Machine.{ups}
 use Rattle.adb_hub_tables.specs.declared.ports.Port.{Port}
@@ -29,6 +30,10 @@ pub record PutsIncoming (link : ℕ) (incoming : Deframing) (old new : Tables) :
 -- the state behind the packets of a link, and their fault
 abbrev pub behind : ℕ → Deframing → State → State
 behind link c s = (receives_cut link c s).state
+
+-- what packets of a link make, and their fault, and the up rule behind them
+abbrev pub settles : ℕ → Deframing → State → Made
+settles link c s = then_also (receives_cut link c s) ups
 
 -- Behind them no device takes more than the server, each stream that is still there is as it was but for its credit, and only those may send that they name.
 pub record LeavesNamed (link : ℕ) (c : Deframing) (s : State) : Type 0 where

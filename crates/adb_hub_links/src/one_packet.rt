@@ -8,6 +8,7 @@ ghost use Rattle.adb_laws_resting.specs.Named.{granted_by};
 ghost use Rattle.adb_hub_rules.specs.Came.{IsCame, packet_of};
 ghost use Rattle.adb_hub_rules.specs.Sweep.{CoversUp, IsReadyEach, UsesEach};
 ghost use Rattle.adb_hub_rules.specs.Up.{IsSized};
+ghost use Rattle.adb_hub_tables.specs.Endings.{Records, Reports};
 ghost use Rattle.adb_hub_tables.specs.Fit.{IsFit};
 ghost use Rattle.adb_hub_tables.specs.Places.{ClientRoom, IsCounted};
 ghost use Rattle.adb_hub_tables.specs.Tables.{state_of};
@@ -16,7 +17,7 @@ ghost use Rattle.adb_hub_tables.specs.Widening.{Widens, WidensClients};
 ghost use Rattle.adb_hub_links.specs.Counting.{fed_slices};
 ghost use Rattle.adb_hub_links.specs.Cutting.{cut_with};
 ghost use Rattle.adb_hub_links.specs.Reserving.{IsCutAt, IsReserved, all_writes};
-ghost use Rattle.adb_hub_links.specs.Settling.{CanSettle, HasSettled};
+ghost use Rattle.adb_hub_links.specs.Settling.{CanSettle, HasSettled, settles};
 ghost use Rattle.adb_hub_links.specs.Whole.{IsFreshAt};
 
 use crate::counting::{fed_client, sum};
@@ -24,7 +25,7 @@ use crate::naming::named_on;
 use crate::preparing::prepare_also;
 use adb_client::Client;
 use adb_hub_rules::{Came, credit_word, treat, up};
-use adb_hub_tables::{Tables, TouchedMap, reserve_packets, reserve_slices};
+use adb_hub_tables::{Endings, Tables, TouchedMap, reserve_packets, reserve_slices};
 use adb_stream::Streams;
 use adb_wire::Command;
 use std::alloc::AllocError;
@@ -105,27 +106,39 @@ fn granted_by(came: &Came, id: u32) -> usize
 
 /// A packet of a link that holds nothing is treated, and the stream of this id, if there is one, is
 /// sent up. It takes no memory.
-pub(crate) fn settle_one(tables: &mut Tables, link: u32, came: Came, id: Option<u32>)
+pub(crate) fn settle_one(
+    tables: &mut Tables,
+    ends: &mut Endings,
+    link: u32,
+    came: Came,
+    id: Option<u32>,
+)
     requires came { IsCame came }
     requires fresh { IsFreshAt (at link tables.old.links.entries) }
     requires can { CanSettle link (came ∷ []) no_bytes (option_to_list id) tables.old }
-    ensures { HasSettled link (cut_with no_bytes (came ∷ [])) no_bytes tables.old tables.new }
+    ensures settled { HasSettled link (cut_with no_bytes (came ∷ [])) no_bytes
+        tables.old tables.new }
+    ensures told { Records
+        (settles link (cut_with no_bytes (came ∷ [])) (state_of tables.old)).told
+        ends.old tables.old ends.new }
 {
-    treat(tables, link, came);
-    up_named(tables, id);
+    treat(tables, ends, link, came);
+    up_named(tables, ends, id);
 }
 
 /// The up rule for the stream of an id, if there is one. Where nothing goes up any other stream, it
 /// is the up rule for all.
-fn up_named(tables: &mut Tables, id: Option<u32>)
+fn up_named(tables: &mut Tables, ends: &mut Endings, id: Option<u32>)
     requires ready { IsReadyEach (option_to_list id) tables.old }
     requires sized { IsSized tables.old }
     requires counted { IsCounted tables.old }
     ensures uses { UsesEach (option_to_list id) tables.old tables.new }
     ensures all { (k : ℕ) → CoversUp (option_to_list id) k (state_of tables.old)
         → state_of tables.new ≡ (up_all k (state_of tables.old)).state }
+    ensures reports { (k : ℕ) → CoversUp (option_to_list id) k (state_of tables.old)
+        → Reports (up_all k (state_of tables.old)).told ends.old tables.old ends.new tables.new }
 {
     if let Some(id) = id {
-        up(tables, id);
+        up(tables, ends, id);
     }
 }

@@ -6,10 +6,11 @@ ghost use Rattle.adb_capture.specs.declared.entry.Entry.{Entry};
 ghost use Rattle.adb_wire.specs.Deframing.{no_bytes};
 ghost use Rattle.adb_wire.specs.declared.headers.TheConstants.{MAX_PAYLOAD};
 ghost use Rattle.adb_history.specs.Machine.{May};
+ghost use Rattle.adb_hub_tables.specs.Endings.{Records, Tells};
 ghost use Rattle.adb_hub_tables.specs.Fit.{IsFit, IsReached, Keeps, Makes};
 ghost use Rattle.adb_hub_tables.specs.Tables.{state_of};
 ghost use Rattle.adb_hub_links.specs.Cutting.{IsCutting, cut_in};
-ghost use Rattle.adb_hub_links.specs.Settling.{HasSettled, LeavesNamed};
+ghost use Rattle.adb_hub_links.specs.Settling.{HasSettled, LeavesNamed, settles};
 ghost use Rattle.adb_hub_links.specs.Whole.{IsFreshAt, alone};
 
 use crate::cutting::{Cutting, came, with_piece};
@@ -18,36 +19,50 @@ use crate::reserving::reserve;
 use crate::settling::settle;
 use crate::waiting::wait;
 use crate::whole::{Whole, packet_alone};
-use adb_hub_tables::{Port, Tables, TouchedMap};
+use adb_hub_tables::{Endings, Port, Tables, TouchedMap};
 use adb_wire::Packet;
 use std::alloc::AllocError;
 
 /// Bytes came on a link: the packets that are whole now are treated, in order, a byte that is wrong
 /// breaks the link, and what clients hold goes up the streams of which an OKAY came. Of a link that
 /// is gone nothing is made. After want of memory only places and pieces that are ready may have
-/// become more.
-pub fn recv(tables: &mut Tables, link: u32, piece: &[u8]) -> Result<(), AllocError>
+/// become more. The streams that end are recorded, in the log's spare places.
+pub fn recv(
+    tables: &mut Tables,
+    ends: &mut Endings,
+    link: u32,
+    piece: &[u8],
+) -> Result<(), AllocError>
     requires fit { IsFit tables.old }
     requires reached { IsReached (state_of tables.old) }
     requires may { May (state_of tables.old) (Entry.Recv link piece.now) }
     ensures made { OnOk result (Makes (Entry.Recv link piece.now) tables.old tables.new) }
+    ensures told { OnOk result (Tells (Entry.Recv link piece.now) ends.old tables.old ends.new) }
     ensures kept { OnErr result (Keeps tables.old tables.new) }
+    ensures quiet { OnErr result (ends.new ≡ ends.old) }
 {
     if is_fresh(&tables.links, link) {
         if let Some(packet) = packet_alone(tables.alloc, piece)? {
-            return take_alone(tables, link, packet);
+            return take_alone(tables, ends, link, packet);
         }
     }
-    recv_piece(tables, link, piece)
+    recv_piece(tables, ends, link, piece)
 }
 
 /// Bytes came on a link, whatever they are: they are cut behind what is held.
-fn recv_piece(tables: &mut Tables, link: u32, piece: &[u8]) -> Result<(), AllocError>
+fn recv_piece(
+    tables: &mut Tables,
+    ends: &mut Endings,
+    link: u32,
+    piece: &[u8],
+) -> Result<(), AllocError>
     requires fit { IsFit tables.old }
     requires reached { IsReached (state_of tables.old) }
     requires may { May (state_of tables.old) (Entry.Recv link piece.now) }
     ensures made { OnOk result (Makes (Entry.Recv link piece.now) tables.old tables.new) }
+    ensures told { OnOk result (Tells (Entry.Recv link piece.now) ends.old tables.old ends.new) }
     ensures kept { OnErr result (Keeps tables.old tables.new) }
+    ensures quiet { OnErr result (ends.new ≡ ends.old) }
 {
     let Some(port) = tables.links.get(&link) else {
         return Ok(());
@@ -57,23 +72,30 @@ fn recv_piece(tables: &mut Tables, link: u32, piece: &[u8]) -> Result<(), AllocE
     }
     let incoming = with_piece(tables.alloc, &mut tables.links, link, piece)?;
     let cutting = Cutting::of(tables.alloc, incoming)?;
-    take(tables, link, cutting)
+    take(tables, ends, link, cutting)
 }
 
 /// A whole packet came on a link, as `recv` of its bytes. Where nothing is known to be held of the
 /// link, and no check words are looked at, its header is not read again, and its payload is shared.
-pub fn recv_whole(tables: &mut Tables, link: u32, packet: &Whole) -> Result<(), AllocError>
+pub fn recv_whole(
+    tables: &mut Tables,
+    ends: &mut Endings,
+    link: u32,
+    packet: &Whole,
+) -> Result<(), AllocError>
     requires fit { IsFit tables.old }
     requires reached { IsReached (state_of tables.old) }
     requires may { May (state_of tables.old) (Entry.Recv link packet.now) }
     ensures made { OnOk result (Makes (Entry.Recv link packet.now) tables.old tables.new) }
+    ensures told { OnOk result (Tells (Entry.Recv link packet.now) ends.old tables.old ends.new) }
     ensures kept { OnErr result (Keeps tables.old tables.new) }
+    ensures quiet { OnErr result (ends.new ≡ ends.old) }
 {
     if is_fresh(&tables.links, link) && packet.stands_alone() {
         let packet = packet.packet()?;
-        return take_alone(tables, link, packet);
+        return take_alone(tables, ends, link, packet);
     }
-    recv_piece(tables, link, packet.as_slice())
+    recv_piece(tables, ends, link, packet.as_slice())
 }
 
 /// Whether a link lives of which nothing is known to be held, and no check words are looked at.
@@ -87,31 +109,47 @@ fn is_fresh(links: &TouchedMap<Port>, link: u32) -> bool
 }
 
 /// A packet alone is treated, on a link to which nothing was fed.
-fn take_alone(tables: &mut Tables, link: u32, packet: Packet) -> Result<(), AllocError>
+fn take_alone(
+    tables: &mut Tables,
+    ends: &mut Endings,
+    link: u32,
+    packet: Packet,
+) -> Result<(), AllocError>
     requires size { length packet.payload ≤ MAX_PAYLOAD }
     requires fit { IsFit tables.old }
     requires fresh { IsFreshAt (at link tables.old.links.entries) }
     requires leaves { LeavesNamed link (alone packet) (state_of tables.old) }
     ensures settled { OnOk result
         (HasSettled link (alone packet) no_bytes tables.old tables.new) }
+    ensures told { OnOk result (Records (settles link (alone packet) (state_of tables.old)).told
+        ends.old tables.old ends.new) }
     ensures kept { OnErr result (Keeps tables.old tables.new) }
+    ensures quiet { OnErr result (ends.new ≡ ends.old) }
 {
     let came = came(tables.alloc, packet)?;
     let id = reserve_one(tables, link, &came)?;
-    settle_one(tables, link, came, id);
+    settle_one(tables, ends, link, came, id);
     Ok(())
 }
 
 /// The packets of a link are treated, with all memory taken before.
-fn take(tables: &mut Tables, link: u32, cutting: Cutting) -> Result<(), AllocError>
+fn take(
+    tables: &mut Tables,
+    ends: &mut Endings,
+    link: u32,
+    cutting: Cutting,
+) -> Result<(), AllocError>
     requires cut { IsCutting cutting }
     requires fit { IsFit tables.old }
     requires leaves { LeavesNamed link (cut_in cutting) (state_of tables.old) }
     ensures settled { OnOk result
         (HasSettled link (cut_in cutting) cutting.incoming tables.old tables.new) }
+    ensures told { OnOk result (Records (settles link (cut_in cutting) (state_of tables.old)).told
+        ends.old tables.old ends.new) }
     ensures kept { OnErr result (Keeps tables.old tables.new) }
+    ensures quiet { OnErr result (ends.new ≡ ends.old) }
 {
     let ids = reserve(tables, link, &cutting.packets)?;
-    settle(tables, link, cutting, &ids);
+    settle(tables, ends, link, cutting, &ids);
     Ok(())
 }

@@ -7,24 +7,34 @@ ghost use Rattle.adb_wire.specs.declared.format.PacketFault.{PacketFault};
 ghost use Rattle.adb_history.specs.Events.{then_also};
 ghost use Rattle.adb_history.specs.Packets.{faulty, treat_all};
 ghost use Rattle.adb_hub_rules.specs.Came.{IsCame, packets_of, slices_in};
+ghost use Rattle.adb_hub_tables.specs.Endings.{Records, Reports};
 ghost use Rattle.adb_hub_tables.specs.Places.{ClientRoom, IsProvided, LinkRoom, Takes, Uses};
 ghost use Rattle.adb_hub_tables.specs.Tables.{state_of};
 ghost use Rattle.adb_hub_links.specs.Cutting.{IsCutting, cut_in};
-ghost use Rattle.adb_hub_links.specs.Settling.{CanSettle, HasSettled, reading};
+ghost use Rattle.adb_hub_links.specs.Settling.{CanSettle, HasSettled, reading, settles};
 
 use crate::cutting::Cutting;
+use adb_history::Ending;
 use adb_hub_rules::{Came, end_link, treat_all, up_each};
-use adb_hub_tables::{Port, Tables, TouchedMap};
+use adb_hub_tables::{Endings, Port, Tables, TouchedMap};
 use adb_wire::Deframer;
 use std::collections::{BTreeSet, VecDeque};
 
 /// The packets of a link are treated, a byte that was wrong breaks it, and the streams of these
 /// ids are sent up.
-pub(crate) fn settle(tables: &mut Tables, link: u32, cutting: Cutting, ids: &BTreeSet<u32>)
+pub(crate) fn settle(
+    tables: &mut Tables,
+    ends: &mut Endings,
+    link: u32,
+    cutting: Cutting,
+    ids: &BTreeSet<u32>,
+)
     requires cut { IsCutting cutting }
     requires can { CanSettle link cutting.packets.items cutting.incoming ids.now.keys
         tables.old }
-    ensures { HasSettled link (cut_in cutting) cutting.incoming tables.old tables.new }
+    ensures settled { HasSettled link (cut_in cutting) cutting.incoming tables.old tables.new }
+    ensures told { Records (settles link (cut_in cutting) (state_of tables.old)).told
+        ends.old tables.old ends.new }
 {
     let Cutting {
         incoming,
@@ -32,8 +42,8 @@ pub(crate) fn settle(tables: &mut Tables, link: u32, cutting: Cutting, ids: &BTr
         broken,
     } = cutting;
     put_incoming(&mut tables.links, link, incoming);
-    treat(tables, link, packets, broken);
-    up_each(tables, ids);
+    treat(tables, ends, link, packets, broken);
+    up_each(tables, ends, ids);
 }
 
 /// Something else came in on a link.
@@ -48,7 +58,7 @@ fn put_incoming(links: &mut TouchedMap<Port>, link: u32, incoming: Deframer)
 }
 
 /// The packets of a link are treated, and a byte that was wrong breaks it.
-fn treat(tables: &mut Tables, link: u32, packets: VecDeque<Came>, broken: bool)
+fn treat(tables: &mut Tables, ends: &mut Endings, link: u32, packets: VecDeque<Came>, broken: bool)
     requires came { All IsCame packets.items }
     requires provided { IsProvided tables.old }
     requires link { LinkRoom (length packets.items) (at link tables.old.links.entries) }
@@ -58,24 +68,31 @@ fn treat(tables: &mut Tables, link: u32, packets: VecDeque<Came>, broken: bool)
     ensures state { (c : Deframing) → c.given ≡ packets_of packets.items
         → broken ≡ is_some c.fault → state_of tables.new
         ≡ (then_also (treat_all link c.given (state_of tables.old)) (faulty link c.fault)).state }
+    ensures reports { (c : Deframing) → c.given ≡ packets_of packets.items
+        → broken ≡ is_some c.fault → Reports
+        (then_also (treat_all link c.given (state_of tables.old)) (faulty link c.fault)).told
+        ends.old tables.old ends.new tables.new }
     ensures takes { Takes link (length packets.items)
         (slices_in (packets_of packets.items) tables.old.streams.streams)
         tables.old tables.new }
 {
-    treat_all(tables, link, packets);
+    treat_all(tables, ends, link, packets);
     if broken {
-        break_off(tables, link);
+        break_off(tables, ends, link);
     }
 }
 
 /// A byte of a link was wrong, which may be gone.
-fn break_off(tables: &mut Tables, link: u32)
+fn break_off(tables: &mut Tables, ends: &mut Endings, link: u32)
     requires { IsProvided tables.old }
     ensures state { (fault : PacketFault) → state_of tables.new
         ≡ (faulty link (Some fault) (state_of tables.old)).state }
+    ensures reports { (fault : PacketFault) → Reports
+        (faulty link (Some fault) (state_of tables.old)).told
+        ends.old tables.old ends.new tables.new }
     ensures uses { (t c : ℕ) → Uses t 0 c 0 tables.old tables.new }
 {
     if tables.links.contains_key(&link) {
-        end_link(tables, link);
+        end_link(tables, ends, link, Ending::Broken);
     }
 }

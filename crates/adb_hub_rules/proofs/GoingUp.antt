@@ -8,7 +8,7 @@ use Rattle.adb_stream.specs.Stream.{with_part}
 use Rattle.adb_stream.specs.declared.flow.Flow.{Flow}
 use Rattle.adb_stream.specs.declared.row.Stream.{Stream}
 use Rattle.adb_history.specs.Rows.{Client, State, to_client, to_stream, with_held, with_stream_part}
-use Rattle.adb_history.specs.Events.{quietly}
+use Rattle.adb_history.specs.Events.{Made, quietly, then_also}
 use Rattle.adb_history.specs.Links.{maxdata_of}
 use Rattle.adb_history.specs.Flow.{payloads, total, with_flow, goes_up, all_go_up, flow_after, noted, is_over, closes_if, sends_up, is_streaming, up_client, up_stream, up}
 use Rattle.adb_hub_tables.specs.declared.tables.Tables.{Tables}
@@ -114,27 +114,31 @@ module _ (l : ℕ) (stream : Stream) where
   pub close_then : (ps : List (List ℕ)) (client row : Client) (s middle : State) → s.streams l ≡ Some stream
       → (middle ≡ (all_go_up l stream ps (noted l stream client.held ps s)).state) × (row ≡ record client { held = drop (total ps) client.held })
       → (let after = with_part (with_flow (flow_after ps stream.part.flow) stream.part) stream in
-      (closes_if (is_over row.about.ended row.held after.part.flow) l (Some after) middle).state) ≡ (sends_up l stream client ps s).state
+      then_also (all_go_up l stream ps (noted l stream client.held ps s)) (λ _. closes_if (is_over row.about.ended row.held after.part.flow) l (Some after) middle))
+      ≡ sends_up l stream client ps s
   close_then ps client row s middle here (is, same) =
-      ap (λ (s : State). (closes_if (is_over row.about.ended row.held after.part.flow) l (Some after) s).state) is
-      ∙ (ap (λ (row : Client). (closes_if (is_over row.about.ended row.held after.part.flow) l (Some after) sent_then).state) same
-      ∙ ap (λ (then : Option Stream). (closes_if (is_over client.about.ended (drop (total ps) client.held) after.part.flow) l then sent_then).state)
+      ap (λ (s : State). written_then (closes_if (is_over row.about.ended row.held after.part.flow) l (Some after) s)) is
+      ∙ (ap (λ (row : Client). written_then (closes_if (is_over row.about.ended row.held after.part.flow) l (Some after) written.state)) same
+      ∙ ap (λ (then : Option Stream). written_then (closes_if (is_over client.about.ended (drop (total ps) client.held) after.part.flow) l then written.state))
       (sym (stream_then ps client.held s here)))
     where
       after : Stream
       after = with_part (with_flow (flow_after ps stream.part.flow) stream.part) stream
 
-      sent_then : State
-      sent_then = (all_go_up l stream ps (noted l stream client.held ps s)).state
+      written : Made
+      written = all_go_up l stream ps (noted l stream client.held ps s)
+
+      written_then : Made → Made
+      written_then last = then_also written (λ _. last)
 
   -- the rule of an open stream
   pub open_up : (client : Client) (s : State) → s.streams l ≡ Some stream → s.clients stream.client ≡ Some client → is_streaming l client.about.phase ≡ true
-      → (sends_up l stream client (payloads stream.part.flow (maxdata_of stream.link s.devices) client.held) s).state ≡ (up l s).state
+      → sends_up l stream client (payloads stream.part.flow (maxdata_of stream.link s.devices) client.held) s ≡ up l s
   open_up client s here owner streaming =
-      ap (λ b. (cond b (sends_up l stream client (payloads stream.part.flow (maxdata_of stream.link s.devices) client.held) s) (quietly s)).state)
+      ap (λ b. cond b (sends_up l stream client (payloads stream.part.flow (maxdata_of stream.link s.devices) client.held) s) (quietly s))
       (sym streaming)
-      ∙ (ap (λ (row : Option Client). (up_client l stream row s).state) (sym owner)
-      ∙ ap (λ (row : Option Stream). (up_stream l row s).state) (sym here))
+      ∙ (ap (λ (row : Option Client). up_client l stream row s) (sym owner)
+      ∙ ap (λ (row : Option Stream). up_stream l row s) (sym here))
 
 -- ---- rows that are shown
 -- A row shows another.
@@ -208,12 +212,14 @@ module _ (l : ℕ) (stream : Stream) (old middle : Tables)
       ∙ (held_open l (drop (total (all_unsent stream old)) held) (option_map client_row (at stream.client old.clients.entries))
       ∙ (sym (open_shown l (at stream.client old.clients.entries)) ∙ is)))
 
-  pub sent_up : (seen : SeenClient) (flow : Flow) (new : State) → at l old.streams.streams ≡ Some stream
+  -- what holds of the writes and the end behind them holds of the rule
+  pub sent_up : (seen : SeenClient) (flow : Flow) (P : Made → Type 0) → at l old.streams.streams ≡ Some stream
       → (at stream.client old.clients.entries ≡ Some seen) × (flow ≡ flow_after (all_unsent stream old) stream.part.flow)
       → ((row : SeenClient) → at stream.client middle.clients.entries ≡ Some row
-      → new ≡ (closes_if (is_over row.about.ended row.held flow) l (Some (then_flow flow)) (state_of middle)).state)
-      → new ≡ (sends_up l stream (client_row seen) (all_unsent stream old) (state_of old)).state
-  sent_up seen flow new here (owner, is) closes = at_row (shown (at stream.client middle.clients.entries) (left_of seen) (middle_client ∙ is_row))
+      → P (then_also (all_go_up l stream (all_unsent stream old) (noted l stream seen.held (all_unsent stream old) (state_of old)))
+      (λ _. closes_if (is_over row.about.ended row.held flow) l (Some (then_flow flow)) (state_of middle))))
+      → P (sends_up l stream (client_row seen) (all_unsent stream old) (state_of old))
+  sent_up seen flow P here (owner, is) closes = at_row (shown (at stream.client middle.clients.entries) (left_of seen) (middle_client ∙ is_row))
     where
       is_row : option_and_then (with_held (drop (total (all_unsent stream old)) held)) (option_map client_row (at stream.client old.clients.entries))
           ≡ Some (left_of seen)
@@ -221,22 +227,26 @@ module _ (l : ℕ) (stream : Stream) (old middle : Tables)
           ap (λ (row : Option SeenClient). option_and_then (with_held (drop (total (all_unsent stream old)) (held_at row))) (option_map client_row row))
           owner
 
-      state_is : state_of middle ≡ (all_go_up l stream (all_unsent stream old) (noted l stream seen.held (all_unsent stream old) (state_of old))).state
+      written : Made
+      written = all_go_up l stream (all_unsent stream old) (noted l stream seen.held (all_unsent stream old) (state_of old))
+
+      state_is : state_of middle ≡ written.state
       state_is = state ∙ ap (λ (row : Option SeenClient). (all_go_up l stream (all_unsent stream old)
           (noted l stream (held_at row) (all_unsent stream old) (state_of old))).state) owner
 
       at_row : Shows (at stream.client middle.clients.entries) (left_of seen)
-          → new ≡ (sends_up l stream (client_row seen) (all_unsent stream old) (state_of old)).state
+          → P (sends_up l stream (client_row seen) (all_unsent stream old) (state_of old))
       at_row shows =
           let row = shows.seen in
-          closes row shows.is
-          ∙ (ap (λ (flow : Flow). (closes_if (is_over row.about.ended row.held flow) l (Some (then_flow flow)) (state_of middle)).state) is
+          subst P
+          (ap (λ (flow : Flow). then_also written (λ _. closes_if (is_over row.about.ended row.held flow) l (Some (then_flow flow)) (state_of middle))) is
           ∙ close_then l stream (all_unsent stream old) (client_row seen) (client_row row) (state_of old) (state_of middle) here (state_is, shows.same))
+          (closes row shows.is)
 
 -- the rule for a stream that its client has open
 pub up_is : (l : ℕ) (stream : Stream) (old : Tables) → at l old.streams.streams ≡ Some stream → (row : Opens l (at stream.client old.clients.entries))
-    → (sends_up l stream (client_row row.seen) (all_unsent stream old) (state_of old)).state ≡ (up l (state_of old)).state
+    → sends_up l stream (client_row row.seen) (all_unsent stream old) (state_of old) ≡ up l (state_of old)
 up_is l stream old here row =
     let payloads_of = λ (seen : Option SeenClient). payloads stream.part.flow (maxdata_of stream.link old.devices) (held_at seen) in
-    ap (λ (seen : Option SeenClient). (sends_up l stream (client_row row.seen) (payloads_of seen) (state_of old)).state) row.is
+    ap (λ (seen : Option SeenClient). sends_up l stream (client_row row.seen) (payloads_of seen) (state_of old)) row.is
     ∙ open_up l stream (client_row row.seen) (state_of old) here (ap (option_map client_row) row.is) row.streams

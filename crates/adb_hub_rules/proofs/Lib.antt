@@ -1,4 +1,6 @@
+pub mod Making
 mod Ending
+pub mod Telling
 mod Failing
 mod Naming
 pub mod Taking
@@ -11,3 +13,4 @@ mod Sweeping
 mod RisingIds
 mod EachUp
 pub mod StillUp
+pub mod Rests

@@ -8,17 +8,18 @@ use Rattle.adb_outside.specs.Tables.{Rows}
 use Rattle.adb_registry.specs.Registry.{DeviceTable}
 use Rattle.adb_stream.specs.declared.row.Stream.{Stream}
 use Rattle.adb_history.specs.Rows.{Client, State, to_stream, with_held, with_stream_part}
-use Rattle.adb_history.specs.Events.{quietly}
+use Rattle.adb_history.specs.Events.{Made, quietly, then_also}
 use Rattle.adb_history.specs.Links.{maxdata_of}
 use Rattle.adb_history.specs.Flow.{payloads, with_flow, noted, is_over, closes_if, sends_up, is_streaming, up_client, up_stream, up, up_all}
 use Rattle.adb_hub_tables.specs.Tracked.{IsAmong}
 use Rattle.adb_hub_rules.specs.Sweep.{up_each, HasNothingUp, IsStillFor, IsStillOf, IsStill, CoversUp}
+use Rattle.adb_hub_rules.proofs.Making.{made_then_none, made_assoc}
 use Rattle.adb_hub_rules.proofs.RisingIds.{above, rises_behind}
 use Rattle.adb_hub_rules.proofs.GoingUp.{IsNot, same_rows}
 use Rattle.adb_hub_rules.proofs.Sweeping.{KeepsBeside, for_it, stream_of_row, sends_beside}
 
 -- ---- a stream that is still
-pub not_closed : (l : ℕ) (row : Option Stream) (s : State) → (closes_if false l row s).state ≡ s
+pub not_closed : (l : ℕ) (row : Option Stream) (s : State) → closes_if false l row s ≡ quietly s
 not_closed l None s = refl
 not_closed l (Some stream) s = refl
 
@@ -32,34 +33,34 @@ module _ (l : ℕ) (stream : Stream) (s : State) (here : s.streams l ≡ Some st
       (ap (option_and_then (with_stream_part (with_flow stream.part.flow stream.part))) here ∙ sym here))
 
   nothing_sent : (client : Client) → s.clients stream.client ≡ Some client → HasNothingUp s.devices client stream
-      → (sends_up l stream client (payloads stream.part.flow (maxdata_of stream.link s.devices) client.held) s).state ≡ s
+      → sends_up l stream client (payloads stream.part.flow (maxdata_of stream.link s.devices) client.held) s ≡ quietly s
   nothing_sent client owner h =
-      ap (λ ps. (sends_up l stream client ps s).state) h.nothing
-      ∙ (ap (λ b. (closes_if b l ((noted l stream client.held [] s).streams l) (noted l stream client.held [] s)).state) h.goes_on
-      ∙ (not_closed l ((noted l stream client.held [] s).streams l) (noted l stream client.held [] s) ∙ noted_none client owner))
+      ap (λ ps. sends_up l stream client ps s) h.nothing
+      ∙ (ap (λ b. closes_if b l ((noted l stream client.held [] s).streams l) (noted l stream client.held [] s)) h.goes_on
+      ∙ (not_closed l ((noted l stream client.held [] s).streams l) (noted l stream client.held [] s) ∙ ap quietly (noted_none client owner)))
 
   -- where nothing is sent, what is left of the rule is the end
   pub end_alone : (client : Client) (ps : List (List ℕ)) → s.clients stream.client ≡ Some client → ps ≡ []
-      → (closes_if (is_over client.about.ended client.held stream.part.flow) l (Some stream) s).state ≡ (sends_up l stream client ps s).state
+      → closes_if (is_over client.about.ended client.held stream.part.flow) l (Some stream) s ≡ sends_up l stream client ps s
   end_alone client ps owner none =
       let over = is_over client.about.ended client.held stream.part.flow in
-      ap (λ (row : Option Stream). (closes_if over l row s).state) (sym here)
-      ∙ (ap (λ (now : State). (closes_if over l (now.streams l) now).state) (sym (noted_none client owner))
-      ∙ ap (λ ps. (sends_up l stream client ps s).state) (sym none))
+      ap (λ (row : Option Stream). closes_if over l row s) (sym here)
+      ∙ (ap (λ (now : State). closes_if over l (now.streams l) now) (sym (noted_none client owner))
+      ∙ ap (λ ps. sends_up l stream client ps s) (sym none))
 
-  client_still : (row : Option Client) → s.clients stream.client ≡ row → IsStillFor l s.devices stream row → (up_client l stream row s).state ≡ s
+  client_still : (row : Option Client) → s.clients stream.client ≡ row → IsStillFor l s.devices stream row → up_client l stream row s ≡ quietly s
   client_still None owner still = refl
   client_still (Some client) owner still = by_test (is_streaming l client.about.phase) refl
     where
       by_test : (b : Bool) → is_streaming l client.about.phase ≡ b
-          → (cond b (sends_up l stream client (payloads stream.part.flow (maxdata_of stream.link s.devices) client.held) s) (quietly s)).state ≡ s
+          → cond b (sends_up l stream client (payloads stream.part.flow (maxdata_of stream.link s.devices) client.held) s) (quietly s) ≡ quietly s
       by_test true streaming = nothing_sent client owner (still streaming)
       by_test false streaming = refl
 
-still_is : (l : ℕ) (s : State) → IsStill l s → (up l s).state ≡ s
+still_is : (l : ℕ) (s : State) → IsStill l s → up l s ≡ quietly s
 still_is l s still = at_row (s.streams l) refl still
   where
-    at_row : (row : Option Stream) → s.streams l ≡ row → IsStillOf l row s → (up_stream l row s).state ≡ s
+    at_row : (row : Option Stream) → s.streams l ≡ row → IsStillOf l row s → up_stream l row s ≡ quietly s
     at_row None here still = refl
     at_row (Some stream) here still = client_still l stream s here (s.clients stream.client) refl still
 
@@ -104,22 +105,24 @@ still_stays l id s other still = at_row (s.streams id) refl
     at_row (Some stream) here = at_client stream here (s.clients stream.client) refl
 
 -- ---- all streams, from the first on
-up_range : ℕ → ℕ → State → State
-up_range first zero s = s
-up_range first (suc n) s = up_range (suc first) n (up first s).state
+up_range : ℕ → ℕ → State → Made
+up_range first zero s = quietly s
+up_range first (suc n) s = then_also (up first s) (up_range (suc first) n)
 
-range_last : (n first : ℕ) (s : State) → up_range first (suc n) s ≡ (up (first + n) (up_range first n s)).state
+range_last : (n first : ℕ) (s : State) → up_range first (suc n) s ≡ then_also (up_range first n s) (up (first + n))
 unfolding up_range
-range_last zero first s = ap (λ (l : ℕ). (up l s).state) (omega arith)
+range_last zero first s = made_then_none (up first s) ∙ ap (λ (l : ℕ). up l s) (omega arith)
 range_last (suc n) first s =
-    range_last n (suc first) (up first s).state ∙ ap (λ (l : ℕ). (up l (up_range (suc first) n (up first s).state)).state) (omega arith)
+    ap (λ (rest : Made). then_also (up first s) (λ _. rest)) (range_last n (suc first) (up first s).state)
+    ∙ (sym (made_assoc (up first s) (up_range (suc first) n) (up (suc first + n)))
+    ∙ ap (λ (l : ℕ). then_also (then_also (up first s) (up_range (suc first) n)) (up l)) (omega arith))
 
-all_is_range : (k : ℕ) (s : State) → (up_all k s).state ≡ up_range 1 k s
+all_is_range : (k : ℕ) (s : State) → up_all k s ≡ up_range 1 k s
 unfolding up_range
 all_is_range zero s = refl
 all_is_range (suc k) s =
-    ap (λ (s : State). (up (suc k) s).state) (all_is_range k s)
-    ∙ (ap (λ (l : ℕ). (up l (up_range 1 k s)).state) (omega arith) ∙ sym (range_last k 1 s))
+    ap (λ (before : Made). then_also before (up (suc k))) (all_is_range k s)
+    ∙ (ap (λ (l : ℕ). then_also (up_range 1 k s) (up l)) (omega arith) ∙ sym (range_last k 1 s))
 
 -- These ids are among n numbers from the first on, and nothing goes up any other of these streams.
 record CoversRange (ids : List ℕ) (first n : ℕ) (s : State) : Type 0 where
@@ -158,29 +161,31 @@ not_among : (first x : ℕ) (ids : List ℕ) → IsStrictlySortedBy nat_cmp (x �
 not_among first x ids rises less (inl e) = omega (arith, less, e)
 not_among first x ids rises less (inr among) = let more = above x first ids rises among in omega (arith, less, more)
 
-range_is : (n first : ℕ) (ids : List ℕ) (s : State) → CoversRange ids first n s → up_range first n s ≡ (up_each ids s).state
+range_is : (n first : ℕ) (ids : List ℕ) (s : State) → CoversRange ids first n s → up_range first n s ≡ up_each ids s
 unfolding up_range
 range_is zero first [] s h = refl
 range_is zero first (x ∷ ids) s h = let bounds = h.within x (inl refl) in absurd (omega (arith, bounds.0, bounds.1))
 range_is (suc n) first [] s h =
-    ap (up_range (suc first) n) (still_is first s (h.still first (omega arith) (λ among. among)))
+    ap (λ (one : Made). then_also one (up_range (suc first) n)) (still_is first s (h.still first (omega arith) (λ among. among)))
     ∙ range_is n (suc first) [] s (range_still first n [] s h (λ among. among))
 range_is (suc n) first (x ∷ ids) s h = by_place (cases_eq first x) (λ covers. range_is n (suc first) ids (up first s).state covers)
     (λ covers. range_is n (suc first) (x ∷ ids) s covers)
   where
     by_place : ◌⊎◌ (first ≡ x) (first ≢ x)
-        → (CoversRange ids (suc first) n (up first s).state → up_range (suc first) n (up first s).state ≡ (up_each ids (up first s).state).state)
-        → (CoversRange (x ∷ ids) (suc first) n s → up_range (suc first) n s ≡ (up_each (x ∷ ids) s).state)
-        → up_range (suc first) n (up first s).state ≡ (up_each (x ∷ ids) s).state
+        → (CoversRange ids (suc first) n (up first s).state → up_range (suc first) n (up first s).state ≡ up_each ids (up first s).state)
+        → (CoversRange (x ∷ ids) (suc first) n s → up_range (suc first) n s ≡ up_each (x ∷ ids) s)
+        → then_also (up first s) (up_range (suc first) n) ≡ up_each (x ∷ ids) s
     by_place (inl e) goes stays =
-        goes (range_behind first n ids s (subst (λ (q : ℕ). CoversRange (q ∷ ids) first (suc n) s) (sym e) h))
-        ∙ ap (λ (q : ℕ). (up_each (q ∷ ids) s).state) e
+        ap (λ (rest : Made). then_also (up first s) (λ _. rest))
+        (goes (range_behind first n ids s (subst (λ (q : ℕ). CoversRange (q ∷ ids) first (suc n) s) (sym e) h)))
+        ∙ ap (λ (q : ℕ). up_each (q ∷ ids) s) e
     by_place (inr other) goes stays =
         let none = not_among first x ids h.rises (omega (arith, other, (h.within x (inl refl)).0)) in
-        ap (up_range (suc first) n) (still_is first s (h.still first (omega arith) none)) ∙ stays (range_still first n (x ∷ ids) s h none)
+        ap (λ (one : Made). then_also one (up_range (suc first) n)) (still_is first s (h.still first (omega arith) none))
+        ∙ stays (range_still first n (x ∷ ids) s h none)
 
 -- the up rule for all streams is that for these
-pub all_is_each : (ids : List ℕ) (k : ℕ) (s : State) → IsStrictlySortedBy nat_cmp ids → CoversUp ids k s → (up_all k s).state ≡ (up_each ids s).state
+pub all_is_each : (ids : List ℕ) (k : ℕ) (s : State) → IsStrictlySortedBy nat_cmp ids → CoversUp ids k s → up_all k s ≡ up_each ids s
 all_is_each ids k s rises h = all_is_range k s ∙ range_is k 1 ids s (record {
   rises = rises;
   within = λ l among. let bounds = h.within l among in (omega (arith, bounds.0), omega (arith, bounds.1));

@@ -3,13 +3,14 @@
 ghost use Rattle.std.specs.Prelude.{◌≡◌, ◌≢◌, ◌<◌, ℕ, Some};
 ghost use Rattle.adb_outside.specs.Tables.{at, without};
 ghost use Rattle.adb_stream.specs.Streams.{IsFirstOf, HasNoneOf};
-ghost use Rattle.adb_history.specs.declared.ending.Ending.{Ending};
 ghost use Rattle.adb_history.specs.Streams.{client_loses, ends_row, ends_telling, all_end};
+ghost use Rattle.adb_hub_tables.specs.Endings.{Log, Reports, add_unless, ended_of};
 ghost use Rattle.adb_hub_tables.specs.Tables.{state_of};
 ghost use Rattle.adb_hub_tables.specs.Places.{LinkRoom, ClientRoom, streams_on, IsCounted, IsProvided, Uses};
 
 use adb_client::Phase;
-use adb_hub_tables::Tables;
+use adb_history::Ending;
+use adb_hub_tables::{Ended, Endings, Tables};
 use adb_stream::Stream;
 
 /// A client's stream ended: it is told so where it waits for the stream, and is closing.
@@ -35,12 +36,20 @@ fn client_loses(tables: &mut Tables, client: u32)
     }
 }
 
-/// A stream ends: its row goes, and its client is closing.
-pub(crate) fn end_row(tables: &mut Tables, id: u32, stream: &Stream)
+/// Ends a stream: removes its row, and closes its client.
+pub(crate) fn end_row(
+    tables: &mut Tables,
+    ends: &mut Endings,
+    id: u32,
+    stream: &Stream,
+    ending: Ending,
+)
     requires here { at id tables.old.streams.streams ≡ Some stream.now }
     requires place { ClientRoom 0 (at stream.now.client tables.old.clients.entries) }
-    ensures state { (ending : Ending) → state_of tables.new
+    ensures state { state_of tables.new
         ≡ (ends_row id ending stream.now (state_of tables.old)).state }
+    ensures reports { Reports (ends_row id ending stream.now (state_of tables.old)).told
+        ends.old tables.old ends.new tables.new }
     ensures rows { tables.new.streams ≡ record tables.old.streams {
       streams = without id tables.old.streams.streams;
     } }
@@ -50,16 +59,25 @@ pub(crate) fn end_row(tables: &mut Tables, id: u32, stream: &Stream)
 {
     tables.drop_stream(id, stream);
     client_loses(tables, stream.client);
+    record_end(ends, id, stream, ending);
 }
 
-/// A stream ends, and its device is told so.
-pub(crate) fn end_telling(tables: &mut Tables, id: u32, stream: &Stream)
+/// Ends a stream as `end_row` does, and sends its device a CLSE.
+pub(crate) fn end_telling(
+    tables: &mut Tables,
+    ends: &mut Endings,
+    id: u32,
+    stream: &Stream,
+    ending: Ending,
+)
     requires here { at id tables.old.streams.streams ≡ Some stream.now }
     requires counted { IsCounted tables.old }
     requires link { LinkRoom 0 (at stream.now.link tables.old.links.entries) }
     requires client { ClientRoom 0 (at stream.now.client tables.old.clients.entries) }
-    ensures state { (ending : Ending) → state_of tables.new
+    ensures state { state_of tables.new
         ≡ (ends_telling id ending stream.now (state_of tables.old)).state }
+    ensures reports { Reports (ends_telling id ending stream.now (state_of tables.old)).told
+        ends.old tables.old ends.new tables.new }
     ensures others { (k : ℕ) → k ≢ stream.now.client
         → at k tables.new.clients.entries ≡ at k tables.old.clients.entries }
     ensures uses { (c : ℕ) → Uses stream.now.link 0 c 0 tables.old tables.new }
@@ -67,32 +85,51 @@ pub(crate) fn end_telling(tables: &mut Tables, id: u32, stream: &Stream)
     tables.drop_stream(id, stream);
     tables.owe_close(stream.link, id, stream.part.remote);
     client_loses(tables, stream.client);
+    record_end(ends, id, stream, ending);
 }
 
-/// All streams of a link end, in rising id.
-pub(crate) fn end_all(tables: &mut Tables, link: u32)
+/// Records that a stream ended.
+fn record_end(ends: &mut Endings, id: u32, stream: &Stream, ending: Ending)
+    ensures { ends.new
+        ≡ add_unless stream.now.part.orphan (ended_of id ending stream.now) ends.old }
+{
+    let ended = Ended {
+        stream: id,
+        client: stream.client,
+        link: stream.link,
+        ending,
+    };
+    ends.push_unless(stream.part.orphan, ended);
+}
+
+/// Ends all streams of a link, in rising id.
+pub(crate) fn end_all(tables: &mut Tables, ends: &mut Endings, link: u32, ending: Ending)
     requires { IsProvided tables.old }
-    ensures state { (ending : Ending) → state_of tables.new
-        ≡ (all_end link ending (state_of tables.old)).state }
+    ensures state { state_of tables.new ≡ (all_end link ending (state_of tables.old)).state }
+    ensures reports { Reports (all_end link ending (state_of tables.old)).told
+        ends.old tables.old ends.new tables.new }
     ensures none { HasNoneOf link tables.new.streams.streams }
     ensures uses { (t c : ℕ) → Uses t 0 c 0 tables.old tables.new }
 {
     while let Some(id) = tables.streams.first_of(link) {
-        end_first(tables, link, id);
+        end_first(tables, ends, link, id, ending);
     }
 }
 
-/// The first stream of a link ends.
-fn end_first(tables: &mut Tables, link: u32, id: u32)
+/// Ends the first stream of a link. The endings of the others follow it in the log.
+fn end_first(tables: &mut Tables, ends: &mut Endings, link: u32, id: u32, ending: Ending)
     requires provided { IsProvided tables.old }
     requires first { IsFirstOf link tables.old.streams.streams id }
-    ensures state { (ending : Ending) → (all_end link ending (state_of tables.new)).state
+    ensures state { (all_end link ending (state_of tables.new)).state
         ≡ (all_end link ending (state_of tables.old)).state }
+    ensures reports { (log : Log) (t : Tables)
+        → Reports (all_end link ending (state_of tables.new)).told ends.new tables.new log t
+        → Reports (all_end link ending (state_of tables.old)).told ends.old tables.old log t }
     ensures fewer { streams_on link tables.new.streams.streams
         < streams_on link tables.old.streams.streams }
     ensures uses { (t c : ℕ) → Uses t 0 c 0 tables.old tables.new }
 {
     if let Some(stream) = tables.streams.get(id).copied() {
-        end_row(tables, id, &stream);
+        end_row(tables, ends, id, &stream, ending);
     }
 }

@@ -10,71 +10,95 @@ ghost use Rattle.adb_registry.specs.Registry.{IsSound, changed};
 ghost use Rattle.adb_history.specs.Rows.{to_link};
 ghost use Rattle.adb_history.specs.Links.{is_connected};
 ghost use Rattle.adb_history.specs.Packets.{least_version, with_sums, goes_online, streams_end_first, connects, cnxn, refuses_open, unauthorized, takes_close};
+ghost use Rattle.adb_hub_tables.specs.Endings.{Reports};
 ghost use Rattle.adb_hub_tables.specs.Tables.{state_of};
 ghost use Rattle.adb_hub_rules.specs.Came.{named, offline_in};
 ghost use Rattle.adb_hub_tables.specs.Places.{LinkRoom, IsProvided, Uses};
 
 use crate::ends::{end_all, end_row};
 use crate::losing::end_link;
-use adb_hub_tables::Tables;
+use adb_history::Ending;
+use adb_hub_tables::{Endings, Tables};
 use adb_outside::{Identity, State};
 use adb_stream::Stream;
 use adb_wire::{Command, Head, MAX_PAYLOAD, MIN_MAXDATA, MIN_VERSION, VERSION};
 
 /// A device that is too old, takes too little or does not say who it is breaks its link.
-pub(crate) fn take_cnxn(tables: &mut Tables, link: u32, head: &Head, identity: Option<Identity>)
+pub(crate) fn take_cnxn(
+    tables: &mut Tables,
+    ends: &mut Endings,
+    link: u32,
+    head: &Head,
+    identity: Option<Identity>,
+)
     requires cnxn { head.now.command ≡ Command.Cnxn }
     requires features { IfSome identity (λ named. length named.features ≤ MAX_FEATURES) }
     requires provided { IsProvided tables.old }
     ensures state { (banner : List ℕ) → identity_of banner ≡ identity → state_of tables.new
         ≡ (cnxn link head.now.arg0 head.now.arg1 banner (state_of tables.old)).state }
+    ensures reports { (banner : List ℕ) → identity_of banner ≡ identity
+        → Reports (cnxn link head.now.arg0 head.now.arg1 banner (state_of tables.old)).told
+        ends.old tables.old ends.new tables.new }
     ensures uses { (t c : ℕ) → Uses t 0 c 0 tables.old tables.new }
 {
     if head.arg0 < MIN_VERSION || head.arg1 < MIN_MAXDATA {
-        end_link(tables, link);
+        end_link(tables, ends, link, Ending::Broken);
     } else {
-        take_identity(tables, link, head, identity);
+        take_identity(tables, ends, link, head, identity);
     }
 }
 
-fn take_identity(tables: &mut Tables, link: u32, head: &Head, identity: Option<Identity>)
+fn take_identity(
+    tables: &mut Tables,
+    ends: &mut Endings,
+    link: u32,
+    head: &Head,
+    identity: Option<Identity>,
+)
     requires version { least_version ≤ head.now.arg0 }
     requires cnxn { head.now.command ≡ Command.Cnxn }
     requires features { IfSome identity (λ named. length named.features ≤ MAX_FEATURES) }
     requires provided { IsProvided tables.old }
     ensures state { state_of tables.new ≡ (connects link head.now.arg0 head.now.arg1
         identity (state_of tables.old)).state }
+    ensures reports { Reports (connects link head.now.arg0 head.now.arg1
+        identity (state_of tables.old)).told ends.old tables.old ends.new tables.new }
     ensures uses { (t c : ℕ) → Uses t 0 c 0 tables.old tables.new }
 {
     match identity {
-        Some(identity) => connect(tables, link, head, identity),
-        None => end_link(tables, link),
+        Some(identity) => connect(tables, ends, link, head, identity),
+        None => end_link(tables, ends, link, Ending::Broken),
     }
 }
 
 /// On a link that had a CNXN, its streams end first; then the device is who it says.
-fn connect(tables: &mut Tables, link: u32, head: &Head, identity: Identity)
+fn connect(tables: &mut Tables, ends: &mut Endings, link: u32, head: &Head, identity: Identity)
     requires version { least_version ≤ head.now.arg0 }
     requires cnxn { head.now.command ≡ Command.Cnxn }
     requires features { length identity.features ≤ MAX_FEATURES }
     requires provided { IsProvided tables.old }
     ensures state { state_of tables.new ≡ (connects link head.now.arg0 head.now.arg1
         (Some identity) (state_of tables.old)).state }
+    ensures reports { Reports (connects link head.now.arg0 head.now.arg1
+        (Some identity) (state_of tables.old)).told ends.old tables.old ends.new tables.new }
     ensures uses { (t c : ℕ) → Uses t 0 c 0 tables.old tables.new }
 {
-    end_first_streams(tables, link);
+    end_first_streams(tables, ends, link);
     go_online(tables, link, head, identity);
 }
 
 /// On a link that had a CNXN, its streams end.
-fn end_first_streams(tables: &mut Tables, link: u32)
+fn end_first_streams(tables: &mut Tables, ends: &mut Endings, link: u32)
     requires { IsProvided tables.old }
     ensures state { let s = state_of tables.old in state_of tables.new
         ≡ (streams_end_first (is_connected link s.devices) link s).state }
+    ensures reports { let s = state_of tables.old in
+        Reports (streams_end_first (is_connected link s.devices) link s).told
+        ends.old tables.old ends.new tables.new }
     ensures uses { (t c : ℕ) → Uses t 0 c 0 tables.old tables.new }
 {
     if tables.is_connected(link) {
-        end_all(tables, link);
+        end_all(tables, ends, link, Ending::Lost);
     }
 }
 
@@ -170,14 +194,22 @@ pub(crate) fn refuse_open(tables: &mut Tables, link: u32, id: u32)
     }
 }
 
-pub(crate) fn take_close(tables: &mut Tables, id: u32, remote: u32, stream: &Stream)
+pub(crate) fn take_close(
+    tables: &mut Tables,
+    ends: &mut Endings,
+    id: u32,
+    remote: u32,
+    stream: &Stream,
+)
     requires here { at id tables.old.streams.streams ≡ Some stream.now }
     requires provided { IsProvided tables.old }
     ensures state { (state_of tables.new)
         ≡ (takes_close id remote stream.now (state_of tables.old)).state }
+    ensures reports { Reports (takes_close id remote stream.now (state_of tables.old)).told
+        ends.old tables.old ends.new tables.new }
     ensures uses { (t c : ℕ) → Uses t 0 c 0 tables.old tables.new }
 {
     if remote == 0 || remote == stream.part.remote {
-        end_row(tables, id, stream);
+        end_row(tables, ends, id, stream, Ending::PeerClosed);
     }
 }

@@ -8,6 +8,7 @@ ghost use Rattle.adb_client.specs.Client.{SeenClient};
 ghost use Rattle.adb_stream.specs.declared.row.Stream.{Stream};
 ghost use Rattle.adb_history.specs.Rows.{to_client, with_held};
 ghost use Rattle.adb_history.specs.Flow.{write_len, is_over, goes_up, flow_after, all_go_up, noted, closes_if, sends_up, up};
+ghost use Rattle.adb_hub_tables.specs.Endings.{Reports};
 ghost use Rattle.adb_hub_tables.specs.Tables.{client_row, state_of};
 ghost use Rattle.adb_hub_tables.specs.Places.{LinkRoom, IsCounted, IsProvided, Uses};
 ghost use Rattle.adb_hub_rules.specs.Handing.{UsesOf};
@@ -16,17 +17,20 @@ ghost use Rattle.adb_hub_rules.specs.Up.{IsReadyUp, IsSized, StaysReady, writes_
 use crate::ends::end_telling;
 use crate::handing::set_flow;
 use adb_client::Phase;
-use adb_hub_tables::Tables;
+use adb_history::Ending;
+use adb_hub_tables::{Endings, Tables};
 use adb_outside::SplitBytes;
 use adb_stream::{Flow, Part, Stream};
 
 /// The up rule, for the stream of an id: what its client holds goes up in writes, and then its
 /// end, where its input ended and all went up.
-pub fn up(tables: &mut Tables, id: u32)
+pub fn up(tables: &mut Tables, ends: &mut Endings, id: u32)
     requires ready { IsReadyUp id tables.old }
     requires sized { IsSized tables.old }
     requires counted { IsCounted tables.old }
     ensures state { state_of tables.new ≡ (up id (state_of tables.old)).state }
+    ensures reports { Reports (up id (state_of tables.old)).told
+        ends.old tables.old ends.new tables.new }
     ensures uses { (c : ℕ) → UsesOf (at id tables.old.streams.streams) (writes_up id tables.old)
         c 0 tables.old tables.new }
     ensures others { (l : ℕ) → l ≢ id → StaysReady l tables.old tables.new }
@@ -35,23 +39,25 @@ pub fn up(tables: &mut Tables, id: u32)
     if let Some(stream) = tables.streams.get(id).copied()
         && has_open(tables, stream.client, id)
     {
-        send_up(tables, id, &stream);
+        send_up(tables, ends, id, &stream);
     }
 }
 
 /// The up rule for a stream of which nothing can be sent: it takes no places but that of its
 /// end.
-pub fn close_idle(tables: &mut Tables, id: u32)
+pub fn close_idle(tables: &mut Tables, ends: &mut Endings, id: u32)
     requires provided { IsProvided tables.old }
     requires idle { (stream : Stream) → at id tables.old.streams.streams ≡ Some stream
         → all_unsent stream tables.old ≡ [] }
     ensures state { state_of tables.new ≡ (up id (state_of tables.old)).state }
+    ensures reports { Reports (up id (state_of tables.old)).told
+        ends.old tables.old ends.new tables.new }
     ensures uses { (t c : ℕ) → Uses t 0 c 0 tables.old tables.new }
 {
     if let Some(stream) = tables.streams.get(id).copied()
         && has_open(tables, stream.client, id)
     {
-        close_over(tables, id, &stream);
+        close_over(tables, ends, id, &stream);
     }
 }
 
@@ -69,7 +75,7 @@ fn has_open(tables: &Tables, client: u32, id: u32) -> bool
 }
 
 /// What a client holds goes up the stream that it has open.
-fn send_up(tables: &mut Tables, id: u32, stream: &Stream)
+fn send_up(tables: &mut Tables, ends: &mut Endings, id: u32, stream: &Stream)
     requires here { at id tables.old.streams.streams ≡ Some stream.now }
     requires open { has_open id (at stream.now.client tables.old.clients.entries) ≡ true }
     requires ready { IsReadyToSend stream.now tables.old }
@@ -79,6 +85,11 @@ fn send_up(tables: &mut Tables, id: u32, stream: &Stream)
         → at stream.now.client tables.old.clients.entries ≡ Some row
         → state_of tables.new ≡ (sends_up id stream.now (client_row row)
         (all_unsent stream.now tables.old) (state_of tables.old)).state }
+    ensures reports { (row : SeenClient)
+        → at stream.now.client tables.old.clients.entries ≡ Some row
+        → Reports (sends_up id stream.now (client_row row)
+        (all_unsent stream.now tables.old) (state_of tables.old)).told
+        ends.old tables.old ends.new tables.new }
     ensures uses { (c : ℕ) → Uses stream.now.link (length (all_unsent stream.now tables.old))
         c 0 tables.old tables.new }
     ensures others { (c : ℕ) → c ≢ stream.now.client
@@ -89,7 +100,7 @@ fn send_up(tables: &mut Tables, id: u32, stream: &Stream)
         flow,
         ..stream.part
     };
-    close_over(tables, id, &Stream { part, ..*stream });
+    close_over(tables, ends, id, &Stream { part, ..*stream });
 }
 
 /// What a client holds goes up, as much as the flow of its stream lets go; says what the flow
@@ -116,7 +127,7 @@ fn send_held(tables: &mut Tables, id: u32, stream: &Stream) -> Flow
 }
 
 /// A stream that is over for its client ends.
-fn close_over(tables: &mut Tables, id: u32, stream: &Stream)
+fn close_over(tables: &mut Tables, ends: &mut Endings, id: u32, stream: &Stream)
     requires here { at id tables.old.streams.streams ≡ Some stream.now }
     requires open { has_open id (at stream.now.client tables.old.clients.entries) ≡ true }
     requires room { LinkRoom 0 (at stream.now.link tables.old.links.entries) }
@@ -126,12 +137,17 @@ fn close_over(tables: &mut Tables, id: u32, stream: &Stream)
         → state_of tables.new
         ≡ (closes_if (is_over row.about.ended row.held stream.now.part.flow) id
         (Some stream.now) (state_of tables.old)).state }
+    ensures reports { (row : SeenClient)
+        → at stream.now.client tables.old.clients.entries ≡ Some row
+        → Reports (closes_if (is_over row.about.ended row.held stream.now.part.flow) id
+        (Some stream.now) (state_of tables.old)).told
+        ends.old tables.old ends.new tables.new }
     ensures uses { (c : ℕ) → Uses stream.now.link 0 c 0 tables.old tables.new }
     ensures others { (c : ℕ) → c ≢ stream.now.client
         → at c tables.new.clients.entries ≡ at c tables.old.clients.entries }
 {
     if is_over(tables, stream.client, &stream.part.flow) {
-        end_telling(tables, id, stream);
+        end_telling(tables, ends, id, stream, Ending::ClientClosed);
     }
 }
 

@@ -8,15 +8,24 @@ ghost use Rattle.adb_history.specs.Rows.{to_stream, with_stream_part};
 ghost use Rattle.adb_history.specs.Clients.{owe_client};
 ghost use Rattle.adb_history.specs.Flow.{with_flow};
 ghost use Rattle.adb_history.specs.Packets.{accepts_none, accepts, takes_write};
+ghost use Rattle.adb_hub_tables.specs.Endings.{Reports};
 ghost use Rattle.adb_hub_tables.specs.Tables.{state_of};
 ghost use Rattle.adb_hub_tables.specs.Places.{LinkRoom, ClientRoom, IsProvided, Uses};
 
 use crate::ends::end_telling;
-use adb_hub_tables::Tables;
+use adb_history::Ending;
+use adb_hub_tables::{Endings, Tables};
 use adb_stream::{Flow, Stream};
 use bytes::Bytes;
 
-pub(crate) fn take_write(tables: &mut Tables, id: u32, remote: u32, payload: Bytes, stream: &Stream)
+pub(crate) fn take_write(
+    tables: &mut Tables,
+    ends: &mut Endings,
+    id: u32,
+    remote: u32,
+    payload: Bytes,
+    stream: &Stream,
+)
     requires here { at id tables.old.streams.streams ≡ Some stream.now }
     requires provided { IsProvided tables.old }
     requires link { LinkRoom 1 (at stream.now.link tables.old.links.entries) }
@@ -24,6 +33,8 @@ pub(crate) fn take_write(tables: &mut Tables, id: u32, remote: u32, payload: Byt
     requires size { length payload ≤ MAX_SLICE }
     ensures state { state_of tables.new
         ≡ (takes_write id remote payload stream.now (state_of tables.old)).state }
+    ensures reports { Reports (takes_write id remote payload stream.now (state_of tables.old)).told
+        ends.old tables.old ends.new tables.new }
     ensures uses { Uses stream.now.link 1 stream.now.client 1 tables.old tables.new }
 {
     if remote == 0 || remote != stream.part.remote {
@@ -33,7 +44,7 @@ pub(crate) fn take_write(tables: &mut Tables, id: u32, remote: u32, payload: Byt
     if flow.accept(payload.len()) {
         accept_write(tables, id, payload, flow, stream);
     } else {
-        end_telling(tables, id, stream);
+        end_telling(tables, ends, id, stream, Ending::OutOfTurn);
     }
 }
 

@@ -13,3 +13,4 @@ mod Trackers
 pub mod Closings
 pub mod PutRows
 pub mod Widening
+pub mod Reporting

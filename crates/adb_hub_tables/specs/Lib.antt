@@ -8,3 +8,4 @@ pub mod Tracked
 pub mod Fit
 pub mod Widening
 pub mod Ready
+pub mod Endings

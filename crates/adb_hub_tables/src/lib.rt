@@ -5,6 +5,7 @@
 
 mod clients;
 mod devices;
+mod endings;
 mod limits;
 mod links;
 mod marks;
@@ -18,6 +19,7 @@ mod touched_map;
 mod tracking;
 mod words;
 
+pub use endings::{Ended, Endings};
 pub use limits::limits_follow_the_payload;
 pub use owes::Owes;
 pub use places::{reserve_packets, reserve_slices};

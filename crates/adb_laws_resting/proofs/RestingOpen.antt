@@ -12,12 +12,13 @@ use Rattle.adb_history.specs.Links.{maxdata_of}
 use Rattle.adb_history.specs.Losing.{input_ended, input_ends, client_ends}
 use Rattle.adb_history.specs.Reading.{reads_in, reads_from}
 use Rattle.adb_history.specs.Flow.{payloads, is_streaming, up, up_all}
-use Rattle.adb_history.specs.Machine.{History, state, rule, IsLegal}
+use Rattle.adb_history.specs.Events.{Made}
+use Rattle.adb_history.specs.Machine.{History, state, rule, ups, IsLegal}
 use Rattle.adb_history.specs.Moves.{IsClientIn}
 use Rattle.adb_history.specs.Orderly.{IsResting, IsDrawnOnly, IsOrderly}
 use Rattle.adb_history.proofs.OrderlyStates.{orderly}
 use Rattle.adb_history.proofs.Quiet.{IsCalmAt}
-use Rattle.adb_laws_resting.specs.Resting.{StepGoesUp, GoesUpAlone}
+use Rattle.adb_laws_resting.specs.Resting.{GoesUpBy, GoesUpAlone}
 use Rattle.adb_laws_resting.proofs.RestingUp.{one_up}
 use Rattle.adb_laws_resting.proofs.RestingRows.{AllCalm, calm_is, client_calm, all_calm}
 
@@ -53,7 +54,7 @@ module _ (s : State) (calm : AllCalm s) (h : IsOrderly s) where
             apart (sym (eqb-true l m (ap (is_streaming m) (sym phase) ∙ streaming)))
 
     goes_up : (f : Client → Client) → ((y : Client) → (f y).about.phase ≡ y.about.phase)
-        → (up_all s.drawn (to_client c (λ y. Some (f y)) s)).state ≡ (up l (to_client c (λ y. Some (f y)) s)).state
+        → up_all s.drawn (to_client c (λ y. Some (f y)) s) ≡ up l (to_client c (λ y. Some (f y)) s)
     goes_up f same =
         let own = rests.0 in
         let drawn = kept_drawn s.drawn l s.streams own.stream h.streams own.is in
@@ -66,17 +67,14 @@ module _ (s : State) (calm : AllCalm s) (h : IsOrderly s) where
     ends_state : (rule (End c Eof) s).state ≡ to_client c input_ended s
     ends_state = ap (λ (o : Option Client). (client_ends c Eof o s).state) x.here ∙ ap (λ (p : Phase). input_ends p c s) x.in_phase
 
-    read_goes_up : (bytes : List ℕ) → StepGoesUp l (Read c bytes) s
+    read_goes_up : (bytes : List ℕ) → GoesUpBy l (Read c bytes) s
     read_goes_up bytes =
-        ap (λ (t : State). (up_all t.drawn t).state) (read_state bytes)
-        ∙ (goes_up (λ y. record y { held = x.client.held ++ bytes }) (λ y. refl)
-        ∙ sym (ap (λ (t : State). (up l t).state) (read_state bytes)))
+        ap ups (read_state bytes) ∙ (goes_up (λ y. record y { held = x.client.held ++ bytes }) (λ y. refl) ∙ sym (ap (up l) (read_state bytes)))
 
-    end_goes_up : StepGoesUp l (End c Eof) s
+    end_goes_up : GoesUpBy l (End c Eof) s
     end_goes_up =
-        ap (λ (t : State). (up_all t.drawn t).state) ends_state
-        ∙ (goes_up (λ y. record y { about = record y.about { ended = true } }) (λ y. refl)
-        ∙ sym (ap (λ (t : State). (up l t).state) ends_state))
+        ap ups ends_state
+        ∙ (goes_up (λ y. record y { about = record y.about { ended = true } }) (λ y. refl) ∙ sym (ap (up l) ends_state))
 
     end_is_quiet : (stream : Stream) → (rule (End c Eof) s).state.streams l ≡ Some stream
         → payloads stream.part.flow (maxdata_of stream.link s.devices) x.client.held ≡ []
@@ -84,8 +82,10 @@ module _ (s : State) (calm : AllCalm s) (h : IsOrderly s) where
 
   alone : GoesUpAlone s
   alone = record {
-    read = λ c l bytes x. read_goes_up c l x bytes;
-    ended = λ c l x. end_goes_up c l x;
+    read = λ c l bytes x. ap (λ (m : Made). m.state) (read_goes_up c l x bytes);
+    read_by = λ c l bytes x. read_goes_up c l x bytes;
+    ended = λ c l x. ap (λ (m : Made). m.state) (end_goes_up c l x);
+    ended_by = λ c l x. end_goes_up c l x;
     quiet = λ c l x stream is. end_is_quiet c l x stream is;
   }
 

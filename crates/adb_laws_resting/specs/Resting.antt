@@ -13,7 +13,7 @@ use Rattle.adb_capture.specs.declared.entry.Entry.TheVariants.{Join, Enter, Read
 use Rattle.adb_history.specs.Rows.{Client, Link, State}
 use Rattle.adb_history.specs.Links.{maxdata_of}
 use Rattle.adb_history.specs.Flow.{payloads, up}
-use Rattle.adb_history.specs.Machine.{rule, step}
+use Rattle.adb_history.specs.Machine.{rule, step, ups}
 use Rattle.adb_history.specs.Moves.{IsClientIn}
 
 -- The step of an entry is its rule: nothing goes up.
@@ -23,6 +23,10 @@ StepIsRule e s = (step s e).state ≡ (rule e s).state
 -- The step of an entry is its rule, and then the up rule for one stream.
 abbrev pub StepGoesUp : ℕ → Entry → State → Type 0
 StepGoesUp l e s = (step s e).state ≡ (up l (rule e s).state).state
+
+-- What goes up behind the rule of an entry is what the up rule for one stream makes and tells.
+abbrev pub GoesUpBy : ℕ → Entry → State → Type 0
+GoesUpBy l e s = ups (rule e s).state ≡ up l (rule e s).state
 
 -- whether a client has its stream open
 abbrev pub is_open_phase : Phase → Bool
@@ -56,7 +60,9 @@ pub record SendsNothingBy (s : State) : Type 0 where
 -- What comes from a client that has its stream open goes up that stream alone. Its end in order sends nothing more: what it holds can't go up now.
 pub record GoesUpAlone (s : State) : Type 0 where
   pub read : (c l : ℕ) (bytes : List ℕ) → IsClientIn s c (Streaming l) → StepGoesUp l (Read c bytes) s
+  pub read_by : (c l : ℕ) (bytes : List ℕ) → IsClientIn s c (Streaming l) → GoesUpBy l (Read c bytes) s
   pub ended : (c l : ℕ) → IsClientIn s c (Streaming l) → StepGoesUp l (End c Eof) s
+  pub ended_by : (c l : ℕ) → IsClientIn s c (Streaming l) → GoesUpBy l (End c Eof) s
   pub quiet : (c l : ℕ) (x : IsClientIn s c (Streaming l)) (stream : Stream) → (rule (End c Eof) s).state.streams l ≡ Some stream
       → payloads stream.part.flow (maxdata_of stream.link s.devices) x.client.held ≡ []
 

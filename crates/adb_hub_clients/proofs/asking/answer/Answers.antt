@@ -3,9 +3,10 @@ use Rattle.std.proofs.lemmas.Result.{on_ok_weaker}
 use Rattle.adb_outside.specs.Tables.{at}
 use Rattle.adb_client.specs.Client.{SeenClient}
 use Rattle.adb_hub_tables.specs.declared.tables.Tables.{Tables}
+use Rattle.adb_hub_tables.proofs.Reporting.{records_as}
 use Rattle.adb_hub_clients.specs.Planning.{PlansAt}
 use Rattle.adb_hub_clients.specs.declared.plan.Plan.{Plan}
-use Rattle.adb_hub_clients.proofs.Planned.{planned, plan_fits, plan_follows, plan_within}
+use Rattle.adb_hub_clients.proofs.Planned.{planned, planned_tells, plan_fits, plan_follows, plan_within}
 use Rattle.adb_hub_clients.proofs.asking.answer.Goals as goal
 
 plans : (t : Tables) (found : Option SeenClient) (o : Option Plan) (plan : Plan) → o ≡ Some plan → PlansAt t found o → PlansAt t found (Some plan)
@@ -37,3 +38,10 @@ returns-in-Some-clause-made c =
       state = leaves.state ∙ planned plan c.args.client row t planned_here here;
       fit = leaves.fit;
     }) c.make.ensures.made
+
+pub returns-in-Some-clause-told : goal.returns-in-Some-clause-told
+returns-in-Some-clause-told c =
+    let t = c.args.tables.now in
+    let plan = c.in-Some.plan in
+    let planned_here = plans t (at c.args.client t.clients.entries) _ plan c.in-Some.is c.in_ok-plan.ensures in
+    on_ok_weaker c.make.result (λ told row here. records_as (planned_tells plan c.args.client row t planned_here here) told) c.make.ensures.told

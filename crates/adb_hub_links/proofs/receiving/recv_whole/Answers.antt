@@ -4,7 +4,7 @@ use Rattle.adb_hub_tables.specs.Fit.{Keeps}
 use Rattle.adb_hub_links.specs.Whole.{alone}
 use Rattle.adb_hub_links.proofs.Keeping.{on_err}
 use Rattle.adb_hub_links.proofs.Waited.{same_kept}
-use Rattle.adb_hub_links.proofs.Alone.{ComesAlone, whole_in_range, comes_alone, alone_leaves, alone_made}
+use Rattle.adb_hub_links.proofs.Alone.{ComesAlone, whole_in_range, comes_alone, alone_leaves, alone_made, alone_told}
 use Rattle.adb_hub_links.proofs.receiving.recv_whole.Goals as goal
 
 pub returns-in_err-packet-clause-kept : goal.returns-in_err-packet-clause-kept
@@ -26,3 +26,11 @@ returns-then-stands_alone-clause-made c =
     comes_alone _ _ _ c.requires.fit c.requires.reached c.requires.may range (c.is_fresh.ensures c.if-is_fresh.true) in
     let stands = c.stands_alone.ensures.alone c.if-stands_alone.true ∙ ap alone (sym c.in_ok-packet.ensures.packet) in
     on_ok_weaker c.take_alone.result (alone_made comes stands c.take_alone.new.tables) c.take_alone.ensures.settled
+
+pub returns-then-stands_alone-clause-told : goal.returns-then-stands_alone-clause-told
+returns-then-stands_alone-clause-told c =
+    let range = whole_in_range c.args.link c.args.packet.now c.ranges.link.fits c.stands_alone.ensures.bytes in
+    let comes : ComesAlone c.args.link c.args.packet.now c.args.tables.now =
+    comes_alone _ _ _ c.requires.fit c.requires.reached c.requires.may range (c.is_fresh.ensures c.if-is_fresh.true) in
+    let stands = c.stands_alone.ensures.alone c.if-stands_alone.true ∙ ap alone (sym c.in_ok-packet.ensures.packet) in
+    on_ok_weaker c.take_alone.result (alone_told comes stands) c.take_alone.ensures.told

@@ -3,7 +3,7 @@ use Rattle.adb_hub_tables.specs.Fit.{Keeps}
 use Rattle.adb_hub_tables.proofs.Widening.{widened, widened_state, widened_provided}
 use Rattle.adb_hub_links.specs.Cutting.{cut_in}
 use Rattle.adb_hub_links.specs.Settling.{LeavesNamed}
-use Rattle.adb_hub_links.proofs.Keeping.{settled_reserved, on_err}
+use Rattle.adb_hub_links.proofs.Keeping.{settled_reserved, settled_told, on_err}
 use Rattle.adb_hub_links.proofs.receiving.take.Goals as goal
 
 pub returns-in_err-ids-clause-kept : goal.returns-in_err-ids-clause-kept
@@ -23,4 +23,7 @@ settle-requires-clause-can c =
     }
 
 pub returns-clause-settled : goal.returns-clause-settled
-returns-clause-settled c = settled_reserved c.args.tables.now c.reserve.new.tables c.settle.new.tables c.reserve.ensures.widens c.settle.ensures
+returns-clause-settled c = settled_reserved c.args.tables.now c.reserve.new.tables c.settle.new.tables c.reserve.ensures.widens c.settle.ensures.settled
+
+pub returns-clause-told : goal.returns-clause-told
+returns-clause-told c = settled_told c.args.link (cut_in c.args.cutting) c.args.tables.now c.reserve.new.tables c.reserve.ensures.widens c.settle.ensures.told

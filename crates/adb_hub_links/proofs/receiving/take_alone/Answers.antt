@@ -3,11 +3,12 @@ use Rattle.adb_wire.specs.declared.packets.Packet.{Packet}
 use Rattle.adb_wire.specs.Deframing.{no_bytes}
 use Rattle.adb_outside.specs.Tables.{at}
 use Rattle.adb_hub_tables.specs.Fit.{Keeps}
+use Rattle.adb_hub_tables.specs.Endings.{Records}
 use Rattle.adb_hub_tables.specs.Tables.{state_of}
 use Rattle.adb_hub_tables.proofs.Widening.{widened, widened_state, widened_provided}
-use Rattle.adb_hub_links.specs.Settling.{LeavesNamed, HasSettled}
+use Rattle.adb_hub_links.specs.Settling.{LeavesNamed, HasSettled, settles}
 use Rattle.adb_hub_links.specs.Whole.{alone}
-use Rattle.adb_hub_links.proofs.Keeping.{settled_reserved, on_err}
+use Rattle.adb_hub_links.proofs.Keeping.{settled_reserved, settled_told, on_err}
 use Rattle.adb_hub_links.proofs.OnePacket.{fresh_widened}
 use Rattle.adb_hub_links.proofs.Waited.{same_kept}
 use Rattle.adb_hub_links.proofs.receiving.take_alone.Goals as goal
@@ -43,5 +44,13 @@ settle_one-requires-clause-can c =
 pub returns-clause-settled : goal.returns-clause-settled
 returns-clause-settled c =
     let old = c.args.tables.now in
-    let settled = settled_reserved old c.reserve_one.new.tables c.settle_one.new.tables c.reserve_one.ensures.widens c.settle_one.ensures in
+    let settled = settled_reserved old c.reserve_one.new.tables c.settle_one.new.tables c.reserve_one.ensures.widens c.settle_one.ensures.settled in
     subst (λ (p : Packet). HasSettled c.args.link (alone p) no_bytes old c.settle_one.new.tables) c.in_ok-came.ensures.packet settled
+
+pub returns-clause-told : goal.returns-clause-told
+returns-clause-told c =
+    let old = c.args.tables.now in
+    let middle = c.reserve_one.new.tables in
+    let told = subst (λ (p : Packet). Records (settles c.args.link (alone p) (state_of middle)).told c.args.ends.now middle c.settle_one.new.ends)
+    c.in_ok-came.ensures.packet c.settle_one.ensures.told in
+    settled_told c.args.link (alone c.args.packet) old middle c.reserve_one.ensures.widens told

@@ -3,7 +3,7 @@ use Rattle.adb_hub_tables.specs.declared.tables.Tables.{Tables}
 use Rattle.adb_hub_links.specs.Cutting.{cut_in}
 use Rattle.adb_hub_links.specs.Settling.{PutsIncoming}
 use Rattle.adb_hub_links.proofs.Putting.{put_provided}
-use Rattle.adb_hub_links.proofs.Settled.{Settling, room_put, places_put, provided_behind, ready_each, sized_behind, settled}
+use Rattle.adb_hub_links.proofs.Settled.{Settling, room_put, places_put, provided_behind, ready_each, sized_behind, settled, settled_told}
 use Rattle.adb_hub_links.proofs.settling.settle.Goals as goal
 
 pub treat-requires-clause-provided : goal.treat-requires-clause-provided
@@ -72,8 +72,8 @@ up_each-requires-clause-counted c =
     } in
     (provided_behind settling).counted
 
-pub returns : goal.returns
-returns c =
+pub returns-clause-settled : goal.returns-clause-settled
+returns-clause-settled c =
     let old = c.args.tables.now in
     let middle : Tables = record old { links = c.put_incoming.new.links } in
     let puts : PutsIncoming c.args.link c.args.cutting.incoming old middle =
@@ -85,3 +85,18 @@ returns c =
       state = c.treat.ensures.state (cut_in c.args.cutting) refl c.requires.cut.broken;
     } in
     settled settling c.up_each.new.tables c.up_each.ensures.uses c.up_each.ensures.all
+
+pub returns-clause-told : goal.returns-clause-told
+returns-clause-told c =
+    let old = c.args.tables.now in
+    let middle : Tables = record old { links = c.put_incoming.new.links } in
+    let puts : PutsIncoming c.args.link c.args.cutting.incoming old middle =
+    record { others = refl; here = c.put_incoming.ensures.here; apart = c.put_incoming.ensures.apart } in
+    let settling : Settling c.args.link c.args.cutting.packets.items c.args.cutting.incoming c.args.ids.now.keys old middle c.treat.new.tables = record {
+      can = c.requires.can;
+      puts = puts;
+      takes = c.treat.ensures.takes;
+      state = c.treat.ensures.state (cut_in c.args.cutting) refl c.requires.cut.broken;
+    } in
+    settled_told settling c.up_each.new.tables c.up_each.ensures.uses (c.treat.ensures.reports (cut_in c.args.cutting) refl c.requires.cut.broken)
+    c.up_each.ensures.reports

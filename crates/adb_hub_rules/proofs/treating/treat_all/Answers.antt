@@ -5,7 +5,11 @@ use Rattle.adb_history.specs.Packets.{treat_all}
 use Rattle.adb_hub_rules.specs.declared.came.Came.{Came}
 use Rattle.adb_hub_tables.specs.Tables.{state_of}
 use Rattle.adb_hub_rules.specs.Came.{IsCame, packet_of, packets_of, slices_in, slices_for}
+use Rattle.adb_outside.specs.Tables.{at}
 use Rattle.adb_hub_tables.specs.Places.{TakesAll}
+use Rattle.adb_hub_tables.specs.Endings.{Reports}
+use Rattle.adb_hub_tables.proofs.Reporting.{reports_none, reports_then}
+use Rattle.adb_hub_tables.proofs.Staying.{stays}
 use Rattle.adb_hub_rules.proofs.Taking.{Left, next_room, next_places, takes_more, takes_over, provided_after}
 use Rattle.adb_hub_rules.proofs.treating.treat_all.Goals as goal
 
@@ -45,7 +49,20 @@ loop-came-preserved c =
       All-tail IsCame c.in-Some.came rest (subst (All IsCame) h.is inv.1),
       provided_after link 1 slices now c.treat.new.tables c.treat.ensures.takes inv.2 (next_room h c.requires.link, next_places h c.requires.clients),
       takes_more h c.treat.new.tables c.treat.ensures.takes,
+      λ log t then.
+          let after = subst (λ (s : State). Reports (treat_all link (packets_of rest) s).told c.treat.new.ends c.treat.new.tables log t)
+          c.treat.ensures.state then in
+          inv.4 log t
+          (subst (λ (all : List Came). Reports (treat_all link (packets_of all) (state_of now)).told c.loop-came.ends now log t) (sym h.is)
+          (reports_then c.treat.ensures.reports after)),
     )
+
+pub returns-clause-reports : goal.returns-clause-reports
+returns-clause-reports c =
+    let now = c.loop-came.tables in
+    c.loop-came.invariant.4 c.loop-came.ends now
+    (subst (λ (all : List Came). Reports (treat_all c.args.link (packets_of all) (state_of now)).told c.loop-came.ends now c.loop-came.ends now) (sym c.in_default.ensures)
+    (reports_none c.loop-came.ends now now (λ l. stays (at l now.streams.streams))))
 
 pub returns-clause-takes : goal.returns-clause-takes
 returns-clause-takes c =

@@ -1,6 +1,8 @@
-use Rattle.std.proofs.Common.{rules, ◌≡◌, ◌∙◌, sym, subst, Option, Some, length}
+use Rattle.std.proofs.Common.{rules, ◌≡◌, ◌∙◌, ap, sym, subst, Option, Some, length}
 use Rattle.adb_outside.specs.Tables.{at}
 use Rattle.adb_stream.specs.declared.row.Stream.{Stream}
+use Rattle.adb_history.specs.Events.{Made}
+use Rattle.adb_hub_tables.specs.Endings.{Reports}
 use Rattle.adb_hub_rules.specs.Handing.{UsesOf}
 use Rattle.adb_hub_rules.specs.Up.{all_unsent, writes_of}
 use Rattle.adb_hub_rules.proofs.UsingOf.{uses_more}
@@ -20,7 +22,16 @@ returns-then-has_open-clause-state c =
     let stream = c.in-Some.stream in
     let here : at c.args.id old.streams.streams ≡ Some stream = search rules in
     let row = opens c.args.id (at stream.client old.clients.entries) (sym c.has_open.ensures ∙ c.if-has_open.true) in
-    c.send_up.ensures.state row.seen row.is ∙ up_is c.args.id stream old here row
+    c.send_up.ensures.state row.seen row.is ∙ ap (λ (m : Made). m.state) (up_is c.args.id stream old here row)
+
+pub returns-then-has_open-clause-reports : goal.returns-then-has_open-clause-reports
+returns-then-has_open-clause-reports c =
+    let old = c.args.tables.now in
+    let stream = c.in-Some.stream in
+    let here : at c.args.id old.streams.streams ≡ Some stream = search rules in
+    let row = opens c.args.id (at stream.client old.clients.entries) (sym c.has_open.ensures ∙ c.if-has_open.true) in
+    subst (λ (m : Made). Reports m.told c.args.ends.now old c.send_up.new.ends c.send_up.new.tables) (up_is c.args.id stream old here row)
+    (c.send_up.ensures.reports row.seen row.is)
 
 pub returns-then-has_open-clause-uses : goal.returns-then-has_open-clause-uses
 returns-then-has_open-clause-uses c = λ k.
