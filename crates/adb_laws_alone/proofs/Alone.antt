@@ -20,7 +20,7 @@ use Rattle.adb_laws_alone.proofs.Watching.{Watch, KeptIn, HasNone, Allows, AllAl
 
 -- ---- ids that were not asked for
 -- their rows: there is none
-abbrev unasked : (ℕ → Type 0) → Watch
+abbrev pub unasked : (ℕ → Type 0) → Watch
 unasked Such = record {
   Such = Such;
   Place = λ own. Unit {0};
@@ -61,7 +61,7 @@ module _ (setting : Setting) where
       one commands.Auth none s = tt
       one commands.Stls none s = tt
 
-  none_unasked : (Such : ℕ → Type 0) (ps : List Packet) → Every (AsksNone Such) ps → KeptIn (unasked Such) (device_behind setting ps).serving
+  pub none_unasked : (Such : ℕ → Type 0) (ps : List Packet) → Every (AsksNone Such) ps → KeptIn (unasked Such) (device_behind setting ps).serving
   none_unasked Such ps every =
       all_kept (unasked Such) setting ps (first_device setting) (allow_unasked Such ps every) (first_kept (unasked Such) tt)
 

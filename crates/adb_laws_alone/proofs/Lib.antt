@@ -1,3 +1,6 @@
 pub mod Quiet
 mod Watching
 mod Alone
+pub mod Through
+mod Together
+mod Rows

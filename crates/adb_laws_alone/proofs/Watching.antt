@@ -38,14 +38,14 @@ past_all_same (payload ∷ more) row =
     let later = past_all_same more (row_past payload row) in
     record { host = later.host; kind = later.kind; first = later.first; past = later.past }
 
-written_same : (most : ℕ) (row : Row) → IsSameRow row (row_written most row)
+pub written_same : (most : ℕ) (row : Row) → IsSameRow row (row_written most row)
 written_same most row = past_all_same (writes most row) row
 
-acked_same : (word : Option ℕ) (row : Row) → IsSameRow row (row_acked word row)
+pub acked_same : (word : Option ℕ) (row : Row) → IsSameRow row (row_acked word row)
 acked_same word row = record { host = refl; kind = refl; first = refl; past = refl }
 
 -- the row of both ids is its host's
-host_of : (host : ℕ) (row : Row) (found : Option Row) → named host found ≡ Some row → row.host ≡ host
+pub host_of : (host : ℕ) (row : Row) (found : Option Row) → named host found ≡ Some row → row.host ≡ host
 host_of host row None e = absurd (let clash : None ≡ Some row = e in cc)
 host_of host row (Some other) e = by (other.host == host) refl e
   where

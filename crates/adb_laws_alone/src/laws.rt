@@ -2,6 +2,7 @@
 
 ghost use Rattle.adb_daemon.specs.Device.{Setting};
 ghost use Rattle.adb_laws_alone.specs.Alone.{EchoesLeaveFiles, OneRunsAlone};
+ghost use Rattle.adb_laws_alone.specs.Together.{RunTogether};
 
 /// Where all packets of the host are of one id, behind others that did not ask for it, its stream
 /// was opened over the files that stood, each payload came over the files that those before it
@@ -13,4 +14,12 @@ pub fn a_stream_alone_runs_over_its_files()
 /// Where the host asks for echoes alone, and writes for them alone, the files stay.
 pub fn echoes_leave_files()
     ensures { (setting : Setting) → EchoesLeaveFiles setting }
+{}
+
+/// Where all packets of the host are of ids that were not asked for before, each of which is asked
+/// for once at most, their streams run over one set of files: all commands and whole sync requests
+/// in one order lead from the files that stood to those that stand, and each stream asked for what
+/// came to it and was answered through them.
+pub fn streams_run_together()
+    ensures { (setting : Setting) → RunTogether setting }
 {}

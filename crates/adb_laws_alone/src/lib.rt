@@ -4,4 +4,4 @@
 
 mod laws;
 
-pub use laws::{a_stream_alone_runs_over_its_files, echoes_leave_files};
+pub use laws::{a_stream_alone_runs_over_its_files, echoes_leave_files, streams_run_together};

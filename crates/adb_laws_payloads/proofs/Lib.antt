@@ -1,1 +1,1 @@
-mod Payloads
+pub mod Payloads

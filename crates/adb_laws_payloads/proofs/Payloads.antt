@@ -21,11 +21,11 @@ use Rattle.adb_laws_payloads.specs.Payloads.{files_behind, ComeInTurn, AreOne, A
 
 -- ---- the requests of more bytes
 -- what follows the requests of some bytes in those of more
-record Further (x y : List ℕ) : Type 0 where
-  requests : List Request
-  is : requests_in (x ++ y) ≡ requests_in x ++ requests
+pub record Further (x y : List ℕ) : Type 0 where
+  pub requests : List Request
+  pub is : requests_in (x ++ y) ≡ requests_in x ++ requests
 
-further : (x y : List ℕ) → Further x y
+pub further : (x y : List ℕ) → Further x y
 further x y = go (ask_fault_in x) refl
   where
     go : (fault : Option SyncFault) → ask_fault_in x ≡ fault → Further x y
@@ -52,7 +52,7 @@ further x y = go (ask_fault_in x) refl
         }
 
 -- what a payload completes behind others
-completes : (x y : List ℕ) (f : Further x y) → completed_by x y ≡ f.requests
+pub completes : (x y : List ℕ) (f : Further x y) → completed_by x y ≡ f.requests
 completes x y f = ap (drop (length (requests_in x))) f.is ∙ drop-append_seam (requests_in x) f.requests
 
 -- ---- the sync service

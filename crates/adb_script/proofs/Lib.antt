@@ -1,9 +1,13 @@
 mod Chunks
-pub mod Cutting
 mod FirstBad
-pub mod Patterns
 mod Pieces
 mod Printed
-pub mod Requests
+mod Printing
+mod Ran
+mod Shown
 mod Stored
 mod Worked
+pub mod Cutting
+pub mod Listed
+pub mod Patterns
+pub mod Requests

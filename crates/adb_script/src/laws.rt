@@ -2,10 +2,11 @@
 
 ghost use Rattle.std.specs.Prelude.{◌≡◌, ◌≤◌, ◌<◌, ◌^◌, List, ℕ, length};
 ghost use Rattle.adb_files.specs.Entries.{Entry};
-ghost use Rattle.adb_files.specs.Files.{file_at, put_refusal, read_refusal};
+ghost use Rattle.adb_files.specs.Files.{IsFileMap, file_at, put_refusal, read_refusal};
 ghost use Rattle.adb_script.specs.Answers.{line_answer, pushed_line};
-ghost use Rattle.adb_script.specs.Lines.{Asks, Pulls, Pushes};
-ghost use Rattle.adb_script.specs.Meanings.{IsPulled, pulled_by, pushed_by};
+ghost use Rattle.adb_script.specs.Lines.{Asks, Lists, Pulls, Pushes, Runs, Stats};
+ghost use Rattle.adb_script.specs.Meanings.{IsPulled, listed_over, pulled_by, pushed_by, ran_over, stat_over};
+ghost use Rattle.adb_shell_service.specs.Commands.{words_of};
 ghost use Rattle.adb_script.specs.Pattern.{pattern};
 ghost use Rattle.adb_sync_client.specs.declared.step.Step.{Step};
 ghost use Rattle.adb_script.specs.declared.asking.TheConstants.{FILE_MODE};
@@ -54,6 +55,29 @@ pub fn pulls_are_read()
 {
     written_files_are_pulled();
 }
+
+/// A stat changes nothing, and prints the mode, the size and the time of what its path names: of a
+/// file, of a directory, or three zeros where nothing is there.
+pub fn stats_are_told()
+    ensures { (files : List Entry) (number : ℕ) (path : List ℕ)
+        → IsFileMap files → length path ≤ MAX_WORD
+        → line_answer files number (Asks (Stats path)) ≡ stat_over files path }
+{}
+
+/// A list changes nothing, and prints how many direct entries its path has, and for each its name,
+/// mode, size and time, in the order of the bytes of the names.
+pub fn lists_are_told()
+    ensures { (files : List Entry) (number : ℕ) (path : List ℕ)
+        → IsFileMap files → length path ≤ MAX_WORD
+        → line_answer files number (Asks (Lists path)) ≡ listed_over files path }
+{}
+
+/// A command leaves the files that its words leave, and prints its status and all that it wrote to
+/// its output and to its error output.
+pub fn commands_are_run()
+    ensures { (files : List Entry) (number : ℕ) (command : List ℕ)
+        → line_answer files number (Asks (Runs command)) ≡ ran_over files (words_of command) }
+{}
 
 /// Behind a push that printed `ok` a pull of its path is handed the pushed bytes, and prints how many
 /// they are and their sum.

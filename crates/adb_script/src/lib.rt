@@ -19,7 +19,10 @@ mod whole;
 mod word;
 
 pub use counting::{byte_sum, push_number};
-pub use laws::{limits_are, pulls_are_read, pushed_files_are_pulled, pushes_are_stored};
+pub use laws::{
+    commands_are_run, limits_are, lists_are_told, pulls_are_read, pushed_files_are_pulled,
+    pushes_are_stored, stats_are_told,
+};
 pub use line::{EchoLine, ScriptLine, SessionLine};
 pub use output::push_escaped;
 pub use pushing::{MAX_MODE, MIN_MODE, pattern_text, push_text};

@@ -98,34 +98,34 @@ echoes_begun parts echoes c session is = go (echoes c session is)
     go (inr echo) = inr echo.0
 
 module _ (laws : AloneLaws) (old new : Parts) (ease : IsAtEase old) (goes : GoesOn old new) (rests : Rests new) (begun : AreUnbegun old) where
-  abbrev h : History
+  abbrev pub h : History
   h = ease.runs.history
 
-  abbrev more : History
+  abbrev pub more : History
   more = (goes.grows ease.runs.history ease.runs.holds).more
 
-  abbrev now : History
+  abbrev pub now : History
   now = (goes.grows ease.runs.history ease.runs.holds).more ++ ease.runs.history
 
-  holds : Holds h old
+  pub holds : Holds h old
   holds = ease.runs.holds
 
-  holds_now : Holds now new
+  pub holds_now : Holds now new
   holds_now = (goes.grows ease.runs.history ease.runs.holds).holds
 
-  legal : IsLegal h
+  pub legal : IsLegal h
   legal = holds.lawful.legal
 
-  legal_now : IsLegal now
+  pub legal_now : IsLegal now
   legal_now = holds_now.lawful.legal
 
-  asks : AsksForServices h
+  pub asks : AsksForServices h
   asks = laws.asks h legal holds.asks
 
-  asks_now : AsksForServices now
+  pub asks_now : AsksForServices now
   asks_now = laws.asks now legal_now holds_now.asks
 
-  greeted_now : IsGreeted now
+  pub greeted_now : IsGreeted now
   greeted_now = go more
     where
       go : (es : History) → IsGreeted (es ++ h)
@@ -133,17 +133,17 @@ module _ (laws : AloneLaws) (old new : Parts) (ease : IsAtEase old) (goes : Goes
       go (e ∷ es) = stays_greeted e (es ++ h) ((laws.stays e (es ++ h)).brings 1) (go es)
 
   -- ---- sessions
-  kept_now : (c : ℕ) (session : Session) → at c new.sessions.entries ≡ Some session → IsKeptAt new.given now c (Some session)
+  pub kept_now : (c : ℕ) (session : Session) → at c new.sessions.entries ≡ Some session → IsKeptAt new.given now c (Some session)
   kept_now c session is = subst (IsKeptAt new.given now c) is (holds_now.sessions c)
 
-  words_now : (c : ℕ) (session : Session) → at c new.sessions.entries ≡ Some session → left_of session ≡ []
+  pub words_now : (c : ℕ) (session : Session) → at c new.sessions.entries ≡ Some session → left_of session ≡ []
   words_now c session is = rests.written c session (kept_now c session is).0.0 is
 
   told_of : (c : ℕ) (session : Session) → at c old.sessions.entries ≡ Some session → IsTold h c session
   told_of c session is = (subst (IsKeptAt old.given h c) is (holds.sessions c)).1
 
   -- a session that has written nothing asked for nothing, and one that has written all asked for its service
-  unasked : (c : ℕ) (session : Session) → at c old.sessions.entries ≡ Some session → session.written ≡ 0 → is_some (asked c h).next ≡ false
+  pub unasked : (c : ℕ) (session : Session) → at c old.sessions.entries ≡ Some session → session.written ≡ 0 → is_some (asked c h).next ≡ false
   unasked c session is zeroth =
       ap is_some (ap (λ (q : Asked). q.next) (asks.clients c).asked ∙ opens.asks (omega (arith, none, long)))
     where
@@ -171,7 +171,7 @@ module _ (laws : AloneLaws) (old new : Parts) (ease : IsAtEase old) (goes : Goes
   has_asked : (c : ℕ) (session : Session) → at c old.sessions.entries ≡ Some session → left_of session ≡ [] → is_some (asked c h).next ≡ true
   has_asked c session is none = asks_as_written laws.requests h legal c session (asks.clients c) (told_of c session is) none
 
-  not_both : (c : ℕ) → is_some (asked c h).next ≡ false → is_some (asked c h).next ≡ true → ⊥
+  pub not_both : (c : ℕ) → is_some (asked c h).next ≡ false → is_some (asked c h).next ≡ true → ⊥
   not_both c off on = let clash : false ≡ true = sym off ∙ on in cc
 
   -- the same session now
@@ -198,12 +198,12 @@ module _ (laws : AloneLaws) (old new : Parts) (ease : IsAtEase old) (goes : Goes
       omega (arith, same, within, drawn)
 
   -- a stream that was born since is that of a session that had written nothing
-  record IsFresh (b : Birth) : Type 0 where
-    session : Session
-    is : at b.client old.sessions.entries ≡ Some session
-    unwritten : session.written ≡ 0
+  pub record IsFresh (b : Birth) : Type 0 where
+    pub session : Session
+    pub is : at b.client old.sessions.entries ≡ Some session
+    pub unwritten : session.written ≡ 0
 
-  fresh : (l : ℕ) (b : Birth) → born l now ≡ Some b → (state h).drawn < l → IsFresh b
+  pub fresh : (l : ℕ) (b : Birth) → born l now ≡ Some b → (state h).drawn < l → IsFresh b
   fresh l b is past = go (there h old holds b.client by.some (omega (arith, came, count, given)))
     where
       by : HasAskedForIt now b
@@ -230,16 +230,16 @@ module _ (laws : AloneLaws) (old new : Parts) (ease : IsAtEase old) (goes : Goes
           by_words (inr zeroth) = record { session = t.session; is = t.is; unwritten = zeroth }
 
   -- no more is read for streams that live
-  idle : IsIdleState (state h)
+  pub idle : IsIdleState (state h)
   idle = idle_state h old.hub _ _ ease.runs.holds.lawful ease.calm
 
-  same_read : (c : ℕ) (session : Session) → at c old.sessions.entries ≡ Some session → left_of session ≡ [] → bytes_read c now ≡ bytes_read c h
+  pub same_read : (c : ℕ) (session : Session) → at c old.sessions.entries ≡ Some session → left_of session ≡ [] → bytes_read c now ≡ bytes_read c h
   same_read c session is none =
       let later = same_now c session is in
       all_read now c later.0 (kept_now c later.0 later.1.0).1 (words_now c later.0 later.1.0)
       ∙ (later.1.1.1 ∙ sym (all_read h c session (told_of c session is) none))
 
-  read : ReadNoMore h now
+  pub read : ReadNoMore h now
   read l b x live is = go (there h old holds b.client by.some (omega (arith, came, count)))
     where
       by : HasAskedForIt h b
@@ -279,27 +279,27 @@ module _ (laws : AloneLaws) (old new : Parts) (ease : IsAtEase old) (goes : Goes
               omega (arith, lives, same, long, before)
 
   -- ---- the device
-  known : (state h).devices ≡ model_devices
+  pub known : (state h).devices ≡ model_devices
   known = (all_books h legal).devices ∙ devices_of old ease.runs (laws.sound old ease.runs) (laws.asks h legal holds.asks) h holds
 
-  whole_link : sent 1 h ≡ packets_of 1 h
+  pub whole_link : sent 1 h ≡ packets_of 1 h
   whole_link = all_sent h old.hub ease.runs.holds.lawful known ease.calm.link
 
-  abbrev sent_since : (ps : List Packet) × (sent 1 h ++ ps ≡ sent 1 now)
+  abbrev pub sent_since : (ps : List Packet) × (sent 1 h ++ ps ≡ sent 1 now)
   sent_since = since laws.carried laws.stays h more legal legal_now idle whole_link read
 
-  all_sent_past : Every (IsPast now (state h).drawn) sent_since.0
+  pub all_sent_past : Every (IsPast now (state h).drawn) sent_since.0
   all_sent_past =
       all_past now (state h).drawn sent_since.0 (own_since laws.carried laws.stays h more legal legal_now idle whole_link read)
       (quiet_since laws.carried laws.stays h more legal legal_now idle whole_link read)
 
-  abbrev stood : List File
+  abbrev pub stood : List File
   stood = (served_by h).files
 
-  files_old : files_of old.device ≡ stood
+  pub files_old : files_of old.device ≡ stood
   files_old = files_sent h old.device holds.done
 
-  files_now : files_of new.device ≡ (served_by now).files
+  pub files_now : files_of new.device ≡ (served_by now).files
   files_now = files_sent now new.device holds_now.done
 
   -- ---- one session alone

@@ -28,3 +28,6 @@ pub mod Finishing
 pub mod Synced
 pub mod Files
 pub mod Bound
+pub mod NextDue
+pub mod Written
+pub mod Together

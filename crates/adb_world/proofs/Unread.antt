@@ -21,7 +21,7 @@ use Rattle.adb_laws_births.proofs.Once.{packets_append}
 use Rattle.adb_laws_causes.proofs.Newborn.{born_stays}
 
 -- ---- what is read grows
-read_more : (d : ℕ) (e : Entry) (older : History) → length (bytes_read d older) ≤ length (bytes_read d (e ∷ older))
+pub read_more : (d : ℕ) (e : Entry) (older : History) → length (bytes_read d older) ≤ length (bytes_read d (e ∷ older))
 read_more d (Read n bytes) older = go (nat_eq n d)
   where
     go : (b : Bool) → length (bytes_read d older) ≤ length (cond b (bytes_read d older ++ bytes) (bytes_read d older))

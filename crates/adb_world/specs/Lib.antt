@@ -5,3 +5,4 @@ pub mod World
 pub mod Settled
 pub mod Answered
 pub mod Steps
+pub mod Together

@@ -1,5 +1,5 @@
 -- A world in which nothing can move, and in which nothing is left to be moved.
-use Rattle.std.specs.Prelude.{ℕ, ◌≡◌, ◌≢◌, ◌<◌, Bool, true, false, List, [], ◌∷◌, ◌++◌, length, Some}
+use Rattle.std.specs.Prelude.{ℕ, ◌≡◌, ◌≢◌, ◌<◌, ◌≤◌, Bool, true, false, List, [], ◌∷◌, ◌++◌, length, Some}
 use Rattle.adb_outside.specs.Tables.{at}
 use Rattle.adb_outside.specs.declared.kinds.Cause.TheVariants.{Eof}
 use Rattle.adb_capture.specs.declared.entry.Entry.TheVariants.{End as Ends}
@@ -84,9 +84,17 @@ abbrev pub NoneHanded : ℕ → Parts → Type 0
 NoneHanded after parts = (h : History) → Holds h parts → (c : ℕ) (session : Session) → after < c → at c parts.sessions.entries ≡ Some session
     → HasNone (offered_to (state h).devices ((state h).clients c))
 
+-- something is due to the session of a number
+abbrev pub IsOwed : ℕ → Parts → Type 0
+IsOwed number parts = (h : History) → Holds h parts → HasNone (offered_to (state h).devices ((state h).clients number)) → ⊥
+
 -- they have written all their words
 abbrev pub NoneWritten : ℕ → Parts → Type 0
 NoneWritten after parts = (c : ℕ) (session : Session) → after < c → at c parts.sessions.entries ≡ Some session → left_of session ≡ []
+
+-- the sessions up to a number have written all their words
+abbrev pub HaveWritten : ℕ → Parts → Type 0
+HaveWritten wrote parts = (c : ℕ) (session : Session) → 0 < c → c ≤ wrote → at c parts.sessions.entries ≡ Some session → left_of session ≡ []
 
 -- no step is possible
 pub record Rests (parts : Parts) : Type 0 where

@@ -32,8 +32,9 @@ pub(crate) fn sync_parts(
         (AreSame parts.old.sessions.entries parts.new.sessions.entries) }
     ensures given { OnOk result (parts.new.given ≡ parts.old.given + 1) }
 {
+    let wrote = parts.given;
     let number = begin(alloc, parts, b"sync:", ask)?;
-    settle_parts(parts, seed)?;
+    settle_parts(parts, seed, wrote)?;
     let session = finish_one(parts, number, seed)?;
     Ok(session.into_answer())
 }

@@ -44,6 +44,6 @@ pub(crate) fn finish_one(parts: &mut Parts, number: u32, seed: u64) -> Result<Se
     what_came_stays();
     ended_sessions_change_no_file();
     let session = parts.end(number);
-    settle_parts(parts, seed)?;
+    settle_parts(parts, seed, u32::MAX)?;
     Ok(session)
 }

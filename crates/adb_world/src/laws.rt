@@ -7,12 +7,13 @@ ghost use Rattle.adb_outside.specs.Tables.{at};
 ghost use Rattle.adb_world.specs.Answered.{AreEchoes, IsAnswered, IsAnsweredAlone, IsNewAlone};
 ghost use Rattle.adb_world.specs.Settled.{Each, GoesOn, HasEnded, HasMade, IsAtEase, IsCounted, IsDone, Rests};
 ghost use Rattle.adb_world.specs.Steps.{most_steps};
+ghost use Rattle.adb_world.specs.Together.{AreAnsweredTogether, AreWhole};
 ghost use Rattle.std.specs.Prelude.{ℕ, ◌≡◌, ◌≤◌, [], Some, false, true};
 ghost use Rattle.adb_world.specs.World.{view_of};
 ghost use Rattle.adb_world.specs.declared.parts.Parts.{Parts};
 ghost use Rattle.adb_world.specs.declared.session.Session.{Session};
 
-use adb_laws_alone::{a_stream_alone_runs_over_its_files, echoes_leave_files};
+use adb_laws_alone::{a_stream_alone_runs_over_its_files, echoes_leave_files, streams_run_together};
 use adb_laws_answers::clients_are_answered;
 use adb_laws_births::what_came_stays;
 use adb_laws_fifo_up::carries_rest;
@@ -140,4 +141,32 @@ pub(crate) fn echoes_change_no_file()
     an_ended_service_takes_no_more();
     a_stream_alone_runs_over_its_files();
     echoes_leave_files();
+}
+
+/// Where no step is possible sessions that ran side by side were answered through one order of all
+/// their commands and whole sync requests, which leads from the files as they were to those that
+/// stand.
+pub(crate) fn sessions_are_answered_together()
+    ensures { (old new : Parts) → IsAtEase old → GoesOn old new → Rests new
+        → AreWhole old.sessions.entries
+        → AreAnsweredTogether (files_of old.device) (files_of new.device)
+        old.sessions.entries new.sessions.entries }
+{
+    carries_rest();
+    what_came_stays();
+    requests_open_their_service();
+    sessions_ask_for_services();
+    streams_have_settled_at_rest();
+    clients_hold_nothing_at_rest();
+    streams_are_open_at_rest();
+    streams_of_one_plain_device_are_plain();
+    streams_of_one_device_are_on_its_link();
+    a_device_breaks_no_link();
+    streams_that_live_heard_no_close();
+    clients_are_answered();
+    payloads_in_turn_are_one();
+    an_ended_service_takes_no_more();
+    a_stream_alone_runs_over_its_files();
+    echoes_leave_files();
+    streams_run_together();
 }

@@ -8,7 +8,7 @@ ghost use Rattle.adb_history.specs.Machine.{History};
 ghost use Rattle.adb_daemon.specs.Daemon.{owed};
 ghost use Rattle.adb_world.specs.Parts.{Adds, Drops, Holds, IsHeld, IsRunning, most_sessions, plugging};
 ghost use Rattle.adb_world.specs.Session.{IsNew};
-ghost use Rattle.adb_world.specs.Settled.{IsCalm, IsDone};
+ghost use Rattle.adb_world.specs.Settled.{IsCalm, IsDone, IsOwed, NoneDown, NoneHanded};
 ghost use Rattle.adb_world.specs.World.{ends_of};
 ghost use Rattle.adb_world.specs.declared.session.Session.{Session};
 
@@ -16,7 +16,7 @@ use crate::calls::{end, join, plug_in};
 use crate::session::Session;
 use adb_daemon::Daemon;
 use adb_files::Files;
-use adb_hub::Hub;
+use adb_hub::{Hub, Owner};
 use adb_laws_births::what_came_stays;
 use adb_laws_resting::resting::{a_client_sends_up_its_own_stream, most_entries_send_nothing};
 use adb_laws_sessions::{requests_open_their_service, sessions_ask_for_services};
@@ -118,6 +118,23 @@ impl Parts {
         }
         let (number, _session) = self.sessions.range(after + 1..=u32::MAX).next()?;
         Some(*number)
+    }
+
+    /// The least number of a session to which anything is due, where nothing is due on the link.
+    /// Nothing changes that contracts see. It takes no memory.
+    pub(crate) fn next_owed(&mut self) -> Option<u32>
+        requires runs { IsRunning self.old }
+        requires down { NoneDown self.old }
+        ensures next { MatchOption result (NoneHanded 0 self.old)
+            (λ number. (is_some (at number self.old.sessions.entries) ≡ true)
+            × IsOwed number self.old) }
+        ensures same { self.new ≡ self.old }
+    {
+        match self.hub.next_due() {
+            Some(Owner::Client(number)) => Some(number),
+            Some(Owner::Link(_link)) => None,
+            None => None,
+        }
     }
 }
 

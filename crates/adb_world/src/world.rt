@@ -10,6 +10,7 @@ ghost use Rattle.adb_world.specs.Parts.{AreSame, most_sessions};
 ghost use Rattle.adb_world.specs.Session.{new_session};
 ghost use Rattle.adb_world.specs.Settled.{Each, HasMoved, IsCounted, IsSettled};
 ghost use Rattle.adb_world.specs.Steps.{most_steps};
+ghost use Rattle.adb_world.specs.Together.{AreAnsweredTogether, AreWhole};
 ghost use Rattle.adb_world.specs.World.{HasStarted};
 ghost use Rattle.adb_world.specs.declared.session.Session.{Session};
 
@@ -65,7 +66,7 @@ impl World {
         keep_memory(alloc);
         let mut parts = Parts::new(alloc)?;
         parts.greet()?;
-        settle_parts(&mut parts, 0)?;
+        settle_parts(&mut parts, 0, 0)?;
         Ok(World {
             alloc,
             parts,
@@ -272,6 +273,9 @@ pub fn settle(world: &mut World, seed: u64) -> Result<u64, AllocError>
     ensures alone { (n : ℕ) (session : Session) → IsNewAlone n world.old.sessions
         → at n world.new.sessions ≡ Some session
         → OnOk result (IsAnsweredAlone session world.old.files world.new.files) }
+    ensures together { AreWhole world.old.sessions
+        → OnOk result (AreAnsweredTogether world.old.files world.new.files
+        world.old.sessions world.new.sessions) }
     ensures files { AreEchoes world.old.sessions
         → OnOk result (world.new.files ≡ world.old.files) }
     ensures moved { IfOk result (λ steps. HasMoved steps world.old.hub world.new.hub) }
@@ -285,7 +289,7 @@ pub fn settle(world: &mut World, seed: u64) -> Result<u64, AllocError>
     if world.spent {
         return Err(AllocError);
     }
-    match settle_parts(&mut world.parts, seed) {
+    match settle_parts(&mut world.parts, seed, 0) {
         Ok(steps) => {
             world.settled = true;
             Ok(steps)

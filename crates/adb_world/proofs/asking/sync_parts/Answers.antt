@@ -1,4 +1,4 @@
-use Rattle.std.specs.Prelude.{ℕ, ◌+◌, true, is_some, Some, option_map}
+use Rattle.std.specs.Prelude.{ℕ, ◌+◌, codes, true, is_some, Some, option_map}
 use Rattle.std.proofs.Common.{◌≡◌, ◌∙◌, refl, sym, ap, subst}
 use Rattle.adb_outside.specs.Tables.{at}
 use Rattle.adb_daemon.specs.Daemon.{files_of}
@@ -6,10 +6,15 @@ use Rattle.adb_daemon.specs.declared.daemon.Daemon.{Daemon}
 use Rattle.adb_world.specs.Answered.{IsAnsweredAlone, answer_of}
 use Rattle.adb_world.specs.Parts.{AreSameBut}
 use Rattle.adb_world.proofs.Synced.{sync_known, there_after, new_alone, is_answer, is_left, all_same}
+use Rattle.adb_world.proofs.Written.{added_have}
 use Rattle.adb_world.proofs.asking.sync_parts.Goals as goal
 
 pub begin-requires-clause-known : goal.begin-requires-clause-known
 begin-requires-clause-known c = sync_known
+
+pub settle_parts-requires-clause-wrote : goal.settle_parts-requires-clause-wrote
+settle_parts-requires-clause-wrote c =
+    added_have c.args.ask (codes "sync:") c.args.parts.now c.begin.new.parts c.requires.done.words c.in_ok-number.ensures.added
 
 pub finish_one-requires-clause-there : goal.finish_one-requires-clause-there
 finish_one-requires-clause-there c =

@@ -1,8 +1,13 @@
+use Rattle.adb_world.proofs.Written.{dropped_have}
 use Rattle.adb_world.proofs.Finishing.{ends_running, same_but}
 use Rattle.adb_world.proofs.ending.finish_one.Goals as goal
 
-pub settle_parts-requires : goal.settle_parts-requires
-settle_parts-requires c =
+pub settle_parts-requires-clause-wrote : goal.settle_parts-requires-clause-wrote
+settle_parts-requires-clause-wrote c =
+    dropped_have 4294967295 c.args.number c.args.parts.now c.end-session.new.self c.requires.done.words c.end-session.ensures.dropped
+
+pub settle_parts-requires-clause-runs : goal.settle_parts-requires-clause-runs
+settle_parts-requires-clause-runs c =
     ends_running c.what_came_stays.ensures c.args.number c.args.parts.now c.end-session.new.self c.requires.done.ease.runs c.end-session.ensures.holds
 
 pub returns-clause-same : goal.returns-clause-same

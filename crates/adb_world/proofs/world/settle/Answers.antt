@@ -1,7 +1,8 @@
-use Rattle.std.proofs.Common.{◌∙◌, sym, ap, subst}
+use Rattle.std.proofs.Common.{arith, ◌∙◌, sym, ap, subst}
 use Rattle.adb_daemon.specs.Daemon.{files_of}
 use Rattle.adb_world.specs.Answered.{AreEchoes, IsAnsweredAlone, IsNewAlone}
 use Rattle.adb_world.specs.Settled.{HasMoved}
+use Rattle.adb_world.specs.Together.{AreAnsweredTogether, AreWhole}
 use Rattle.adb_world.specs.World.{View}
 use Rattle.adb_world.proofs.Finishing.{ease_of}
 use Rattle.adb_world.proofs.Going.{has_moved}
@@ -18,6 +19,13 @@ returns-in-Ok-clause-alone c n session alone is =
     subst (λ (w : View). IsAnsweredAlone session w.files (files_of c.settle_parts.new.parts.device)) c.world.view_is
     (c.in-Ok.ensures.alone ease n session (subst (λ (w : View). IsNewAlone n w.sessions) (sym c.world.view_is) alone) is)
 
+pub returns-in-Ok-clause-together : goal.returns-in-Ok-clause-together
+returns-in-Ok-clause-together c whole =
+    let ease = ease_of c.world.inside.spent c.world.inside.settled c.world.inside.parts c.if-world.false c.world.invariant in
+    subst (λ (w : View). AreAnsweredTogether w.files (files_of c.settle_parts.new.parts.device) w.sessions c.settle_parts.new.parts.sessions.entries)
+    c.world.view_is
+    (c.in-Ok.ensures.together ease (subst (λ (w : View). AreWhole w.sessions) (sym c.world.view_is) whole))
+
 pub returns-in-Ok-clause-files : goal.returns-in-Ok-clause-files
 returns-in-Ok-clause-files c echoes =
     let ease = ease_of c.world.inside.spent c.world.inside.settled c.world.inside.parts c.if-world.false c.world.invariant in
@@ -33,3 +41,6 @@ returns-in-Ok-clause-moved c =
     let ease = ease_of c.world.inside.spent c.world.inside.settled c.world.inside.parts c.if-world.false c.world.invariant in
     subst (λ (w : View). HasMoved c.in-Ok.steps w.hub c.settle_parts.new.parts.hub) c.world.view_is
     (has_moved c.in-Ok.steps c.world.inside.parts c.settle_parts.new.parts ease.runs c.in-Ok.ensures.made)
+
+pub settle_parts-requires-clause-wrote : goal.settle_parts-requires-clause-wrote
+settle_parts-requires-clause-wrote c = λ n session past within is. absurd (omega (arith, past, within))

@@ -1,4 +1,4 @@
-use Rattle.std.proofs.Common.{◌∙◌}
+use Rattle.std.proofs.Common.{arith, ◌∙◌}
 use Rattle.adb_world.proofs.Finishing.{same_empty}
 use Rattle.adb_world.proofs.world.World.new.Goals as goal
 
@@ -17,3 +17,6 @@ pub returns-clause-counted : goal.returns-clause-counted
 returns-clause-counted c =
     let counted = c.settled_worlds_are_counted.ensures c.settle_parts.new.parts c.in_ok-settle_parts.ensures.done in
     record { clients = counted.clients; streams = counted.streams }
+
+pub settle_parts-requires-clause-wrote : goal.settle_parts-requires-clause-wrote
+settle_parts-requires-clause-wrote c = λ n session past within is. absurd (omega (arith, past, within))
