@@ -166,9 +166,9 @@ module _ (laws : AloneLaws) (together : RunTogether model_setting) (old new : Pa
   none_late =
       asks_none first_history (λ (host : ℕ). (state first_history).drawn < host)
       (λ l b was late. (
-        let within = (born_within l first_history b was).1 in
-        let drawn = (all_births first_history (legal laws old new ease goes rests begun)).drawn in
-        omega (arith, within, drawn, late)))
+      let within = (born_within l first_history b was).1 in
+      let drawn = (all_births first_history (legal laws old new ease goes rests begun)).drawn in
+      omega (arith, within, drawn, late)))
       (sent 1 first_history) ((no_crossing first_history (legal laws old new ease goes rests begun)).own 1)
 
   once : (l : ℕ) → (state first_history).drawn < l → count_from is_open l (sent_since laws old new ease goes rests begun).0 ≤ 1

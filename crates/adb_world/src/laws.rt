@@ -13,7 +13,9 @@ ghost use Rattle.adb_world.specs.World.{view_of};
 ghost use Rattle.adb_world.specs.declared.parts.Parts.{Parts};
 ghost use Rattle.adb_world.specs.declared.session.Session.{Session};
 
-use adb_laws_alone::{a_stream_alone_runs_over_its_files, echoes_leave_files, streams_run_together};
+use adb_laws_alone::{
+    a_stream_alone_runs_over_its_files, echoes_leave_files, streams_run_together,
+};
 use adb_laws_answers::clients_are_answered;
 use adb_laws_births::what_came_stays;
 use adb_laws_fifo_up::carries_rest;
