@@ -68,11 +68,19 @@ class History:
         else:
             raise ValueError(f'no mark: {mark}')
 
+    def ranges(self):
+        """The numbers of each line: those of its own range, or those of the line before if it has a `#` and no range."""
+        each = None
+        for _, words in self.lines:
+            goes_on = 'each' not in words and any('#' in word for word in words)
+            each = range_of(words) or (each if goes_on else None)
+            yield each
+
     def entries(self, histories):
         """Its lines, with those of a history that it begins as, or that it reads as its capture, and lines of a range once for each of its numbers."""
         done = []
-        for each, lines in itertools.groupby(self.lines, lambda line: range_of(line[1])):
-            lines = list(lines)
+        for each, ranged in itertools.groupby(zip(self.ranges(), self.lines), lambda it: it[0]):
+            lines = [line for _, line in ranged]
             if lines[0][1][0] == 'As':
                 done += histories[lines[0][1][1]].entries(histories)
                 lines = lines[1:]
@@ -105,7 +113,8 @@ def range_of(words):
 
 
 def numbered(words, number):
-    return [words[0], str(number)] + [word.replace('#', str(number)) for word in words[2:]]
+    first = str(number) if range_of(words) else words[1]
+    return [words[0], first] + [word.replace('#', str(number)) for word in words[2:]]
 
 
 def begin(name):

@@ -49,9 +49,14 @@ def packet(words):
 
 
 def piece(words):
-    """The bytes of a piece: texts, and packets between which a `+` stands; `9 times` before them repeats them all."""
+    """The bytes of a piece: texts, and packets separated by `+`. `9 times` before them repeats them all, and `1..9 each`
+    repeats them for each number, which takes the place of `#`."""
     if len(words) > 2 and words[1] == 'times':
         return piece(words[2:]) * int(words[0])
+    if len(words) > 2 and words[1] == 'each':
+        first, last = words[0].split('..')
+        return b''.join(piece([word.replace('#', str(number)) for word in words[2:]])
+                        for number in range(int(first), int(last) + 1))
     bytes_of = b''
     while words:
         count = words.index('+') if '+' in words else len(words)

@@ -7,44 +7,62 @@ use std::sync::{Arc, Wait};
 use std::thread::{Threads, sleep};
 use std::time::{Clock, Duration};
 
-/// Counts itself as done, a while after it was begun.
+/// How many jobs have begun, and how many of them are done.
 #[derive(Drop)]
-struct Slow<W: Wait + Clock + Drop> {
-    rt: W,
-    done: Arc<AtomicU64, Global>,
+struct Counts {
+    begun: AtomicU64,
+    done: AtomicU64,
 }
 
-impl<W: Wait + Clock + Drop> Job for Slow<W> {
+/// Counts itself as begun, and as done once as many jobs have begun as `wanted`. It looks every 50 ms
+/// and gives up after 5 s, so that a crew which runs the job within the call fails the case, and does
+/// not hang.
+#[derive(Drop)]
+struct Meeting<W: Wait + Clock + Drop> {
+    rt: W,
+    counts: Arc<Counts, Global>,
+    wanted: u64,
+}
+
+impl<W: Wait + Clock + Drop> Job for Meeting<W> {
     ghost done = { λ job. Unit {0} };
 
     fn run(self) {
-        sleep(&self.rt, Duration::from_millis(50));
-        self.done.fetch_add(1, Ordering::SeqCst);
+        self.counts.begun.fetch_add(1, Ordering::SeqCst);
+        for _ in 0..100u32 {
+            sleep(&self.rt, Duration::from_millis(50));
+            if self.counts.begun.load(Ordering::SeqCst) >= self.wanted {
+                self.counts.done.fetch_add(1, Ordering::SeqCst);
+                return;
+            }
+        }
     }
 }
 
-/// Whether a crew takes a job.
+/// Returns whether a crew takes a job that waits until `wanted` jobs have begun.
 fn takes<W: Threads + Wait + Clock + Copy + Send + Sync + Drop + 'static>(
     rt: W,
-    crew: &mut Crew<W, Slow<W>>,
-    done: &Arc<AtomicU64, Global>,
+    crew: &mut Crew<W, Meeting<W>>,
+    counts: &Arc<Counts, Global>,
+    wanted: u64,
 ) -> Result<bool, AllocError> {
-    let done = Arc::try_clone(done)?;
-    Ok(crew.spawn(Slow { rt, done }).is_ok())
+    let counts = Arc::try_clone(counts)?;
+    let job = Meeting { rt, counts, wanted };
+    Ok(crew.spawn(job).is_ok())
 }
 
-/// Whether a crew takes six jobs, and each is done once it was waited for, behind the third too.
+/// Returns whether a crew takes two jobs that wait for each other, and both are done when it has
+/// finished; and then two more, after its first threads have ended.
 fn works<W: Threads + Wait + Clock + Copy + Send + Sync + Drop + 'static>(
     rt: W,
-    crew: &mut Crew<W, Slow<W>>,
-    done: &Arc<AtomicU64, Global>,
+    crew: &mut Crew<W, Meeting<W>>,
+    counts: &Arc<Counts, Global>,
 ) -> Result<bool, AllocError> {
-    for number in 1..7u64 {
-        let taken = takes(rt, crew, done)?;
-        if number % 3 == 0 {
-            crew.finish();
-        }
-        if !taken || (number % 3 == 0 && done.load(Ordering::SeqCst) != number) {
+    for wanted in [2u64, 4] {
+        let first = takes(rt, crew, counts, wanted)?;
+        let second = takes(rt, crew, counts, wanted)?;
+        crew.finish();
+        if !first || !second || counts.done.load(Ordering::SeqCst) != wanted {
             return Ok(false);
         }
     }
@@ -54,17 +72,24 @@ fn works<W: Threads + Wait + Clock + Copy + Send + Sync + Drop + 'static>(
 fn crew_works<W: Threads + Wait + Clock + Copy + Send + Sync + Drop + 'static>(
     rt: W,
     alloc: Global,
-    done: &Arc<AtomicU64, Global>,
+    counts: &Arc<Counts, Global>,
 ) -> Result<bool, AllocError> {
     let mut crew = Crew::threads(rt, alloc)?;
-    works(rt, &mut crew, done)
+    works(rt, &mut crew, counts)
 }
 
-/// Whether a crew of threads does all jobs, also once its threads were ended.
+/// Returns whether a crew of threads runs jobs side by side and waits for them, also after its
+/// threads have ended once.
 pub fn crews_run_jobs<W: Threads + Wait + Clock + Copy + Send + Sync + Drop + 'static>(
     rt: W,
     alloc: Global,
 ) -> Result<bool, AllocError> {
-    let done = Arc::new(alloc, AtomicU64::new(0))?;
-    crew_works(rt, alloc, &done)
+    let counts = Arc::new(
+        alloc,
+        Counts {
+            begun: AtomicU64::new(0),
+            done: AtomicU64::new(0),
+        },
+    )?;
+    crew_works(rt, alloc, &counts)
 }

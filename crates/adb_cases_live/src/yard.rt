@@ -9,7 +9,8 @@ use adb_yard::{Dialled, Listening, Staff, Yard};
 use std::alloc::{AllocError, Global};
 use std::net::{Net, TcpListener, TcpStream};
 use std::sync::Wait;
-use std::thread::Threads;
+use std::thread::{Threads, sleep};
+use std::time::{Clock, Duration};
 
 /// Whether two bytes that are written at one end are read at the other.
 fn carries(output: &mut impl PortOut, input: &mut impl PortIn) -> bool {
@@ -17,34 +18,61 @@ fn carries(output: &mut impl PortOut, input: &mut impl PortIn) -> bool {
     output.write(b"ok") == Wrote::All && input.read(&mut into) == Got::Bytes(2) && into == *b"ok"
 }
 
-/// Whether what is written comes in at a door; by the port of a forward, where that is not 0.
-fn comes(door: &mut impl Door, output: &mut impl PortOut, forward: u16) -> bool {
-    match door.accept() {
-        Came::Port(mut input, _) => forward == 0 && carries(output, &mut input),
-        Came::Forward(by, mut input, _) => by == forward && carries(output, &mut input),
-        Came::Closed | Came::Failed => false,
-    }
-}
-
-/// Whether who dials a port comes in at a door; by the port of a forward, where that is not 0.
-fn meets<Y: Yard>(yard: &mut Y, door: &mut Y::Door, port: u16, forward: u16) -> bool {
+/// Dials a door's own port, and takes the next connection there. The one that was dialled is closed
+/// then, and its place in the queue is why `accept` does not wait.
+fn next<Y: Yard>(
+    yard: &mut Y,
+    door: &mut Y::Door,
+    port: u16,
+) -> Came<<Y::Door as Door>::In, <Y::Door as Door>::Out> {
     if port == 0 {
-        return false;
+        return Came::Failed;
     }
     match yard.dial(port) {
-        Dialled::Here(_input, mut output) => comes(door, &mut output, forward),
-        Dialled::Failed => false,
+        Dialled::Here(_input, _output) => door.accept(),
+        Dialled::Failed => Came::Failed,
     }
 }
 
-/// Whether a yard's door at a port lets in who dials it and who dials a forward; and whether the
-/// port cannot be listened on twice.
-fn lets_in<Y: Yard>(yard: &mut Y, door: &mut Y::Door, port: u16) -> bool {
+/// Returns whether a client that dials a port comes in at a door and what it writes is read there;
+/// by the port of a forward, if that is not 0. The connection of a forward takes a while, and is
+/// closed if an allocation fails, so it is waited for 5 s at most.
+fn meets<W: Wait + Clock, Y: Yard>(
+    rt: &W,
+    yard: &mut Y,
+    door: &mut Y::Door,
+    port: u16,
+    forward: u16,
+) -> bool {
+    let dialled = if forward == 0 { port } else { forward };
+    if dialled == 0 {
+        return false;
+    }
+    let Dialled::Here(_input, mut output) = yard.dial(dialled) else {
+        return false;
+    };
+    for _ in 0..50u32 {
+        match next(yard, door, port) {
+            Came::Forward(by, mut input, _) => {
+                return by == forward && carries(&mut output, &mut input);
+            }
+            Came::Port(mut input, _) if forward == 0 => return carries(&mut output, &mut input),
+            Came::Port(..) => sleep(rt, Duration::from_millis(100)),
+            Came::Closed | Came::Failed => return false,
+        }
+    }
+    false
+}
+
+/// Returns whether a yard's door at a port lets in the clients that dial it and a forward, and
+/// whether the port cannot be listened on twice.
+fn lets_in<W: Wait + Clock, Y: Yard>(rt: &W, yard: &mut Y, door: &mut Y::Door, port: u16) -> bool {
     let Binding::Bound(forward) = yard.ports().bind(0) else {
         return false;
     };
-    meets(yard, door, port, 0)
-        && meets(yard, door, forward, forward)
+    forward != 0
+        && meets(rt, yard, door, port, 0)
+        && meets(rt, yard, door, port, forward)
         && matches!(yard.listen(port), Listening::Failed)
 }
 
@@ -54,11 +82,11 @@ fn closes(door: &mut impl Door, bell: &impl Bell) -> bool {
     matches!(door.accept(), Came::Closed)
 }
 
-/// Whether a yard's door lets in whom it should, and closes.
-fn opens<Y: Yard>(yard: &mut Y) -> bool {
+/// Returns whether a yard's door lets in the clients that it should, and closes.
+fn opens<W: Wait + Clock, Y: Yard>(rt: &W, yard: &mut Y) -> bool {
     match yard.listen(0) {
         Listening::Here(mut door, bell, port) => {
-            let met = lets_in(yard, &mut door, port);
+            let met = lets_in(rt, yard, &mut door, port);
             closes(&mut door, &bell) && met
         }
         Listening::Failed => false,
@@ -88,24 +116,26 @@ fn records<
     Ok(off && on && kept(yard, true) == Err(RecordError::Failed))
 }
 
-/// Whether a yard opens a door, keeps a record, and has its own threads.
+/// Returns whether a yard opens a door, keeps a record, and has its own threads.
 fn gives<
     W: Net<Listener = TcpListener, Stream = TcpStream>
         + Threads
         + Wait
+        + Clock
         + Copy
         + Send
         + Sync
         + Drop
         + 'static,
->(yard: &mut RealYard<W, NeverSink>) -> Result<bool, AllocError> {
-    Ok(opens(yard) && records(yard)? && matches!(yard.staff(), Staff::Threads))
+>(rt: &W, yard: &mut RealYard<W, NeverSink>) -> Result<bool, AllocError> {
+    Ok(opens(rt, yard) && records(yard)? && matches!(yard.staff(), Staff::Threads))
 }
 
 pub fn a_yard_gives_what_it_is_asked<
     W: Net<Listener = TcpListener, Stream = TcpStream>
         + Threads
         + Wait
+        + Clock
         + Copy
         + Send
         + Sync
@@ -113,5 +143,5 @@ pub fn a_yard_gives_what_it_is_asked<
         + 'static,
 >(rt: W, alloc: Global) -> Result<bool, AllocError> {
     let mut yard = RealYard::new(rt, alloc, Ending::new(alloc)?, NeverSink::new())?;
-    gives(&mut yard)
+    gives(&rt, &mut yard)
 }
