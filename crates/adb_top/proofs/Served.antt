@@ -8,10 +8,10 @@ use Rattle.adb_server.specs.declared.server.Served.{Served}
 use Rattle.adb_server.specs.declared.server.Served.TheVariants as served
 use Rattle.adb_words.specs.Serve.{Serving}
 use Rattle.adb_replay.proofs.Counting.{counts_then}
-use Rattle.adb_commands.specs.Faults.{tells_write_fault}
-use Rattle.adb_commands.specs.Notes.{NotesBy, HasTried, HasFailed, RisesTwice}
-use Rattle.adb_commands.specs.declared.status.Status.{Status}
-use Rattle.adb_commands.specs.declared.status.Status.TheVariants.{Done, Usage, ReadFault, WriteFault, BadCapture, OutOfMemory, RecordFault, DoorFault, BadScript, Refused, BadAnswer, PortFault, TooLarge, Illegal}
+use Rattle.adb_top.specs.Faults.{tells_write_fault}
+use Rattle.adb_top.specs.Notes.{NotesBy, HasTried, HasFailed, RisesTwice}
+use Rattle.adb_top.specs.declared.status.Status.{Status}
+use Rattle.adb_top.specs.declared.status.Status.TheVariants.{Done, Usage, ReadFault, WriteFault, BadCapture, OutOfMemory, RecordFault, DoorFault, BadScript, Refused, BadAnswer, PortFault, TooLarge, Illegal}
 use Rattle.adb_top.specs.Serve.{IsAnyLine, IsListening, IsBefore, IsServerEnd, NotesServer, Serves}
 use Rattle.adb_top.specs.Tells.{CountsEnd, Tells, status_of}
 

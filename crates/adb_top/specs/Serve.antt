@@ -4,10 +4,10 @@ use Rattle.adb_outside.specs.Bytes.{IsPrefixOf}
 use Rattle.adb_outside.specs.Outside.{Counts}
 use Rattle.adb_server.specs.Served.{listening_line}
 use Rattle.adb_words.specs.Serve.{Serving}
-use Rattle.adb_commands.specs.Faults.{Rose, tells_write_fault}
-use Rattle.adb_commands.specs.Notes.{NotesBy, RisesTwice, IsLine}
-use Rattle.adb_commands.specs.declared.status.Status.{Status}
-use Rattle.adb_commands.specs.declared.status.Status.TheVariants.{Done, Usage, ReadFault, WriteFault, BadCapture, OutOfMemory, RecordFault, DoorFault, BadScript, Refused, BadAnswer, PortFault, TooLarge, Illegal}
+use Rattle.adb_top.specs.Faults.{Rose, tells_write_fault}
+use Rattle.adb_top.specs.Notes.{NotesBy, RisesTwice, IsLine}
+use Rattle.adb_top.specs.declared.status.Status.{Status}
+use Rattle.adb_top.specs.declared.status.Status.TheVariants.{Done, Usage, ReadFault, WriteFault, BadCapture, OutOfMemory, RecordFault, DoorFault, BadScript, Refused, BadAnswer, PortFault, TooLarge, Illegal}
 
 -- The words are no command, or the note failed, or memory ran out over them.
 abbrev pub IsUnheard : Status → Type 0
