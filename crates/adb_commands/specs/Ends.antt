@@ -8,7 +8,7 @@ use Rattle.adb_replay.specs.declared.stop.Stop.{Stop}
 use Rattle.adb_words.specs.Words.{names_command, texts}
 use Rattle.adb_words.specs.declared.command.WordsError.TheVariants as unread
 use Rattle.adb_commands.specs.Check.{JudgesSo, WritesSo, stopped_as}
-use Rattle.adb_commands.specs.Loads.{IsPromised, GeneratesLines, made, loses_load}
+use Rattle.adb_commands.specs.Loads.{GeneratesLines, loses_load}
 use Rattle.adb_commands.specs.ScriptInput.{ReadsWithin}
 use Rattle.adb_commands.specs.ScriptStop.{stops_reading, stops_writing}
 use Rattle.adb_commands.specs.Scripts.{AnswersAs, RefusesAs, first_bad}
@@ -44,7 +44,6 @@ module _ {S K : Type 0} (s : Sight S) (k : Sight K) (source source_new : S) (sin
   pub record LeavesLoad (seed streams : ℕ) (result : Result (Unit {0}) LoadStop) : Type 0 where
     pub unread : source_new ≡ source
     pub writes : GeneratesLines result seed streams k.told sink sink_new
-    pub promised : IsPromised (made seed streams)
 
   -- A script was read to its end, or as far as a script may go, and its answer lines were written.
   pub record LeavesScript (kind : ScriptKind) (result : Result (Unit {0}) ScriptStop) : Type 0 where

@@ -1,7 +1,10 @@
 //! The commands that need a source and a sink alone.
 
+ghost use Rattle.std.specs.Prelude.{ℕ};
 ghost use Rattle.adb_outside.specs.Outside.{Counts};
 ghost use Rattle.adb_commands.specs.Ends.{CountsSource, Leaves, fails_sink};
+ghost use Rattle.adb_commands.specs.Loads.{IsPromised, made};
+ghost use Rattle.adb_commands.specs.Words.{IsLoad};
 
 use crate::answering::answer;
 use crate::checking::check;
@@ -10,7 +13,7 @@ use crate::generating::generate;
 use crate::script_kind::ScriptKind;
 use adb_outside::{Sink, Source};
 use adb_replay::replay;
-use adb_words::{Command, read_words};
+use adb_words::{Command, WordsError, read_words};
 use std::alloc::Global;
 
 /// Runs the command that the words after the program's name say, if it is one that neither serves
@@ -48,7 +51,11 @@ pub fn run_command<S: Source, K: Sink>(
         (record { told = K.written; faults = K.faults; steady = K.steady })
         source.old source.new sink.old sink.new }
 
-    // It says whether the source or the sink failed, too.
+    // The history of a load is legal, so it is fifo, has its causes and is answered.
+    ensures promised { (seed streams : ℕ) → IsLoad seed streams words.now
+        → IsPromised (made seed streams) }
+
+    // The end says whether the source or the sink failed.
     ensures reads { CountsSource result (Counts S.steady S.faults source.old source.new) }
     ensures writes { Counts K.steady K.faults sink.old sink.new (fails_sink result) }
 {
@@ -64,6 +71,7 @@ pub fn run_command<S: Source, K: Sink>(
         Ok(Command::Copy { seed }) => {
             CommandEnd::Answered(answer(alloc, ScriptKind::Copy, seed, source, sink))
         }
-        Err(error) => CommandEnd::NotRun(error),
+        Err(WordsError::Usage) => CommandEnd::NotRun(WordsError::Usage),
+        Err(WordsError::OutOfMemory) => CommandEnd::NotRun(WordsError::OutOfMemory),
     }
 }

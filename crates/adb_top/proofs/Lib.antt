@@ -1,2 +1,7 @@
+pub mod Lines
+pub mod Ends
+pub mod Kinds
+pub mod Statuses
+pub mod Alone
 pub mod Served
 pub mod Calls
