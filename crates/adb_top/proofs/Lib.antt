@@ -1,4 +1,5 @@
 pub mod Lines
+pub mod Notices
 pub mod Ends
 pub mod Kinds
 pub mod Statuses

@@ -2,14 +2,13 @@
 use Rattle.std.specs.Prelude.{ℕ, ◌≡◌, ◌≢◌, ◌⊎◌, Bool, true, false, List, [], Option, Ok, Err}
 use Rattle.adb_outside.specs.Sink.{TellsWrite}
 use Rattle.adb_outside.specs.declared.sink.Wrote.TheVariants.{All}
+use Rattle.adb_check.specs.declared.capture.Judgement.{Judgement}
 use Rattle.adb_check.specs.declared.capture.Judgement.TheVariants as judged
-use Rattle.adb_replay.specs.Keeping.{is_write_fault}
 use Rattle.adb_replay.specs.declared.stop.Stop.{Stop}
 use Rattle.adb_replay.specs.declared.stop.Stop.TheVariants as stop
+use Rattle.adb_words.specs.declared.command.WordsError.{WordsError}
 use Rattle.adb_words.specs.declared.command.WordsError.TheVariants as unread
 use Rattle.adb_commands.specs.Ends.{Sight, fails_sink}
-use Rattle.adb_commands.specs.Loads.{loses_load}
-use Rattle.adb_commands.specs.ScriptStop.{is_write_stop}
 use Rattle.adb_commands.specs.declared.end.CommandEnd.{CommandEnd}
 use Rattle.adb_commands.specs.declared.end.CommandEnd.TheVariants.{NotRun, Replayed, Judged, Generated, Answered}
 use Rattle.adb_commands.specs.declared.load_stop.LoadStop.{LoadStop}
@@ -40,6 +39,14 @@ fixed status line = record { status = status; line = line; is_made = false }
 abbrev pub made : Status → List ℕ → Notice
 made status line = record { status = status; line = line; is_made = true }
 
+abbrev pub words_notice : WordsError → Notice
+words_notice unread.Usage = fixed Usage usage_line
+words_notice unread.OutOfMemory = fixed OutOfMemory out_of_memory_line
+
+abbrev pub judgement_notice : Judgement → Notice
+judgement_notice (judged.Legal entries) = silent
+judgement_notice (judged.Illegal place rule) = fixed Illegal illegal_history_line
+
 abbrev pub stop_notice : Stop → Notice
 stop_notice stop.ReadFault = fixed ReadFault read_fault_line
 stop_notice stop.WriteFault = fixed WriteFault write_fault_line
@@ -57,12 +64,10 @@ script_notice script.OutOfMemory = fixed OutOfMemory out_of_memory_line
 script_notice (script.BadLine line) = made BadScript (bad_script_line line)
 
 abbrev pub notice_of : CommandEnd → Notice
-notice_of (NotRun unread.Usage) = fixed Usage usage_line
-notice_of (NotRun unread.OutOfMemory) = fixed OutOfMemory out_of_memory_line
+notice_of (NotRun error) = words_notice error
 notice_of (Replayed (Ok done)) = silent
 notice_of (Replayed (Err why)) = stop_notice why
-notice_of (Judged (Ok (judged.Legal entries))) = silent
-notice_of (Judged (Ok (judged.Illegal place rule))) = fixed Illegal illegal_history_line
+notice_of (Judged (Ok judgement)) = judgement_notice judgement
 notice_of (Judged (Err why)) = stop_notice why
 notice_of (Generated (Ok done)) = silent
 notice_of (Generated (Err why)) = load_notice why
@@ -88,15 +93,6 @@ pub record Tells {N : Type 0} (notice : Notice) (lost : Bool) (status : Status) 
   pub fault : status ≡ WriteFault → (lost ≡ true) ⊎ Rose n.faults note note_new
   pub stood : status ≢ WriteFault → Stood n.faults note note_new
   pub steady : n.steady note → status ≡ WriteFault → lost ≡ true
-
-abbrev pub TellsStop : {N : Type 0} → Stop → Status → Sight N → N → N → Type 0
-TellsStop why status n note note_new = Tells (stop_notice why) (is_write_fault (Err why)) status n note note_new
-
-abbrev pub TellsLoad : {N : Type 0} → LoadStop → Status → Sight N → N → N → Type 0
-TellsLoad why status n note note_new = Tells (load_notice why) (loses_load (Err why)) status n note note_new
-
-abbrev pub TellsScript : {N : Type 0} → ScriptStop → Status → Sight N → N → N → Type 0
-TellsScript why status n note note_new = Tells (script_notice why) (is_write_stop why) status n note note_new
 
 abbrev pub TellsCommand : {N : Type 0} → CommandEnd → Status → Sight N → N → N → Type 0
 TellsCommand end status n note note_new = Tells (notice_of end) (fails_sink end) status n note note_new

@@ -1,9 +1,13 @@
 //! The lines of the note that tell how a command ended that neither serves nor dials.
 
-ghost use Rattle.std.specs.Prelude.{◌≡◌, ◌⊎◌, ◌<◌, IfOk, length};
+ghost use Rattle.std.specs.Prelude.{◌≡◌, ◌⊎◌, ◌<◌, Err, IfOk, false, length};
 ghost use Rattle.adb_outside.specs.Outside.{Counts};
 ghost use Rattle.adb_outside.specs.Sink.{TellsWrite};
-ghost use Rattle.adb_top.specs.Commands.{TellsCommand, TellsLoad, TellsScript, TellsStop};
+ghost use Rattle.adb_replay.specs.Keeping.{is_write_fault};
+ghost use Rattle.adb_commands.specs.Loads.{loses_load};
+ghost use Rattle.adb_commands.specs.ScriptStop.{is_write_stop};
+ghost use Rattle.adb_top.specs.Commands.{Tells, TellsCommand, judgement_notice, load_notice};
+ghost use Rattle.adb_top.specs.Commands.{script_notice, stop_notice, words_notice};
 ghost use Rattle.adb_top.specs.Faults.{tells_write_fault};
 ghost use Rattle.adb_top.specs.Notes.{IsLineOr, WritesNote, bad_capture_line, bad_script_line};
 
@@ -25,12 +29,10 @@ pub(crate) fn say_command<N: Sink>(alloc: Global, note: &mut N, end: CommandEnd)
         (record { told = N.written; faults = N.faults; steady = N.steady }) note.old note.new }
 {
     match end {
-        CommandEnd::NotRun(WordsError::Usage) => say_usage(note),
-        CommandEnd::NotRun(WordsError::OutOfMemory) => say_out_of_memory(note),
+        CommandEnd::NotRun(error) => say_words_error(note, error),
         CommandEnd::Replayed(Ok(())) => Status::Done,
         CommandEnd::Replayed(Err(stop)) => say_stop(alloc, note, stop),
-        CommandEnd::Judged(Ok(Judgement::Legal { .. })) => Status::Done,
-        CommandEnd::Judged(Ok(Judgement::Illegal { .. })) => say_illegal(note),
+        CommandEnd::Judged(Ok(judgement)) => say_judgement(note, judgement),
         CommandEnd::Judged(Err(stop)) => say_stop(alloc, note, stop),
         CommandEnd::Generated(Ok(())) => Status::Done,
         CommandEnd::Generated(Err(stop)) => say_load_stop(note, stop),
@@ -39,9 +41,31 @@ pub(crate) fn say_command<N: Sink>(alloc: Global, note: &mut N, end: CommandEnd)
     }
 }
 
+/// Writes the line that says why the words are no command that was run.
+fn say_words_error<N: Sink>(note: &mut N, error: WordsError) -> Status
+    ensures { Tells (words_notice error) false result
+        (record { told = N.written; faults = N.faults; steady = N.steady }) note.old note.new }
+{
+    match error {
+        WordsError::Usage => say_usage(note),
+        WordsError::OutOfMemory => say_out_of_memory(note),
+    }
+}
+
+/// Writes the line of a history that is not legal.
+fn say_judgement<N: Sink>(note: &mut N, judgement: Judgement) -> Status
+    ensures { Tells (judgement_notice judgement) false result
+        (record { told = N.written; faults = N.faults; steady = N.steady }) note.old note.new }
+{
+    match judgement {
+        Judgement::Legal { .. } => Status::Done,
+        Judgement::Illegal { .. } => say_illegal(note),
+    }
+}
+
 /// Writes the line that says why a command stopped.
 fn say_stop<N: Sink>(alloc: Global, note: &mut N, stop: Stop) -> Status
-    ensures { TellsStop stop result
+    ensures { Tells (stop_notice stop) (is_write_fault (Err stop)) result
         (record { told = N.written; faults = N.faults; steady = N.steady }) note.old note.new }
 {
     match stop {
@@ -54,7 +78,7 @@ fn say_stop<N: Sink>(alloc: Global, note: &mut N, stop: Stop) -> Status
 
 /// Writes the line that says why the lines of a load were not written.
 fn say_load_stop<N: Sink>(note: &mut N, stop: LoadStop) -> Status
-    ensures { TellsLoad stop result
+    ensures { Tells (load_notice stop) (loses_load (Err stop)) result
         (record { told = N.written; faults = N.faults; steady = N.steady }) note.old note.new }
 {
     match stop {
@@ -65,7 +89,7 @@ fn say_load_stop<N: Sink>(note: &mut N, stop: LoadStop) -> Status
 
 /// Writes the line that says why a script was not answered.
 fn say_script_stop<N: Sink>(alloc: Global, note: &mut N, stop: ScriptStop) -> Status
-    ensures { TellsScript stop result
+    ensures { Tells (script_notice stop) (is_write_stop stop) result
         (record { told = N.written; faults = N.faults; steady = N.steady }) note.old note.new }
 {
     match stop {
