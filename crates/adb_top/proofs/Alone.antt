@@ -27,7 +27,7 @@ use Rattle.adb_top.specs.Run.{IsUnheard, WritesHistory, WritesRead, WritesWhole,
 use Rattle.adb_top.specs.Run.{WritesLoad, IsLoadEnd, EndsCheck, WritesVerdict, NamesForm, CompletesCheck}
 use Rattle.adb_top.specs.Run.{WritesAnswers, EndsScript, NamesLine, CompletesScript}
 use Rattle.adb_top.specs.declared.status.Status.{Status}
-use Rattle.adb_top.specs.declared.status.Status.TheVariants.{Done, Usage, ReadFault, WriteFault, BadCapture, OutOfMemory, RecordFault, DoorFault, BadScript, Refused, BadAnswer, PortFault, TooLarge, Illegal}
+use Rattle.adb_top.specs.declared.status.Status.TheVariants.{Done, ReadFault, WriteFault, OutOfMemory}
 use Rattle.adb_top.proofs.Ends as ends
 use Rattle.adb_top.proofs.Kinds as kind_of
 use Rattle.adb_top.proofs.Statuses as by
@@ -38,9 +38,6 @@ module _ {A S K N : Type 0} (words : List (String A)) (status : Status) (s : Sig
     (writes : Counts k.steady k.faults sink sink_new (fails_sink end)) (tells : TellsCommand end status n note note_new) where
   abbrev None : Type 0
   None = NoneRose s k n source source_new sink sink_new note note_new
-
-  own : (other : Status) → other ≢ WriteFault → other ≢ OutOfMemory → status ≡ other → (notice_of end).status ≡ other
-  own other no_write no_memory is = ends.told_own (notice_of end) status other tells.own no_write no_memory is
 
   -- how an end is told that is told as another
   told : (like : CommandEnd) → notice_of end ≡ notice_of like → IsTold (notice_of like) status
@@ -168,16 +165,13 @@ module _ {A S K N : Type 0} (words : List (String A)) (status : Status) (s : Sig
         (λ e. unwritten none.write none.noted (Answered script_of.result) script_of.like
         (ap (λ (r : Result (Unit {0}) ScriptStop). (notice_of (Answered r)).status) e))
 
-  never : (other : Status) → other ≢ WriteFault → other ≢ OutOfMemory → (ends.IsOfCommands other → ⊥) → status ≢ other
-  never other no_write no_memory out = ends.never_told end status other tells.own no_write no_memory out
-
   pub runs_alone : ((seed streams : ℕ) → IsLoad seed streams words → IsPromised (made seed streams))
       → RunsAlone words status s k n source source_new sink sink_new note note_new
   runs_alone promised = record {
     notes = record { end = end; leaves = leaves; tells = tells };
     usage = λ none. kind_of.unheard words s k source source_new sink sink_new end status leaves tells.own none;
     untouched = λ none. kind_of.untouched words s k source source_new sink sink_new end leaves none;
-    command = λ is. ends.usage_words words s k source source_new sink sink_new end leaves (own Usage (λ e. cc) (λ e. cc) is);
+    command = by.of_usage words s k source source_new sink sink_new end status leaves tells.own;
     writes = run_writes;
     consumed = run_consumed;
     legal = λ is. (replay is).leaves.spells;
@@ -190,28 +184,23 @@ module _ {A S K N : Type 0} (words : List (String A)) (status : Status) (s : Sig
     promised = promised;
     judged = run_judged;
     ends_check = run_ends_check;
-    illegal = λ is. ends.illegal_words words s k source source_new sink sink_new end leaves (own Illegal (λ e. cc) (λ e. cc) is);
+    illegal = by.of_illegal words s k source source_new sink sink_new end status leaves tells.own;
     answers = λ seed is. run_answers kinds.Local (seed, is);
     copies = λ seed is. run_answers kinds.Copy (seed, is);
     ends_script = λ seed is. run_ends_script kinds.Local (seed, is);
     ends_copy = λ seed is. run_ends_script kinds.Copy (seed, is);
     within = λ seed is. (script_of kinds.Local (seed, is)).leaves.within;
     within_copy = λ seed is. (script_of kinds.Copy (seed, is)).leaves.within;
-    bad_capture = λ is. ends.bad_capture_words words s k source source_new sink sink_new end leaves (own BadCapture (λ e. cc) (λ e. cc) is);
-    bad_script = λ is. (ends.bad_script_words words s k source source_new sink sink_new end leaves (own BadScript (λ e. cc) (λ e. cc) is)).0;
-    unwritten = λ is. (ends.bad_script_words words s k source source_new sink sink_new end leaves (own BadScript (λ e. cc) (λ e. cc) is)).1;
-    serves = (never RecordFault (λ e. cc) (λ e. cc) (λ never. never), never DoorFault (λ e. cc) (λ e. cc) (λ never. never));
-    dials = (
-      never Refused (λ e. cc) (λ e. cc) (λ never. never),
-      never BadAnswer (λ e. cc) (λ e. cc) (λ never. never),
-      never PortFault (λ e. cc) (λ e. cc) (λ never. never),
-      never TooLarge (λ e. cc) (λ e. cc) (λ never. never),
-    );
+    bad_capture = by.of_bad_capture words s k source source_new sink sink_new end status leaves tells.own;
+    bad_script = λ is. (by.of_bad_script words s k source source_new sink sink_new end status leaves tells.own is).0;
+    unwritten = λ is. (by.of_bad_script words s k source source_new sink sink_new end status leaves tells.own is).1;
+    serves = by.never_serves words s k source source_new sink sink_new end status leaves tells.own;
+    dials = by.never_dials words s k source source_new sink sink_new end status leaves tells.own;
     names = run_names;
     names_form = run_names_form;
     names_line = λ seed is. run_names_line kinds.Local (seed, is);
     names_copied = λ seed is. run_names_line kinds.Copy (seed, is);
-    reads = λ is. ends.reading_words words s k source source_new sink sink_new end leaves (own ReadFault (λ e. cc) (λ e. cc) is);
+    reads = by.of_read_fault words s k source source_new sink sink_new end status leaves tells.own;
     read_fault = λ is. ends.read_rose s k n source source_new sink sink_new note note_new end status reads writes tells is;
     write_fault = λ is. ends.write_rose s k n source source_new sink sink_new note note_new end status reads writes tells is;
     source_stood = λ is. ends.source_stands s k n source source_new sink sink_new note note_new end status reads writes tells is;

@@ -1,12 +1,10 @@
 -- From the end of a command to its status.
 use Rattle.std.proofs.Common.{ℕ, ◌≡◌, ◌≢◌, ◌⊎◌, Bool, true, false, List, Option, Result, Ok, Err, refl, sym, ◌∙◌, subst, inl, inr}
-use Rattle.std.specs.Prelude.{String}
 use Rattle.adb_check.specs.declared.capture.Judgement.TheVariants as judged
 use Rattle.adb_outside.specs.Outside.{Counts}
 use Rattle.adb_replay.specs.declared.stop.Stop.TheVariants as stop
 use Rattle.adb_words.specs.declared.command.WordsError.TheVariants as unread
-use Rattle.adb_commands.specs.Ends.{CountsSource, Leaves, Sight, fails_sink}
-use Rattle.adb_commands.specs.Words.{IsNoCommand, IsReplay, IsCheck, IsScript}
+use Rattle.adb_commands.specs.Ends.{CountsSource, Sight, fails_sink}
 use Rattle.adb_commands.specs.declared.end.CommandEnd.{CommandEnd}
 use Rattle.adb_commands.specs.declared.end.CommandEnd.TheVariants.{NotRun, Replayed, Judged, Generated, Answered}
 use Rattle.adb_commands.specs.declared.load_stop.LoadStop.TheVariants as load
@@ -14,7 +12,7 @@ use Rattle.adb_commands.specs.declared.script_stop.ScriptStop.TheVariants as scr
 use Rattle.adb_top.specs.Commands.{Notice, notice_of, IsTold, TellsCommand}
 use Rattle.adb_top.specs.Faults.{Rose, Stood, IsFaultless}
 use Rattle.adb_top.specs.declared.status.Status.{Status}
-use Rattle.adb_top.specs.declared.status.Status.TheVariants.{Done, Usage, ReadFault, WriteFault, BadCapture, OutOfMemory, RecordFault, DoorFault, BadScript, Refused, BadAnswer, PortFault, TooLarge, Illegal}
+use Rattle.adb_top.specs.declared.status.Status.TheVariants.{Done, ReadFault, WriteFault, OutOfMemory}
 
 -- ---- how an end is told
 -- A status that is neither WriteFault nor OutOfMemory is the end's own.
@@ -52,77 +50,6 @@ told_lost end status (inr (inr unmade)) is = absurd (made_writes end is unmade.0
     made_writes (Judged (Ok (judged.Legal entries))) is made = cc
     made_writes (Generated (Err load.WriteFault)) is made = cc
     made_writes _ is made = cc
-
--- ---- which end a status has
--- the statuses of commands
-abbrev pub IsOfCommands : Status → Type 0
-IsOfCommands RecordFault = ⊥
-IsOfCommands DoorFault = ⊥
-IsOfCommands Refused = ⊥
-IsOfCommands BadAnswer = ⊥
-IsOfCommands PortFault = ⊥
-IsOfCommands TooLarge = ⊥
-IsOfCommands _ = Unit {0}
-
-of_commands : (end : CommandEnd) → IsOfCommands (notice_of end).status
-of_commands (NotRun unread.Usage) = tt
-of_commands (Replayed (Err stop.ReadFault)) = tt
-of_commands (Judged (Ok (judged.Legal entries))) = tt
-of_commands (Judged (Err stop.ReadFault)) = tt
-of_commands (Generated (Err load.WriteFault)) = tt
-of_commands (Answered (Err script.ReadFault)) = tt
-of_commands _ = tt
-
-pub never_told : (end : CommandEnd) (status other : Status) → IsTold (notice_of end) status → other ≢ WriteFault → other ≢ OutOfMemory
-    → (IsOfCommands other → ⊥) → status ≢ other
-never_told end status other told no_write no_memory never is =
-    never (subst IsOfCommands (told_own (notice_of end) status other told no_write no_memory is) (of_commands end))
-
-module _ {A S K : Type 0} (words : List (String A)) (s : Sight S) (k : Sight K) (source source_new : S) (sink sink_new : K) where
-  abbrev Left : CommandEnd → Type 0
-  Left end = Leaves words end s k source source_new sink sink_new
-
-  pub usage_words : (end : CommandEnd) → Left end → (notice_of end).status ≡ Usage → IsNoCommand words
-  usage_words (NotRun unread.Usage) leaves is = leaves.0
-  usage_words (Replayed (Err stop.ReadFault)) leaves is = cc
-  usage_words (Judged (Ok (judged.Legal entries))) leaves is = cc
-  usage_words (Judged (Err stop.ReadFault)) leaves is = cc
-  usage_words (Generated (Err load.WriteFault)) leaves is = cc
-  usage_words (Answered (Err script.ReadFault)) leaves is = cc
-  usage_words _ leaves is = cc
-
-  pub illegal_words : (end : CommandEnd) → Left end → (notice_of end).status ≡ Illegal → IsCheck words
-  illegal_words (Judged result) leaves is = leaves.0
-  illegal_words (NotRun unread.Usage) leaves is = cc
-  illegal_words (Replayed (Err stop.ReadFault)) leaves is = cc
-  illegal_words (Generated (Err load.WriteFault)) leaves is = cc
-  illegal_words (Answered (Err script.ReadFault)) leaves is = cc
-  illegal_words _ leaves is = cc
-
-  pub bad_capture_words : (end : CommandEnd) → Left end → (notice_of end).status ≡ BadCapture → IsReplay words ⊎ IsCheck words
-  bad_capture_words (Replayed result) leaves is = inl leaves.0
-  bad_capture_words (Judged result) leaves is = inr leaves.0
-  bad_capture_words (NotRun unread.Usage) leaves is = cc
-  bad_capture_words (Generated (Err load.WriteFault)) leaves is = cc
-  bad_capture_words (Answered (Err script.ReadFault)) leaves is = cc
-  bad_capture_words _ leaves is = cc
-
-  pub bad_script_words : (end : CommandEnd) → Left end → (notice_of end).status ≡ BadScript → IsScript words × (sink_new ≡ sink)
-  bad_script_words (Answered (Err (script.BadLine line))) leaves is = ((leaves.0, leaves.1), leaves.2.unwritten line refl)
-  bad_script_words (NotRun unread.Usage) leaves is = cc
-  bad_script_words (Replayed (Err stop.ReadFault)) leaves is = cc
-  bad_script_words (Judged (Ok (judged.Legal entries))) leaves is = cc
-  bad_script_words (Judged (Err stop.ReadFault)) leaves is = cc
-  bad_script_words (Generated (Err load.WriteFault)) leaves is = cc
-  bad_script_words _ leaves is = cc
-
-  pub reading_words : (end : CommandEnd) → Left end → (notice_of end).status ≡ ReadFault → IsReplay words ⊎ IsCheck words ⊎ IsScript words
-  reading_words (Replayed result) leaves is = inl leaves.0
-  reading_words (Judged result) leaves is = inr (inl leaves.0)
-  reading_words (Answered result) leaves is = inr (inr (leaves.0, leaves.1))
-  reading_words (NotRun unread.Usage) leaves is = cc
-  reading_words (Generated (Err load.WriteFault)) leaves is = cc
-  reading_words _ leaves is = cc
 
 -- ---- which counts rose
 module _ {S K N : Type 0} (s : Sight S) (k : Sight K) (n : Sight N) (source source_new : S) (sink sink_new : K) (note note_new : N) (end : CommandEnd) (status : Status)

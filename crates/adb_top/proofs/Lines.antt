@@ -6,9 +6,9 @@ use Rattle.adb_outside.specs.Bytes.{IsPrefixOf}
 use Rattle.adb_outside.specs.Sink.{gone_out, TellsWrite, is_failed_write}
 use Rattle.adb_outside.specs.declared.sink.Wrote.{Wrote}
 use Rattle.adb_outside.specs.declared.sink.Wrote.TheVariants.{All, Failed}
-use Rattle.adb_top.specs.Notes.{write_fault_line, IsJust, IsLine, HasTried, HasFailed, NotesBy, RisesTwice}
+use Rattle.adb_top.specs.Notes.{out_of_memory_line, write_fault_line, IsJust, IsLine, IsLineOr, HasTried, HasFailed, NotesBy, RisesTwice}
 use Rattle.adb_top.specs.declared.status.Status.{Status}
-use Rattle.adb_top.specs.declared.status.Status.TheVariants.{Done, Usage, ReadFault, WriteFault, BadCapture, OutOfMemory, RecordFault, DoorFault, BadScript, Refused, BadAnswer, PortFault, TooLarge, Illegal}
+use Rattle.adb_top.specs.declared.status.Status.TheVariants.{Done, WriteFault, OutOfMemory}
 
 -- what went out of a piece is a front of it
 gone_front : (piece : List ℕ) (wrote : Wrote) → IsPrefixOf (gone_out piece wrote) piece
@@ -19,19 +19,8 @@ gone_front piece (Failed taken) = (drop taken piece, take-append-drop taken piec
 pub line_said : (status : Status) (line had : List ℕ) (after : Option (List ℕ)) (hand : Status → List ℕ → Type 0) (rose again : Type 0)
     → IsLine status line → status ≢ WriteFault → after ≡ Some (had ++ line) → NotesBy status hand rose again had after
 line_said Done line had after hand rose again own other is = absurd own
-line_said Usage line had after hand rose again own other is = record { line = line; own = own; is = is }
-line_said ReadFault line had after hand rose again own other is = record { line = line; own = own; is = is }
 line_said WriteFault line had after hand rose again own other is = absurd (other refl)
-line_said BadCapture line had after hand rose again own other is = record { line = line; own = own; is = is }
-line_said OutOfMemory line had after hand rose again own other is = record { line = line; own = own; is = is }
-line_said RecordFault line had after hand rose again own other is = record { line = line; own = own; is = is }
-line_said DoorFault line had after hand rose again own other is = record { line = line; own = own; is = is }
-line_said BadScript line had after hand rose again own other is = record { line = line; own = own; is = is }
-line_said Refused line had after hand rose again own other is = record { line = line; own = own; is = is }
-line_said BadAnswer line had after hand rose again own other is = record { line = line; own = own; is = is }
-line_said PortFault line had after hand rose again own other is = record { line = line; own = own; is = is }
-line_said TooLarge line had after hand rose again own other is = record { line = line; own = own; is = is }
-line_said Illegal line had after hand rose again own other is = record { line = line; own = own; is = is }
+line_said _ line had after hand rose again own other is = record { line = line; own = own; is = is }
 
 -- The line of WriteFault was tried.
 last_told : (had : List ℕ) (last : Wrote) (after : Option (List ℕ)) (rose : Type 0) → (is_failed_write last ≡ true → rose)
@@ -81,9 +70,6 @@ rises_twice {y = y} first second e = record { mid = y; first = first.fault refl;
 pub notes_as : (hand other : Status → List ℕ → Type 0) → ((s : Status) (line : List ℕ) → hand s line → other s line)
     → (status : Status) (rose again : Type 0) (had : List ℕ) (after : Option (List ℕ)) → NotesBy status hand rose again had after
     → NotesBy status other rose again had after
-notes_as hand other on Done rose again had after n = n
-notes_as hand other on Usage rose again had after n = n
-notes_as hand other on ReadFault rose again had after n = n
 notes_as hand other on WriteFault rose again had after (inl n) = inl (on WriteFault write_fault_line n.0, n.1)
 notes_as hand other on WriteFault rose again had after (inr n) = inr (
   n.0,
@@ -98,19 +84,21 @@ notes_as hand other on WriteFault rose again had after (inr n) = inr (
     tried = n.1.tried;
   },
 )
-notes_as hand other on BadCapture rose again had after n = n
-notes_as hand other on OutOfMemory rose again had after n = n
-notes_as hand other on RecordFault rose again had after n = n
-notes_as hand other on DoorFault rose again had after n = n
-notes_as hand other on BadScript rose again had after n = n
-notes_as hand other on Refused rose again had after n = n
-notes_as hand other on BadAnswer rose again had after n = n
-notes_as hand other on PortFault rose again had after n = n
-notes_as hand other on TooLarge rose again had after n = n
-notes_as hand other on Illegal rose again had after n = n
+notes_as hand other on _ rose again had after n = n
 
 -- the line that alone is at hand may be at hand
 pub notes_of : (status : Status) (line : List ℕ) (hand : Status → List ℕ → Type 0) → hand status line → (ended : Status) (rose again : Type 0) (had : List ℕ)
     (after : Option (List ℕ)) → NotesBy ended (IsJust status line) rose again had after → NotesBy ended hand rose again had after
 notes_of status line hand comes ended rose again had after n = notes_as (IsJust status line) hand
     (λ s l is. subst (λ (t : Status). hand t l) (sym is.0) (subst (λ (k : List ℕ). hand status k) (sym is.1) comes)) ended rose again had after n
+
+-- ---- a line that is made in memory of its own
+pub made_said : (own : Status) (line text : List ℕ) → text ≡ line → (ended : Status) (rose again : Type 0) (had : List ℕ) (after : Option (List ℕ))
+    → NotesBy ended (IsJust own text) rose again had after → NotesBy ended (IsLineOr own line) rose again had after
+made_said own line text same ended rose again had after n = notes_of own text (IsLineOr own line) (inl (refl, same)) ended rose again had after n
+
+-- there was no memory for it
+pub made_starved : (own : Status) (line : List ℕ) (ended : Status) (rose again : Type 0) (had : List ℕ) (after : Option (List ℕ))
+    → NotesBy ended (IsJust OutOfMemory out_of_memory_line) rose again had after → NotesBy ended (IsLineOr own line) rose again had after
+made_starved own line ended rose again had after n =
+    notes_of OutOfMemory out_of_memory_line (IsLineOr own line) (inr (refl, refl)) ended rose again had after n

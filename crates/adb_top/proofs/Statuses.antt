@@ -1,6 +1,7 @@
 -- What the status of a run says, by how its command ended.
 use Rattle.std.proofs.Common.{ℕ, ◌≡◌, ◌≢◌, ◌⊎◌, true, false, List, [], ◌++◌, Option, Some, None, Result, Ok, Err, refl, sym, ◌∙◌, ap, subst, inl, inr}
 use Rattle.std.proofs.lemmas.List.{append-nil}
+use Rattle.std.specs.Prelude.{String}
 use Rattle.adb_check.proofs.Places.{no_legal}
 use Rattle.adb_check.specs.FirstBad.{IsFirstBad}
 use Rattle.adb_check.specs.Formed.{Formed, history_of}
@@ -16,11 +17,14 @@ use Rattle.adb_replay.specs.Replay.{EndsAs}
 use Rattle.adb_replay.specs.Replayed.{WritesText}
 use Rattle.adb_replay.specs.declared.stop.Stop.{Stop}
 use Rattle.adb_replay.specs.declared.stop.Stop.TheVariants as stop
+use Rattle.adb_words.specs.declared.command.WordsError.TheVariants as unread
 use Rattle.adb_commands.specs.Check.{LosesLine, JudgesSo, WritesSo, judged_line}
+use Rattle.adb_commands.specs.Ends.{Leaves, Sight}
 use Rattle.adb_commands.specs.Loads.{WritesLines}
 use Rattle.adb_commands.specs.Scripts.{AnswersAs, LosesLines, RefusesAs, StopsOut, first_bad}
+use Rattle.adb_commands.specs.Words.{IsNoCommand, IsReplay, IsCheck, IsScript}
 use Rattle.adb_commands.specs.declared.end.CommandEnd.{CommandEnd}
-use Rattle.adb_commands.specs.declared.end.CommandEnd.TheVariants.{Replayed, Judged, Generated, Answered}
+use Rattle.adb_commands.specs.declared.end.CommandEnd.TheVariants.{NotRun, Replayed, Judged, Generated, Answered}
 use Rattle.adb_commands.specs.declared.load_stop.LoadStop.{LoadStop}
 use Rattle.adb_commands.specs.declared.load_stop.LoadStop.TheVariants as load
 use Rattle.adb_commands.specs.declared.script_kind.ScriptKind.{ScriptKind}
@@ -31,7 +35,7 @@ use Rattle.adb_top.specs.Notes.{bad_capture_line, bad_script_line}
 use Rattle.adb_top.specs.Run.{WritesBy, EndsBy, IsNamed, CompletesBy, LoadBy, IsLoadEnd, EndsCheckBy, ChecksBy, IsFormNamed, CompletesCheckBy}
 use Rattle.adb_top.specs.Run.{AnswersBy, ScriptEndsBy, IsLineNamed, CompletesScriptBy}
 use Rattle.adb_top.specs.declared.status.Status.{Status}
-use Rattle.adb_top.specs.declared.status.Status.TheVariants.{Done, ReadFault, WriteFault, BadCapture, OutOfMemory, BadScript, Illegal}
+use Rattle.adb_top.specs.declared.status.Status.TheVariants.{Done, Usage, ReadFault, WriteFault, BadCapture, OutOfMemory, RecordFault, DoorFault, BadScript, Refused, BadAnswer, PortFault, TooLarge, Illegal}
 use Rattle.adb_top.proofs.Ends.{told_own, told_starved, told_lost}
 use Rattle.adb_top.proofs.Kinds.{none_out}
 
@@ -45,6 +49,110 @@ Own end = (notice_of end).status
 -- The status is the end's own, or that of a line for which there was no memory.
 abbrev pub IsWhole : CommandEnd → Status → Type 0
 IsWhole end status = (status ≡ Own end) ⊎ ((notice_of end).is_made ≡ true) × (status ≡ OutOfMemory)
+
+-- ---- which end a status has
+-- the statuses of commands
+abbrev IsOfCommands : Status → Type 0
+IsOfCommands RecordFault = ⊥
+IsOfCommands DoorFault = ⊥
+IsOfCommands Refused = ⊥
+IsOfCommands BadAnswer = ⊥
+IsOfCommands PortFault = ⊥
+IsOfCommands TooLarge = ⊥
+IsOfCommands _ = Unit {0}
+
+of_commands : (end : CommandEnd) → IsOfCommands (notice_of end).status
+of_commands (NotRun unread.Usage) = tt
+of_commands (Replayed (Err stop.ReadFault)) = tt
+of_commands (Judged (Ok (judged.Legal entries))) = tt
+of_commands (Judged (Err stop.ReadFault)) = tt
+of_commands (Generated (Err load.WriteFault)) = tt
+of_commands (Answered (Err script.ReadFault)) = tt
+of_commands _ = tt
+
+never_told : (end : CommandEnd) (status other : Status) → IsTold (notice_of end) status → other ≢ WriteFault → other ≢ OutOfMemory
+    → (IsOfCommands other → ⊥) → status ≢ other
+never_told end status other told no_write no_memory never is =
+    never (subst IsOfCommands (told_own (notice_of end) status other told no_write no_memory is) (of_commands end))
+
+module _ {A S K : Type 0} (words : List (String A)) (s : Sight S) (k : Sight K) (source source_new : S) (sink sink_new : K) where
+  abbrev Left : CommandEnd → Type 0
+  Left end = Leaves words end s k source source_new sink sink_new
+
+  usage_words : (end : CommandEnd) → Left end → (notice_of end).status ≡ Usage → IsNoCommand words
+  usage_words (NotRun unread.Usage) leaves is = leaves.0
+  usage_words (Replayed (Err stop.ReadFault)) leaves is = cc
+  usage_words (Judged (Ok (judged.Legal entries))) leaves is = cc
+  usage_words (Judged (Err stop.ReadFault)) leaves is = cc
+  usage_words (Generated (Err load.WriteFault)) leaves is = cc
+  usage_words (Answered (Err script.ReadFault)) leaves is = cc
+  usage_words _ leaves is = cc
+
+  illegal_words : (end : CommandEnd) → Left end → (notice_of end).status ≡ Illegal → IsCheck words
+  illegal_words (Judged result) leaves is = leaves.0
+  illegal_words (NotRun unread.Usage) leaves is = cc
+  illegal_words (Replayed (Err stop.ReadFault)) leaves is = cc
+  illegal_words (Generated (Err load.WriteFault)) leaves is = cc
+  illegal_words (Answered (Err script.ReadFault)) leaves is = cc
+  illegal_words _ leaves is = cc
+
+  bad_capture_words : (end : CommandEnd) → Left end → (notice_of end).status ≡ BadCapture → IsReplay words ⊎ IsCheck words
+  bad_capture_words (Replayed result) leaves is = inl leaves.0
+  bad_capture_words (Judged result) leaves is = inr leaves.0
+  bad_capture_words (NotRun unread.Usage) leaves is = cc
+  bad_capture_words (Generated (Err load.WriteFault)) leaves is = cc
+  bad_capture_words (Answered (Err script.ReadFault)) leaves is = cc
+  bad_capture_words _ leaves is = cc
+
+  bad_script_words : (end : CommandEnd) → Left end → (notice_of end).status ≡ BadScript → IsScript words × (sink_new ≡ sink)
+  bad_script_words (Answered (Err (script.BadLine line))) leaves is = ((leaves.0, leaves.1), leaves.2.unwritten line refl)
+  bad_script_words (NotRun unread.Usage) leaves is = cc
+  bad_script_words (Replayed (Err stop.ReadFault)) leaves is = cc
+  bad_script_words (Judged (Ok (judged.Legal entries))) leaves is = cc
+  bad_script_words (Judged (Err stop.ReadFault)) leaves is = cc
+  bad_script_words (Generated (Err load.WriteFault)) leaves is = cc
+  bad_script_words _ leaves is = cc
+
+  reading_words : (end : CommandEnd) → Left end → (notice_of end).status ≡ ReadFault → IsReplay words ⊎ IsCheck words ⊎ IsScript words
+  reading_words (Replayed result) leaves is = inl leaves.0
+  reading_words (Judged result) leaves is = inr (inl leaves.0)
+  reading_words (Answered result) leaves is = inr (inr (leaves.0, leaves.1))
+  reading_words (NotRun unread.Usage) leaves is = cc
+  reading_words (Generated (Err load.WriteFault)) leaves is = cc
+  reading_words _ leaves is = cc
+
+  module _ (end : CommandEnd) (status : Status) (leaves : Left end) (told : IsTold (notice_of end) status) where
+    own : (other : Status) → other ≢ WriteFault → other ≢ OutOfMemory → status ≡ other → (notice_of end).status ≡ other
+    own other no_write no_memory is = told_own (notice_of end) status other told no_write no_memory is
+
+    pub of_usage : status ≡ Usage → IsNoCommand words
+    of_usage is = usage_words end leaves (own Usage (λ e. cc) (λ e. cc) is)
+
+    pub of_illegal : status ≡ Illegal → IsCheck words
+    of_illegal is = illegal_words end leaves (own Illegal (λ e. cc) (λ e. cc) is)
+
+    pub of_bad_capture : status ≡ BadCapture → IsReplay words ⊎ IsCheck words
+    of_bad_capture is = bad_capture_words end leaves (own BadCapture (λ e. cc) (λ e. cc) is)
+
+    pub of_bad_script : status ≡ BadScript → IsScript words × (sink_new ≡ sink)
+    of_bad_script is = bad_script_words end leaves (own BadScript (λ e. cc) (λ e. cc) is)
+
+    pub of_read_fault : status ≡ ReadFault → IsReplay words ⊎ IsCheck words ⊎ IsScript words
+    of_read_fault is = reading_words end leaves (own ReadFault (λ e. cc) (λ e. cc) is)
+
+    never : (other : Status) → other ≢ WriteFault → other ≢ OutOfMemory → (IsOfCommands other → ⊥) → status ≢ other
+    never other no_write no_memory out = never_told end status other told no_write no_memory out
+
+    pub never_serves : (status ≢ RecordFault) × (status ≢ DoorFault)
+    never_serves = (never RecordFault (λ e. cc) (λ e. cc) (λ out. out), never DoorFault (λ e. cc) (λ e. cc) (λ out. out))
+
+    pub never_dials : (status ≢ Refused) × (status ≢ BadAnswer) × (status ≢ PortFault) × (status ≢ TooLarge)
+    never_dials = (
+      never Refused (λ e. cc) (λ e. cc) (λ out. out),
+      never BadAnswer (λ e. cc) (λ e. cc) (λ out. out),
+      never PortFault (λ e. cc) (λ e. cc) (λ out. out),
+      never TooLarge (λ e. cc) (λ e. cc) (λ out. out),
+    )
 
 -- ---- a replay
 replay_done : (result : Result (Unit {0}) Stop) → Own (Replayed result) ≡ Done → result ≡ Ok tt

@@ -1,7 +1,7 @@
 //! How a command ends.
 
 ghost use Rattle.std.specs.Prelude.{◌≡◌};
-ghost use Rattle.adb_top.specs.Status.{code_of};
+ghost use Rattle.adb_top.specs.Notes.{code_of};
 
 /// How a command ends.
 #[derive(Clone, Copy, Debug, PartialEq, Eq, Drop)]
