@@ -22,4 +22,3 @@ none_named (Some named) result told is = absurd (let clash : ◌≡◌ {A = Resu
   where
     other : ◌≢◌ {A = Result Command WordsError} result (Err words.OutOfMemory)
     other out = let clash : ◌≡◌ {A = Result Command WordsError} (Err words.Usage) (Err words.OutOfMemory) = sym is ∙ out in cc
-

@@ -56,7 +56,8 @@ module _ {A S K N : Type 0} (words : List (String A)) (status : Status) (s : Sig
   module _ (no_write : ¬ Rose k.faults sink sink_new) (no_note : ¬ Rose n.faults note note_new) where
     written : status ≢ WriteFault
     written is = elim (ends.write_rose s k n source source_new sink sink_new note note_new end status reads writes tells is) [
-      inl w ↦ no_write w | inr l ↦ no_note l
+      | inl w ↦ no_write w
+      | inr l ↦ no_note l
     ]
 
     unwritten : (like : CommandEnd) → notice_of end ≡ notice_of like → (notice_of like).status ≡ WriteFault → ⊥
@@ -168,7 +169,7 @@ module _ {A S K N : Type 0} (words : List (String A)) (status : Status) (s : Sig
   pub runs_alone : ((seed streams : ℕ) → IsLoad seed streams words → IsPromised (made seed streams))
       → RunsAlone words status s k n source source_new sink sink_new note note_new
   runs_alone promised = record {
-    notes = record { end = end; leaves = leaves; tells = tells };
+    notes = record { end = end; leaves = leaves; reads = reads; writes = writes; tells = tells };
     usage = λ none. kind_of.unheard words s k source source_new sink sink_new end status leaves tells.own none;
     untouched = λ none. kind_of.untouched words s k source source_new sink sink_new end leaves none;
     command = by.of_usage words s k source source_new sink sink_new end status leaves tells.own;

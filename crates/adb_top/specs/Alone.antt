@@ -1,7 +1,8 @@
 -- All that a run of the commands that neither serve nor dial promises, as one fact.
 use Rattle.std.specs.Prelude.{ℕ, ◌≡◌, ◌≢◌, ◌⊎◌, List, Option, String}
+use Rattle.adb_outside.specs.Outside.{Counts}
 use Rattle.adb_replay.specs.Kills.{StopsAtKill}
-use Rattle.adb_commands.specs.Ends.{Leaves, Sight}
+use Rattle.adb_commands.specs.Ends.{CountsSource, Leaves, Sight, fails_sink}
 use Rattle.adb_commands.specs.Loads.{IsPromised, made}
 use Rattle.adb_commands.specs.ScriptInput.{ReadsWithin}
 use Rattle.adb_commands.specs.Words.{IsNoCommand, IsReplay, IsCheck, IsLoad, IsLocal, IsCopy, IsScript}
@@ -21,11 +22,13 @@ pub record NoneRose {S K N : Type 0} (s : Sight S) (k : Sight K) (n : Sight N) (
   pub write : ¬ Rose k.faults sink sink_new
   pub noted : ¬ Rose n.faults note note_new
 
--- How a command ended, what that left, and what the note then has of it: its line is that of the end, and where the note failed a front of that very line.
+-- How a command ended, what that left, which streams failed, and what the note then has of it: the line of the end, or a prefix of it if the note failed.
 pub record EndsAlone {A S K N : Type 0} (words : List (String A)) (status : Status) (s : Sight S) (k : Sight K) (n : Sight N)
     (source source_new : S) (sink sink_new : K) (note note_new : N) : Type 0 where
   pub end : CommandEnd
   pub leaves : Leaves words end s k source source_new sink sink_new
+  pub reads : CountsSource end (Counts s.steady s.faults source source_new)
+  pub writes : Counts k.steady k.faults sink sink_new (fails_sink end)
   pub tells : TellsCommand end status n note note_new
 
 -- Each field is a promise of `run_alone`.

@@ -11,9 +11,7 @@ ghost use Rattle.adb_top.specs.Commands.{script_notice, stop_notice, words_notic
 ghost use Rattle.adb_top.specs.Faults.{tells_write_fault};
 ghost use Rattle.adb_top.specs.Notes.{IsLineOr, WritesNote, bad_capture_line, bad_script_line};
 
-use crate::note::{
-    say, say_illegal, say_lost_line, say_out_of_memory, say_read_fault, say_usage,
-};
+use crate::note::{say, say_illegal, say_lost_line, say_out_of_memory, say_read_fault, say_usage};
 use crate::status::Status;
 use adb_check::Judgement;
 use adb_commands::{CommandEnd, LoadStop, ScriptStop, push_number};

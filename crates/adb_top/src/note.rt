@@ -27,7 +27,7 @@ pub fn say_usage<N: Sink>(note: &mut N) -> Status
 }
 
 /// Tells the note that the source failed.
-pub fn say_read_fault<N: Sink>(note: &mut N) -> Status
+pub(crate) fn say_read_fault<N: Sink>(note: &mut N) -> Status
     ensures status { (result ≡ Status.ReadFault) ⊎ (result ≡ Status.WriteFault) }
     ensures told { WritesNote result (IsJust Status.ReadFault read_fault_line)
         N.faults N.written note.old note.new }
@@ -47,7 +47,7 @@ pub fn say_out_of_memory<N: Sink>(note: &mut N) -> Status
 }
 
 /// Tells the note that a history is not legal.
-pub fn say_illegal<N: Sink>(note: &mut N) -> Status
+pub(crate) fn say_illegal<N: Sink>(note: &mut N) -> Status
     ensures status { (result ≡ Status.Illegal) ⊎ (result ≡ Status.WriteFault) }
     ensures told { WritesNote result (IsJust Status.Illegal illegal_history_line)
         N.faults N.written note.old note.new }
@@ -67,7 +67,7 @@ pub fn say_record_fault<N: Sink>(note: &mut N) -> Status
 }
 
 /// Tells the note that a port could not be listened on, or that its door failed.
-pub fn say_door_fault<N: Sink>(note: &mut N) -> Status
+pub(crate) fn say_door_fault<N: Sink>(note: &mut N) -> Status
     ensures status { (result ≡ Status.DoorFault) ⊎ (result ≡ Status.WriteFault) }
     ensures told { WritesNote result (IsJust Status.DoorFault door_fault_line)
         N.faults N.written note.old note.new }
@@ -77,7 +77,7 @@ pub fn say_door_fault<N: Sink>(note: &mut N) -> Status
 }
 
 /// Tries the line of WriteFault, once, behind a line that could not be written.
-pub fn say_lost_line<N: Sink>(note: &mut N) -> Status
+pub(crate) fn say_lost_line<N: Sink>(note: &mut N) -> Status
     ensures status { result ≡ Status.WriteFault }
     ensures told { WritesNote result (IsJust Status.WriteFault write_fault_line)
         N.faults N.written note.old note.new }

@@ -1,12 +1,12 @@
-//! How a command ends.
+//! The status of a run, and its exit code.
 
 ghost use Rattle.std.specs.Prelude.{◌≡◌};
 ghost use Rattle.adb_top.specs.Notes.{code_of};
 
-/// How a command ends.
+/// The status of a run: of a command that neither serves nor dials, a server, or a client tool.
 #[derive(Clone, Copy, Debug, PartialEq, Eq, Drop)]
 pub enum Status {
-    /// All was done: the source was read to its end, or to the record that holds a kill.
+    /// The run did all that it has to do.
     Done,
     /// The words are no command. Nothing was read.
     Usage,
@@ -16,23 +16,23 @@ pub enum Status {
     WriteFault,
     /// The capture is refused.
     BadCapture,
-    /// Memory ran out.
+    /// An allocation failed.
     OutOfMemory,
-    /// What keeps the history of a server failed.
+    /// The recorder of a server failed.
     RecordFault,
     /// The port of a server could not be listened on, or its door failed.
     DoorFault,
     /// A line of the script is refused.
     BadScript,
-    /// A server refused what a client tool asked for.
+    /// The server refused what a client tool asked for.
     Refused,
-    /// A server's answer is none that a client tool may be given.
+    /// The server's answer is none that a client tool may be given.
     BadAnswer,
-    /// A server could not be dialled, or the connection to it failed.
+    /// The server could not be dialled, or the connection to it failed.
     PortFault,
-    /// What a client tool is to push is more than it takes.
+    /// The input of a push is larger than a client tool sends.
     TooLarge,
-    /// The history that was to be judged is not legal.
+    /// The history that was judged is not legal.
     Illegal,
 }
 

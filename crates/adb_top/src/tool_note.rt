@@ -15,7 +15,7 @@ use adb_outside::{Sink, Text, Wrote};
 use std::alloc::{AllocError, Global};
 
 /// Tells the note that a server refused what was asked, with its text as it is to be shown.
-pub fn say_refused<N: Sink>(alloc: Global, note: &mut N, shown: &[u8]) -> Status
+pub(crate) fn say_refused<N: Sink>(alloc: Global, note: &mut N, shown: &[u8]) -> Status
     ensures status { (result ≡ Status.Refused) ⊎ (result ≡ Status.OutOfMemory)
         ⊎ (result ≡ Status.WriteFault) }
     ensures told { WritesNote result (IsLineOr Status.Refused (refused_line shown.now))
@@ -31,7 +31,7 @@ pub fn say_refused<N: Sink>(alloc: Global, note: &mut N, shown: &[u8]) -> Status
 }
 
 /// Tells the note which byte of a server's answer may not stand there.
-pub fn say_bad_answer<N: Sink>(alloc: Global, note: &mut N, offset: u64) -> Status
+pub(crate) fn say_bad_answer<N: Sink>(alloc: Global, note: &mut N, offset: u64) -> Status
     ensures status { (result ≡ Status.BadAnswer) ⊎ (result ≡ Status.OutOfMemory)
         ⊎ (result ≡ Status.WriteFault) }
     ensures told { WritesNote result (IsLineOr Status.BadAnswer (bad_answer_line offset))
@@ -47,7 +47,7 @@ pub fn say_bad_answer<N: Sink>(alloc: Global, note: &mut N, offset: u64) -> Stat
 }
 
 /// Tells the note that a server could not be dialled, or that the connection failed.
-pub fn say_port_fault<N: Sink>(note: &mut N) -> Status
+pub(crate) fn say_port_fault<N: Sink>(note: &mut N) -> Status
     ensures status { (result ≡ Status.PortFault) ⊎ (result ≡ Status.WriteFault) }
     ensures told { WritesNote result (IsJust Status.PortFault port_fault_line)
         N.faults N.written note.old note.new }
@@ -57,7 +57,7 @@ pub fn say_port_fault<N: Sink>(note: &mut N) -> Status
 }
 
 /// Tells the note that what was to be pushed is too large.
-pub fn say_too_large<N: Sink>(note: &mut N) -> Status
+pub(crate) fn say_too_large<N: Sink>(note: &mut N) -> Status
     ensures status { (result ≡ Status.TooLarge) ⊎ (result ≡ Status.WriteFault) }
     ensures told { WritesNote result (IsJust Status.TooLarge too_large_line)
         N.faults N.written note.old note.new }
