@@ -4,7 +4,7 @@ use Rattle.adb_outside.specs.Outside.{Counts}
 use Rattle.adb_outside.specs.Sink.{TellsWrite}
 use Rattle.adb_outside.specs.declared.sink.Wrote.TheVariants.{All}
 use Rattle.adb_commands.specs.Ends.{Sight}
-use Rattle.adb_top.specs.Commands.{IsAtHand, IsTold, Tells, fixed, made}
+use Rattle.adb_top.specs.Commands.{IsAtHand, IsTold, TellsNotice, fixed, made}
 use Rattle.adb_top.specs.Faults.{tells_write_fault}
 use Rattle.adb_top.specs.Notes.{out_of_memory_line, write_fault_line, IsJust, IsLineOr, WritesNote}
 use Rattle.adb_top.specs.declared.status.Status.{Status}
@@ -27,7 +27,7 @@ module _ {N : Type 0} (own status : Status) (line : List ℕ) (n : Sight N) (not
 
   -- a line that is always the same
   pub fixed_told : (lost : Bool) → own ≢ Done → (status ≡ own) ⊎ (status ≡ WriteFault) → Written (IsJust own line) → Counted
-      → Tells (fixed own line) lost status n note note_new
+      → TellsNotice (fixed own line) lost status n note note_new
   fixed_told lost some ends written counts = record {
     own = told ends;
     notes = λ had has. notes_as (IsJust own line) (IsAtHand (fixed own line)) (λ s l is. inl is) status _ _ had (n.told note_new) (written had has);
@@ -43,7 +43,7 @@ module _ {N : Type 0} (own status : Status) (line : List ℕ) (n : Sight N) (not
 
   -- a line that is made
   pub made_told : (lost : Bool) → own ≢ Done → (status ≡ own) ⊎ (status ≡ OutOfMemory) ⊎ (status ≡ WriteFault) → Written (IsLineOr own line)
-      → (status ≡ own → TellsWrite (n.told note) (n.told note_new) line All) → Counted → Tells (made own line) lost status n note note_new
+      → (status ≡ own → TellsWrite (n.told note) (n.told note_new) line All) → Counted → TellsNotice (made own line) lost status n note note_new
   made_told lost some ends written shows counts = record {
     own = told ends;
     notes = λ had has. notes_as (IsLineOr own line) (IsAtHand (made own line)) hand status _ _ had (n.told note_new) (written had has);
@@ -65,7 +65,7 @@ module _ {N : Type 0} (own status : Status) (line : List ℕ) (n : Sight N) (not
 -- the line of a sink that failed
 pub lost_line_told : {N : Type 0} (status : Status) (n : Sight N) (note note_new : N) → status ≡ WriteFault
     → WritesNote status (IsJust WriteFault write_fault_line) n.faults n.told note note_new
-    → Tells (fixed WriteFault write_fault_line) true status n note note_new
+    → TellsNotice (fixed WriteFault write_fault_line) true status n note note_new
 lost_line_told status n note note_new is written = record {
   own = inl is;
   notes = λ had has. notes_as (IsJust WriteFault write_fault_line) (IsAtHand (fixed WriteFault write_fault_line)) (λ s l same. inl same) status _ _ had

@@ -1,5 +1,6 @@
 -- What the status of a run says, by how its command ended.
-use Rattle.std.proofs.Common.{ℕ, ◌≡◌, ◌≢◌, ◌⊎◌, true, false, List, [], ◌++◌, Option, Some, None, Result, Ok, Err, refl, sym, ◌∙◌, ap, subst, inl, inr}
+use Rattle.std.proofs.Common.{ℕ, ◌≡◌, ◌≢◌, ◌⊎◌, true, false, List, [], ◌++◌, Option, Some, None, Result, Ok, Err, refl, sym, ◌∙◌, ap, subst}
+use Rattle.std.proofs.Common.{inl, inr}
 use Rattle.std.proofs.lemmas.List.{append-nil}
 use Rattle.std.specs.Prelude.{String}
 use Rattle.adb_check.proofs.Places.{no_legal}
@@ -32,10 +33,12 @@ use Rattle.adb_commands.specs.declared.script_stop.ScriptStop.{ScriptStop}
 use Rattle.adb_commands.specs.declared.script_stop.ScriptStop.TheVariants as script
 use Rattle.adb_top.specs.Commands.{Notice, notice_of, IsTold}
 use Rattle.adb_top.specs.Notes.{bad_capture_line, bad_script_line}
-use Rattle.adb_top.specs.Run.{WritesBy, EndsBy, IsNamed, CompletesBy, LoadBy, IsLoadEnd, EndsCheckBy, ChecksBy, IsFormNamed, CompletesCheckBy}
+use Rattle.adb_top.specs.Run.{WritesBy, EndsBy, IsNamed, CompletesBy, LoadBy, IsLoadEnd, EndsCheckBy, ChecksBy, IsFormNamed}
+use Rattle.adb_top.specs.Run.{CompletesCheckBy}
 use Rattle.adb_top.specs.Run.{AnswersBy, ScriptEndsBy, IsLineNamed, CompletesScriptBy}
 use Rattle.adb_top.specs.declared.status.Status.{Status}
-use Rattle.adb_top.specs.declared.status.Status.TheVariants.{Done, Usage, ReadFault, WriteFault, BadCapture, OutOfMemory, RecordFault, DoorFault, BadScript, Refused, BadAnswer, PortFault, TooLarge, Illegal}
+use Rattle.adb_top.specs.declared.status.Status.TheVariants.{Done, Usage, ReadFault, WriteFault, BadCapture, OutOfMemory, RecordFault}
+use Rattle.adb_top.specs.declared.status.Status.TheVariants.{DoorFault, BadScript, Refused, BadAnswer, PortFault, TooLarge, Illegal}
 use Rattle.adb_top.proofs.Ends.{told_own, told_starved, told_lost}
 use Rattle.adb_top.proofs.Kinds.{none_out}
 

@@ -14,7 +14,8 @@ use Rattle.adb_top.specs.Run.{IsUnheard, WritesHistory, WritesRead, WritesLegal,
 use Rattle.adb_top.specs.Run.{WritesLoad, IsLoadEnd, EndsCheck, WritesVerdict, NamesForm, CompletesCheck}
 use Rattle.adb_top.specs.Run.{WritesAnswers, EndsScript, NamesLine, CompletesScript}
 use Rattle.adb_top.specs.declared.status.Status.{Status}
-use Rattle.adb_top.specs.declared.status.Status.TheVariants.{Done, Usage, ReadFault, WriteFault, BadCapture, OutOfMemory, RecordFault, DoorFault, BadScript, Refused, BadAnswer, PortFault, TooLarge, Illegal}
+use Rattle.adb_top.specs.declared.status.Status.TheVariants.{Done, Usage, ReadFault, WriteFault, BadCapture, OutOfMemory, RecordFault}
+use Rattle.adb_top.specs.declared.status.Status.TheVariants.{DoorFault, BadScript, Refused, BadAnswer, PortFault, TooLarge, Illegal}
 
 -- No count rose.
 pub record NoneRose {S K N : Type 0} (s : Sight S) (k : Sight K) (n : Sight N) (source source_new : S) (sink sink_new : K) (note note_new : N) : Type 0 where

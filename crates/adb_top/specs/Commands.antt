@@ -16,10 +16,12 @@ use Rattle.adb_commands.specs.declared.load_stop.LoadStop.TheVariants as load
 use Rattle.adb_commands.specs.declared.script_stop.ScriptStop.{ScriptStop}
 use Rattle.adb_commands.specs.declared.script_stop.ScriptStop.TheVariants as script
 use Rattle.adb_top.specs.Faults.{Rose, Stood}
-use Rattle.adb_top.specs.Notes.{usage_line, read_fault_line, write_fault_line, out_of_memory_line, illegal_history_line, bad_capture_line, bad_script_line}
+use Rattle.adb_top.specs.Notes.{usage_line, read_fault_line, write_fault_line, out_of_memory_line, illegal_history_line, bad_capture_line}
+use Rattle.adb_top.specs.Notes.{bad_script_line}
 use Rattle.adb_top.specs.Notes.{IsJust, WritesNote}
 use Rattle.adb_top.specs.declared.status.Status.{Status}
-use Rattle.adb_top.specs.declared.status.Status.TheVariants.{Done, Usage, ReadFault, WriteFault, BadCapture, OutOfMemory, BadScript, Illegal}
+use Rattle.adb_top.specs.declared.status.Status.TheVariants.{Done, Usage, ReadFault, WriteFault, BadCapture, OutOfMemory, BadScript}
+use Rattle.adb_top.specs.declared.status.Status.TheVariants.{Illegal}
 
 -- ---- what is told of an end: its status, the line of the note, and whether that is made in memory of its own
 pub record Notice : Type 0 where
@@ -86,7 +88,7 @@ IsAtHand notice status line = IsJust notice.status notice.line status line ⊎ (
 
 -- The note has the line, and the status is told so. The note failed only if the status is WriteFault, unless the sink had failed before, and never if it never
 -- fails.
-pub record Tells {N : Type 0} (notice : Notice) (lost : Bool) (status : Status) (n : Sight N) (note note_new : N) : Type 0 where
+pub record TellsNotice {N : Type 0} (notice : Notice) (lost : Bool) (status : Status) (n : Sight N) (note note_new : N) : Type 0 where
   pub own : IsTold notice status
   pub notes : WritesNote status (IsAtHand notice) n.faults n.told note note_new
   pub shows : notice.is_made ≡ true → status ≡ notice.status → TellsWrite (n.told note) (n.told note_new) notice.line All
@@ -95,4 +97,4 @@ pub record Tells {N : Type 0} (notice : Notice) (lost : Bool) (status : Status) 
   pub steady : n.steady note → status ≡ WriteFault → lost ≡ true
 
 abbrev pub TellsCommand : {N : Type 0} → CommandEnd → Status → Sight N → N → N → Type 0
-TellsCommand end status n note note_new = Tells (notice_of end) (fails_sink end) status n note note_new
+TellsCommand end status n note note_new = TellsNotice (notice_of end) (fails_sink end) status n note note_new

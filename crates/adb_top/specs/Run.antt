@@ -18,7 +18,8 @@ use Rattle.adb_commands.specs.declared.script_kind.ScriptKind.{ScriptKind}
 use Rattle.adb_commands.specs.declared.script_stop.ScriptStop.TheVariants as stop
 use Rattle.adb_top.specs.Notes.{bad_capture_line, bad_script_line}
 use Rattle.adb_top.specs.declared.status.Status.{Status}
-use Rattle.adb_top.specs.declared.status.Status.TheVariants.{Done, Usage, ReadFault, WriteFault, BadCapture, OutOfMemory, BadScript, Illegal}
+use Rattle.adb_top.specs.declared.status.Status.TheVariants.{Done, Usage, ReadFault, WriteFault, BadCapture, OutOfMemory, BadScript}
+use Rattle.adb_top.specs.declared.status.Status.TheVariants.{Illegal}
 
 -- The words are no command, or the note failed, or memory ran out over them, where the first is a command's name.
 abbrev pub IsUnheard : {A : Type 0} → List (String A) → Status → Type 0

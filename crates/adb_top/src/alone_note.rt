@@ -6,7 +6,7 @@ ghost use Rattle.adb_outside.specs.Sink.{TellsWrite};
 ghost use Rattle.adb_replay.specs.Keeping.{is_write_fault};
 ghost use Rattle.adb_commands.specs.Loads.{loses_load};
 ghost use Rattle.adb_commands.specs.ScriptStop.{is_write_stop};
-ghost use Rattle.adb_top.specs.Commands.{Tells, TellsCommand, judgement_notice, load_notice};
+ghost use Rattle.adb_top.specs.Commands.{TellsNotice, TellsCommand, judgement_notice, load_notice};
 ghost use Rattle.adb_top.specs.Commands.{script_notice, stop_notice, words_notice};
 ghost use Rattle.adb_top.specs.Faults.{tells_write_fault};
 ghost use Rattle.adb_top.specs.Notes.{IsLineOr, WritesNote, bad_capture_line, bad_script_line};
@@ -41,7 +41,7 @@ pub(crate) fn say_command<N: Sink>(alloc: Global, note: &mut N, end: CommandEnd)
 
 /// Writes the line that says why the words are no command that was run.
 fn say_words_error<N: Sink>(note: &mut N, error: WordsError) -> Status
-    ensures { Tells (words_notice error) false result
+    ensures { TellsNotice (words_notice error) false result
         (record { told = N.written; faults = N.faults; steady = N.steady }) note.old note.new }
 {
     match error {
@@ -52,7 +52,7 @@ fn say_words_error<N: Sink>(note: &mut N, error: WordsError) -> Status
 
 /// Writes the line of a history that is not legal.
 fn say_judgement<N: Sink>(note: &mut N, judgement: Judgement) -> Status
-    ensures { Tells (judgement_notice judgement) false result
+    ensures { TellsNotice (judgement_notice judgement) false result
         (record { told = N.written; faults = N.faults; steady = N.steady }) note.old note.new }
 {
     match judgement {
@@ -63,7 +63,7 @@ fn say_judgement<N: Sink>(note: &mut N, judgement: Judgement) -> Status
 
 /// Writes the line that says why a command stopped.
 fn say_stop<N: Sink>(alloc: Global, note: &mut N, stop: Stop) -> Status
-    ensures { Tells (stop_notice stop) (is_write_fault (Err stop)) result
+    ensures { TellsNotice (stop_notice stop) (is_write_fault (Err stop)) result
         (record { told = N.written; faults = N.faults; steady = N.steady }) note.old note.new }
 {
     match stop {
@@ -76,7 +76,7 @@ fn say_stop<N: Sink>(alloc: Global, note: &mut N, stop: Stop) -> Status
 
 /// Writes the line that says why the lines of a load were not written.
 fn say_load_stop<N: Sink>(note: &mut N, stop: LoadStop) -> Status
-    ensures { Tells (load_notice stop) (loses_load (Err stop)) result
+    ensures { TellsNotice (load_notice stop) (loses_load (Err stop)) result
         (record { told = N.written; faults = N.faults; steady = N.steady }) note.old note.new }
 {
     match stop {
@@ -87,7 +87,7 @@ fn say_load_stop<N: Sink>(note: &mut N, stop: LoadStop) -> Status
 
 /// Writes the line that says why a script was not answered.
 fn say_script_stop<N: Sink>(alloc: Global, note: &mut N, stop: ScriptStop) -> Status
-    ensures { Tells (script_notice stop) (is_write_stop stop) result
+    ensures { TellsNotice (script_notice stop) (is_write_stop stop) result
         (record { told = N.written; faults = N.faults; steady = N.steady }) note.old note.new }
 {
     match stop {
@@ -128,7 +128,7 @@ fn refusal_line(alloc: Global, refusal: Refusal) -> Result<Text, AllocError>
     Ok(line)
 }
 
-/// Tells the note which line of a script is refused.
+/// Writes the line that names the refused line of a script.
 fn say_bad_script<N: Sink>(alloc: Global, note: &mut N, line: u32) -> Status
     ensures status { (result ≡ Status.BadScript) ⊎ (result ≡ Status.OutOfMemory)
         ⊎ (result ≡ Status.WriteFault) }
