@@ -45,7 +45,8 @@ module _ {A S K N : Type 0} (words : List (String A)) (status : Status) (s : Sig
 
   shows : (like : CommandEnd) → notice_of end ≡ notice_of like → (notice_of like).is_made ≡ true → status ≡ (notice_of like).status
       → TellsWrite (n.told note) (n.told note_new) (notice_of like).line All
-  shows like same = subst (λ (notice : Notice). notice.is_made ≡ true → status ≡ notice.status → TellsWrite (n.told note) (n.told note_new) notice.line All) same
+  shows like same = subst
+      (λ (notice : Notice). notice.is_made ≡ true → status ≡ notice.status → TellsWrite (n.told note) (n.told note_new) notice.line All) same
       tells.shows
 
   -- a fault that the end names comes with a count that rose

@@ -52,7 +52,8 @@ told_lost end status (inr (inr unmade)) is = absurd (made_writes end is unmade.0
     made_writes _ is made = cc
 
 -- ---- which counts rose
-module _ {S K N : Type 0} (s : Sight S) (k : Sight K) (n : Sight N) (source source_new : S) (sink sink_new : K) (note note_new : N) (end : CommandEnd) (status : Status)
+module _ {S K N : Type 0} (s : Sight S) (k : Sight K) (n : Sight N) (source source_new : S) (sink sink_new : K) (note note_new : N)
+    (end : CommandEnd) (status : Status)
     (reads : CountsSource end (Counts s.steady s.faults source source_new)) (writes : Counts k.steady k.faults sink sink_new (fails_sink end))
     (tells : TellsCommand end status n note note_new) where
   abbrev Reads : CommandEnd → Type 0

@@ -53,7 +53,8 @@ one_kind kinds.Local kinds.Copy words is is_other =
 one_kind kinds.Copy kinds.Local words is is_other =
     absurd (let clash : Copy is.0 ≡ Local is_other.0 = one_command words (Copy is.0) (Local is_other.0) is.1 is_other.1 in cc)
 
-other_kind : {A : Type 0} (kind : ScriptKind) (words : List (String A)) (command : Command) → ((seed : ℕ) → command ≢ Local seed) → ((seed : ℕ) → command ≢ Copy seed)
+other_kind : {A : Type 0} (kind : ScriptKind) (words : List (String A)) (command : Command) → ((seed : ℕ) → command ≢ Local seed)
+    → ((seed : ℕ) → command ≢ Copy seed)
     → IsOfKind kind words → command_of (texts words) ≡ Some command → ⊥
 other_kind kinds.Local words command local copy is named = local is.0 (one_command words command (Local is.0) named is.1)
 other_kind kinds.Copy words command local copy is named = copy is.0 (one_command words command (Copy is.0) named is.1)
@@ -150,7 +151,8 @@ module _ {A S K : Type 0} (words : List (String A)) (s : Sight S) (k : Sight K) 
     pub like : ToldAs end (Answered result)
     pub leaves : LeavesScript s k source source_new sink sink_new kind result
 
-  starved_script : (kind : ScriptKind) → (source_new ≡ source) → (sink_new ≡ sink) → LeavesScript s k source source_new sink sink_new kind (Err script.OutOfMemory)
+  starved_script : (kind : ScriptKind) → (source_new ≡ source) → (sink_new ≡ sink)
+      → LeavesScript s k source source_new sink sink_new kind (Err script.OutOfMemory)
   starved_script kind unread unwritten = record {
     refuses = λ bytes was. tt;
     writes = λ bytes had was has. ap k.told unwritten ∙ has;

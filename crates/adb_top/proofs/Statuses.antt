@@ -171,7 +171,8 @@ replay_read : (result : Result (Unit {0}) Stop) → Own (Replayed result) ≡ Re
 replay_read (Err stop.ReadFault) is = refl
 replay_read _ is = cc
 
-replay_front : (result : Result (Unit {0}) Stop) (text had : List ℕ) (written : Option (List ℕ)) → WritesText result text had written → HasFront had text written
+replay_front : (result : Result (Unit {0}) Stop) (text had : List ℕ) (written : Option (List ℕ)) → WritesText result text had written
+    → HasFront had text written
 replay_front (Ok done) text had written w = all_out text had written w
 replay_front (Err (stop.Refused why)) text had written w = all_out text had written w
 replay_front _ text had written w = w
@@ -228,7 +229,8 @@ completes_by (Err stop.OutOfMemory) status a left (inl own) ends reads writes = 
 completes_by (Err (stop.Refused why)) status a left (inl own) ends reads writes = subst (λ (r : Option Refusal). CompletesBy status r) (sym ends) (inl own)
 
 -- ---- a load
-load_front : (result : Result (Unit {0}) LoadStop) (text had : List ℕ) (written : Option (List ℕ)) → WritesLines result text had written → HasFront had text written
+load_front : (result : Result (Unit {0}) LoadStop) (text had : List ℕ) (written : Option (List ℕ)) → WritesLines result text had written
+    → HasFront had text written
 load_front (Ok done) text had written w = all_out text had written w
 load_front (Err load.WriteFault) text had written w = w
 load_front (Err load.OutOfMemory) text had written w = none_out text had written w
@@ -246,8 +248,8 @@ load_starved (Ok done) (inr is) = cc
 load_starved (Err load.WriteFault) (inl is) = cc
 load_starved (Err load.WriteFault) (inr is) = cc
 
-pub load_by : (result : Result (Unit {0}) LoadStop) (status : Status) (text had : List ℕ) (written : Option (List ℕ)) → IsTold (notice_of (Generated result)) status
-    → WritesLines result text had written → LoadBy status text had written
+pub load_by : (result : Result (Unit {0}) LoadStop) (status : Status) (text had : List ℕ) (written : Option (List ℕ))
+    → IsTold (notice_of (Generated result)) status → WritesLines result text had written → LoadBy status text had written
 load_by result status text had written told w = record {
   done = λ is. subst (λ (r : Result (Unit {0}) LoadStop). WritesLines r text had written)
       (load_done result (told_own (notice_of (Generated result)) status Done told (λ e. cc) (λ e. cc) is)) w;
