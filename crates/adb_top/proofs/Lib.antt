@@ -1,8 +1,8 @@
 pub mod Lines
 pub mod Notices
 pub mod Ends
-pub mod Kinds
+pub mod ByCommand
 pub mod Statuses
-pub mod Alone
+pub mod Promises
 pub mod Served
 pub mod Calls

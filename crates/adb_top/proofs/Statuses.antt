@@ -40,7 +40,7 @@ use Rattle.adb_top.specs.declared.status.Status.{Status}
 use Rattle.adb_top.specs.declared.status.Status.TheVariants.{Done, Usage, ReadFault, WriteFault, BadCapture, OutOfMemory, RecordFault}
 use Rattle.adb_top.specs.declared.status.Status.TheVariants.{DoorFault, BadScript, Refused, BadAnswer, PortFault, TooLarge, Illegal}
 use Rattle.adb_top.proofs.Ends.{told_own, told_starved, told_lost}
-use Rattle.adb_top.proofs.Kinds.{none_out}
+use Rattle.adb_top.proofs.ByCommand.{none_out}
 
 -- all of a text is a front of it
 all_out : (text had : List ℕ) (written : Option (List ℕ)) → written ≡ Some (had ++ text) → HasFront had text written

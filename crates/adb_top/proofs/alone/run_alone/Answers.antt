@@ -1,4 +1,4 @@
-use Rattle.adb_top.proofs.Alone.{runs_alone}
+use Rattle.adb_top.proofs.Promises.{runs_alone}
 use Rattle.adb_top.proofs.alone.run_alone.Goals as goal
 
 pub returns : goal.returns

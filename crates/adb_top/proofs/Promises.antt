@@ -29,7 +29,7 @@ use Rattle.adb_top.specs.Run.{WritesAnswers, EndsScript, NamesLine, CompletesScr
 use Rattle.adb_top.specs.declared.status.Status.{Status}
 use Rattle.adb_top.specs.declared.status.Status.TheVariants.{Done, ReadFault, WriteFault, OutOfMemory}
 use Rattle.adb_top.proofs.Ends as ends
-use Rattle.adb_top.proofs.Kinds as kind_of
+use Rattle.adb_top.proofs.ByCommand as kind_of
 use Rattle.adb_top.proofs.Statuses as by
 
 module _ {A S K N : Type 0} (words : List (String A)) (status : Status) (s : Sight S) (k : Sight K) (n : Sight N)
