@@ -1,11 +1,10 @@
 -- The ends of each command, by the words.
-use Rattle.std.proofs.Common.{ℕ, ◌≡◌, ◌≢◌, ◌⊎◌, true, false, List, [], ◌++◌, Option, Some, None, Result, Ok, Err, refl, sym, ◌∙◌, ap, subst}
+use Rattle.std.proofs.Common.{ℕ, ◌≡◌, ◌≢◌, true, false, List, [], Option, Some, None, Result, Ok, Err, refl, sym, ◌∙◌, ap, subst}
 use Rattle.std.proofs.Common.{inl, inr, arith}
 use Rattle.std.proofs.lemmas.List.{append-nil}
 use Rattle.std.specs.Prelude.{String}
-use Rattle.adb_check.specs.Formed.{formed}
 use Rattle.adb_check.specs.declared.capture.Judgement.{Judgement}
-use Rattle.adb_history.specs.Accepted.{accepted, replayed}
+use Rattle.adb_history.specs.Accepted.{replayed}
 use Rattle.adb_replay.specs.Keeping.{HasFront}
 use Rattle.adb_replay.specs.declared.stop.Stop.{Stop}
 use Rattle.adb_replay.specs.declared.stop.Stop.TheVariants as stop
@@ -14,7 +13,6 @@ use Rattle.adb_words.specs.declared.command.Command.{Command}
 use Rattle.adb_words.specs.declared.command.Command.TheVariants.{Replay, Check, Gen, Local, Copy}
 use Rattle.adb_words.specs.declared.command.WordsError.TheVariants as unread
 use Rattle.adb_commands.specs.Ends.{Leaves, LeavesReplay, LeavesCheck, LeavesLoad, LeavesScript, Sight}
-use Rattle.adb_commands.specs.Scripts.{first_bad}
 use Rattle.adb_commands.specs.Words.{IsNoCommand, IsReplay, IsCheck, IsLoad, IsOfKind}
 use Rattle.adb_commands.specs.declared.end.CommandEnd.{CommandEnd}
 use Rattle.adb_commands.specs.declared.end.CommandEnd.TheVariants.{NotRun, Replayed, Judged, Generated, Answered}

@@ -1,5 +1,5 @@
 -- From the end of a command to its status.
-use Rattle.std.proofs.Common.{ℕ, ◌≡◌, ◌≢◌, ◌⊎◌, Bool, true, false, List, Option, Result, Ok, Err, refl, sym, ◌∙◌, subst, inl, inr}
+use Rattle.std.proofs.Common.{◌≡◌, ◌≢◌, ◌⊎◌, Bool, true, false, Ok, Err, refl, sym, ◌∙◌, subst, inl, inr}
 use Rattle.adb_check.specs.declared.capture.Judgement.TheVariants as judged
 use Rattle.adb_outside.specs.Outside.{Counts}
 use Rattle.adb_replay.specs.declared.stop.Stop.TheVariants as stop
@@ -12,7 +12,7 @@ use Rattle.adb_commands.specs.declared.script_stop.ScriptStop.TheVariants as scr
 use Rattle.adb_top.specs.Commands.{Notice, notice_of, IsTold, TellsCommand}
 use Rattle.adb_top.specs.Faults.{Rose, Stood, IsFaultless}
 use Rattle.adb_top.specs.declared.status.Status.{Status}
-use Rattle.adb_top.specs.declared.status.Status.TheVariants.{Done, ReadFault, WriteFault, OutOfMemory}
+use Rattle.adb_top.specs.declared.status.Status.TheVariants.{ReadFault, WriteFault, OutOfMemory}
 
 -- ---- how an end is told
 -- A status that is neither WriteFault nor OutOfMemory is the end's own.

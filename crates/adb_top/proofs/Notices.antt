@@ -6,7 +6,7 @@ use Rattle.adb_outside.specs.declared.sink.Wrote.TheVariants.{All}
 use Rattle.adb_commands.specs.Ends.{Sight}
 use Rattle.adb_top.specs.Commands.{IsAtHand, IsTold, TellsNotice, fixed, made}
 use Rattle.adb_top.specs.Faults.{tells_write_fault}
-use Rattle.adb_top.specs.Notes.{out_of_memory_line, write_fault_line, IsJust, IsLineOr, WritesNote}
+use Rattle.adb_top.specs.Notes.{write_fault_line, IsJust, IsLineOr, WritesNote}
 use Rattle.adb_top.specs.declared.status.Status.{Status}
 use Rattle.adb_top.specs.declared.status.Status.TheVariants.{Done, WriteFault, OutOfMemory}
 use Rattle.adb_top.proofs.Lines.{notes_as}

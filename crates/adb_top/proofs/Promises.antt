@@ -1,5 +1,5 @@
 -- What a run of a command that neither serves nor dials promises, from how the command ended and how that was told.
-use Rattle.std.proofs.Common.{ℕ, ◌≡◌, ◌≢◌, ◌⊎◌, true, false, List, [], Option, Some, Result, Ok, Err, refl, sym, ◌∙◌, ap, subst, inl, inr}
+use Rattle.std.proofs.Common.{ℕ, ◌≡◌, ◌≢◌, ◌⊎◌, true, List, Result, refl, ◌∙◌, ap, subst, inl, inr}
 use Rattle.std.specs.Prelude.{String}
 use Rattle.adb_check.specs.Formed.{formed}
 use Rattle.adb_check.specs.declared.capture.Judgement.{Judgement}
@@ -8,22 +8,19 @@ use Rattle.adb_outside.specs.Outside.{Counts}
 use Rattle.adb_outside.specs.Sink.{TellsWrite}
 use Rattle.adb_outside.specs.declared.sink.Wrote.TheVariants.{All}
 use Rattle.adb_replay.specs.declared.stop.Stop.{Stop}
-use Rattle.adb_replay.specs.declared.stop.Stop.TheVariants as stop
 use Rattle.adb_commands.specs.Ends.{CountsSource, Leaves, Sight, fails_sink}
 use Rattle.adb_commands.specs.Loads.{IsPromised, load_lines, made}
-use Rattle.adb_commands.specs.ScriptInput.{ReadsWithin}
 use Rattle.adb_commands.specs.Scripts.{first_bad}
-use Rattle.adb_commands.specs.Words.{IsNoCommand, IsReplay, IsCheck, IsLoad, IsOfKind}
+use Rattle.adb_commands.specs.Words.{IsReplay, IsCheck, IsLoad, IsOfKind}
 use Rattle.adb_commands.specs.declared.end.CommandEnd.{CommandEnd}
-use Rattle.adb_commands.specs.declared.end.CommandEnd.TheVariants.{NotRun, Replayed, Judged, Generated, Answered}
+use Rattle.adb_commands.specs.declared.end.CommandEnd.TheVariants.{Replayed, Judged, Generated, Answered}
 use Rattle.adb_commands.specs.declared.script_kind.ScriptKind.{ScriptKind}
 use Rattle.adb_commands.specs.declared.script_kind.ScriptKind.TheVariants as kinds
 use Rattle.adb_commands.specs.declared.script_stop.ScriptStop.{ScriptStop}
-use Rattle.adb_commands.specs.declared.script_stop.ScriptStop.TheVariants as script
 use Rattle.adb_top.specs.Alone.{NoneRose, RunsAlone}
 use Rattle.adb_top.specs.Commands.{Notice, notice_of, IsTold, TellsCommand}
 use Rattle.adb_top.specs.Faults.{Rose}
-use Rattle.adb_top.specs.Run.{IsUnheard, WritesHistory, WritesRead, WritesWhole, EndsCapture, NamesRefusal, Completes}
+use Rattle.adb_top.specs.Run.{WritesHistory, WritesRead, WritesWhole, EndsCapture, NamesRefusal, Completes}
 use Rattle.adb_top.specs.Run.{WritesLoad, IsLoadEnd, EndsCheck, WritesVerdict, NamesForm, CompletesCheck}
 use Rattle.adb_top.specs.Run.{WritesAnswers, EndsScript, NamesLine, CompletesScript}
 use Rattle.adb_top.specs.declared.status.Status.{Status}

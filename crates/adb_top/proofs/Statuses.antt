@@ -4,7 +4,6 @@ use Rattle.std.proofs.Common.{inl, inr}
 use Rattle.std.proofs.lemmas.List.{append-nil}
 use Rattle.std.specs.Prelude.{String}
 use Rattle.adb_check.proofs.Places.{no_legal}
-use Rattle.adb_check.specs.FirstBad.{IsFirstBad}
 use Rattle.adb_check.specs.Formed.{Formed, history_of}
 use Rattle.adb_check.specs.declared.capture.Judgement.{Judgement}
 use Rattle.adb_check.specs.declared.capture.Judgement.TheVariants as judged
@@ -31,8 +30,7 @@ use Rattle.adb_commands.specs.declared.load_stop.LoadStop.TheVariants as load
 use Rattle.adb_commands.specs.declared.script_kind.ScriptKind.{ScriptKind}
 use Rattle.adb_commands.specs.declared.script_stop.ScriptStop.{ScriptStop}
 use Rattle.adb_commands.specs.declared.script_stop.ScriptStop.TheVariants as script
-use Rattle.adb_top.specs.Commands.{Notice, notice_of, IsTold}
-use Rattle.adb_top.specs.Notes.{bad_capture_line, bad_script_line}
+use Rattle.adb_top.specs.Commands.{notice_of, IsTold}
 use Rattle.adb_top.specs.Run.{WritesBy, EndsBy, IsNamed, CompletesBy, LoadBy, IsLoadEnd, EndsCheckBy, ChecksBy, IsFormNamed}
 use Rattle.adb_top.specs.Run.{CompletesCheckBy}
 use Rattle.adb_top.specs.Run.{AnswersBy, ScriptEndsBy, IsLineNamed, CompletesScriptBy}

@@ -1,5 +1,5 @@
 -- All that a run of the commands that neither serve nor dial promises, as one fact.
-use Rattle.std.specs.Prelude.{ℕ, ◌≡◌, ◌≢◌, ◌⊎◌, List, Option, String}
+use Rattle.std.specs.Prelude.{ℕ, ◌≡◌, ◌≢◌, ◌⊎◌, List, String}
 use Rattle.adb_outside.specs.Outside.{Counts}
 use Rattle.adb_replay.specs.Kills.{StopsAtKill}
 use Rattle.adb_commands.specs.Ends.{CountsSource, Leaves, Sight, fails_sink}

@@ -1,5 +1,5 @@
 -- How the end of a command that neither serves nor dials is told.
-use Rattle.std.specs.Prelude.{ℕ, ◌≡◌, ◌≢◌, ◌⊎◌, Bool, true, false, List, [], Option, Ok, Err}
+use Rattle.std.specs.Prelude.{ℕ, ◌≡◌, ◌≢◌, ◌⊎◌, Bool, true, false, List, [], Ok, Err}
 use Rattle.adb_outside.specs.Sink.{TellsWrite}
 use Rattle.adb_outside.specs.declared.sink.Wrote.TheVariants.{All}
 use Rattle.adb_check.specs.declared.capture.Judgement.{Judgement}
