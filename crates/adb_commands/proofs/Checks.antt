@@ -1,4 +1,4 @@
--- From what a capture was judged to be to the status of the run.
+-- From what the judge says of a capture to how its command ends.
 use Rattle.std.proofs.Common.{ℕ, ◌≡◌, ◌⊎◌, false, List, ◌++◌, take, Option, Some, None, Ok, Err, refl, sym, ◌∙◌, ap, subst, inl, inr}
 use Rattle.adb_capture_reader.specs.Counting.{is_fault}
 use Rattle.adb_capture.specs.declared.error.CaptureError.{CaptureError}
