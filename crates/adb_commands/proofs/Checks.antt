@@ -1,19 +1,16 @@
 -- From what the judge says of a capture to how its command ends.
-use Rattle.std.proofs.Common.{ℕ, ◌≡◌, ◌⊎◌, false, List, ◌++◌, take, Option, Some, None, Ok, Err, refl, sym, ◌∙◌, ap, subst, inl, inr}
+use Rattle.std.proofs.Common.{ℕ, ◌≡◌, false, List, ◌++◌, take, Option, Some, Ok, Err, refl, ◌∙◌, ap}
 use Rattle.adb_capture_reader.specs.Counting.{is_fault}
 use Rattle.adb_capture.specs.declared.error.CaptureError.{CaptureError}
 use Rattle.adb_capture.specs.declared.error.CaptureError.TheVariants as capture
 use Rattle.adb_history.specs.Refusal.{refusal_by}
 use Rattle.adb_check.specs.declared.capture.Judgement.{Judgement}
 use Rattle.adb_check.specs.declared.capture.Judgement.TheVariants as judged
-use Rattle.adb_check.specs.declared.verdict.Rule.{Rule}
 use Rattle.adb_check.specs.Capture.{IsRefusedAs, JudgesCapture}
-use Rattle.adb_check.specs.Formed.{Formed, formed, history_of}
+use Rattle.adb_check.specs.Formed.{Formed, history_of}
 use Rattle.adb_commands.specs.Check.{ComesTo, IsReadFor, LosesLine, JudgesSo, WritesSo, judged_line}
 use Rattle.adb_replay.specs.Keeping.{is_read_fault, is_write_fault}
 use Rattle.adb_replay.specs.Stop.{stop_of}
-use Rattle.adb_replay.specs.declared.stop.Stop.{Stop}
-use Rattle.adb_replay.specs.declared.stop.Stop.TheVariants as stop
 use Rattle.adb_commands.proofs.Loads.{promised, part_out}
 
 -- ---- from the judge to the command

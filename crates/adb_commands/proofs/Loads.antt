@@ -1,6 +1,6 @@
 -- What a run of a load leaves.
 use Rattle.std.proofs.Common.{ℕ, ◌≡◌, ◌≤◌, ◌-◌, ◌^◌, ◌&&◌, nat_le, ◌∙◌, Bool, true, false, if◌then◌else◌, List, [], ◌∷◌, ◌++◌, take, drop, codes}
-use Rattle.std.proofs.Common.{Option, Some, None, Err, refl, sym, subst, arith, ◌⊎◌, inl, inr}
+use Rattle.std.proofs.Common.{Option, Some, None, refl, subst, arith}
 use Rattle.std.specs.Prelude.{option_and_then, option_map, bytes_eq}
 use Rattle.std.proofs.lemmas.Bool.{leb-true}
 use Rattle.std.proofs.lemmas.List.{take-append-drop}

@@ -1,8 +1,8 @@
 -- From how the parts of a script are read, run and written to how it is answered.
-use Rattle.std.proofs.Common.{ℕ, ◌≡◌, ◌⊎◌, inl, inr, true, false, List, [], ◌++◌, length, take}
+use Rattle.std.proofs.Common.{ℕ, ◌≡◌, ◌⊎◌, inl, inr, false, List, [], ◌++◌, length, take}
 use Rattle.std.proofs.Common.{Option, Some, None, Result, Ok, Err, refl, sym, ◌∙◌, ap, subst, arith}
 use Rattle.std.proofs.lemmas.List.{append-nil}
-use Rattle.adb_commands.specs.ScriptInput.{IsRead, ReadsScript, ReadsWithin}
+use Rattle.adb_commands.specs.ScriptInput.{IsRead, ReadsScript}
 use Rattle.adb_commands.specs.ScriptStop.{IsReadStop, IsRunStop, is_read_stop, is_write_stop}
 use Rattle.adb_commands.specs.Scripts.{answer_lines, first_bad, RefusesBy, RefusesAs, WritesLines, LosesLines, StopsOut, AnswersAs}
 use Rattle.adb_commands.specs.declared.script_input.TheConstants.{MAX_SCRIPT_READ}

@@ -1,5 +1,5 @@
 -- The words are those of the command that was read.
-use Rattle.std.proofs.Common.{ℕ, ◌≡◌, ◌≢◌, Option, Some, None, Result, Ok, Err, refl, ◌∙◌, sym}
+use Rattle.std.proofs.Common.{◌≡◌, ◌≢◌, Option, Some, None, Result, Ok, Err, refl, ◌∙◌, sym}
 use Rattle.std.specs.Prelude.{ok_or}
 use Rattle.adb_words.specs.declared.command.Command.{Command}
 use Rattle.adb_words.specs.declared.command.WordsError.{WordsError}

@@ -1,12 +1,12 @@
 -- What a run that judges a history writes.
-use Rattle.std.specs.Prelude.{ℕ, ◌≡◌, ◌⊎◌, List, [], ◌++◌, length, Option, Some, None, Result, Ok, Err, codes, decimal}
+use Rattle.std.specs.Prelude.{ℕ, ◌≡◌, List, [], ◌++◌, length, Option, Some, None, Result, Ok, Err, codes, decimal}
 use Rattle.adb_history.specs.Machine.{IsLegal}
 use Rattle.adb_history.specs.declared.refusal.Refusal.{Refusal}
 use Rattle.adb_check.specs.declared.verdict.Rule.{Rule}
 use Rattle.adb_check.specs.declared.capture.Judgement.{Judgement}
 use Rattle.adb_check.specs.declared.capture.Judgement.TheVariants as judged
 use Rattle.adb_check.specs.FirstBad.{IsFirstBad}
-use Rattle.adb_check.specs.Formed.{Formed, formed, history_of}
+use Rattle.adb_check.specs.Formed.{Formed, history_of}
 use Rattle.adb_check.specs.Rules.{rule_text}
 use Rattle.adb_replay.specs.Keeping.{HasFront}
 use Rattle.adb_commands.specs.Loads.{IsPromised, line}
