@@ -1,6 +1,6 @@
 -- What a run of a load leaves.
 use Rattle.std.proofs.Common.{ℕ, ◌≡◌, ◌≤◌, ◌-◌, ◌^◌, ◌&&◌, nat_le, ◌∙◌, Bool, true, false, if◌then◌else◌, List, [], ◌∷◌, ◌++◌, take, drop, codes}
-use Rattle.std.proofs.Common.{Option, Some, None, Err, refl, sym, subst, arith, ◌⊎◌, inl, inr}
+use Rattle.std.proofs.Common.{Option, Some, None, refl, subst, arith}
 use Rattle.std.specs.Prelude.{option_and_then, option_map, bytes_eq}
 use Rattle.std.proofs.lemmas.Bool.{leb-true}
 use Rattle.std.proofs.lemmas.List.{take-append-drop}
@@ -15,23 +15,11 @@ use Rattle.adb_words.specs.declared.command.Command.{Command}
 use Rattle.adb_words.specs.declared.command.Command.TheVariants.{Replay, Check, Gen, Local, Copy}
 use Rattle.adb_words.specs.declared.command.TheConstants.{MAX_STREAMS, MAX_DIGITS}
 use Rattle.adb_replay.specs.Keeping.{HasFront}
-use Rattle.adb_commands.specs.Loads.{IsPromised, WritesLines, LoadBy, made}
-use Rattle.adb_commands.specs.Notes.{EndsIn}
-use Rattle.adb_replay.specs.declared.stop.Stop.{Stop}
-use Rattle.adb_replay.specs.declared.stop.Stop.TheVariants as stop
-use Rattle.adb_commands.specs.declared.status.Status.{Status}
-use Rattle.adb_commands.specs.declared.status.Status.TheVariants.{Done, Usage, ReadFault, WriteFault, BadCapture, OutOfMemory, RecordFault, DoorFault, BadScript, Refused, BadAnswer, PortFault, TooLarge, Illegal}
-use Rattle.adb_commands.proofs.Runs.{none_out}
+use Rattle.adb_commands.specs.Loads.{IsPromised, made}
 
 -- what the laws of whole histories say of a legal one
 pub promised : (h : History) → IsLegal h → IsPromised h
 promised h legal = record { legal = legal; fifo = all_fifo h legal; causes = all_causes h legal; answered = answered h legal }
-
-front_of_lines : (why : Stop) (text had : List ℕ) (written : Option (List ℕ)) → WritesLines (Err why) text had written → HasFront had text written
-front_of_lines stop.ReadFault text had written w = absurd w
-front_of_lines stop.WriteFault text had written w = w
-front_of_lines stop.OutOfMemory text had written w = none_out text had written w
-front_of_lines (stop.Refused why) text had written w = absurd w
 
 -- where the sink failed a front of the text went out
 pub part_out : (text piece had : List ℕ) (taken : ℕ) (written : Option (List ℕ)) → piece ≡ text → written ≡ Some (had ++ take taken piece)
@@ -41,33 +29,6 @@ part_out text piece had taken written same is = record {
   is = is;
   front = (drop taken piece, take-append-drop taken piece ∙ same);
 }
-
--- from how the writing of the lines stopped to the status of the run
-pub load_by : (why : Stop) (status : Status) (text had : List ℕ) (written : Option (List ℕ)) → EndsIn why status
-    → WritesLines (Err why) text had written → LoadBy status text had written
-load_by why Done text had written e w = absurd e
-load_by why Usage text had written e w = absurd e
-load_by why ReadFault text had written e w = subst (λ (k : Stop). WritesLines (Err k) text had written) e w
-load_by why RecordFault text had written e w = absurd e
-load_by why DoorFault text had written e w = absurd e
-load_by why BadScript text had written e w = absurd e
-load_by why Refused text had written e w = absurd e
-load_by why BadAnswer text had written e w = absurd e
-load_by why PortFault text had written e w = absurd e
-load_by why TooLarge text had written e w = absurd e
-load_by why Illegal text had written e w = absurd e
-load_by why WriteFault text had written e w = front_of_lines why text had written w
-load_by why BadCapture text had written e w = subst (λ (k : Stop). WritesLines (Err k) text had written) e.1 w
-load_by stop.ReadFault OutOfMemory text had written e w = absurd e
-load_by stop.WriteFault OutOfMemory text had written e w = absurd e
-load_by stop.OutOfMemory OutOfMemory text had written e w = w
-load_by (stop.Refused why) OutOfMemory text had written e w = absurd w
-
--- memory ran out before a load was made
-pub load_unmade : (status : Status) (text had : List ℕ) (written : Option (List ℕ)) → (status ≡ OutOfMemory) ⊎ (status ≡ WriteFault)
-    → written ≡ Some had → LoadBy status text had written
-load_unmade status text had written (inl e) is = subst (λ (s : Status). LoadBy s text had written) (sym e) is
-load_unmade status text had written (inr e) is = subst (λ (s : Status). LoadBy s text had written) (sym e) (none_out text had written is)
 
 -- ---- the size of a load that words name
 within : (least most : ℕ) (o : Option ℕ) (n : ℕ) → option_and_then (λ m. if nat_le least m && nat_le m most then Some m else None) o ≡ Some n → n ≤ most

@@ -1,20 +1,17 @@
 -- What a run that judges a history writes.
-use Rattle.std.specs.Prelude.{ℕ, ◌≡◌, ◌⊎◌, List, [], ◌++◌, length, Option, Some, None, Result, Ok, Err, codes, decimal}
+use Rattle.std.specs.Prelude.{ℕ, ◌≡◌, List, [], ◌++◌, length, Option, Some, None, Result, Ok, Err, codes, decimal}
 use Rattle.adb_history.specs.Machine.{IsLegal}
 use Rattle.adb_history.specs.declared.refusal.Refusal.{Refusal}
 use Rattle.adb_check.specs.declared.verdict.Rule.{Rule}
 use Rattle.adb_check.specs.declared.capture.Judgement.{Judgement}
 use Rattle.adb_check.specs.declared.capture.Judgement.TheVariants as judged
 use Rattle.adb_check.specs.FirstBad.{IsFirstBad}
-use Rattle.adb_check.specs.Formed.{Formed, formed, history_of}
+use Rattle.adb_check.specs.Formed.{Formed, history_of}
 use Rattle.adb_check.specs.Rules.{rule_text}
 use Rattle.adb_replay.specs.Keeping.{HasFront}
 use Rattle.adb_commands.specs.Loads.{IsPromised, line}
-use Rattle.adb_commands.specs.Notes.{bad_capture_line}
 use Rattle.adb_replay.specs.declared.stop.Stop.{Stop}
 use Rattle.adb_replay.specs.declared.stop.Stop.TheVariants as stop
-use Rattle.adb_commands.specs.declared.status.Status.{Status}
-use Rattle.adb_commands.specs.declared.status.Status.TheVariants.{Done, Usage, ReadFault, WriteFault, BadCapture, OutOfMemory, RecordFault, DoorFault, BadScript, Refused, BadAnswer, PortFault, TooLarge, Illegal}
 
 -- the line of a history that is not legal
 unfoldable pub illegal_line : ℕ → Rule → List ℕ
@@ -66,45 +63,3 @@ WritesSo (Err (stop.Refused why)) f had written = written ≡ Some had
 abbrev pub stopped_as : Result Judgement Stop → Result (Unit {0}) Stop
 stopped_as (Ok judgement) = Ok tt
 stopped_as (Err why) = Err why
-
--- the same by the status of the run: the line is whole at Done and Illegal, and at WriteFault all, a front, or nothing of it is there
-abbrev pub ChecksBy : Status → Formed → Option (List ℕ) → List ℕ → Option (List ℕ) → Type 0
-ChecksBy Done f left had written =
-    (entries : ℕ) × ComesTo (judged.Legal entries) f × (left ≡ Some []) × (written ≡ Some (had ++ line (codes "legal ") entries))
-ChecksBy Usage f left had written = ⊥
-ChecksBy ReadFault f left had written = written ≡ Some had
-ChecksBy WriteFault f left had written = (written ≡ Some had) ⊎ LosesLine f had written
-ChecksBy BadCapture f left had written = (why : Refusal) × IsIllFormed why f × (written ≡ Some had)
-ChecksBy OutOfMemory f left had written = written ≡ Some had
-ChecksBy RecordFault f left had written = ⊥
-ChecksBy DoorFault f left had written = ⊥
-ChecksBy BadScript f left had written = ⊥
-ChecksBy Refused f left had written = ⊥
-ChecksBy BadAnswer f left had written = ⊥
-ChecksBy PortFault f left had written = ⊥
-ChecksBy TooLarge f left had written = ⊥
-ChecksBy Illegal f left had written =
-    (place : ℕ) × (rule : Rule) × ComesTo (judged.Illegal place rule) f × (written ≡ Some (had ++ illegal_line place rule))
-
--- What a run that judges the history of a source's capture writes.
-abbrev pub WritesVerdict : {S K : Type 0} → Status → (S → Option (List ℕ)) → S → S → (K → Option (List ℕ)) → K → K → Type 0
-WritesVerdict status left source_old source_new written sink_old sink_new =
-    (capture had : List ℕ) → left source_old ≡ Some capture → written sink_old ≡ Some had
-    → ChecksBy status (formed capture) (left source_new) had (written sink_new)
-
--- the line of the note names why a capture is refused by form
-pub record IsFormNamed (f : Formed) (had : List ℕ) (after : Option (List ℕ)) : Type 0 where
-  pub why : Refusal
-  pub refused : f.refused ≡ Some why
-  pub line : after ≡ Some (had ++ bad_capture_line why)
-
--- At BadCapture the note names why.
-abbrev pub NamesForm : {N : Type 0} → Status → Option (List ℕ) → (N → Option (List ℕ)) → N → N → Type 0
-NamesForm status left written old new =
-    status ≡ BadCapture → (capture had : List ℕ) → left ≡ Some capture → written old ≡ Some had → IsFormNamed (formed capture) had (written new)
-
--- A capture of which nothing is refused by form, and whose entries are legal, is Done, unless memory ran out.
-abbrev pub CompletesCheck : Status → Option (List ℕ) → Type 0
-CompletesCheck status left =
-    (capture : List ℕ) → left ≡ Some capture → (formed capture).refused ≡ None → IsLegal (history_of (formed capture))
-    → (status ≡ Done) ⊎ (status ≡ OutOfMemory)

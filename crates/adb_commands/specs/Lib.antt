@@ -1,11 +1,7 @@
-pub mod Status
 pub mod Words
-pub mod Faults
-pub mod Notes
-pub mod Run
 pub mod Loads
 pub mod Check
 pub mod ScriptStop
 pub mod ScriptInput
 pub mod Scripts
-pub mod Alone
+pub mod Ends

@@ -1,5 +1,5 @@
 -- What a run of a load writes.
-use Rattle.std.specs.Prelude.{ℕ, ◌≡◌, ◌<◌, ◌≤◌, List, [], ◌++◌, Option, Some, Result, Ok, Err, codes, decimal}
+use Rattle.std.specs.Prelude.{ℕ, ◌≡◌, ◌<◌, ◌≤◌, Bool, true, false, List, [], ◌++◌, Option, Some, Result, Ok, Err, codes, decimal}
 use Rattle.adb_history.specs.Machine.{History, IsLegal}
 use Rattle.adb_history.specs.Drained.{drained_from}
 use Rattle.adb_history.specs.Fifo.{IsFifo}
@@ -10,10 +10,8 @@ use Rattle.adb_run_load.specs.Totals.{totals_of}
 use Rattle.adb_run_load.specs.declared.totals.Totals.{Totals}
 use Rattle.adb_words.specs.declared.command.TheConstants.{MAX_STREAMS}
 use Rattle.adb_replay.specs.Keeping.{HasFront}
-use Rattle.adb_replay.specs.declared.stop.Stop.{Stop}
-use Rattle.adb_replay.specs.declared.stop.Stop.TheVariants as stop
-use Rattle.adb_commands.specs.declared.status.Status.{Status}
-use Rattle.adb_commands.specs.declared.status.Status.TheVariants.{Done, Usage, ReadFault, WriteFault, BadCapture, OutOfMemory, RecordFault, DoorFault, BadScript, Refused, BadAnswer, PortFault, TooLarge, Illegal}
+use Rattle.adb_commands.specs.declared.load_stop.LoadStop.{LoadStop}
+use Rattle.adb_commands.specs.declared.load_stop.LoadStop.TheVariants.{WriteFault, OutOfMemory}
 
 -- as many streams as a load may have
 pub record IsLoadSize (streams : ℕ) : Type 0 where
@@ -45,36 +43,19 @@ pub record IsPromised (h : History) : Type 0 where
   pub causes : HasCauses h
   pub answered : IsAnswered h
 
+-- whether the sink failed
+abbrev pub loses_load : Result (Unit {0}) LoadStop → Bool
+loses_load (Ok done) = false
+loses_load (Err WriteFault) = true
+loses_load (Err OutOfMemory) = false
+
 -- What went out of the lines, by how their writing ended.
-abbrev pub WritesLines : Result (Unit {0}) Stop → List ℕ → List ℕ → Option (List ℕ) → Type 0
+abbrev pub WritesLines : Result (Unit {0}) LoadStop → List ℕ → List ℕ → Option (List ℕ) → Type 0
 WritesLines (Ok done) text had written = written ≡ Some (had ++ text)
-WritesLines (Err stop.ReadFault) text had written = ⊥
-WritesLines (Err stop.WriteFault) text had written = HasFront had text written
-WritesLines (Err stop.OutOfMemory) text had written = written ≡ Some had
-WritesLines (Err (stop.Refused why)) text had written = ⊥
+WritesLines (Err WriteFault) text had written = HasFront had text written
+WritesLines (Err OutOfMemory) text had written = written ≡ Some had
 
 abbrev pub GeneratesLines : {K : Type 0}
-    → Result (Unit {0}) Stop → (seed streams : ℕ) → (K → Option (List ℕ)) → K → K → Type 0
+    → Result (Unit {0}) LoadStop → (seed streams : ℕ) → (K → Option (List ℕ)) → K → K → Type 0
 GeneratesLines result seed streams written old new =
     (had : List ℕ) → written old ≡ Some had → WritesLines result (load_lines seed streams) had (written new)
-
--- What went out of the lines of a load, by the status: at Done all of them.
-abbrev pub LoadBy : Status → List ℕ → List ℕ → Option (List ℕ) → Type 0
-LoadBy Done text had written = written ≡ Some (had ++ text)
-LoadBy Usage text had written = ⊥
-LoadBy ReadFault text had written = ⊥
-LoadBy WriteFault text had written = HasFront had text written
-LoadBy BadCapture text had written = ⊥
-LoadBy OutOfMemory text had written = written ≡ Some had
-LoadBy RecordFault text had written = ⊥
-LoadBy DoorFault text had written = ⊥
-LoadBy BadScript text had written = ⊥
-LoadBy Refused text had written = ⊥
-LoadBy BadAnswer text had written = ⊥
-LoadBy PortFault text had written = ⊥
-LoadBy TooLarge text had written = ⊥
-LoadBy Illegal text had written = ⊥
-
-abbrev pub WritesLoad : {K : Type 0} → Status → (seed streams : ℕ) → (K → Option (List ℕ)) → K → K → Type 0
-WritesLoad status seed streams written old new =
-    (had : List ℕ) → written old ≡ Some had → LoadBy status (load_lines seed streams) had (written new)

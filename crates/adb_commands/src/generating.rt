@@ -2,29 +2,33 @@
 
 ghost use Rattle.std.specs.Prelude.{◌≡◌, ◌<◌, IfOk, length};
 ghost use Rattle.adb_outside.specs.Outside.{Counts};
-ghost use Rattle.adb_replay.specs.Keeping.{IsLoss, is_write_fault};
 ghost use Rattle.adb_run_load.specs.Totals.{totals_of};
 ghost use Rattle.adb_commands.specs.Loads.{IsLoadSize, GeneratesLines, lines_of, load_lines, made};
+ghost use Rattle.adb_commands.specs.Loads.{loses_load};
 
+use crate::load_stop::LoadStop;
 use crate::texts::push_line;
 use adb_hub::Hub;
 use adb_outside::{Sink, Text, Wrote};
-use adb_replay::Stop;
 use adb_run_load::{Totals, run_load};
 use std::alloc::{AllocError, Global};
 
 /// Makes the load of a seed and so many streams in a hub of its own, and writes four lines: how
 /// many streams it has, and how much went through.
-pub fn generate<K: Sink>(alloc: Global, seed: u64, streams: u16, sink: &mut K) -> Result<(), Stop>
+pub fn generate<K: Sink>(
+    alloc: Global,
+    seed: u64,
+    streams: u16,
+    sink: &mut K,
+) -> Result<(), LoadStop>
     requires size { IsLoadSize streams }
     ensures writes { GeneratesLines result seed streams K.written sink.old sink.new }
-    ensures loss { IsLoss result }
-    ensures counts { Counts K.steady K.faults sink.old sink.new (is_write_fault result) }
+    ensures counts { Counts K.steady K.faults sink.old sink.new (loses_load result) }
 {
     let lines = load_lines(alloc, seed, streams)?;
     match sink.write(lines.as_slice()) {
         Wrote::All => Ok(()),
-        Wrote::Failed { taken: _ } => Err(Stop::WriteFault),
+        Wrote::Failed { taken: _ } => Err(LoadStop::WriteFault),
     }
 }
 

@@ -1,7 +1,7 @@
 //! Words are run over this machine.
 
 ghost use Rattle.std.specs.Prelude.{◌≡◌, None, true, false};
-ghost use Rattle.adb_commands.specs.Alone.{RunsAlone};
+ghost use Rattle.adb_top.specs.Alone.{RunsAlone};
 ghost use Rattle.adb_top.specs.Serve.{IsUnheard};
 ghost use Rattle.adb_words.specs.Serve.{is_serve, serve_of};
 ghost use Rattle.adb_words.specs.Tools.{names_tool, tool_of};

@@ -2,8 +2,8 @@
 
 ghost use Rattle.std.specs.Prelude.{◌≡◌, ◌≢◌, ◌⊎◌, drop, IfErr, IfOk, None, Some, true, false};
 ghost use Rattle.std.specs.IoError.{error_kind};
-ghost use Rattle.adb_commands.specs.Alone.{RunsAlone};
-ghost use Rattle.adb_commands.specs.Notes.{usage_line, out_of_memory_line, IsJust, WritesNote};
+ghost use Rattle.adb_top.specs.Alone.{RunsAlone};
+ghost use Rattle.adb_top.specs.Notes.{usage_line, out_of_memory_line, IsJust, WritesNote};
 ghost use Rattle.adb_top.specs.Serve.{IsUnheard};
 ghost use Rattle.adb_words.specs.Serve.{is_serve, serve_of};
 ghost use Rattle.adb_words.specs.Tools.{names_tool, tool_of};

@@ -2,8 +2,8 @@
 use Rattle.std.proofs.Common.{◌≡◌, ◌⊎◌, subst, inl, inr}
 use Rattle.adb_asking.specs.declared.ends.ToolEnd.{ToolEnd}
 use Rattle.adb_asking.specs.declared.ends.ToolEnd.TheVariants as ends
-use Rattle.adb_commands.specs.declared.status.Status.{Status}
-use Rattle.adb_commands.specs.declared.status.Status.TheVariants.{Usage, WriteFault, OutOfMemory}
+use Rattle.adb_top.specs.declared.status.Status.{Status}
+use Rattle.adb_top.specs.declared.status.Status.TheVariants.{Usage, WriteFault, OutOfMemory}
 use Rattle.adb_top.specs.Serve.{IsUnheard}
 use Rattle.adb_top.specs.Tools.{IsStatusOf}
 

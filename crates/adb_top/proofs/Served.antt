@@ -8,10 +8,10 @@ use Rattle.adb_server.specs.declared.server.Served.{Served}
 use Rattle.adb_server.specs.declared.server.Served.TheVariants as served
 use Rattle.adb_words.specs.Serve.{Serving}
 use Rattle.adb_replay.proofs.Counting.{counts_then}
-use Rattle.adb_commands.specs.Faults.{tells_write_fault}
-use Rattle.adb_commands.specs.Notes.{NotesBy, HasTried, HasFailed, RisesTwice}
-use Rattle.adb_commands.specs.declared.status.Status.{Status}
-use Rattle.adb_commands.specs.declared.status.Status.TheVariants.{Done, Usage, ReadFault, WriteFault, BadCapture, OutOfMemory, RecordFault, DoorFault, BadScript, Refused, BadAnswer, PortFault, TooLarge, Illegal}
+use Rattle.adb_top.specs.Faults.{tells_write_fault}
+use Rattle.adb_top.specs.Notes.{NotesBy, HasTried, HasFailed, RisesTwice}
+use Rattle.adb_top.specs.declared.status.Status.{Status}
+use Rattle.adb_top.specs.declared.status.Status.TheVariants.{Done, WriteFault, OutOfMemory, RecordFault, DoorFault}
 use Rattle.adb_top.specs.Serve.{IsAnyLine, IsListening, IsBefore, IsServerEnd, NotesServer, Serves}
 use Rattle.adb_top.specs.Tells.{CountsEnd, Tells, status_of}
 
@@ -38,21 +38,9 @@ failed_on on f = record {
 
 notes_on : {rose again rose_wider again_wider : Type 0} (hand : Status → List ℕ → Type 0) (had : List ℕ) (after : Option (List ℕ)) → (rose → rose_wider)
     → (again → again_wider) → (status : Status) → NotesBy status hand rose again had after → NotesBy status hand rose_wider again_wider had after
-notes_on hand had after on twice Done n = n
-notes_on hand had after on twice Usage n = n
-notes_on hand had after on twice ReadFault n = n
 notes_on hand had after on twice WriteFault (inl n) = inl (n.0, tried_on on n.1)
 notes_on hand had after on twice WriteFault (inr n) = inr (on n.0, failed_on twice n.1)
-notes_on hand had after on twice BadCapture n = n
-notes_on hand had after on twice OutOfMemory n = n
-notes_on hand had after on twice RecordFault n = n
-notes_on hand had after on twice DoorFault n = n
-notes_on hand had after on twice BadScript n = n
-notes_on hand had after on twice Refused n = n
-notes_on hand had after on twice BadAnswer n = n
-notes_on hand had after on twice PortFault n = n
-notes_on hand had after on twice TooLarge n = n
-notes_on hand had after on twice Illegal n = n
+notes_on hand had after on twice _ n = n
 
 -- ---- counts
 -- a count that rose later rose over the whole, too

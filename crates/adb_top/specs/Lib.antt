@@ -1,3 +1,8 @@
+pub mod Faults
+pub mod Notes
+pub mod Commands
+pub mod Run
+pub mod Alone
 pub mod Serve
 pub mod Tells
 pub mod Tools

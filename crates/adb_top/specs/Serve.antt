@@ -4,10 +4,10 @@ use Rattle.adb_outside.specs.Bytes.{IsPrefixOf}
 use Rattle.adb_outside.specs.Outside.{Counts}
 use Rattle.adb_server.specs.Served.{listening_line}
 use Rattle.adb_words.specs.Serve.{Serving}
-use Rattle.adb_commands.specs.Faults.{Rose, tells_write_fault}
-use Rattle.adb_commands.specs.Notes.{NotesBy, RisesTwice, IsLine}
-use Rattle.adb_commands.specs.declared.status.Status.{Status}
-use Rattle.adb_commands.specs.declared.status.Status.TheVariants.{Done, Usage, ReadFault, WriteFault, BadCapture, OutOfMemory, RecordFault, DoorFault, BadScript, Refused, BadAnswer, PortFault, TooLarge, Illegal}
+use Rattle.adb_top.specs.Faults.{Rose, tells_write_fault}
+use Rattle.adb_top.specs.Notes.{NotesBy, RisesTwice, IsLine}
+use Rattle.adb_top.specs.declared.status.Status.{Status}
+use Rattle.adb_top.specs.declared.status.Status.TheVariants.{Done, Usage, WriteFault, OutOfMemory, RecordFault, DoorFault}
 
 -- The words are no command, or the note failed, or memory ran out over them.
 abbrev pub IsUnheard : Status → Type 0
@@ -24,15 +24,7 @@ IsBefore asked RecordFault line = IsListening asked line
 IsBefore asked DoorFault line = (line ≡ []) ⊎ IsListening asked line
 IsBefore asked OutOfMemory line = (line ≡ []) ⊎ IsListening asked line
 IsBefore asked WriteFault line = (line ≡ []) ⊎ ((whole : List ℕ) × IsListening asked whole × IsPrefixOf line whole)
-IsBefore asked Usage line = ⊥
-IsBefore asked ReadFault line = ⊥
-IsBefore asked BadCapture line = ⊥
-IsBefore asked BadScript line = ⊥
-IsBefore asked Refused line = ⊥
-IsBefore asked BadAnswer line = ⊥
-IsBefore asked PortFault line = ⊥
-IsBefore asked TooLarge line = ⊥
-IsBefore asked Illegal line = ⊥
+IsBefore asked _ line = ⊥
 
 -- the line of any status of a server
 abbrev pub IsAnyLine : Status → List ℕ → Type 0
@@ -51,15 +43,7 @@ IsServerEnd WriteFault = Unit {0}
 IsServerEnd OutOfMemory = Unit {0}
 IsServerEnd RecordFault = Unit {0}
 IsServerEnd DoorFault = Unit {0}
-IsServerEnd Usage = ⊥
-IsServerEnd ReadFault = ⊥
-IsServerEnd BadCapture = ⊥
-IsServerEnd BadScript = ⊥
-IsServerEnd Refused = ⊥
-IsServerEnd BadAnswer = ⊥
-IsServerEnd PortFault = ⊥
-IsServerEnd TooLarge = ⊥
-IsServerEnd Illegal = ⊥
+IsServerEnd _ = ⊥
 
 -- A server ends as it may: by a fault of its recorder or its door over no steady yard, done over no lasting one, and done but for memory over a steady one
 -- whose note did not fail; and the note tells how.

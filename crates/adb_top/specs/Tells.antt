@@ -3,10 +3,10 @@ use Rattle.std.specs.Prelude.{ℕ, ◌≡◌, ◌≤◌, ◌⊎◌, List, Option
 use Rattle.adb_outside.specs.Outside.{Counts}
 use Rattle.adb_server.specs.declared.server.Served.{Served}
 use Rattle.adb_server.specs.declared.server.Served.TheVariants as served
-use Rattle.adb_commands.specs.Faults.{Rose, tells_write_fault}
-use Rattle.adb_commands.specs.Notes.{NotesBy, RisesTwice}
-use Rattle.adb_commands.specs.declared.status.Status.{Status}
-use Rattle.adb_commands.specs.declared.status.Status.TheVariants.{Done, WriteFault, OutOfMemory, RecordFault, DoorFault}
+use Rattle.adb_top.specs.Faults.{Rose, tells_write_fault}
+use Rattle.adb_top.specs.Notes.{NotesBy, RisesTwice}
+use Rattle.adb_top.specs.declared.status.Status.{Status}
+use Rattle.adb_top.specs.declared.status.Status.TheVariants.{Done, WriteFault, OutOfMemory, RecordFault, DoorFault}
 use Rattle.adb_top.specs.Serve.{IsAnyLine}
 
 -- the status of how a server ended

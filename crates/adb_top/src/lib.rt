@@ -1,11 +1,18 @@
 //! The top call of `adbhub`.
 #![tactic(auto)]
 
+mod alone;
+mod alone_note;
+mod note;
 mod running;
 mod serving;
+mod status;
+mod tool_note;
 mod tools;
 mod wanting;
 
-pub use adb_commands::{Status, run_alone, say_out_of_memory, say_record_fault, say_usage};
+pub use alone::run_alone;
+pub use note::{say_out_of_memory, say_record_fault, say_usage};
 pub use running::run;
+pub use status::Status;
 pub use wanting::wanted;

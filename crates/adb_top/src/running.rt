@@ -5,13 +5,14 @@ ghost use Rattle.adb_words.specs.Serve.{Serving, is_serve, serve_of};
 ghost use Rattle.adb_words.specs.Tools.{names_tool, tool_of};
 ghost use Rattle.adb_words.specs.Words.{texts};
 ghost use Rattle.adb_asking.specs.Telling.{seen};
-ghost use Rattle.adb_commands.specs.Alone.{RunsAlone};
+ghost use Rattle.adb_top.specs.Alone.{RunsAlone};
 ghost use Rattle.adb_top.specs.Serve.{IsUnheard, Serves};
 ghost use Rattle.adb_top.specs.Tools.{RunsTool};
 
+use crate::alone::run_alone;
 use crate::serving::run_serve;
+use crate::status::Status;
 use crate::tools::run_call;
-use adb_commands::{Status, run_alone};
 use adb_connections::{DeviceIn, DeviceOut};
 use adb_device_reader::Device;
 use adb_outside::{Sink, Source};

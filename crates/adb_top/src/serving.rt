@@ -6,9 +6,8 @@ ghost use Rattle.adb_words.specs.Words.{texts};
 ghost use Rattle.adb_top.specs.Serve.{IsUnheard, Serves};
 ghost use Rattle.adb_top.specs.Tells.{Tells};
 
-use adb_commands::{
-    Status, say_door_fault, say_lost_line, say_out_of_memory, say_record_fault, say_usage,
-};
+use crate::note::{say_door_fault, say_lost_line, say_out_of_memory, say_record_fault, say_usage};
+use crate::status::Status;
 use adb_connections::{DeviceIn, DeviceOut};
 use adb_device_reader::Device;
 use adb_outside::Sink;

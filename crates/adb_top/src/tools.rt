@@ -8,10 +8,9 @@ ghost use Rattle.adb_top.specs.Tools.{RunsTool, TellsEnd};
 ghost use Rattle.adb_words.specs.Tools.{tool_of};
 ghost use Rattle.adb_words.specs.Words.{texts};
 
-use adb_commands::{
-    Status, say_bad_answer, say_lost_line, say_out_of_memory, say_port_fault, say_read_fault,
-    say_refused, say_too_large, say_usage,
-};
+use crate::note::{say_lost_line, say_out_of_memory, say_read_fault, say_usage};
+use crate::status::Status;
+use crate::tool_note::{say_bad_answer, say_port_fault, say_refused, say_too_large};
 use adb_outside::{Sink, Source, Text};
 use adb_script::push_escaped;
 use adb_tools::{ToolEnd, run_tool};

@@ -1,7 +1,7 @@
 -- How the end of a run is told.
 use Rattle.std.specs.Prelude.{ℕ, List, ◌++◌, codes, decimal}
-use Rattle.adb_commands.specs.Status.{code_of}
-use Rattle.adb_commands.specs.declared.status.Status.{Status}
+use Rattle.adb_top.specs.Notes.{code_of}
+use Rattle.adb_top.specs.declared.status.Status.{Status}
 
 -- a line of the status, the note, an empty line and what was written
 abbrev pub told_as : Status → List ℕ → List ℕ → List ℕ

@@ -4,8 +4,8 @@ ghost use Rattle.std.specs.Prelude.{◌≡◌, ◌≤◌, ℕ, IfOk};
 ghost use Rattle.adb_worked.specs.Told.{told_as};
 
 use adb_check::{Judgement, judge_capture};
-use adb_commands::{Status, run_alone};
 use adb_outside::{MemorySink, MemorySource, Text};
+use adb_top::{Status, run_alone};
 use itoa::Buffer;
 use std::alloc::{AllocError, Global};
 
