@@ -15,12 +15,11 @@ use Rattle.adb_script.specs.Told.{texts_of}
 use Rattle.adb_script.specs.declared.told.Line.{Line}
 use Rattle.adb_trees.specs.Shown.{copied_lines}
 use Rattle.adb_world.specs.World.{View}
-use Rattle.adb_replay.specs.Keeping.{HasFront, IsLoss, Keeps, KeepsBytes, LosesRest, Out, WritesOut, is_write_fault}
+use Rattle.adb_replay.specs.Keeping.{HasFront, IsLoss, Keeps, KeepsBytes, Out, WritesOut}
 use Rattle.adb_replay.specs.declared.stop.Stop.{Stop}
 use Rattle.adb_replay.specs.declared.stop.Stop.TheVariants as lost
-use Rattle.adb_commands.specs.AnswerLines.{IsLostBy, KeepsFront, KeepsText}
-use Rattle.adb_commands.specs.ScriptStop.{is_write_stop}
-use Rattle.adb_commands.specs.Scripts.{LosesLines, RefusesBy, StopsOut, answer_lines}
+use Rattle.adb_commands.specs.AnswerLines.{IsLostBy, KeepsText}
+use Rattle.adb_commands.specs.Scripts.{StopsOut, answer_lines}
 use Rattle.adb_commands.specs.declared.script_kind.ScriptKind.{ScriptKind}
 use Rattle.adb_commands.specs.declared.script_kind.ScriptKind.TheVariants as kinds
 use Rattle.adb_commands.specs.declared.script_stop.ScriptStop.{ScriptStop}
@@ -161,12 +160,6 @@ pub none_out : (had all : List ℕ) (written : Option (List ℕ)) → written �
 none_out had all written is = record { growth = []; is = is ∙ ap Some (sym (append-nil had)); front = (all, refl) }
 
 -- ---- why a script is not answered
-pub lost_refuses : (why : Stop) (ended : ScriptStop) (bad : Option ℕ) → IsLostBy why ended → bad ≡ None → RefusesBy ended bad
-lost_refuses lost.ReadFault ended bad by good = absurd by
-lost_refuses lost.WriteFault ended bad by good = subst (λ (s : ScriptStop). RefusesBy s bad) (sym by) good
-lost_refuses lost.OutOfMemory ended bad by good = subst (λ (s : ScriptStop). RefusesBy s bad) (sym by) tt
-lost_refuses (lost.Refused refusal) ended bad by good = absurd by
-
 pub lost_out : (kind : ScriptKind) (why : Stop) (ended : ScriptStop) (script text had : List ℕ) (written : Option (List ℕ)) → IsLostBy why ended
     → answer_lines kind script ≡ Some text → HasFront had text written → StopsOut kind ended script had written
 lost_out kind lost.ReadFault ended script text had written by is part = absurd by
@@ -188,9 +181,3 @@ left_are script left is good = answers_are script good ∙ ap (λ (l : LinesLeft
 pub copies_are : (script : List ℕ) (lines slice : List Line) → copied_lines script ≡ Some (texts_of lines) → slice ≡ lines
     → answer_lines kinds.Copy script ≡ Some (concat (texts_of slice))
 copies_are script lines slice is same = ap (option_map concat) is ∙ ap (λ (ls : List Line). Some (concat (texts_of ls))) (sym same)
-
-pub lost_writes : (why : Stop) (ended : ScriptStop) → IsLostBy why ended → is_write_fault (Err why) ≡ is_write_stop ended
-lost_writes lost.ReadFault ended by = absurd by
-lost_writes lost.WriteFault ended by = sym (ap is_write_stop by)
-lost_writes lost.OutOfMemory ended by = sym (ap is_write_stop by)
-lost_writes (lost.Refused refusal) ended by = absurd by

@@ -1,5 +1,5 @@
 -- From how a script was answered to the status of the run.
-use Rattle.std.proofs.Common.{ℕ, ◌≡◌, ◌⊎◌, inl, inr, true, false, List, [], ◌++◌, length}
+use Rattle.std.proofs.Common.{ℕ, ◌≡◌, ◌⊎◌, inl, inr, false, List, [], ◌++◌, length}
 use Rattle.std.proofs.Common.{Option, Some, None, Result, Ok, Err, refl, sym, ◌∙◌, ap, subst, arith}
 use Rattle.std.proofs.lemmas.List.{append-nil}
 use Rattle.std.specs.List.{concat}
@@ -12,8 +12,8 @@ use Rattle.adb_script.specs.Script.{lines_in}
 use Rattle.adb_trees.specs.Shown.{lines_of as shown_lines}
 use Rattle.adb_trees.specs.Trees as named
 use Rattle.adb_trees.specs.Trees.{Tree}
-use Rattle.adb_commands.specs.ScriptInput.{IsRead, ReadsScript, ReadsWithin}
-use Rattle.adb_commands.specs.ScriptStop.{IsReadStop, IsRunStop, is_read_stop, is_write_stop}
+use Rattle.adb_commands.specs.ScriptInput.{IsRead, ReadsScript}
+use Rattle.adb_commands.specs.ScriptStop.{IsReadStop, is_write_stop}
 use Rattle.adb_commands.specs.Scripts.{answer_lines, first_bad, RefusesBy, RefusesAs, WritesLines, LosesLines, StopsOut, AnswersAs}
 use Rattle.adb_commands.specs.declared.script_input.TheConstants.{MAX_SCRIPT_READ}
 use Rattle.adb_commands.specs.declared.script_kind.ScriptKind.{ScriptKind}
@@ -41,25 +41,6 @@ read_stop_out kind stop.ReadFault script had written e is = is
 read_stop_out kind stop.WriteFault script had written e is = absurd e
 read_stop_out kind stop.OutOfMemory script had written e is = inl is
 read_stop_out kind (stop.BadLine line) script had written e is = absurd e
-
-pub run_stop_reads : (why : ScriptStop) → IsRunStop why → is_read_stop why ≡ false
-run_stop_reads stop.ReadFault e = absurd e
-run_stop_reads stop.WriteFault e = absurd e
-run_stop_reads stop.OutOfMemory e = refl
-run_stop_reads (stop.BadLine line) e = refl
-
-pub run_stop_writes : (why : ScriptStop) → IsRunStop why → is_write_stop why ≡ false
-run_stop_writes stop.ReadFault e = absurd e
-run_stop_writes stop.WriteFault e = absurd e
-run_stop_writes stop.OutOfMemory e = refl
-run_stop_writes (stop.BadLine line) e = refl
-
-pub run_stop_out : (kind : ScriptKind) (why : ScriptStop) (script had : List ℕ) (written : Option (List ℕ)) → IsRunStop why
-    → written ≡ Some had → StopsOut kind why script had written
-run_stop_out kind stop.ReadFault script had written e is = absurd e
-run_stop_out kind stop.WriteFault script had written e is = absurd e
-run_stop_out kind stop.OutOfMemory script had written e is = inl is
-run_stop_out kind (stop.BadLine line) script had written e is = is
 
 -- ---- a script with answer lines
 unless_good : (bad : Option ℕ) (lines : List Line) (text : List ℕ) → option_map concat (answers_unless bad lines) ≡ Some text → bad ≡ None

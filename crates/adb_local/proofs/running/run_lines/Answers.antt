@@ -1,4 +1,4 @@
-use Rattle.std.proofs.Common.{ℕ, List, Option, None, Some, sym, subst, ap, ◌∙◌, arith}
+use Rattle.std.proofs.Common.{ℕ, List, Option, None, sym, subst, ap, ◌∙◌, arith}
 use Rattle.adb_script.specs.Told.{texts_of}
 use Rattle.adb_world.specs.World.{View}
 use Rattle.adb_local.specs.Running.{IsIdle, RunsFirst, RunsNext}

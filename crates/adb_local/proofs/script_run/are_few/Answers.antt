@@ -1,5 +1,5 @@
 use Rattle.std.specs.Prelude.{length}
-use Rattle.std.proofs.Common.{◌≡◌, List, ap, arith}
+use Rattle.std.proofs.Common.{List, ap, arith}
 use Rattle.std.proofs.lemmas.List.{length-map}
 use Rattle.adb_script.specs.Lines.{Line, seen}
 use Rattle.adb_local.proofs.script_run.are_few.Goals as goal

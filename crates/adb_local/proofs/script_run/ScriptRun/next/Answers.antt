@@ -1,5 +1,5 @@
-use Rattle.std.proofs.Common.{ℕ, ◌≡◌, ◌∷◌, ◌+◌, List, drop, ◌≤◌, sym, subst, ap, ◌∙◌}
-use Rattle.adb_script.specs.Lines.{Line, seen}
+use Rattle.std.proofs.Common.{◌+◌, ◌≤◌, sym, subst}
+use Rattle.adb_script.specs.Lines.{seen}
 use Rattle.adb_world.specs.Parts.{most_sessions}
 use Rattle.adb_local.specs.Running.{LinesLeft, RunsFirst, left_after, sessions_in}
 use Rattle.adb_local.proofs.Lines.{first_left, first_room, first_stands, number_fits, rest_stand, runs_first}
