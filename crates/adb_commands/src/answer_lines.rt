@@ -76,11 +76,7 @@ fn keep_answer<K: Sink>(output: &mut Output, sink: &mut K, answer: Text) -> Resu
 ///
 /// - `WriteFault`: the sink failed. A prefix of the lines is written.
 /// - `OutOfMemory`: an allocation failed. A prefix of the lines is written.
-pub(crate) fn write_lines<K: Sink>(
-    alloc: Global,
-    lines: &[Line],
-    sink: &mut K,
-) -> Result<(), Stop>
+pub(crate) fn write_lines<K: Sink>(alloc: Global, lines: &[Line], sink: &mut K) -> Result<(), Stop>
     ensures out { (had : List ℕ) → K.written sink.old ≡ Some had → WritesOut result had
         (concat (texts_of lines.now)) (K.written sink.new) }
     ensures loss { IsLoss result }

@@ -48,11 +48,7 @@ impl<'a> ScriptRun<'a> {
     ///
     /// - `BadLine`: a line is refused; it is the first one.
     /// - `OutOfMemory`: an allocation failed.
-    pub fn new(
-        alloc: Global,
-        script: &'a [u8],
-        seed: u64,
-    ) -> Result<ScriptRun<'a>, ScriptError>
+    pub fn new(alloc: Global, script: &'a [u8], seed: u64) -> Result<ScriptRun<'a>, ScriptError>
         ensures lines { IfOk result (λ run. run ≡ all_left (lines_in script.now)) }
         ensures few { IfOk result (λ run. sessions_in run.lines ≤ 65536) }
         ensures good { OnOk result (first_bad script.now ≡ None) }

@@ -71,7 +71,8 @@ impl Output {
         ensures loss { IsLoss result }
         ensures counts { Counts K.steady K.faults sink.old sink.new (is_write_fault result) }
     {
-        self.keep_bytes(sink, read.bytes())
+        let end = self.gather(read.bytes())?;
+        self.keep_end(sink, end)
     }
 
     /// Keeps bytes for the sink. At least `LARGE` bytes are written from where they lie, after what
