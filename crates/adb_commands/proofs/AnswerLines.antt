@@ -23,7 +23,6 @@ use Rattle.adb_commands.specs.Scripts.{StopsOut, answer_lines}
 use Rattle.adb_commands.specs.declared.script_kind.ScriptKind.{ScriptKind}
 use Rattle.adb_commands.specs.declared.script_kind.ScriptKind.TheVariants as kinds
 use Rattle.adb_commands.specs.declared.script_stop.ScriptStop.{ScriptStop}
-use Rattle.adb_commands.specs.declared.script_stop.ScriptStop.TheVariants as stop
 
 -- ---- lines one after the other
 -- a line more behind others
