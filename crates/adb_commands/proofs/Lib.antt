@@ -4,3 +4,4 @@ pub mod ScriptReading
 pub mod ScriptFronts
 pub mod Scripts
 pub mod Words
+pub mod AnswerLines

@@ -5,3 +5,4 @@ pub mod ScriptStop
 pub mod ScriptInput
 pub mod Scripts
 pub mod Ends
+pub mod AnswerLines

@@ -1,5 +1,5 @@
 -- What a run of a script reads and writes.
-use Rattle.std.specs.Prelude.{ℕ, ◌≡◌, List, ◌++◌, Option, Some, None, option_map, Result, Ok, Err}
+use Rattle.std.specs.Prelude.{ℕ, ◌≡◌, ◌⊎◌, List, ◌++◌, Option, Some, None, option_map, Result, Ok, Err}
 use Rattle.std.specs.List.{concat}
 use Rattle.adb_script.specs.Answers.{script_answers}
 use Rattle.adb_script.specs.Script as asked
@@ -49,10 +49,14 @@ pub record LosesLines (kind : ScriptKind) (script had : List ℕ) (written : Opt
   pub answers : answer_lines kind script ≡ Some text
   pub front : HasFront had text written
 
+-- Nothing went out, or a front of the answer lines of a script of which no line is refused.
+abbrev pub WritesFront : ScriptKind → List ℕ → List ℕ → Option (List ℕ) → Type 0
+WritesFront kind script had written = (written ≡ Some had) ⊎ LosesLines kind script had written
+
 abbrev pub StopsOut : ScriptKind → ScriptStop → List ℕ → List ℕ → Option (List ℕ) → Type 0
 StopsOut kind stop.ReadFault script had written = written ≡ Some had
 StopsOut kind stop.WriteFault script had written = LosesLines kind script had written
-StopsOut kind stop.OutOfMemory script had written = written ≡ Some had
+StopsOut kind stop.OutOfMemory script had written = WritesFront kind script had written
 StopsOut kind (stop.BadLine line) script had written = written ≡ Some had
 
 abbrev pub AnswersAs : ScriptKind → Result (Unit {0}) ScriptStop → List ℕ → List ℕ → Option (List ℕ) → Type 0

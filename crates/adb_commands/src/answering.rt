@@ -1,27 +1,36 @@
 //! Answering a script.
 
-ghost use Rattle.std.specs.Prelude.{◌≡◌, ℕ, List, [], Ok, Err, Some, IfOk, false};
-ghost use Rattle.std.specs.List.{concat};
+ghost use Rattle.std.specs.Prelude.{◌≡◌, ◌≤◌, ℕ, List, [], Ok, Err, Some, IfOk, false};
+ghost use Rattle.adb_local.specs.Running.{all_left, sessions_in};
 ghost use Rattle.adb_outside.specs.Outside.{Counts};
+ghost use Rattle.adb_replay.specs.Keeping.{IsLoss};
+ghost use Rattle.adb_script.specs.Script.{lines_in};
 ghost use Rattle.adb_script.specs.Told.{texts_of};
+ghost use Rattle.adb_trees.specs.Shown.{copied_lines};
+ghost use Rattle.adb_commands.specs.AnswerLines.{IsLostBy};
 ghost use Rattle.adb_commands.specs.ScriptInput.{ReadsWithin};
 ghost use Rattle.adb_commands.specs.ScriptStop.{IsRunEnd, stops_reading, stops_writing};
-ghost use Rattle.adb_commands.specs.Scripts.{AnswersAs, RefusesAs, answer_lines, answers_of};
-ghost use Rattle.adb_commands.specs.Scripts.{first_bad};
+ghost use Rattle.adb_commands.specs.Scripts.{AnswersAs, RefusesAs, first_bad};
 
+use crate::answer_lines::{write_lines, write_run};
 use crate::script_input::read_script;
 use crate::script_kind::ScriptKind;
 use crate::script_stop::ScriptStop;
 use adb_copying::copy_tree;
-use adb_local::run_script;
-use adb_outside::{Sink, Source, Text, Wrote};
-use adb_script::{Line, ScriptError};
+use adb_local::ScriptRun;
+use adb_outside::{Sink, Source};
+use adb_replay::Stop;
+use adb_script::Line;
 use adb_world::World;
-use std::alloc::{AllocError, Global};
+use std::alloc::Global;
 
 /// Reads a script of a kind, runs it in a new world, whose sides move as the seed says, and writes
-/// its answer lines, which the seed does not change. Where a line is refused the first such is told, and
-/// nothing is written.
+/// its answer lines, which the seed does not change.
+///
+/// - `BadLine`: a line is refused; it is the first one, and nothing is written.
+/// - `ReadFault`: the source failed. Nothing is written.
+/// - `WriteFault`: the sink failed. A prefix of the answer lines is written.
+/// - `OutOfMemory`: an allocation failed. A prefix of the answer lines is written.
 pub fn answer<S: Source, K: Sink>(
     alloc: Global,
     kind: ScriptKind,
@@ -63,55 +72,93 @@ fn answer_text<K: Sink>(
     ensures reads { stops_reading result ≡ false }
     ensures counts { Counts K.steady K.faults sink.old sink.new (stops_writing result) }
 {
-    let answers = match answers_to(alloc, kind, script, seed) {
-        Ok(answers) => answers,
+    match kind {
+        ScriptKind::Local => answer_local(alloc, seed, script, sink),
+        ScriptKind::Copy => answer_copy(alloc, seed, script, sink),
+    }
+}
+
+/// Runs a script of `local` in a new world. The whole script is checked before a line runs.
+fn answer_local<K: Sink>(
+    alloc: Global,
+    seed: u64,
+    script: &[u8],
+    sink: &mut K,
+) -> Result<(), ScriptStop>
+    ensures refuses { RefusesAs result (first_bad ScriptKind.Local script.now) }
+    ensures writes { (had : List ℕ) → K.written sink.old ≡ Some had
+        → AnswersAs ScriptKind.Local result script.now had (K.written sink.new) }
+    ensures unwritten { (line : ℕ) → result ≡ Err (ScriptStop.BadLine line)
+        → sink.new ≡ sink.old }
+    ensures reads { stops_reading result ≡ false }
+    ensures counts { Counts K.steady K.faults sink.old sink.new (stops_writing result) }
+{
+    let mut run = match run_of(alloc, script, seed) {
+        Ok(run) => run,
         Err(stop) => return Err(stop),
     };
-    if answers.is_empty() {
-        return Ok(());
-    }
-    match sink.write(answers.as_slice()) {
-        Wrote::All => Ok(()),
-        Wrote::Failed { taken: _ } => Err(ScriptStop::WriteFault),
+    match write_run(alloc, &mut run, sink) {
+        Ok(()) => Ok(()),
+        Err(why) => Err(lost_by(why)),
     }
 }
 
-/// All answer lines of a script, one behind the other.
-fn answers_to(alloc: Global, kind: ScriptKind, script: &[u8], seed: u64) -> Result<Text, ScriptStop>
-    ensures lines { IfOk result (λ answers. answer_lines kind script.now ≡ Some answers) }
-    ensures refuses { RefusesAs result (first_bad kind script.now) }
+/// The lines of a script of `local`, none of which is run yet.
+fn run_of<'a>(alloc: Global, script: &'a [u8], seed: u64) -> Result<ScriptRun<'a>, ScriptStop>
+    ensures lines { IfOk result (λ run. run ≡ all_left (lines_in script.now)) }
+    ensures few { IfOk result (λ run. sessions_in run.lines ≤ 65536) }
+    ensures refuses { RefusesAs result (first_bad ScriptKind.Local script.now) }
     ensures ends { IsRunEnd result }
 {
-    let lines = lines_to(alloc, kind, script, seed)?;
-    Ok(joined(alloc, lines.as_slice())?)
+    let run = ScriptRun::new(alloc, script, seed)?;
+    Ok(run)
 }
 
-/// The answer lines of a script that is run in a new world.
-fn lines_to(
+/// Copies the tree of a script of `copy` to the device of a new world and back, and writes its
+/// lines. The whole script is checked before a file is copied.
+fn answer_copy<K: Sink>(
     alloc: Global,
-    kind: ScriptKind,
-    script: &[u8],
     seed: u64,
-) -> Result<Vec<Line>, ScriptError>
-    ensures lines { IfOk result (λ lines.
-        answers_of kind script.now ≡ Some (texts_of lines.items)) }
-    ensures bad { (line : ℕ) → result ≡ Err (ScriptError.BadLine line)
-        → first_bad kind script.now ≡ Some line }
+    script: &[u8],
+    sink: &mut K,
+) -> Result<(), ScriptStop>
+    ensures refuses { RefusesAs result (first_bad ScriptKind.Copy script.now) }
+    ensures writes { (had : List ℕ) → K.written sink.old ≡ Some had
+        → AnswersAs ScriptKind.Copy result script.now had (K.written sink.new) }
+    ensures unwritten { (line : ℕ) → result ≡ Err (ScriptStop.BadLine line)
+        → sink.new ≡ sink.old }
+    ensures reads { stops_reading result ≡ false }
+    ensures counts { Counts K.steady K.faults sink.old sink.new (stops_writing result) }
+{
+    let lines = match lines_of(alloc, script, seed) {
+        Ok(lines) => lines,
+        Err(stop) => return Err(stop),
+    };
+    match write_lines(alloc, lines.as_slice(), sink) {
+        Ok(()) => Ok(()),
+        Err(why) => Err(lost_by(why)),
+    }
+}
+
+/// The lines of the tree of a script of `copy`, copied in a new world.
+fn lines_of(alloc: Global, script: &[u8], seed: u64) -> Result<Vec<Line>, ScriptStop>
+    ensures lines { IfOk result (λ lines. copied_lines script.now ≡ Some (texts_of lines.items)) }
+    ensures refuses { RefusesAs result (first_bad ScriptKind.Copy script.now) }
+    ensures ends { IsRunEnd result }
 {
     let mut world = World::new(alloc)?;
-    match kind {
-        ScriptKind::Local => run_script(alloc, &mut world, script, seed),
-        ScriptKind::Copy => copy_tree(alloc, &mut world, script, seed),
-    }
+    let lines = copy_tree(alloc, &mut world, script, seed)?;
+    Ok(lines)
 }
 
-/// The texts of lines, one behind the other.
-fn joined(alloc: Global, lines: &[Line]) -> Result<Text, AllocError>
-    ensures { IfOk result (λ all. all ≡ concat (texts_of lines.now)) }
+/// Why a script is not answered whose answer lines are lost.
+fn lost_by(why: Stop) -> ScriptStop
+    requires { IsLoss (Err why) }
+    ensures { IsLostBy why result }
 {
-    let mut all = Text::new(alloc);
-    for line in lines {
-        all.push_slice(line.text.as_slice())?;
+    match why {
+        Stop::WriteFault => ScriptStop::WriteFault,
+        Stop::OutOfMemory => ScriptStop::OutOfMemory,
+        Stop::ReadFault | Stop::Refused(_) => unreachable!(),
     }
-    Ok(all)
 }

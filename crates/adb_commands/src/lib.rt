@@ -1,6 +1,7 @@
 //! The commands of `adbhub` that neither serve nor dial: they read a source and write a sink.
 #![tactic(auto)]
 
+mod answer_lines;
 mod answering;
 mod checking;
 mod command;

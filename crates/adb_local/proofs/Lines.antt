@@ -1,46 +1,100 @@
--- Lines that run one after the other.
-use Rattle.std.specs.Prelude.{ℕ, ◌+◌, ◌≡◌, ◌≤◌, List, [], ◌∷◌, ◌++◌, length}
-use Rattle.std.proofs.Common.{refl, sym, ◌∙◌, ap, arith, append_assoc}
-use Rattle.std.proofs.lemmas.List.{append-nil}
+-- How far a script has run.
+use Rattle.std.specs.Prelude.{ℕ, ◌+◌, ◌*◌, ◌≡◌, ◌≤◌, ◌<◌, nat_lt, true, List, [], ◌∷◌, ◌++◌, length, drop, map}
+use Rattle.std.proofs.Common.{refl, sym, ◌∙◌, ap, subst, append_assoc, arith, get_or, Fits, w32, suc}
+use Rattle.std.proofs.lemmas.Bool.{ltb-true}
+use Rattle.std.proofs.lemmas.List.{append-nil, drop-map}
+use Rattle.std.proofs.Math.Seq.{drop-cons}
+use Rattle.adb_files.specs.Entries.{Entry}
 use Rattle.adb_script.specs.Answers.{answers_from, line_answer, sessions_of}
-use Rattle.adb_script.specs.Lines.{Line}
+use Rattle.adb_script.specs.Lines.{Line, seen}
+use Rattle.adb_script.specs.declared.line.ScriptLine.{ScriptLine}
+use Rattle.adb_script.specs.declared.script.TheConstants.{MAX_LINES}
 use Rattle.adb_world.specs.World.{View}
-use Rattle.adb_local.specs.Running.{AllMayStand, IsIdle, RunsLine, sessions_in}
-use Rattle.adb_script.specs.Told.{texts_of}
-use Rattle.adb_script.specs.declared.told.Line.{Line as Answer}
+use Rattle.adb_local.proofs.Standing.{few_in}
+use Rattle.adb_local.specs.Running.{AllMayStand, IsIdle, LinesLeft, MayStand, RunsFirst, RunsLine, answers_left, left_after, sessions_in}
 
--- Some lines were run, and these are still to be.
-pub record Running (rest script : List Line) (old now : View) (lines : List Answer) : Type 0 where
-  pub idle : IsIdle now
-  pub texts : texts_of lines ++ answers_from (length lines + 1) now.files rest ≡ answers_from 1 old.files script
-  pub given : now.given + sessions_in rest ≡ old.given + sessions_in script
-  pub stand : AllMayStand rest
-  pub few : length lines + length rest ≡ length script
+-- ---- one line
+-- the first of what is left
+pub first_left : (lines : List ScriptLine) (all : List Line) (done : ℕ) (line : ScriptLine) → map seen lines ≡ all → true ≡ nat_lt done (length lines)
+    → line ≡ get_or lines done line → drop done all ≡ seen line ∷ drop (done + 1) all
+first_left lines all done line is there here =
+    let less : done < length lines = ltb-true done (length lines) (sym there) in
+    let step : suc done ≡ done + 1 = omega arith in
+    ap (drop done) (sym is)
+    ∙ (drop-map seen done lines
+    ∙ (ap (map seen) (drop-cons lines done line less ∙ ap (λ (l : ScriptLine). l ∷ drop (suc done) lines) (sym here))
+    ∙ ap (λ (ls : List Line). seen line ∷ ls)
+    (sym (drop-map seen (suc done) lines) ∙ (ap (λ (n : ℕ). drop n (map seen lines)) step ∙ ap (drop (done + 1)) is))))
 
-pub begins_running : (script : List Line) (old : View) → IsIdle old → AllMayStand script → Running script script old old []
-begins_running script old idle stand = record { idle = idle; texts = refl; given = refl; stand = stand; few = omega arith }
+pub number_fits : {X : Type 0} (lines : List X) (done : ℕ) → true ≡ nat_lt done (length lines) → length lines ≤ 1024 → Fits w32 (done + 1)
+number_fits lines done there few =
+    let less : done < length lines = ltb-true done (length lines) (sym there) in
+    let small : done + 1 ≤ 1024 = omega (arith, less, few) in omega (arith, small)
 
-module _ (line : Line) (more script : List Line) (old now new : View) (lines next : List Answer) (running : Running (line ∷ more) script old now lines) where
-  pub room_here : (most : ℕ) → old.given + sessions_in script ≤ most → now.given + sessions_of line ≤ most
-  room_here most room = let given = running.given in omega (arith, given, room)
+module _ (done : ℕ) (lines : List Line) (line : Line) (first : drop done lines ≡ line ∷ drop (done + 1) lines) where
+  pub first_stands : AllMayStand (drop done lines) → MayStand line
+  first_stands stand = let s : AllMayStand (line ∷ drop (done + 1) lines) = subst AllMayStand first stand in s.0
 
-  pub runs_one : (text : List ℕ) → text ≡ (line_answer now.files (length lines + 1) line).text
-      → RunsLine (length lines + 1) line now new → texts_of next ≡ texts_of lines ++ text ∷ [] → length next ≡ length lines + 1
-      → Running more script old new next
-  runs_one text is runs added count = record {
-    idle = runs.idle;
-    texts =
-        (λ i. added i ++ answers_from (count i + 1) (runs.files i) more)
-        ∙ (ap (λ (t : List ℕ). (texts_of lines ++ t ∷ [])
-        ++ answers_from (length lines + 1 + 1) (line_answer now.files (length lines + 1) line).files more) is
-        ∙ (append_assoc (texts_of lines) ((line_answer now.files (length lines + 1) line).text ∷ [])
-        (answers_from (length lines + 1 + 1) (line_answer now.files (length lines + 1) line).files more)
-        ∙ running.texts));
-    given = (let one = runs.given in let given = running.given in omega (arith, one, given));
-    stand = running.stand.1;
-    few = (let few = running.few in omega (arith, few, count));
-  }
+  pub rest_stand : AllMayStand (drop done lines) → AllMayStand (drop (done + 1) lines)
+  rest_stand stand = let s : AllMayStand (line ∷ drop (done + 1) lines) = subst AllMayStand first stand in s.1
 
-pub runs_all : (script : List Line) (old now : View) (lines : List Answer) → Running [] script old now lines
-    → texts_of lines ≡ answers_from 1 old.files script
-runs_all script old now lines running = sym (append-nil (texts_of lines)) ∙ running.texts
+  sessions : sessions_in (drop done lines) ≡ sessions_of line + sessions_in (drop (done + 1) lines)
+  sessions = ap sessions_in first
+
+  pub first_room : (given most : ℕ) → given + sessions_in (drop done lines) ≤ most → given + sessions_of line ≤ most
+  first_room given most room = let s = sessions in omega (arith, s, room)
+
+  module _ (old new : View) (text : List ℕ) (answer : text ≡ (line_answer old.files (done + 1) line).text) (runs : RunsLine (done + 1) line old new) where
+    answered : text ∷ answers_left (left_after (done + 1) lines) new ≡ answers_left (left_after done lines) old
+    answered =
+        ap (λ (t : List ℕ). t ∷ answers_from (done + 1 + 1) new.files (drop (done + 1) lines)) answer
+        ∙ (ap (λ (files : List Entry). (line_answer old.files (done + 1) line).text ∷ answers_from (done + 1 + 1) files (drop (done + 1) lines)) runs.files
+        ∙ ap (λ (ls : List Line). answers_from (done + 1) old.files ls) (sym first))
+
+    pub runs_first : RunsFirst text (left_after done lines) (left_after (done + 1) lines) old new
+    runs_first = record {
+      idle = runs.idle;
+      answers = answered;
+      given = (let s = sessions in let given = runs.given in omega (arith, s, given));
+      fewer = ap (λ (ls : List Line). length ls) first ∙ omega arith;
+    }
+
+-- the answers over no files
+pub answers_over : (left : LinesLeft) (world : View) → world.files ≡ [] → answers_left left world ≡ answers_from left.number [] left.lines
+answers_over left world none = ap (λ (files : List Entry). answers_from left.number files left.lines) none
+
+-- ---- some lines
+-- Some lines were run: these are their answers, and those of the rest are still to come.
+pub record Running (first now : LinesLeft) (old world : View) (said : List (List ℕ)) : Type 0 where
+  pub idle : IsIdle world
+  pub answers : said ++ answers_left now world ≡ answers_left first old
+  pub given : world.given + sessions_in now.lines ≡ old.given + sessions_in first.lines
+
+pub begins_running : (first : LinesLeft) (old : View) (said : List (List ℕ)) → IsIdle old → said ≡ [] → Running first first old old said
+begins_running first old said idle none = record { idle = idle; answers = ap (λ (s : List (List ℕ)). s ++ answers_left first old) none; given = refl }
+
+pub runs_one : (first now next : LinesLeft) (old world after : View) (said more : List (List ℕ)) (answer : List ℕ) → Running first now old world said
+    → RunsFirst answer now next world after → more ≡ said ++ answer ∷ [] → Running first next old after more
+runs_one first now next old world after said more answer running runs added = record {
+  idle = runs.idle;
+  answers =
+      ap (λ (s : List (List ℕ)). s ++ answers_left next after) added
+      ∙ (append_assoc said (answer ∷ []) (answers_left next after)
+      ∙ (ap (λ (rest : List (List ℕ)). said ++ rest) runs.answers ∙ running.answers));
+  given = (let one = runs.given in let given = running.given in omega (arith, one, given));
+}
+
+pub runs_all : (first now : LinesLeft) (old world : View) (said : List (List ℕ)) → Running first now old world said → now.lines ≡ []
+    → said ≡ answers_left first old
+runs_all first now old world said running none =
+    sym (append-nil said)
+    ∙ (ap (λ (ls : List Line). said ++ answers_from now.number world.files ls) (sym none) ∙ running.answers)
+
+pub given_all : (first now : LinesLeft) (old world : View) (said : List (List ℕ)) → Running first now old world said → now.lines ≡ []
+    → world.given ≡ old.given + sessions_in first.lines
+given_all first now old world said running none =
+    let rest = ap sessions_in none in let given = running.given in omega (arith, rest, given)
+
+-- a script has few sessions
+pub few_sessions_in : (lines : List Line) → AllMayStand lines → length lines ≤ MAX_LINES → sessions_in lines ≤ 65536
+few_sessions_in lines stand few = let within : sessions_in lines ≤ 64 * length lines = few_in lines stand in omega (arith, within, few)

@@ -1,6 +1,6 @@
 -- Scripts that run in a world.
-use Rattle.std.specs.Prelude.{ℕ, ◌+◌, ◌≡◌, ◌≤◌, ◌<◌, true, List, [], ◌∷◌, length}
-use Rattle.adb_script.specs.Answers.{line_answer, sessions_of}
+use Rattle.std.specs.Prelude.{ℕ, ◌+◌, ◌≡◌, ◌≤◌, ◌<◌, true, List, [], ◌∷◌, length, drop, Option, Some, None}
+use Rattle.adb_script.specs.Answers.{answers_from, line_answer, sessions_of}
 use Rattle.adb_script.specs.Lines.{Line, Asked, Pushes, Pulls, Stats, Lists, Runs, Asks, Echoes}
 use Rattle.adb_world.specs.Settled.{IsCounted, IsSettled}
 use Rattle.adb_world.specs.World.{View}
@@ -45,3 +45,32 @@ pub record RunsLine (number : ℕ) (line : Line) (old new : View) : Type 0 where
   pub idle : IsIdle new
   pub files : new.files ≡ (line_answer old.files number line).files
   pub given : new.given ≡ old.given + sessions_of line
+
+-- ---- a script that is run line by line
+-- the lines that are still to be run, and the number of the first of them
+pub record LinesLeft : Type 0 where
+  pub number : ℕ
+  pub lines : List Line
+
+abbrev pub all_left : List Line → LinesLeft
+all_left lines = record { number = 1; lines = lines }
+
+-- the lines after the first ones
+abbrev pub left_after : ℕ → List Line → LinesLeft
+left_after done lines = record { number = done + 1; lines = drop done lines }
+
+-- the answer lines that are still to come, over the files of a world
+abbrev pub answers_left : LinesLeft → View → List (List ℕ)
+answers_left left world = answers_from left.number world.files left.lines
+
+-- The first of the lines was run: its answer is the first of those that were still to come.
+pub record RunsFirst (answer : List ℕ) (old new : LinesLeft) (before after : View) : Type 0 where
+  pub idle : IsIdle after
+  pub answers : answer ∷ answers_left new after ≡ answers_left old before
+  pub given : after.given + sessions_in new.lines ≡ before.given + sessions_in old.lines
+  pub fewer : length old.lines ≡ length new.lines + 1
+
+-- The next line was run and answered, if there was one.
+abbrev pub RunsNext : Option (List ℕ) → (old new : LinesLeft) → (before after : View) → Type 0
+RunsNext None old new before after = (old.lines ≡ []) × (new ≡ old) × (after ≡ before)
+RunsNext (Some answer) old new before after = RunsFirst answer old new before after

@@ -4,6 +4,8 @@
 
 mod echoing;
 mod running;
+mod script_run;
 mod session;
 
 pub use running::run_script;
+pub use script_run::ScriptRun;

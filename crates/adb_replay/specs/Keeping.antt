@@ -74,9 +74,13 @@ KeepsMore (Err WriteFault) had text piece out = LosesRest had (text ++ piece) ou
 KeepsMore (Err OutOfMemory) had text piece out = Keeps had text out
 KeepsMore (Err (Refused why)) had text piece out = ⊥
 
+-- Bytes were kept, or they were not.
+abbrev pub KeepsBytes : Result (Unit {0}) Stop → List ℕ → Out → Out → Type 0
+KeepsBytes result bytes before after = (had text : List ℕ) → Keeps had text before → KeepsMore result had text bytes after
+
 -- The record of an entry was kept, or it was not.
 abbrev pub KeepsEntry : Result (Unit {0}) Stop → Entry → Out → Out → Type 0
-KeepsEntry result e before after = (had text : List ℕ) → Keeps had text before → KeepsMore result had text (record_of e) after
+KeepsEntry result e before after = KeepsBytes result (record_of e) before after
 
 -- A text that is kept went out: all of it, or where the sink failed a front.
 abbrev pub WritesOut : Result (Unit {0}) Stop → List ℕ → List ℕ → Option (List ℕ) → Type 0

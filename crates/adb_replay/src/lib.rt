@@ -6,5 +6,6 @@ mod output;
 mod replaying;
 mod stop;
 
+pub use output::Output;
 pub use replaying::replay;
 pub use stop::Stop;

@@ -3,7 +3,7 @@
 ghost use Rattle.std.specs.Prelude.{◌≡◌, ◌++◌, ℕ, List, [], IfOk, OnErr};
 ghost use Rattle.adb_outside.specs.Outside.{Counts};
 ghost use Rattle.adb_capture.specs.Records.{HasRecord, magic};
-ghost use Rattle.adb_replay.specs.Keeping.{Keeps, KeepsEntry, KeepsMore, WritesOut, IsLoss};
+ghost use Rattle.adb_replay.specs.Keeping.{Keeps, KeepsBytes, KeepsEntry, KeepsMore, WritesOut, IsLoss};
 ghost use Rattle.adb_replay.specs.Keeping.{IsWriteEnd, is_write_fault};
 
 use crate::stop::Stop;
@@ -41,6 +41,15 @@ impl Output {
         Ok(Output { gathered })
     }
 
+    /// Returns a buffer that holds no bytes and has room for two pieces.
+    pub fn empty(alloc: Global) -> Result<Output, AllocError>
+        ensures { IfOk result (λ output. output ≡ []) }
+    {
+        let mut gathered = ByteQueue::new(alloc);
+        gathered.reserve(2 * PIECE)?;
+        Ok(Output { gathered })
+    }
+
     /// Keeps the record of an entry. A large end of it goes out from where it lies, behind what is
     /// gathered; else what is gathered goes out where it is a piece.
     pub fn keep<K: Sink>(&mut self, sink: &mut K, entry: &Entry) -> Result<(), Stop>
@@ -63,6 +72,22 @@ impl Output {
         ensures counts { Counts K.steady K.faults sink.old sink.new (is_write_fault result) }
     {
         let end = self.gather(read.bytes())?;
+        self.keep_end(sink, end)
+    }
+
+    /// Keeps bytes for the sink. At least `LARGE` bytes are written from where they lie, after what
+    /// is gathered; fewer are gathered, and all that is gathered is written once it is a piece.
+    ///
+    /// - `WriteFault`: the sink failed. A prefix of all that was kept is written, and nothing is
+    ///   gathered.
+    /// - `OutOfMemory`: the bytes are not kept, and all else is as before.
+    pub fn keep_bytes<K: Sink>(&mut self, sink: &mut K, bytes: &[u8]) -> Result<(), Stop>
+        ensures kept { KeepsBytes result bytes.now
+            (K.written sink.old, self.old) (K.written sink.new, self.new) }
+        ensures loss { IsLoss result }
+        ensures counts { Counts K.steady K.faults sink.old sink.new (is_write_fault result) }
+    {
+        let end = self.gather(bytes)?;
         self.keep_end(sink, end)
     }
 

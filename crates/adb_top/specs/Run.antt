@@ -155,7 +155,7 @@ abbrev pub CompletesCheck : Status → Option (List ℕ) → Type 0
 CompletesCheck status left = (capture : List ℕ) → left ≡ Some capture → CompletesCheckBy status (formed capture)
 
 -- ---- a script
--- What went out: at Done all answer lines, and nothing where a line is refused; at WriteFault all, a front, or nothing of them.
+-- What went out: at Done all answer lines, and nothing where a line is refused; at WriteFault and OutOfMemory all, a front, or nothing of them.
 pub record AnswersBy (kind : ScriptKind) (status : Status) (script had : List ℕ) (written : Option (List ℕ)) : Type 0 where
   pub done : status ≡ Done → WritesLines kind script had written
   pub unwritten : (status ≡ ReadFault) ⊎ (status ≡ BadScript) → written ≡ Some had

@@ -1,7 +1,10 @@
-use Rattle.std.specs.Prelude.{map, drop}
-use Rattle.adb_script.specs.Lines.{seen}
+use Rattle.std.specs.Prelude.{length}
+use Rattle.adb_script.specs.Told.{texts_of}
 use Rattle.adb_local.proofs.Lines.{Running}
 use Rattle.adb_local.proofs.running.run_lines.Given as goal
 
-abbrev pub invariant-loop-line : goal.invariant-loop-line
-invariant-loop-line l = Running (map seen (drop l.line-index l.script)) (map seen l.script) l.fn.world l.world l.lines.items
+abbrev pub invariant-loop-lines : goal.invariant-loop-lines
+invariant-loop-lines l = Running l.fn.run l.run l.fn.world l.world (texts_of l.lines.items)
+
+abbrev pub decreases-loop-lines : goal.decreases-loop-lines
+decreases-loop-lines l = length l.run.lines
