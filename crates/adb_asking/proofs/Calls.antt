@@ -1,7 +1,8 @@
 -- From what was asked over a port to how a tool's call ends.
-use Rattle.std.proofs.Common.{ℕ, ◌≡◌, ◌≢◌, ◌⊎◌, inl, inr, Bool, true, false, List, Option, Some, Result, Ok, Err, refl, sym, ◌∙◌, subst, arith}
+use Rattle.std.proofs.Common.{ℕ, ◌≡◌, ◌≢◌, ◌⊎◌, inl, inr, Bool, true, false, List, [], Option, Some, Result, Ok, Err, refl, sym, ◌∙◌, subst, arith}
 use Rattle.adb_outside.specs.Outside.{Counts}
 use Rattle.adb_words.specs.declared.tool.Tool.{Tool}
+use Rattle.adb_words.specs.declared.tool.Tool.TheVariants.{Devices, Push, Pull, Shell, Wait}
 use Rattle.adb_remote_words.specs.declared.remote.Remote.{Remote}
 use Rattle.adb_remote_words.specs.declared.remote.Outcome.{Outcome}
 use Rattle.adb_remote_words.specs.declared.remote.RemoteError.{RemoteError}
@@ -16,7 +17,7 @@ use Rattle.adb_asking.specs.Ends.{end_of, is_write_fault}
 use Rattle.adb_asking.specs.Telling.{CountsBoth, Sight, TellsAnswer, size_of}
 use Rattle.adb_asking.specs.declared.job.Job.{Job}
 use Rattle.adb_asking.specs.Jobs.{MakesJob, ReadsFor, failed_input}
-use Rattle.adb_asking.specs.Calling.{Asked, CallsTool, EndsBy, IsDialled, is_read_fault}
+use Rattle.adb_asking.specs.Calling.{Asked, CallsTool, EndsBy, EndsBySome, IsDialled, is_read_fault}
 
 abbrev Answer : Type 0
 Answer = Result Outcome RemoteError
@@ -98,9 +99,24 @@ module _ {K N : Type 0} (k : Sight K) (n : Sight N) where
     error_ends answers errors.PortFault meant = tt
     error_ends answers errors.OutOfMemory meant = tt
 
+    -- an answer that some bytes mean; no bytes do where there is none
+    meant_by : (answer : Answer)
+        → (answer ≢ Err errors.PortFault → answer ≢ Err errors.OutOfMemory → (coming : List ℕ) × (answered job coming ≡ Some answer))
+        → (answers : List ℕ) × Meant answers answer
+    meant_by (Ok outcome) means = (let m = means (λ e. cc) (λ e. cc) in (m.0, λ a b. m.1))
+    meant_by (Err (errors.Refused text)) means = (let m = means (λ e. cc) (λ e. cc) in (m.0, λ a b. m.1))
+    meant_by (Err (errors.BadAnswer offset)) means = (let m = means (λ e. cc) (λ e. cc) in (m.0, λ a b. m.1))
+    meant_by (Err errors.PortFault) means = ([], λ a b. absurd (a refl))
+    meant_by (Err errors.OutOfMemory) means = ([], λ a b. absurd (b refl))
+
     pub answer_ends : (answers : List ℕ) (answer : Answer) (end : ToolEnd) → Meant answers answer → Tells answer end → Ends answers end
     answer_ends answers (Ok outcome) end meant l = outcome_ends answers outcome end meant l
     answer_ends answers (Err error) end meant l = subst (λ (e : ToolEnd). Ends answers e) (sym l.0) (error_ends answers error meant)
+
+    pub answer_some : (answer : Answer) (end : ToolEnd)
+        → (answer ≢ Err errors.PortFault → answer ≢ Err errors.OutOfMemory → (coming : List ℕ) × (answered job coming ≡ Some answer))
+        → Tells answer end → EndsBySome job end (k.told sink) (k.told sink_new) (n.told note) (n.told note_new)
+    answer_some answer end means l = (let m = meant_by answer means in (m.0, answer_ends m.0 answer end m.1 l))
 
     pub answer_counts : (answer : Answer) (end : ToolEnd) → Tells answer end → CountsBoth k n sink sink_new note note_new (is_write_fault end)
     answer_counts (Ok outcome) end l = l.counts
@@ -148,6 +164,7 @@ module _ {K N : Type 0} (k : Sight K) (n : Sight N) where
     asked_here ports job on input input_new output output_new sink sink_new note note_new yard yard_new end counts steady left asks = record {
       told = λ answers is.
           answer_ends job sink sink_new note note_new answers asks.answer end (asks.meant answers (left ∙ is)) asks.tells;
+      means = answer_some job sink sink_new note note_new asks.answer end asks.means asks.tells;
       counts = answer_counts job sink sink_new note note_new asks.answer end asks.tells;
       untouched = answer_leaves job sink sink_new note note_new asks.answer end asks.tells;
       dials = record {
@@ -166,6 +183,7 @@ module _ {K N : Type 0} (k : Sight K) (n : Sight N) where
         → Asked k n y job sink sink note note yard yard_new PortFault
     asked_nobody job sink note yard yard_new counts = record {
       told = λ answers is. tt;
+      means = ([], tt);
       counts = both_none sink note;
       untouched = λ d w. (refl, refl);
       dials = record {
@@ -186,6 +204,9 @@ module _ {K N : Type 0} (k : Sight K) (n : Sight N) where
         told = λ input answers has is.
             subst (λ (r : Remote). EndsBy r answers end (k.told sink) (k.told sink_new) (n.told note) (n.told note_new))
             (made.told input has).0 (asked.told answers is);
+        means = λ input has.
+            subst (λ (r : Remote). EndsBySome r end (k.told sink) (k.told sink_new) (n.told note) (n.told note_new))
+            (made.told input has).0 asked.means;
         untouched = asked.untouched;
         reads = subst (λ (f : Bool). ReadsFor s tool source source_new f) (sym (read_none end asked.dialled)) made.reads;
         counts = asked.counts;
@@ -205,6 +226,7 @@ module _ {K N : Type 0} (k : Sight K) (n : Sight N) where
           → CallsTool s k n y tool source source_new sink sink note note yard yard (failed_input error)
       called_not inputs.ReadFault sink note yard made = record {
         told = λ input answers has is. tt;
+        means = λ input has. ([], tt);
         untouched = λ d w. (refl, refl);
         reads = made.reads;
         counts = both_none sink note;
@@ -216,6 +238,7 @@ module _ {K N : Type 0} (k : Sight K) (n : Sight N) where
       }
       called_not inputs.TooLarge sink note yard made = record {
         told = λ input answers has is. tt;
+        means = λ input has. ([], tt);
         untouched = λ d w. (refl, refl);
         reads = made.reads;
         counts = both_none sink note;
@@ -227,6 +250,7 @@ module _ {K N : Type 0} (k : Sight K) (n : Sight N) where
       }
       called_not inputs.OutOfMemory sink note yard made = record {
         told = λ input answers has is. tt;
+        means = λ input has. ([], tt);
         untouched = λ d w. (refl, refl);
         reads = made.reads;
         counts = both_none sink note;
@@ -236,3 +260,16 @@ module _ {K N : Type 0} (k : Sight K) (n : Sight N) where
         undialled = λ either. refl;
         called = λ e. cc;
       }
+
+    -- memory ran out before the source was read
+    pub called_starved : {S : Type 0} (s : Sight S) (tool : Tool) (source : S) (sink : K) (note : N) (yard : Y)
+        → CallsTool s k n y tool source source sink sink note note yard yard OutOfMemory
+    called_starved s tool source sink note yard = called_not s tool source source inputs.OutOfMemory sink note yard
+        (record { reads = unread tool; told = λ input has. tt; fits = tt; device = tt })
+      where
+        unread : (tool : Tool) → ReadsFor s tool source source false
+        unread Devices = (refl, refl)
+        unread (Push path mtime serial) = counts_none s source
+        unread (Pull path serial) = (refl, refl)
+        unread (Shell command serial) = (refl, refl)
+        unread (Wait serial state) = (refl, refl)

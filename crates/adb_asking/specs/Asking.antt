@@ -21,4 +21,6 @@ pub record Asks {I O K N : Type 0} (ports : Ports I O) (k : Sight K) (n : Sight 
   pub converses : Converses ports job on input input_new output output_new answer
   pub meant : (coming : List ℕ) → (ports.view_in input).left ≡ Some coming → answer ≢ Err PortFault → answer ≢ Err OutOfMemory
       → answered job coming ≡ Some answer
+  -- also where the port tells nothing
+  pub means : answer ≢ Err PortFault → answer ≢ Err OutOfMemory → (coming : List ℕ) × (answered job coming ≡ Some answer)
   pub tells : TellsAnswer (size_of job) answer k n sink sink_new note note_new end

@@ -49,6 +49,10 @@ EndsBy job answers ReadFault sink sink_new noted noted_new = Unit {0}
 EndsBy job answers TooLarge sink sink_new noted noted_new = Unit {0}
 EndsBy job answers Usage sink sink_new noted noted_new = ⊥
 
+-- The end is that of some answer of a server to this job, and what went out is told of that answer.
+abbrev pub EndsBySome : Remote → ToolEnd → (sink sink_new noted noted_new : Option (List ℕ)) → Type 0
+EndsBySome job end sink sink_new noted noted_new = (answers : List ℕ) × EndsBy job answers end sink sink_new noted noted_new
+
 -- A yard was dialled once, or not at all. Where nobody answered the port is at fault; it never is over a yard that never fails.
 pub record Dials {Y : Type 0} (y : Sight Y) (yard yard_new : Y) (end : ToolEnd) : Type 0 where
   pub unreached : Bool
@@ -68,6 +72,7 @@ pub record Asked {K N Y : Type 0} (k : Sight K) (n : Sight N) (y : Sight Y) (job
     (yard yard_new : Y) (end : ToolEnd) : Type 0 where
   pub told : (answers : List ℕ) → y.told yard ≡ Some answers
       → EndsBy job answers end (k.told sink) (k.told sink_new) (n.told note) (n.told note_new)
+  pub means : EndsBySome job end (k.told sink) (k.told sink_new) (n.told note) (n.told note_new)
   pub counts : CountsBoth k n sink sink_new note note_new (is_write_fault end)
   pub untouched : end ≢ Done → end ≢ WriteFault → (sink_new ≡ sink) × (note_new ≡ note)
   pub dials : Dials y yard yard_new end
@@ -79,6 +84,9 @@ pub record CallsTool {S K N Y : Type 0} (s : Sight S) (k : Sight K) (n : Sight N
   -- what the server's answer to the tool's job means, and what went out of it
   pub told : (input answers : List ℕ) → HasInput tool (s.told source) input → y.told yard ≡ Some answers
       → EndsBy (job_of tool input) answers end (k.told sink) (k.told sink_new) (n.told note) (n.told note_new)
+  -- also where the yard tells nothing of what a server answers, it is an answer to the tool's job
+  pub means : (input : List ℕ) → HasInput tool (s.told source) input
+      → EndsBySome (job_of tool input) end (k.told sink) (k.told sink_new) (n.told note) (n.told note_new)
   pub untouched : end ≢ Done → end ≢ WriteFault → (sink_new ≡ sink) × (note_new ≡ note)
   -- the source, which a push alone reads, and the sink and the note fail where the end says so, and else don't
   pub reads : ReadsFor s tool source source_new (is_read_fault end)

@@ -12,7 +12,7 @@ use Rattle.adb_sync_client.specs.declared.step.Step.{Step}
 use Rattle.adb_sync_client.specs.declared.step.Step.TheVariants as steps
 use Rattle.adb_remote_words.specs.declared.remote.Remote.{Remote}
 use Rattle.adb_remote_words.specs.declared.remote.Outcome.{Outcome}
-use Rattle.adb_remote_words.specs.Outcome.{decided}
+use Rattle.adb_remote_words.specs.Outcome.{decided, outcome_of}
 use Rattle.adb_remote_words.specs.Reading.{HeldAnswer, ReadingStands, HasRead}
 use Rattle.adb_remote_words.specs.Words.{begins_okay, client_words, okays_at, requests, words_to}
 use Rattle.adb_remote.specs.declared.sending.SendError.{SendError}
@@ -193,6 +193,16 @@ module _ {I O : Type 0} (steady_in : I → Type 0) (faults : I → ℕ) (left : 
           stands = k.stands;
           says = k.says;
         };
+    means = λ read stands.
+        let k = piece.told read stands in
+        record {
+          read = read ++ take n buffer;
+          ended = false;
+          outcome = λ step e some.
+              ap (λ s. decided s (length (read ++ take n buffer)) false) (sym (k.now step e))
+              ∙ decided_same step (length (read ++ take n buffer)) 0 false false some;
+          stands = k.stands;
+        };
     calls = record {
       count_in = counts.count;
       count_out = piece.count;
@@ -216,14 +226,16 @@ module _ {I O : Type 0} (steady_in : I → Type 0) (faults : I → ℕ) (left : 
           rest = [];
           left_is = t.1;
           taken = ap (λ r. read ++ r) t.0;
-          outcome = λ step e some.
-              let same : steps.BadAnswer count ≡ step = cc in
-              let size : length read ≡ count = sym stands.count ∙ sym counted in
-              ap (λ s. decided s (length read) true) stands.undecided
-              ∙ (ap (λ k. decided (steps.BadAnswer k) 0 false) size ∙ ap (λ s. decided s 0 false) same);
+          outcome = λ step e some. ended_here read stands step e;
           stands = λ e. cc;
           says = λ out is. says_all read out o is;
         };
+    means = λ read stands. record {
+      read = read;
+      ended = true;
+      outcome = λ step e some. ended_here read stands step e;
+      stands = λ e. cc;
+    };
     calls = record {
       count_in = counts.count;
       count_out = omega arith;
@@ -234,6 +246,15 @@ module _ {I O : Type 0} (steady_in : I → Type 0) (faults : I → ℕ) (left : 
       closed = refl;
     };
   }
+    where
+      ended_here : (read : List ℕ) → ReadingStands job read before → (step : Step Outcome)
+          → ◌≡◌ {A = Result (Step Outcome) SendError} (Ok (steps.BadAnswer count)) (Ok step)
+          → outcome_of job read true ≡ decided step 0 false
+      ended_here read stands step e =
+          let same : steps.BadAnswer count ≡ step = cc in
+          let size : length read ≡ count = sym stands.count ∙ sym counted in
+          ap (λ s. decided s (length read) true) stands.undecided
+          ∙ (ap (λ k. decided (steps.BadAnswer k) 0 false) size ∙ ap (λ s. decided s 0 false) same)
 
   -- the read failed
   pub turn_failed : (buffer : List ℕ) (o : O) → TellsRead (left in_old) (left in_new) buffer gots.Failed → Counts steady_in faults in_old in_new true
@@ -248,6 +269,7 @@ module _ {I O : Type 0} (steady_in : I → Type 0) (faults : I → ℕ) (left : 
       stands = λ e. cc;
       says = λ out is. says_all read out o is;
     };
+    means = λ read stands. record { read = read; ended = false; outcome = λ step e. cc; stands = λ e. cc };
     calls = record {
       count_in = counts.count;
       count_out = omega arith;

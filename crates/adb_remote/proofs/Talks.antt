@@ -125,6 +125,7 @@ module _ {I O : Type 0} (ports : Ports I O) where
       pub told : (coming : List ℕ) → (ports.view_in i).left ≡ Some coming
           → Talking coming (ports.view_in j).left (λ out. (ports.view_out o).written ≡ Some (out ++ client_words job on []))
           (ports.view_out p).written r
+      pub means : (read : List ℕ) × ReadingStands job read r
       pub calls : Calls ports i j o p ⊥
 
     pub talks_first : (i : I) (o : O) (r : HeldAnswer) → ReadingStands job [] r → TalksSo i i o o r
@@ -137,6 +138,7 @@ module _ {I O : Type 0} (ports : Ports I O) where
         stands = stands;
         says = λ out is. is;
       };
+      means = ([], stands);
       calls = calls_none i o;
     }
 
@@ -156,6 +158,7 @@ module _ {I O : Type 0} (ports : Ports I O) where
                   let w = n.says out (t.says out was) in
                   w.written_is ∙ ap (λ w. Some (out ++ w)) (all_said w.whole);
             };
+        means = (let n = turn.means talks.means.0 talks.means.1 in (n.read, n.stands refl));
         calls = calls_then i j k o p q ⊥ talks.calls
             (calls_so j k p q (Ok More ≡ Err PortFault) ⊥ (λ e. absurd e) turn.calls);
       }
@@ -176,6 +179,7 @@ module _ {I O : Type 0} (ports : Ports I O) where
                   let w = n.says out (t.says out was) in
                   record { said = w.said; written_is = w.written_is; part = w.part; whole = inl (all_said w.whole) };
             };
+        means = λ a b. (let n = turn.means talks.means.0 talks.means.1 in (n.read, n.ended, n.outcome step refl some ∙ is));
         calls = calls_then i j k o p q (result ≡ Err errors.PortFault) talks.calls
             (calls_so j k p q (Ok step ≡ Err PortFault) (result ≡ Err errors.PortFault) (λ e. absurd (no_fault e)) turn.calls);
       }
@@ -195,6 +199,7 @@ module _ {I O : Type 0} (ports : Ports I O) where
                   let w = n.says out (t.says out was) in
                   record { said = w.said; written_is = w.written_is; part = w.part; whole = whole_of e w.whole };
             };
+        means = λ a b. absurd (neither e a b);
         calls = calls_then i j k o p q (Err (remote_error e) ≡ Err errors.PortFault) talks.calls
             (calls_so j k p q (Err e ≡ Err PortFault) (Err (remote_error e) ≡ Err errors.PortFault) (λ is. ap Err (port_error e is)) turn.calls);
       }
@@ -234,6 +239,7 @@ module _ {I O : Type 0} (ports : Ports I O) where
           whole = inl refl;
         };
       };
+      means = λ a b. absurd (b refl);
       calls = calls_so i i o o ⊥ (◌≡◌ {A = Result Outcome RemoteError} (Err errors.OutOfMemory) (Err errors.PortFault)) starved_only (calls_none i o);
     }
 
@@ -259,6 +265,7 @@ module _ {I O : Type 0} (ports : Ports I O) where
                 whole = inr (short e s.fault);
               };
         };
+        means = λ a b. absurd (neither e a b);
         calls = calls_so i i o p (Err e ≡ Err PortFault) (Err (remote_error e) ≡ Err errors.PortFault) (λ is. ap Err (port_error e is))
             (calls_sent i o p (word job on 0) (Err e) s);
       }
@@ -287,6 +294,7 @@ module _ {I O : Type 0} (ports : Ports I O) where
                   let w = n.says out there in
                   record { said = w.said; written_is = w.written_is; part = w.part; whole = later w.whole };
             };
+        means = l.means;
         calls = calls_then i i k o p q (result ≡ Err errors.PortFault)
             (calls_so i i o p (Ok tt ≡ Err PortFault) ⊥ (λ e. absurd e) (calls_sent i o p (word job on 0) (Ok tt) s)) l.calls;
       }

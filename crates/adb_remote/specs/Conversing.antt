@@ -72,11 +72,21 @@ ports_of steady_in view_in steady_out view_out =
 abbrev pub IsCutShort : ℕ → ℕ → Result Outcome RemoteError → Type 0
 IsCutShort before after answer = Rises before after ⊎ (answer ≡ Err errors.OutOfMemory)
 
+-- There are bytes that an answer may begin with, or be, which mean this.
+abbrev pub IsMeant : Remote → Result Outcome RemoteError → Type 0
+IsMeant job answer = (read : List ℕ) × (ended : Bool) × (outcome_of job read ended ≡ Some answer)
+
+-- The same, of what is no loss of the port and no allocation failure.
+abbrev pub MeansSome : Remote → Result Outcome RemoteError → Type 0
+MeansSome job answer = answer ≢ Err errors.PortFault → answer ≢ Err errors.OutOfMemory → IsMeant job answer
+
 pub record Converses {I O : Type 0} (ports : Ports I O) (job : Remote) (on : Option (List ℕ)) (in_old in_new : I) (out_old out_new : O)
     (answer : Result Outcome RemoteError) : Type 0 where
   pub told : (coming : List ℕ) → (ports.view_in in_old).left ≡ Some coming
       → Conversed job on coming (ports.view_in in_new).left (λ out. (ports.view_out out_old).written ≡ Some out)
       (ports.view_out out_new).written (IsCutShort (ports.view_out out_old).faults (ports.view_out out_new).faults answer) answer
+  -- also where the port tells nothing
+  pub means : MeansSome job answer
   pub calls : Calls ports in_old in_new out_old out_new (answer ≡ Err errors.PortFault)
 
 -- The same, where the first request was written already.
@@ -86,6 +96,8 @@ pub record Listens {I O : Type 0} (ports : Ports I O) (job : Remote) (on : Optio
       → Conversed job on coming (ports.view_in in_new).left
       (λ out. (ports.view_out out_old).written ≡ Some (out ++ client_words job on []))
       (ports.view_out out_new).written (IsCutShort (ports.view_out out_old).faults (ports.view_out out_new).faults answer) answer
+  -- also where the port tells nothing
+  pub means : MeansSome job answer
   pub calls : Calls ports in_old in_new out_old out_new (answer ≡ Err errors.PortFault)
 
 -- ---- one turn
@@ -124,10 +136,18 @@ pub record Turned (job : Remote) (on : Option (List ℕ)) (coming : List ℕ) (l
   pub stands : answer ≡ Ok More → ReadingStands job read new
   pub says : (out : List ℕ) → had out → SaysWords job on read out written short
 
+-- The same, where the port tells nothing of the bytes that were read.
+pub record TurnedUntold (job : Remote) (new : HeldAnswer) (answer : Result (Step Outcome) SendError) : Type 0 where
+  pub read : List ℕ
+  pub ended : Bool
+  pub outcome : (step : Step Outcome) → answer ≡ Ok step → step ≢ More → outcome_of job read ended ≡ decided step 0 false
+  pub stands : answer ≡ Ok More → ReadingStands job read new
+
 pub record Turns {I O : Type 0} (ports : Ports I O) (job : Remote) (on : Option (List ℕ)) (in_old in_new : I) (out_old out_new : O)
     (before after : HeldAnswer) (answer : Result (Step Outcome) SendError) : Type 0 where
   pub told : (read rest : List ℕ) → ReadingStands job read before → (ports.view_in in_old).left ≡ Some rest
       → Turned job on (read ++ rest) (ports.view_in in_new).left
       (λ out. (ports.view_out out_old).written ≡ Some (out ++ client_words job on read)) (ports.view_out out_new).written
       (CutsShort answer (ports.view_out out_old).faults (ports.view_out out_new).faults) after answer
+  pub means : (read : List ℕ) → ReadingStands job read before → TurnedUntold job after answer
   pub calls : Calls ports in_old in_new out_old out_new (answer ≡ Err PortFault)

@@ -1,7 +1,10 @@
 //! A client tool over the sockets of this machine.
 
 ghost use Rattle.std.specs.Prelude.{◌≡◌, None, false, true};
-ghost use Rattle.adb_top.specs.Serve.{IsUnheard};
+ghost use Rattle.adb_asking.specs.Telling.{seen};
+ghost use Rattle.adb_serving.specs.Live.{live_yard};
+ghost use Rattle.adb_top.specs.Tools.{RunsTool};
+ghost use Rattle.adb_top.specs.Usage.{SaysUsage};
 ghost use Rattle.adb_words.specs.Serve.{is_serve};
 ghost use Rattle.adb_words.specs.Tools.{names_tool, tool_of};
 ghost use Rattle.adb_words.specs.Words.{texts};
@@ -34,7 +37,12 @@ pub(crate) fn call_live<
     requires serves { is_serve (texts words.now) ≡ false }
     requires tool { names_tool (texts words.now) ≡ true }
     ensures unheard { tool_of (texts words.now) ≡ None
-        → IsUnheard result × (source.new ≡ source.old) × (sink.new ≡ sink.old) }
+        → SaysUsage result (seen N.steady N.faults N.written) note.old note.new
+        × (source.new ≡ source.old) × (sink.new ≡ sink.old) }
+    ensures tool { RunsTool words.now
+        (seen S.steady S.faults S.left) (seen K.steady K.faults K.written)
+        (seen N.steady N.faults N.written) live_yard
+        source.old source.new sink.old sink.new note.old note.new 0 result }
 {
     let Ok(ending) = Ending::new(alloc) else {
         return say_out_of_memory(note);

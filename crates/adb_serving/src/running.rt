@@ -1,9 +1,12 @@
 //! Words are run over this machine.
 
-ghost use Rattle.std.specs.Prelude.{◌≡◌, None, true, false};
+ghost use Rattle.std.specs.Prelude.{◌≡◌, None, Some, true, false};
+ghost use Rattle.adb_asking.specs.Telling.{seen};
 ghost use Rattle.adb_top.specs.Alone.{RunsAlone};
-ghost use Rattle.adb_top.specs.Serve.{IsUnheard};
-ghost use Rattle.adb_words.specs.Serve.{is_serve, serve_of};
+ghost use Rattle.adb_serving.specs.Live.{ServesLive, live_yard};
+ghost use Rattle.adb_top.specs.Tools.{RunsTool};
+ghost use Rattle.adb_top.specs.Usage.{SaysUsage};
+ghost use Rattle.adb_words.specs.Serve.{Serving, is_serve, serve_of};
 ghost use Rattle.adb_words.specs.Tools.{names_tool, tool_of};
 ghost use Rattle.adb_words.specs.Words.{texts};
 
@@ -51,11 +54,19 @@ pub(crate) fn run_live<
         source.old source.new sink.old sink.new note.old note.new }
     ensures unheard { is_serve (texts words.now) ≡ false → names_tool (texts words.now) ≡ true
         → tool_of (texts words.now) ≡ None
-        → IsUnheard result × (source.new ≡ source.old) × (sink.new ≡ sink.old) }
-    ensures serves { is_serve (texts words.now) ≡ true
+        → SaysUsage result (seen N.steady N.faults N.written) note.old note.new
+        × (source.new ≡ source.old) × (sink.new ≡ sink.old) }
+    ensures tools { is_serve (texts words.now) ≡ false → names_tool (texts words.now) ≡ true
+        → RunsTool words.now
+        (seen S.steady S.faults S.left) (seen K.steady K.faults K.written)
+        (seen N.steady N.faults N.written) live_yard
+        source.old source.new sink.old sink.new note.old note.new 0 result }
+    ensures untouched { is_serve (texts words.now) ≡ true
         → (source.new ≡ source.old) × (sink.new ≡ sink.old) }
     ensures usage { is_serve (texts words.now) ≡ true → serve_of (texts words.now) ≡ None
-        → IsUnheard result }
+        → SaysUsage result (seen N.steady N.faults N.written) note.old note.new }
+    ensures serves { (asked : Serving) → serve_of (texts words.now) ≡ Some asked
+        → ServesLive asked.port result (seen N.steady N.faults N.written) note.old note.new }
     ensures command { is_serve (texts words.now) ≡ true → result ≡ Status.Usage
         → serve_of (texts words.now) ≡ None }
 {

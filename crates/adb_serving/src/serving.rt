@@ -1,7 +1,9 @@
 //! A server over the sockets and the threads of this machine.
 
 ghost use Rattle.std.specs.Prelude.{◌≡◌, None, Some, true};
-ghost use Rattle.adb_top.specs.Serve.{IsServerEnd, IsUnheard};
+ghost use Rattle.adb_asking.specs.Telling.{seen};
+ghost use Rattle.adb_serving.specs.Live.{Ended, ServesLive};
+ghost use Rattle.adb_top.specs.Usage.{SaysUsage};
 ghost use Rattle.adb_words.specs.Serve.{Serving, is_serve, serve_of};
 ghost use Rattle.adb_words.specs.Words.{texts};
 
@@ -46,10 +48,11 @@ pub(crate) fn serve_live<
 ) -> Status
     requires serve { is_serve (texts words.now) ≡ true }
     ensures untouched { (source.new ≡ source.old) × (sink.new ≡ sink.old) }
-    ensures usage { serve_of (texts words.now) ≡ None → IsUnheard result }
+    ensures usage { serve_of (texts words.now) ≡ None
+        → SaysUsage result (seen N.steady N.faults N.written) note.old note.new }
     ensures command { result ≡ Status.Usage → serve_of (texts words.now) ≡ None }
-    ensures ends { (asked : Serving) → serve_of (texts words.now) ≡ Some asked
-        → IsServerEnd result }
+    ensures serves { (asked : Serving) → serve_of (texts words.now) ≡ Some asked
+        → ServesLive asked.port result (seen N.steady N.faults N.written) note.old note.new }
 {
     let Ok(ending) = Ending::new(alloc) else {
         return say_out_of_memory(note);
@@ -67,9 +70,8 @@ pub(crate) fn serve_live<
 
 /// How a server ended, by whether its record was written out.
 fn ended<N: Sink>(note: &mut N, status: Status, kept: bool) -> Status
-    ensures unheard { IsUnheard status → IsUnheard result }
+    ensures ended { Ended status result (seen N.steady N.faults N.written) note.old note.new }
     ensures command { result ≡ Status.Usage → status ≡ Status.Usage }
-    ensures ends { IsServerEnd status → IsServerEnd result }
 {
     match status {
         Status::Done if !kept => say_record_fault(note),

@@ -2,10 +2,15 @@
 
 ghost use Rattle.std.specs.Prelude.{◌≡◌, ◌≢◌, ◌⊎◌, drop, IfErr, IfOk, None, Some, true, false};
 ghost use Rattle.std.specs.IoError.{error_kind};
+ghost use Rattle.adb_asking.specs.Telling.{seen};
 ghost use Rattle.adb_top.specs.Alone.{RunsAlone};
 ghost use Rattle.adb_top.specs.Notes.{usage_line, out_of_memory_line, IsJust, WritesNote};
-ghost use Rattle.adb_top.specs.Serve.{IsUnheard};
-ghost use Rattle.adb_words.specs.Serve.{is_serve, serve_of};
+ghost use Rattle.adb_top.specs.Faults.{tells_write_fault};
+ghost use Rattle.adb_outside.specs.Outside.{Counts};
+ghost use Rattle.adb_serving.specs.Live.{ServesLive, live_yard};
+ghost use Rattle.adb_top.specs.Tools.{RunsTool};
+ghost use Rattle.adb_top.specs.Usage.{SaysUsage};
+ghost use Rattle.adb_words.specs.Serve.{Serving, is_serve, serve_of};
 ghost use Rattle.adb_words.specs.Tools.{names_tool, tool_of};
 ghost use Rattle.adb_words.specs.Words.{texts};
 
@@ -20,9 +25,9 @@ use std::sync::Wait;
 use std::thread::Threads;
 
 /// Runs the words of the command line: a server over this machine, whose history goes to a sink of
-/// its own, a client tool, or a command that neither serves nor dials. Where memory was wanting for
-/// the words nothing is read, nothing goes out, and the note has the line of that. Where one of them
-/// is no text they are no command.
+/// its own, a client tool, or a command that neither serves nor dials. If memory ran out for the
+/// words, nothing is read, nothing goes out, and the note has the line of that. If one of them is
+/// not text, they are no command.
 pub fn start<
     W: Net<Listener = TcpListener, Stream = TcpStream>
         + Threads
@@ -53,21 +58,33 @@ pub fn start<
         (record { told = N.written; faults = N.faults; steady = N.steady })
         source.old source.new sink.old sink.new note.old note.new) }
 
-    // or a client tool,
+    // or a client tool, whose yard tells nothing but how many of its calls failed: the sink and the
+    // note have what some answer of a server to the tool's job means,
+    ensures tools { IfOk words (λ list. is_serve (texts list.items) ≡ false
+        → names_tool (texts list.items) ≡ true → RunsTool list.items
+        (seen S.steady S.faults S.left) (seen K.steady K.faults K.written)
+        (seen N.steady N.faults N.written) live_yard
+        source.old source.new sink.old sink.new note.old note.new 0 result) }
     ensures unheard { IfOk words (λ list. is_serve (texts list.items) ≡ false
         → names_tool (texts list.items) ≡ true → tool_of (texts list.items) ≡ None
-        → IsUnheard result × (source.new ≡ source.old) × (sink.new ≡ sink.old)) }
+        → SaysUsage result (seen N.steady N.faults N.written) note.old note.new
+        × (source.new ≡ source.old) × (sink.new ≡ sink.old)) }
 
-    // or a server, which reads nothing and writes to the note and to its history alone.
-    ensures serves { IfOk words (λ list. is_serve (texts list.items) ≡ true
+    // or a server, which reads nothing, and writes to its history and the note: where it listens,
+    // and how it ended.
+    ensures serves { IfOk words (λ list. (asked : Serving)
+        → serve_of (texts list.items) ≡ Some asked
+        → ServesLive asked.port result (seen N.steady N.faults N.written) note.old note.new) }
+    ensures unread { IfOk words (λ list. is_serve (texts list.items) ≡ true
         → (source.new ≡ source.old) × (sink.new ≡ sink.old)) }
     ensures usage { IfOk words (λ list. is_serve (texts list.items) ≡ true
-        → serve_of (texts list.items) ≡ None → IsUnheard result) }
+        → serve_of (texts list.items) ≡ None
+        → SaysUsage result (seen N.steady N.faults N.written) note.old note.new) }
     ensures command { IfOk words (λ list. is_serve (texts list.items) ≡ true
         → result ≡ Status.Usage → serve_of (texts list.items) ≡ None) }
 
-    // Where they are not there, nothing is read and nothing goes out, and the note says why: want
-    // of memory, or that they are no command.
+    // Where they are not there, nothing is read and nothing goes out, and the note says why: an
+    // allocation failure, or that they are no command. WriteFault comes only where its count rose.
     ensures untouched { IfErr words (λ _. (source.new ≡ source.old) × (sink.new ≡ sink.old)) }
     ensures memory { IfErr words (λ error. error_kind error ≡ ErrorKind.OutOfMemory
         → (result ≡ Status.OutOfMemory) ⊎ (result ≡ Status.WriteFault)) }
@@ -79,6 +96,8 @@ pub fn start<
     ensures no_text_note { IfErr words (λ error. error_kind error ≢ ErrorKind.OutOfMemory
         → WritesNote result (IsJust Status.Usage usage_line)
         N.faults N.written note.old note.new) }
+    ensures counts { IfErr words (λ _. Counts N.steady N.faults note.old note.new
+        (tells_write_fault result)) }
 {
     match words {
         Ok(words) => run_live(rt, alloc, words.as_slice(), source, sink, note, history),

@@ -1,5 +1,7 @@
 //! The yard of this machine.
 
+ghost use Rattle.std.specs.Prelude.{◌≡◌, IfOk};
+
 use adb_outside::Sink;
 use adb_ports::{Ending, Helpers, RealYard};
 use std::alloc::{AllocError, Global};
@@ -7,7 +9,8 @@ use std::net::{Net, TcpListener, TcpStream};
 use std::sync::Wait;
 use std::thread::Threads;
 
-/// The yard, and what goes on beside who is given it.
+/// Makes a yard of this machine, whose record goes to a sink, and the helpers that have to finish
+/// after it.
 pub(crate) fn open_yard<
     W: Net<Listener = TcpListener, Stream = TcpStream>
         + Threads
@@ -23,7 +26,9 @@ pub(crate) fn open_yard<
     alloc: Global,
     ending: Ending,
     history: R,
-) -> Result<(RealYard<W, R>, Helpers<W, R>), AllocError> {
+) -> Result<(RealYard<W, R>, Helpers<W, R>), AllocError>
+    ensures { IfOk result (λ made. made.0.faults ≡ 0) }
+{
     let yard = RealYard::new(rt, alloc, ending, history)?;
     let helpers = yard.helpers()?;
     Ok((yard, helpers))

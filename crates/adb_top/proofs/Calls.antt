@@ -1,21 +1,21 @@
 -- Words that are no tool's.
 use Rattle.std.proofs.Common.{◌≡◌, ◌⊎◌, subst, inl, inr}
+use Rattle.adb_asking.specs.Telling.{Sight}
 use Rattle.adb_asking.specs.declared.ends.ToolEnd.{ToolEnd}
 use Rattle.adb_asking.specs.declared.ends.ToolEnd.TheVariants as ends
 use Rattle.adb_top.specs.declared.status.Status.{Status}
-use Rattle.adb_top.specs.declared.status.Status.TheVariants.{Usage, WriteFault, OutOfMemory}
-use Rattle.adb_top.specs.Serve.{IsUnheard}
-use Rattle.adb_top.specs.Tools.{IsStatusOf}
+use Rattle.adb_top.specs.Tools.{TellsEnd}
+use Rattle.adb_top.specs.Usage.{SaysUsage}
+use Rattle.adb_top.proofs.Usage.{memory_said, usage_said}
 
 -- An end that calls nobody is told as it is, unless the note fails.
-pub unheard : (end : ToolEnd) (status : Status) → (end ≡ ends.Usage) ⊎ (end ≡ ends.OutOfMemory) → IsStatusOf end status → IsUnheard status
-unheard end status (inl e) is = usage (subst (λ (k : ToolEnd). IsStatusOf k status) e is)
+pub unheard : {N : Type 0} (end : ToolEnd) (status : Status) (n : Sight N) (note note_new : N)
+    → (end ≡ ends.Usage) ⊎ (end ≡ ends.OutOfMemory) → TellsEnd end status n note note_new → SaysUsage status n note note_new
+unheard end status n note note_new (inl is) tells = usage (subst (λ (e : ToolEnd). TellsEnd e status n note note_new) is tells)
   where
-    usage : (status ≡ Usage) ⊎ (status ≡ WriteFault) → IsUnheard status
-    usage (inl own) = inl own
-    usage (inr lost) = inr (inl lost)
-unheard end status (inr e) is = memory (subst (λ (k : ToolEnd). IsStatusOf k status) e is)
+    usage : TellsEnd ends.Usage status n note note_new → SaysUsage status n note note_new
+    usage t = usage_said n note note_new status t.counts t.own t.notes
+unheard end status n note note_new (inr is) tells = memory (subst (λ (e : ToolEnd). TellsEnd e status n note note_new) is tells)
   where
-    memory : (status ≡ OutOfMemory) ⊎ (status ≡ WriteFault) → IsUnheard status
-    memory (inl own) = inr (inr own)
-    memory (inr lost) = inr (inl lost)
+    memory : TellsEnd ends.OutOfMemory status n note note_new → SaysUsage status n note note_new
+    memory t = memory_said n note note_new status t.counts t.own t.notes

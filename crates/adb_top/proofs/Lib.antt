@@ -6,3 +6,4 @@ pub mod Statuses
 pub mod Promises
 pub mod Served
 pub mod Calls
+pub mod Usage

@@ -4,6 +4,8 @@ pub mod Commands
 pub mod Run
 pub mod Alone
 pub mod Serve
+pub mod ServedNote
 pub mod Tells
 pub mod Tools
+pub mod Usage
 pub mod Wanted

@@ -6,8 +6,9 @@ ghost use Rattle.adb_words.specs.Tools.{names_tool, tool_of};
 ghost use Rattle.adb_words.specs.Words.{texts};
 ghost use Rattle.adb_asking.specs.Telling.{seen};
 ghost use Rattle.adb_top.specs.Alone.{RunsAlone};
-ghost use Rattle.adb_top.specs.Serve.{IsUnheard, Serves};
+ghost use Rattle.adb_top.specs.Serve.{Serves};
 ghost use Rattle.adb_top.specs.Tools.{RunsTool};
+ghost use Rattle.adb_top.specs.Usage.{SaysUsage};
 
 use crate::alone::run_alone;
 use crate::serving::run_serve;
@@ -65,21 +66,22 @@ pub fn run<
     ensures untouched { is_serve (texts words.now) ≡ true
         → (source.new ≡ source.old) × (sink.new ≡ sink.old) }
 
-    // Words that begin with `serve` and are no command serve nobody.
+    // Words that begin with `serve` and are no command serve nobody, and the note says so.
     ensures usage { is_serve (texts words.now) ≡ true → serve_of (texts words.now) ≡ None
-        → IsUnheard result }
+        → SaysUsage result (seen N.steady N.faults N.written) note.old note.new }
     ensures command { is_serve (texts words.now) ≡ true → result ≡ Status.Usage
         → serve_of (texts words.now) ≡ None }
 
     // How a server ends, what the note has, and what no steady and no lasting yard comes to.
     ensures serves { (asked : Serving) → serve_of (texts words.now) ≡ Some asked
         → Serves asked result (Y.steady yard) (Y.lasting yard)
-        N.steady N.faults N.written note.old note.new }
+        (seen N.steady N.faults N.written) note.old note.new }
 
-    // Words that begin with a tool's name and are none call nobody.
+    // Words that begin with a tool's name and are none call nobody, and the note says so.
     ensures unheard { is_serve (texts words.now) ≡ false → names_tool (texts words.now) ≡ true
         → tool_of (texts words.now) ≡ None
-        → IsUnheard result × (source.new ≡ source.old) × (sink.new ≡ sink.old) }
+        → SaysUsage result (seen N.steady N.faults N.written) note.old note.new
+        × (source.new ≡ source.old) × (sink.new ≡ sink.old) }
 
     // What a client tool asked for, what it told of the answer, and how it ended.
     ensures tools { is_serve (texts words.now) ≡ false → names_tool (texts words.now) ≡ true

@@ -1,10 +1,12 @@
 //! `serve`.
 
 ghost use Rattle.std.specs.Prelude.{◌≡◌, None, Some, true};
+ghost use Rattle.adb_asking.specs.Telling.{seen};
 ghost use Rattle.adb_words.specs.Serve.{Serving, is_serve, serve_of};
 ghost use Rattle.adb_words.specs.Words.{texts};
-ghost use Rattle.adb_top.specs.Serve.{IsUnheard, Serves};
+ghost use Rattle.adb_top.specs.Serve.{Serves};
 ghost use Rattle.adb_top.specs.Tells.{Tells};
+ghost use Rattle.adb_top.specs.Usage.{SaysUsage};
 
 use crate::note::{say_door_fault, say_lost_line, say_out_of_memory, say_record_fault, say_usage};
 use crate::status::Status;
@@ -34,11 +36,12 @@ pub(crate) fn run_serve<
     devices: Vec<Device<X, Z>>,
 ) -> Status
     requires serve { is_serve (texts words.now) ≡ true }
-    ensures usage { serve_of (texts words.now) ≡ None → IsUnheard result }
+    ensures usage { serve_of (texts words.now) ≡ None
+        → SaysUsage result (seen N.steady N.faults N.written) note.old note.new }
     ensures command { result ≡ Status.Usage → serve_of (texts words.now) ≡ None }
     ensures serves { (asked : Serving) → serve_of (texts words.now) ≡ Some asked
         → Serves asked result (Y.steady yard) (Y.lasting yard)
-        N.steady N.faults N.written note.old note.new }
+        (seen N.steady N.faults N.written) note.old note.new }
 {
     match read_serve(alloc, words) {
         Ok(asked) => {
@@ -52,7 +55,7 @@ pub(crate) fn run_serve<
 
 /// Tells the note how a server ended, where it is not done.
 fn say_served<N: Sink>(note: &mut N, served: Served) -> Status
-    ensures { Tells served result N.steady N.faults N.written note.old note.new }
+    ensures { Tells served result (seen N.steady N.faults N.written) note.old note.new }
 {
     match served {
         Served::Done => Status::Done,

@@ -3,8 +3,8 @@
 ghost use Rattle.std.specs.Prelude.{◌≡◌, IfOk, None};
 ghost use Rattle.adb_asking.specs.Telling.{seen};
 ghost use Rattle.adb_script.specs.Output.{escaped};
-ghost use Rattle.adb_top.specs.Serve.{IsUnheard};
 ghost use Rattle.adb_top.specs.Tools.{RunsTool, TellsEnd};
+ghost use Rattle.adb_top.specs.Usage.{SaysUsage};
 ghost use Rattle.adb_words.specs.Tools.{tool_of};
 ghost use Rattle.adb_words.specs.Words.{texts};
 
@@ -19,7 +19,6 @@ use std::alloc::{AllocError, Global};
 use std::sync::Wait;
 
 /// Calls a tool as the words say, and tells the note how that ended where it is not done.
-#[tactic(auto, using(crate::proofs::Calls::unheard))]
 pub(crate) fn run_call<W: Wait + Copy + Drop, S: Source, K: Sink, N: Sink, Y: Yard>(
     rt: W,
     alloc: Global,
@@ -33,7 +32,8 @@ pub(crate) fn run_call<W: Wait + Copy + Drop, S: Source, K: Sink, N: Sink, Y: Ya
         (seen N.steady N.faults N.written) (seen Y.steady Y.faults Y.answers)
         source.old source.new sink.old sink.new note.old note.new yard result }
     ensures unheard { tool_of (texts words.now) ≡ None
-        → IsUnheard result × (source.new ≡ source.old) × (sink.new ≡ sink.old) }
+        → SaysUsage result (seen N.steady N.faults N.written) note.old note.new
+        × (source.new ≡ source.old) × (sink.new ≡ sink.old) }
 {
     let mut yard = yard;
     let end = run_tool(rt, alloc, words, source, sink, note, &mut yard);

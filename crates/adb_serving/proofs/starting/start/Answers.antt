@@ -6,6 +6,12 @@ returns-in-Ok-clause-alone g c = rw c.in-Ok.is (rw c.as_slice.ensures.value at c
 pub returns-in-Ok-clause-unheard : goal.returns-in-Ok-clause-unheard
 returns-in-Ok-clause-unheard g c = rw c.in-Ok.is (rw c.as_slice.ensures.value at c.run_live.ensures.unheard)
 
+pub returns-in-Ok-clause-tools : goal.returns-in-Ok-clause-tools
+returns-in-Ok-clause-tools g c = rw c.in-Ok.is (rw c.as_slice.ensures.value at c.run_live.ensures.tools)
+
+pub returns-in-Ok-clause-unread : goal.returns-in-Ok-clause-unread
+returns-in-Ok-clause-unread g c = rw c.in-Ok.is (rw c.as_slice.ensures.value at c.run_live.ensures.untouched)
+
 pub returns-in-Ok-clause-serves : goal.returns-in-Ok-clause-serves
 returns-in-Ok-clause-serves g c = rw c.in-Ok.is (rw c.as_slice.ensures.value at c.run_live.ensures.serves)
 
