@@ -153,7 +153,7 @@ module _ {A S K : Type 0} (words : List (String A)) (s : Sight S) (k : Sight K) 
       → LeavesScript s k source source_new sink sink_new kind (Err script.OutOfMemory)
   starved_script kind unread unwritten = record {
     refuses = λ bytes was. tt;
-    writes = λ bytes had was has. ap k.told unwritten ∙ has;
+    writes = λ bytes had was has. inl (ap k.told unwritten ∙ has);
     whole = λ e. cc;
     within = λ coming was. record { front = []; rest = coming; is = refl; left = ap s.told unread ∙ was; few = omega arith };
     unwritten = λ line e. unwritten;

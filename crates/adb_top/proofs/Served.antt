@@ -2,7 +2,7 @@
 use Rattle.std.proofs.Common.{ℕ, ◌≡◌, ◌≢◌, ◌<◌, ◌≤◌, ◌⊎◌, true, false, List, [], ◌++◌, take, drop, Option, Some, refl, sym, ◌∙◌, ap, subst, inl, inr, arith}
 use Rattle.std.proofs.lemmas.List.{append-nil, take-append-drop}
 use Rattle.adb_outside.specs.Outside.{Rises, Counts}
-use Rattle.adb_outside.specs.declared.sink.Wrote.TheVariants.{All, Failed}
+use Rattle.adb_outside.specs.declared.sink.Wrote.TheVariants.{All}
 use Rattle.adb_asking.specs.Telling.{Sight}
 use Rattle.adb_server.specs.Served.{listening_line, Announces, TellsPort, is_write_fault}
 use Rattle.adb_server.specs.declared.server.Served.{Served}

@@ -1,5 +1,5 @@
 -- What a run leaves that serves.
-use Rattle.std.specs.Prelude.{ℕ, ◌≡◌, ◌≢◌, ◌⊎◌}
+use Rattle.std.specs.Prelude.{◌≡◌, ◌≢◌, ◌⊎◌}
 use Rattle.adb_asking.specs.Telling.{Sight}
 use Rattle.adb_server.specs.declared.server.Served.{Served}
 use Rattle.adb_server.specs.declared.server.Served.TheVariants as served

@@ -1,5 +1,5 @@
 -- How the end of a server is told.
-use Rattle.std.specs.Prelude.{ℕ, ◌≤◌}
+use Rattle.std.specs.Prelude.{◌≤◌}
 use Rattle.adb_outside.specs.Outside.{Counts}
 use Rattle.adb_asking.specs.Telling.{Sight}
 use Rattle.adb_server.specs.declared.server.Served.{Served}

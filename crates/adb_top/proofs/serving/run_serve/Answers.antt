@@ -4,7 +4,6 @@ use Rattle.adb_words.specs.Serve.{Serving, serving}
 use Rattle.adb_server.specs.declared.server.Served.TheVariants as served
 use Rattle.adb_replay.proofs.Counting.{counts_first}
 use Rattle.adb_top.proofs.Served.{serves_of}
-use Rattle.adb_top.proofs.Usage.{memory_said, usage_said}
 use Rattle.adb_top.proofs.serving.run_serve.Goals as goal
 
 pub returns-in-Ok-clause-serves : goal.returns-in-Ok-clause-serves
