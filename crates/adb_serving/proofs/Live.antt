@@ -1,5 +1,5 @@
 -- What a run over the sockets of this machine leaves.
-use Rattle.std.proofs.Common.{ℕ, ◌≡◌, ◌⊎◌, Bool, List, Option, Some, None, refl, sym, ◌∙◌, ap, subst, inl, inr, arith}
+use Rattle.std.proofs.Common.{ℕ, ◌≡◌, ◌⊎◌, Bool, List, Option, Some, None, refl, sym, ap, subst, inl, inr}
 use Rattle.std.specs.Prelude.{String}
 use Rattle.adb_outside.specs.Outside.{Counts}
 use Rattle.adb_asking.specs.Calling.{CallsTool, Dials}
@@ -16,8 +16,7 @@ use Rattle.adb_top.specs.Notes.{out_of_memory_line, IsJust, WritesNote}
 use Rattle.adb_top.specs.declared.status.Status.{Status}
 use Rattle.adb_top.specs.declared.status.Status.TheVariants.{Done, WriteFault, OutOfMemory, RecordFault, DoorFault}
 use Rattle.adb_top.specs.ServedNote.{IsStatusOf, ServesNote}
-use Rattle.adb_top.specs.Tells.{Tells}
-use Rattle.adb_top.specs.Tools.{RunsTool, TellsEnd}
+use Rattle.adb_top.specs.Tools.{RunsTool}
 use Rattle.adb_top.proofs.Served.{serves_lost, serves_note}
 use Rattle.adb_serving.specs.Live.{Ended, ServesLive, live_yard}
 
