@@ -2,7 +2,7 @@
 
 use crate::{
     client, copying, failing, files, forward, frames, input, link, load, recorders, records,
-    touched,
+    sessions, touched,
 };
 use std::alloc::{AllocError, Global};
 use std::sync::Wait;
@@ -26,6 +26,7 @@ pub enum Case {
     InputIsRead,
     FaultsAreTold,
     FilesAreFilled,
+    SessionsSideBySide,
 }
 
 pub const CASES: &[Case] = &[
@@ -46,6 +47,7 @@ pub const CASES: &[Case] = &[
     Case::InputIsRead,
     Case::FaultsAreTold,
     Case::FilesAreFilled,
+    Case::SessionsSideBySide,
 ];
 
 /// Which row does not hold of a case that has one.
@@ -90,6 +92,7 @@ impl Case {
             Case::InputIsRead => input::first_fault(alloc)?,
             Case::FaultsAreTold => failing::first_fault(rt, alloc)?,
             Case::FilesAreFilled => fault_of(files::files_are_filled(alloc)),
+            Case::SessionsSideBySide => sessions::first_fault(alloc)?,
         })
     }
 }

@@ -14,6 +14,7 @@ mod link;
 mod load;
 mod recorders;
 mod records;
+mod sessions;
 mod touched;
 
 use case::{CASES, Case};
