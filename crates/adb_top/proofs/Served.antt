@@ -126,7 +126,8 @@ module _ {N : Type 0} (n : Sight N) where
   }
 
   counts_end : (end : Served) (status : Status) (note mid after : N) → IsStatusOf end status
-      → Counts n.steady n.faults note mid (is_write_fault end) → CountsEnd end status n mid after → Counts n.steady n.faults note after (tells_write_fault status)
+      → Counts n.steady n.faults note mid (is_write_fault end) → CountsEnd end status n mid after
+      → Counts n.steady n.faults note after (tells_write_fault status)
   counts_end served.Done status note mid after own first more = counts_then n.steady n.faults note mid after first more
   counts_end served.OutOfMemory status note mid after own first more = counts_then n.steady n.faults note mid after first more
   counts_end served.RecordFault status note mid after own first more = counts_then n.steady n.faults note mid after first more

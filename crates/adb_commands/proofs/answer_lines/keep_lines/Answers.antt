@@ -12,7 +12,8 @@ returns-in_err-keep_bytes-clause-kept g c =
     let before : Out = (g.K.Sink.written c.args.sink.now, c.args.output.now) in
     let now : Out = (g.K.Sink.written c.loop-line.sink, c.loop-line.output) in
     let new : Out = (g.K.Sink.written c.keep_bytes.new.sink, c.keep_bytes.new.self) in
-    let next = line_next c.args.lines.now c.loop-line.line-index c.line-item.result c.as_slice.result.now c.loop-line-test.true c.line-item.is c.as_slice.ensures in
+    let next = line_next c.args.lines.now c.loop-line.line-index c.line-item.result c.as_slice.result.now
+    c.loop-line-test.true c.line-item.is c.as_slice.ensures in
     rw (passed.1, passed.2)
     (λ had k. says_lost (texts_of c.args.lines.now) (texts_of (drop c.loop-line.line-index c.args.lines.now)) before now c.loop-line.invariant.saying
     c.as_slice.result.now (texts_of (drop (c.loop-line.line-index + 1) c.args.lines.now)) next new
@@ -23,7 +24,8 @@ loop-line-preserved g c =
     let before : Out = (g.K.Sink.written c.args.sink.now, c.args.output.now) in
     let now : Out = (g.K.Sink.written c.loop-line.sink, c.loop-line.output) in
     let new : Out = (g.K.Sink.written c.keep_bytes.new.sink, c.keep_bytes.new.self) in
-    let next = line_next c.args.lines.now c.loop-line.line-index c.line-item.result c.as_slice.result.now c.loop-line-test.true c.line-item.is c.as_slice.ensures in
+    let next = line_next c.args.lines.now c.loop-line.line-index c.line-item.result c.as_slice.result.now
+    c.loop-line-test.true c.line-item.is c.as_slice.ensures in
     record {
       saying = says_more (texts_of c.args.lines.now) (texts_of (drop c.loop-line.line-index c.args.lines.now)) before now c.loop-line.invariant.saying
           c.as_slice.result.now (texts_of (drop (c.loop-line.line-index + 1) c.args.lines.now)) next new c.in_ok-keep_bytes.ensures.kept;

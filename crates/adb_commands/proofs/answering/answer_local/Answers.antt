@@ -14,6 +14,7 @@ returns-in-Ok-write_run-clause-writes g c = λ had has. record {
 
 pub returns-clause-writes : goal.returns-clause-writes
 returns-clause-writes g c = λ had has.
-    lost_out kinds.Local c.in-Err-write_run.why c.lost_by.result c.args.script.now (concat (answers_from c.in-Ok.run'.number [] c.in-Ok.run'.lines)) had _ c.lost_by.ensures
+    lost_out kinds.Local c.in-Err-write_run.why c.lost_by.result c.args.script.now
+    (concat (answers_from c.in-Ok.run'.number [] c.in-Ok.run'.lines)) had _ c.lost_by.ensures
     (left_are c.args.script.now c.in-Ok.run' c.in-Ok.ensures.lines c.in-Ok.ensures.refuses)
     (c.in-Err-write_run.ensures.out had has)

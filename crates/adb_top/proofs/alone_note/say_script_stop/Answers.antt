@@ -14,4 +14,5 @@ returns-in-OutOfMemory g c = rw c.in-OutOfMemory.is
 
 pub returns-in-BadLine : goal.returns-in-BadLine
 returns-in-BadLine g c = rw c.in-BadLine.is
-    (made_told _ _ _ _ _ _ _ (λ e. cc) c.say_bad_script.ensures.status c.say_bad_script.ensures.told c.say_bad_script.ensures.names c.say_bad_script.ensures.counts)
+    (made_told _ _ _ _ _ _ _ (λ e. cc) c.say_bad_script.ensures.status c.say_bad_script.ensures.told
+    c.say_bad_script.ensures.names c.say_bad_script.ensures.counts)

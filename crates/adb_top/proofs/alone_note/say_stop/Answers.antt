@@ -14,4 +14,5 @@ returns-in-OutOfMemory g c = rw c.in-OutOfMemory.is
 
 pub returns-in-Refused : goal.returns-in-Refused
 returns-in-Refused g c = rw c.in-Refused.is
-    (made_told _ _ _ _ _ _ _ (λ e. cc) c.say_bad_capture.ensures.status c.say_bad_capture.ensures.told c.say_bad_capture.ensures.names c.say_bad_capture.ensures.counts)
+    (made_told _ _ _ _ _ _ _ (λ e. cc) c.say_bad_capture.ensures.status c.say_bad_capture.ensures.told
+    c.say_bad_capture.ensures.names c.say_bad_capture.ensures.counts)

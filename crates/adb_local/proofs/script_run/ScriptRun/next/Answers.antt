@@ -31,7 +31,8 @@ pub returns : goal.returns
 returns c =
     let lookup = c.in-Some.ensures.lookup in
     let first = first_left c.lines.result.now c.self.inside.script c.self.inside.done c.in-Some.line.now c.lines.ensures.lines lookup.0 lookup.1 in
-    subst (λ (left : LinesLeft). RunsFirst c.in_ok-answer.answer left (left_after (c.self.inside.done + 1) c.self.inside.script) c.args.world.now c.run_line.new.world)
+    subst (λ (left : LinesLeft). RunsFirst c.in_ok-answer.answer left (left_after (c.self.inside.done + 1) c.self.inside.script)
+    c.args.world.now c.run_line.new.world)
     c.self.view_is
     (runs_first c.self.inside.done c.self.inside.script (seen c.in-Some.line.now) first c.args.world.now c.run_line.new.world c.in_ok-answer.answer
     c.in_ok-answer.ensures.text c.in_ok-answer.ensures.runs)
