@@ -49,7 +49,7 @@ fn come(hub: &mut Hub, entry: &Entry) -> Result<Option<Rule>, AllocError>
 
 /// The rule that is broken by an entry that a hub refuses for a reason. A record that is refused by
 /// its form has no entry.
-fn rule_of(reason: Reason) -> Option<Rule>
+pub fn rule_of(reason: Reason) -> Option<Rule>
     ensures { result ≡ reason_rule reason }
 {
     match reason {
