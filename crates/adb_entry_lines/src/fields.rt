@@ -132,7 +132,8 @@ fn push_bytes(text: &mut Text, payloads: Payloads, bytes: &[u8]) -> Result<(), A
 
 /// Appends the same of bytes in two parts.
 fn push_parts(text: &mut Text, payloads: Payloads, bytes: Parts<'_>) -> Result<(), AllocError>
-    ensures { OnOk result (text.new ≡ text.old ++ payload payloads (bytes.start.now ++ bytes.rest.now)) }
+    ensures { OnOk result (text.new
+        ≡ text.old ++ payload payloads (bytes.entry.start.now ++ bytes.entry.rest.now)) }
 {
     let size = bytes.start.len() as u64 + bytes.rest.len() as u64;
     push_numbered(text, b",\"bytes\":", size)?;
