@@ -1,2 +1,3 @@
-pub mod Making
-pub mod Explaining
+pub mod MadeLines
+pub mod HowFar
+pub mod Said

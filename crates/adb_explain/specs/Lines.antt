@@ -13,12 +13,12 @@ use Rattle.adb_entry_lines.specs.Fields.{entry_fields}
 use Rattle.adb_entry_lines.specs.declared.payload.Payloads.{Payloads}
 
 -- a stream that ended, and why
-abbrev pub ended_object : Ended → List ℕ
+unfoldable pub ended_object : Ended → List ℕ
 ended_object e =
     numbered (codes "{\"stream\":") e.stream ++ (numbered (codes ",\"client\":") e.client ++ (numbered (codes ",\"link\":") e.link
     ++ (named (codes ",\"cause\":\"") (ending_text e.ending) ++ codes "}")))
 
-abbrev pub next_ended : Ended → List ℕ
+unfoldable pub next_ended : Ended → List ℕ
 next_ended e = codes "," ++ ended_object e
 
 -- the streams that ended, where any did

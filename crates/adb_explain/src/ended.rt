@@ -31,6 +31,7 @@ fn push_more(text: &mut Text, ends: &[Ended]) -> Result<(), AllocError>
     Ok(())
 }
 
+#[tactic(auto, unfolding(crate::specs::Lines::next_ended))]
 fn push_next(text: &mut Text, ended: &Ended) -> Result<(), AllocError>
     ensures { OnOk result (text.new ≡ text.old ++ next_ended ended.now) }
 {
@@ -39,6 +40,7 @@ fn push_next(text: &mut Text, ended: &Ended) -> Result<(), AllocError>
 }
 
 /// Appends a stream that ended, with its client, its link and the cause.
+#[tactic(auto, unfolding(crate::specs::Lines::ended_object))]
 fn push_one(text: &mut Text, ended: &Ended) -> Result<(), AllocError>
     ensures { OnOk result (text.new ≡ text.old ++ ended_object ended.now) }
 {
