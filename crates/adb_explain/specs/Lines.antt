@@ -27,7 +27,7 @@ ended_field [] = []
 ended_field (e ∷ more) = codes ",\"ended\":[" ++ (ended_object e ++ (flat_map next_ended more ++ codes "]"))
 
 -- how many clients, links and streams are kept then
-abbrev pub count_fields : Kept → List ℕ
+unfoldable pub count_fields : Kept → List ℕ
 count_fields k =
     numbered (codes ",\"clients\":") (length k.clients) ++ (numbered (codes ",\"links\":") (length k.links)
     ++ numbered (codes ",\"streams\":") (length k.streams.streams))
@@ -44,7 +44,7 @@ abbrev pub line : Payloads → Entry → History → List ℕ
 line payloads e older =
     entry_fields payloads (length older + 1) e ++ made_fields (endings_at e older) (kept (state (e ∷ older)))
 
-abbrev pub rule_field : Rule → List ℕ
+unfoldable pub rule_field : Rule → List ℕ
 rule_field rule = named (codes ",\"illegal\":\"") (rule_text rule) ++ over
 
 -- how the line of an entry ends, by the rule that it breaks, if it breaks one

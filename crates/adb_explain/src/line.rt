@@ -35,6 +35,7 @@ fn push_made(text: &mut Text, ends: &[Ended], hub: &Hub) -> Result<(), AllocErro
     text.push_slice(b"}\n")
 }
 
+#[tactic(auto, unfolding(crate::specs::Lines::count_fields))]
 fn push_counts(text: &mut Text, hub: &Hub) -> Result<(), AllocError>
     ensures { OnOk result (text.new ≡ text.old ++ count_fields hub.now) }
 {
@@ -45,6 +46,7 @@ fn push_counts(text: &mut Text, hub: &Hub) -> Result<(), AllocError>
 }
 
 /// Appends the rule that an entry breaks, and ends the line.
+#[tactic(auto, unfolding(crate::specs::Lines::rule_field))]
 fn push_rule(text: &mut Text, rule: Rule) -> Result<(), AllocError>
     ensures { OnOk result (text.new ≡ text.old ++ rule_field rule) }
 {
