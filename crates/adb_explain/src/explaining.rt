@@ -35,7 +35,7 @@ pub fn explain<S: Source, K: Sink>(
     ensures ends { (capture : List ℕ) → S.left source.old ≡ Some capture
         → EndsAs result (formed capture) (S.left source.new) }
 {
-    let mut output = Output::empty(alloc);
+    let mut output = Output::empty(alloc)?;
     let ended = explain_records(alloc, payloads, source, &mut output, sink);
     output.write_out(sink)?;
     ended

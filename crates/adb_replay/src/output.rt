@@ -31,15 +31,6 @@ impl Model for Output {
 }
 
 impl Output {
-    /// Returns an output that holds nothing. It allocates nothing.
-    pub fn empty(alloc: Global) -> Output
-        ensures { result ≡ [] }
-    {
-        Output {
-            gathered: ByteQueue::new(alloc),
-        }
-    }
-
     /// The magic is gathered.
     pub fn new(alloc: Global) -> Result<Output, AllocError>
         ensures { IfOk result (λ output. output ≡ magic) }
@@ -80,18 +71,7 @@ impl Output {
         ensures loss { IsLoss result }
         ensures counts { Counts K.steady K.faults sink.old sink.new (is_write_fault result) }
     {
-        self.keep_bytes(sink, read.bytes())
-    }
-
-    /// Appends bytes. Many bytes are written at once, after what is gathered; else what is gathered
-    /// is written once it is a piece. After an allocation failure it holds what it held.
-    pub fn keep_bytes<K: Sink>(&mut self, sink: &mut K, bytes: &[u8]) -> Result<(), Stop>
-        ensures kept { KeepsBytes result bytes.now
-            (K.written sink.old, self.old) (K.written sink.new, self.new) }
-        ensures loss { IsLoss result }
-        ensures counts { Counts K.steady K.faults sink.old sink.new (is_write_fault result) }
-    {
-        let end = self.gather(bytes)?;
+        let end = self.gather(read.bytes())?;
         self.keep_end(sink, end)
     }
 
