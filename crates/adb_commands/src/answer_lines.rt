@@ -34,8 +34,26 @@ pub(crate) fn write_run<K: Sink>(
     ensures counts { Counts K.steady K.faults sink.old sink.new (is_write_fault result) }
 {
     let mut world = World::new(alloc)?;
+    write_in(alloc, &mut world, run, sink)
+}
+
+/// Runs the lines of a script in a world that is new, and writes the answer of each.
+fn write_in<K: Sink>(
+    alloc: Global,
+    world: &mut World,
+    run: &mut ScriptRun<'_>,
+    sink: &mut K,
+) -> Result<(), Stop>
+    requires idle { IsIdle world.old }
+    requires files { world.old.files ≡ [] }
+    requires room { world.old.given + sessions_in run.old.lines ≤ most_sessions }
+    ensures out { (had : List ℕ) → K.written sink.old ≡ Some had → WritesOut result had
+        (concat (answers_from run.old.number [] run.old.lines)) (K.written sink.new) }
+    ensures loss { IsLoss result }
+    ensures counts { Counts K.steady K.faults sink.old sink.new (is_write_fault result) }
+{
     let mut output = Output::empty(alloc)?;
-    let ended = keep_answers(alloc, &mut world, run, &mut output, sink);
+    let ended = keep_answers(alloc, world, run, &mut output, sink);
     output.write_out(sink)?;
     ended
 }

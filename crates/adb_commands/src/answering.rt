@@ -1,6 +1,6 @@
 //! Answering a script.
 
-ghost use Rattle.std.specs.Prelude.{◌≡◌, ◌≤◌, ℕ, List, [], Ok, Err, Some, IfOk, false};
+ghost use Rattle.std.specs.Prelude.{◌≡◌, ◌≤◌, ℕ, List, [], Ok, Err, Some, IfOk, false, true};
 ghost use Rattle.adb_local.specs.Running.{all_left, sessions_in};
 ghost use Rattle.adb_outside.specs.Outside.{Counts};
 ghost use Rattle.adb_replay.specs.Keeping.{IsLoss};
@@ -147,7 +147,24 @@ fn lines_of(alloc: Global, script: &[u8], seed: u64) -> Result<Vec<Line>, Script
     ensures ends { IsRunEnd result }
 {
     let mut world = World::new(alloc)?;
-    let lines = copy_tree(alloc, &mut world, script, seed)?;
+    lines_in(alloc, &mut world, script, seed)
+}
+
+/// The lines of the tree of a script of `copy`, copied in a world that is new.
+fn lines_in(
+    alloc: Global,
+    world: &mut World,
+    script: &[u8],
+    seed: u64,
+) -> Result<Vec<Line>, ScriptStop>
+    requires settled { world.old.settled ≡ true }
+    requires given { world.old.given ≡ 0 }
+    requires empty { world.old.files ≡ [] }
+    ensures lines { IfOk result (λ lines. copied_lines script.now ≡ Some (texts_of lines.items)) }
+    ensures refuses { RefusesAs result (first_bad ScriptKind.Copy script.now) }
+    ensures ends { IsRunEnd result }
+{
+    let lines = copy_tree(alloc, world, script, seed)?;
     Ok(lines)
 }
 
