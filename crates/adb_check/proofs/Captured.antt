@@ -70,7 +70,7 @@ behind_next e given f i = record { entries = entries i; refused = f.refused }
     entries = sym (append_assoc (reverse given) (e ∷ []) f.entries) ∙ ap (λ (g : List Entry). g ++ f.entries) (sym (reverse-append (e ∷ []) given))
 
 -- the history of entries that were given, behind nothing
-history_given : (given : History) (refused : Option Refusal) → history_of (behind given (ends_with refused)) ≡ given
+pub history_given : (given : History) (refused : Option Refusal) → history_of (behind given (ends_with refused)) ≡ given
 history_given given refused = ap (λ (g : List Entry). reverse g) (append-nil (reverse given)) ∙ reverse-reverse given
 
 -- the same before others
@@ -145,7 +145,7 @@ module _ (all : List ℕ) (now : Reading) (left : Option (List ℕ)) (given : Hi
               ∙ ap (λ n. with_entry e (formed_records n (drop g.size bytes))) (sym g.next_offset_is))
 
   -- the end of the source
-  came_over : AnswersNext now left new after (Ok None) → Came all now left given
+  pub came_over : AnswersNext now left new after (Ok None) → Came all now left given
       → (formed all ≡ behind given (ends_with None)) × (ahead_of new after ≡ Some [])
   came_over answers c = go (ahead_of now left) refl
     where
@@ -183,7 +183,7 @@ module _ (all : List ℕ) (now : Reading) (left : Option (List ℕ)) (given : Hi
   no_magic capture.ReadFault some is = absurd (some refl)
   no_magic capture.OutOfMemory some is = absurd (some refl)
 
-  came_refused : (why : CaptureError) → refusal_by why ≢ None → AnswersNext now left new after (Err why) → Came all now left given
+  pub came_refused : (why : CaptureError) → refusal_by why ≢ None → AnswersNext now left new after (Err why) → Came all now left given
       → formed all ≡ behind given (ends_with (refusal_by why))
   came_refused why some answers c = go (ahead_of now left) refl
     where

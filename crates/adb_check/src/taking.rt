@@ -15,9 +15,12 @@ use adb_hub::{Handed, Hub, HubError};
 use adb_outside::HandOut;
 use std::alloc::AllocError;
 
-/// Makes the next entry of the history that a hub holds, where it may come, else says the first
-/// rule that it breaks; after a hand-out that is not due the hub is not as before. After want of
-/// memory it is.
+/// Applies the next entry of the history that a hub holds, if it is legal there.
+///
+/// `Ok(None)`: the entry is legal, and the hub holds the history with it.
+/// `Ok(Some(rule))`: the first rule that the entry breaks. After a hand-out that is not due the hub
+/// has handed out what was due in its place; after any other entry it is unchanged.
+/// `AllocError`: an allocation failed; the hub is unchanged.
 pub fn take(hub: &mut Hub, entry: &Entry) -> Result<Option<Rule>, AllocError>
     ensures taken { (h : History) → IsLawful hub.old h
         → IfOk result (λ broken. Takes broken entry.now h hub.new) }
@@ -47,9 +50,9 @@ fn come(hub: &mut Hub, entry: &Entry) -> Result<Option<Rule>, AllocError>
     }
 }
 
-/// The rule that is broken by an entry that a hub refuses for a reason. A record that is refused by
-/// its form has no entry.
-fn rule_of(reason: Reason) -> Option<Rule>
+/// Returns the rule that an entry breaks if a hub refuses it for this reason. A record that is
+/// refused by its form has no entry, and breaks no rule.
+pub fn rule_of(reason: Reason) -> Option<Rule>
     ensures { result ≡ reason_rule reason }
 {
     match reason {

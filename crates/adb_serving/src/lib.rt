@@ -8,8 +8,7 @@ mod either;
 mod running;
 mod serving;
 mod starting;
-mod streams;
 mod yards;
 
+pub use adb_streams::Stream;
 pub use starting::{start, words_of};
-pub use streams::Stream;

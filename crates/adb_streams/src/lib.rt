@@ -1,0 +1,6 @@
+//! The streams of the system as sources and sinks.
+#![tactic(auto)]
+
+mod streams;
+
+pub use streams::Stream;
