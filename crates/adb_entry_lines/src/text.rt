@@ -1,0 +1,81 @@
+//! Bytes as a JSON string, and numbers beside their names.
+
+ghost use Rattle.std.specs.Prelude.{◌≡◌, ◌<◌, ◌++◌, OnOk, flat_map};
+ghost use Rattle.adb_entry_lines.specs.Text.{escaped, hex_digit, named, numbered, quoted};
+
+use adb_outside::Text;
+use itoa::Buffer;
+use std::alloc::AllocError;
+
+/// Appends bytes as a JSON string. Printable ASCII stays as it is; the quote and the backslash are
+/// escaped, and any other byte is written as `\u00XX`.
+pub fn push_quoted(text: &mut Text, bytes: &[u8]) -> Result<(), AllocError>
+    ensures { OnOk result (text.new ≡ text.old ++ quoted bytes.now) }
+{
+    text.push_slice(b"\"")?;
+    push_escaped(text, bytes)?;
+    text.push_slice(b"\"")
+}
+
+/// Appends a number in decimal digits after the text that names it.
+pub fn push_numbered(text: &mut Text, name: &[u8], number: u64) -> Result<(), AllocError>
+    ensures { OnOk result (text.new ≡ text.old ++ numbered name.now number) }
+{
+    text.push_slice(name)?;
+    let mut digits = Buffer::new();
+    text.push_slice(digits.format(number).as_bytes())
+}
+
+/// Appends a plain text and a quote after the text that names it, which ends with a quote.
+pub fn push_named(text: &mut Text, name: &[u8], plain: &[u8]) -> Result<(), AllocError>
+    ensures { OnOk result (text.new ≡ text.old ++ named name.now plain.now) }
+{
+    text.push_slice(name)?;
+    text.push_slice(plain)?;
+    text.push_slice(b"\"")
+}
+
+/// Appends bytes as they stand in a JSON string.
+pub(crate) fn push_escaped(text: &mut Text, bytes: &[u8]) -> Result<(), AllocError>
+    ensures { OnOk result (text.new ≡ text.old ++ flat_map escaped bytes.now) }
+{
+    for byte in bytes {
+        push_byte(text, *byte)?;
+    }
+    Ok(())
+}
+
+/// Appends a byte as it stands in a JSON string.
+fn push_byte(text: &mut Text, byte: u8) -> Result<(), AllocError>
+    ensures { OnOk result (text.new ≡ text.old ++ escaped byte) }
+{
+    if byte == b'"' {
+        return text.push_slice(b"\\\"");
+    }
+    if byte == b'\\' {
+        return text.push_slice(b"\\\\");
+    }
+    if b' ' <= byte && byte <= b'~' {
+        return text.push_slice(&[byte]);
+    }
+    text.push_slice(&[
+        b'\\',
+        b'u',
+        b'0',
+        b'0',
+        digit_of(byte / 16),
+        digit_of(byte % 16),
+    ])
+}
+
+/// Returns a hexadecimal digit.
+fn digit_of(value: u8) -> u8
+    requires { value < 16 }
+    ensures { result ≡ hex_digit value }
+{
+    if value < 10 {
+        b'0' + value
+    } else {
+        b'a' - 10 + value
+    }
+}

@@ -1,0 +1,3 @@
+pub mod MadeLines
+pub mod HowFar
+pub mod Said
