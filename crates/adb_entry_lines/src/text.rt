@@ -1,6 +1,6 @@
 //! Bytes as a JSON string, and numbers beside their names.
 
-ghost use Rattle.std.specs.Prelude.{◌≡◌, ◌<◌, ◌++◌, OnOk, flat_map};
+ghost use Rattle.std.specs.Prelude.{◌≡◌, ◌<◌, ◌≤◌, ◌∷◌, ◌++◌, [], true, IfOk, OnOk, flat_map, length, take};
 ghost use Rattle.adb_entry_lines.specs.Text.{escaped, hex_digit, named, numbered, quoted};
 
 use adb_outside::Text;
@@ -35,14 +35,54 @@ pub fn push_named(text: &mut Text, name: &[u8], plain: &[u8]) -> Result<(), Allo
     text.push_slice(b"\"")
 }
 
-/// Appends bytes as they stand in a JSON string.
+/// Appends bytes as they stand in a JSON string. Runs of bytes that stay as they are are appended
+/// whole.
 pub(crate) fn push_escaped(text: &mut Text, bytes: &[u8]) -> Result<(), AllocError>
     ensures { OnOk result (text.new ≡ text.old ++ flat_map escaped bytes.now) }
 {
-    for byte in bytes {
-        push_byte(text, *byte)?;
+    let mut rest = bytes;
+    while !rest.is_empty() {
+        rest = push_run(text, rest)?;
     }
     Ok(())
+}
+
+/// Appends the first bytes that stay as they are and the byte after them, and returns the rest.
+fn push_run<'a>(text: &mut Text, bytes: &'a [u8]) -> Result<&'a [u8], AllocError>
+    requires some { 0 < length bytes.now }
+    ensures pushed { IfOk result (λ rest. text.new ++ flat_map escaped rest.now
+        ≡ text.old ++ flat_map escaped bytes.entry.now) }
+    ensures fewer { IfOk result (λ rest. length rest.now < length bytes.entry.now) }
+{
+    let (run, more) = bytes.split_at(plain_run(bytes));
+    text.push_slice(run)?;
+    let [byte, rest @ ..] = more else {
+        return Ok(more);
+    };
+    push_byte(text, *byte)?;
+    Ok(rest)
+}
+
+/// Returns how many of the first bytes stay as they are.
+fn plain_run(bytes: &[u8]) -> usize
+    ensures few { result ≤ length bytes.now }
+    ensures plain { flat_map escaped (take result bytes.now) ≡ take result bytes.now }
+{
+    let mut run = 0;
+    for byte in bytes {
+        if !is_plain(*byte) {
+            return run;
+        }
+        run += 1;
+    }
+    run
+}
+
+/// Returns whether a byte stays as it is in a JSON string.
+fn is_plain(byte: u8) -> bool
+    ensures { result ≡ true → escaped byte ≡ byte ∷ [] }
+{
+    b' ' <= byte && byte <= b'~' && byte != b'"' && byte != b'\\'
 }
 
 /// Appends a byte as it stands in a JSON string.

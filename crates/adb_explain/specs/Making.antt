@@ -13,6 +13,11 @@ use Rattle.adb_replay.specs.declared.stop.Stop.TheVariants as stop
 use Rattle.adb_entry_lines.specs.declared.payload.Payloads.{Payloads}
 use Rattle.adb_explain.specs.Lines.{line, illegal_line, lines}
 
+-- how a call ended, whatever it made
+abbrev pub stopped_as : {A : Type 0} → Result A Stop → Result (Unit {0}) Stop
+stopped_as (Ok made) = Ok tt
+stopped_as (Err why) = Err why
+
 -- What was reported of an entry: the streams that it ended; nothing where it may not come.
 abbrev pub Reports : Option Rule → Entry → History → List Ended → Type 0
 Reports None e h ends = ends ≡ endings_at e h

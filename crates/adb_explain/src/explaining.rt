@@ -1,11 +1,13 @@
 //! Explaining the history of a capture.
 
-ghost use Rattle.std.specs.Prelude.{◌≡◌, ◌+◌, [], length, List, ℕ, Some};
+ghost use Rattle.std.specs.Prelude.{◌≡◌, ◌+◌, [], length, List, ℕ, Some, None, false};
+ghost use Rattle.adb_outside.specs.Outside.{Counts};
 ghost use Rattle.adb_history.specs.Kept.{IsLawful};
 ghost use Rattle.adb_history.specs.Machine.{History};
 ghost use Rattle.adb_check.specs.Formed.{formed};
+ghost use Rattle.adb_replay.specs.Keeping.{CountsReads, IsLoss, is_read_fault, is_write_fault};
 ghost use Rattle.adb_explain.specs.Explaining.{EndsAs, KeepsAll, Writes};
-ghost use Rattle.adb_explain.specs.Making.{Explained};
+ghost use Rattle.adb_explain.specs.Making.{Explained, stopped_as};
 
 use crate::making::Explainer;
 use adb_capture::Entry;
@@ -34,6 +36,10 @@ pub fn explain<S: Source, K: Sink>(
         → Writes result payloads (formed capture) had (K.written sink.new) }
     ensures ends { (capture : List ℕ) → S.left source.old ≡ Some capture
         → EndsAs result (formed capture) (S.left source.new) }
+    ensures reads { CountsReads (stopped_as result)
+        (Counts S.steady S.faults source.old source.new) }
+    ensures counts { Counts K.steady K.faults sink.old sink.new
+        (is_write_fault (stopped_as result)) }
 {
     let mut output = Output::empty(alloc)?;
     let ended = explain_records(alloc, payloads, source, &mut output, sink);
@@ -55,13 +61,46 @@ fn explain_records<S: Source, K: Sink>(
         → KeepsAll result payloads (formed capture) had (K.written sink.new, output.new) }
     ensures ends { (capture : List ℕ) → S.left source.old ≡ Some capture
         → EndsAs result (formed capture) (S.left source.new) }
+    ensures reads { Counts S.steady S.faults source.old source.new
+        (is_read_fault (stopped_as result)) }
+    ensures counts { Counts K.steady K.faults sink.old sink.new
+        (is_write_fault (stopped_as result)) }
 {
     let mut reader = CaptureReader::new(alloc)?;
     let mut explainer = Explainer::new(alloc, payloads);
+    explain_all(&mut reader, &mut explainer, source, output, sink)
+}
+
+/// Explains the entries that a reader gives, the first one first.
+fn explain_all<S: Source, K: Sink>(
+    reader: &mut CaptureReader,
+    explainer: &mut Explainer,
+    source: &mut S,
+    output: &mut Output,
+    sink: &mut K,
+) -> Result<Judgement, Stop>
+    requires unread { reader.old ≡ record {
+      opened = false;
+      offset = 8;
+      held = [];
+      failed = None;
+    } }
+    requires first { IsLawful explainer.old.hub [] }
+    requires empty { output.old ≡ [] }
+    ensures keeps { (capture had : List ℕ) → S.left source.old ≡ Some capture
+        → K.written sink.old ≡ Some had → KeepsAll result explainer.old.payloads (formed capture)
+        had (K.written sink.new, output.new) }
+    ensures ends { (capture : List ℕ) → S.left source.old ≡ Some capture
+        → EndsAs result (formed capture) (S.left source.new) }
+    ensures reads { Counts S.steady S.faults source.old source.new
+        (is_read_fault (stopped_as result)) }
+    ensures counts { Counts K.steady K.faults sink.old sink.new
+        (is_write_fault (stopped_as result)) }
+{
     let mut entries = 0;
     while let Some((_, entry)) = reader.next(source)? {
         entries += 1;
-        if let Some(rule) = explain_entry(&mut explainer, output, sink, entries, entry)? {
+        if let Some(rule) = explain_entry(explainer, output, sink, entries, entry)? {
             return Ok(Judgement::Illegal {
                 place: entries,
                 rule,
@@ -83,6 +122,9 @@ fn explain_entry<K: Sink>(
         → Explained result explainer.old.payloads entry h explainer.new.hub
         (K.written sink.old, output.old) (K.written sink.new, output.new) }
     ensures payloads { explainer.new.payloads ≡ explainer.old.payloads }
+    ensures loss { IsLoss (stopped_as result) }
+    ensures counts { Counts K.steady K.faults sink.old sink.new
+        (is_write_fault (stopped_as result)) }
 {
     explainer.explain(output, sink, place, &entry)
 }

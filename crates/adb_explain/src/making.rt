@@ -1,11 +1,13 @@
 //! Making the next entry of a history, and its line.
 
 ghost use Rattle.std.specs.Prelude.{◌≡◌, ◌+◌, [], length, false, true, IfOk};
+ghost use Rattle.adb_outside.specs.Outside.{Counts};
 ghost use Rattle.adb_history.specs.Accepted.{is_input};
 ghost use Rattle.adb_history.specs.Kept.{IsLawful};
 ghost use Rattle.adb_history.specs.Machine.{History};
 ghost use Rattle.adb_check.specs.Judging.{Takes};
-ghost use Rattle.adb_explain.specs.Making.{Explained, MakesLine, Reports};
+ghost use Rattle.adb_replay.specs.Keeping.{IsLoss, is_write_fault};
+ghost use Rattle.adb_explain.specs.Making.{Explained, MakesLine, Reports, stopped_as};
 
 use crate::line::push_end;
 use adb_capture::Entry;
@@ -56,6 +58,9 @@ impl Explainer {
             → Explained result self.old.payloads entry.now h self.new.hub
             (K.written sink.old, output.old) (K.written sink.new, output.new) }
         ensures payloads { self.new.payloads ≡ self.old.payloads }
+        ensures loss { IsLoss (stopped_as result) }
+        ensures counts { Counts K.steady K.faults sink.old sink.new
+            (is_write_fault (stopped_as result)) }
     {
         let Ok(broken) = self.make_line(place, entry) else {
             return Err(Stop::OutOfMemory);

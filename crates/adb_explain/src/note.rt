@@ -1,7 +1,7 @@
 //! The lines of the note: one for each status but Done.
 
-ghost use Rattle.std.specs.Prelude.{◌≡◌, ◌≢◌, ◌<◌, ◌⊎◌, IfOk, length};
-ghost use Rattle.adb_outside.specs.Sink.{TellsWrite};
+ghost use Rattle.std.specs.Prelude.{◌≡◌, ◌≢◌, ◌<◌, ◌⊎◌, IfOk, length, Bool};
+ghost use Rattle.adb_outside.specs.Outside.{Counts, Rises};
 ghost use Rattle.adb_explain.specs.Notes.{IsLine, bad_capture_line};
 ghost use Rattle.adb_explain.specs.Stopping.{EndsIn, SaysLine};
 
@@ -16,6 +16,8 @@ use std::alloc::{AllocError, Global};
 pub(crate) fn say_stop<N: Sink>(alloc: Global, note: &mut N, stop: Stop) -> Status
     ensures status { EndsIn stop result }
     ensures told { SaysLine result (N.written note.old) (N.written note.new) }
+    ensures fault { result ≡ Status.WriteFault
+        → (stop ≡ Stop.WriteFault) ⊎ Rises (N.faults note.old) (N.faults note.new) }
 {
     match stop {
         Stop::ReadFault => say(note, Status::ReadFault, b"adbexplain: read fault\n"),
@@ -32,6 +34,8 @@ pub(crate) fn say_stop<N: Sink>(alloc: Global, note: &mut N, stop: Stop) -> Stat
 pub(crate) fn say_illegal<N: Sink>(note: &mut N) -> Status
     ensures status { (result ≡ Status.Illegal) ⊎ (result ≡ Status.WriteFault) }
     ensures told { SaysLine result (N.written note.old) (N.written note.new) }
+    ensures fault { result ≡ Status.WriteFault
+        → Rises (N.faults note.old) (N.faults note.new) }
 {
     say(note, Status::Illegal, b"adbexplain: illegal history\n")
 }
@@ -40,6 +44,8 @@ pub(crate) fn say_illegal<N: Sink>(note: &mut N) -> Status
 pub(crate) fn say_usage<N: Sink>(note: &mut N) -> Status
     ensures status { (result ≡ Status.Usage) ⊎ (result ≡ Status.WriteFault) }
     ensures told { SaysLine result (N.written note.old) (N.written note.new) }
+    ensures fault { result ≡ Status.WriteFault
+        → Rises (N.faults note.old) (N.faults note.new) }
 {
     say(note, Status::Usage, b"usage: adbexplain [--lengths]\n")
 }
@@ -51,6 +57,8 @@ fn say<N: Sink>(note: &mut N, status: Status, line: &[u8]) -> Status
     requires other { status ≢ Status.WriteFault }
     ensures status { (result ≡ status) ⊎ (result ≡ Status.WriteFault) }
     ensures told { SaysLine result (N.written note.old) (N.written note.new) }
+    ensures fault { result ≡ Status.WriteFault
+        → Rises (N.faults note.old) (N.faults note.new) }
 {
     match note.write(line) {
         Wrote::All => status,
@@ -60,7 +68,8 @@ fn say<N: Sink>(note: &mut N, status: Status, line: &[u8]) -> Status
 
 /// Tries the line of WriteFault, once.
 fn say_write_fault<N: Sink>(note: &mut N) -> Status
-    ensures { result ≡ Status.WriteFault }
+    ensures status { result ≡ Status.WriteFault }
+    ensures counts { (failed : Bool) × Counts N.steady N.faults note.old note.new failed }
 {
     let _last = note.write(b"adbexplain: write fault\n");
     Status::WriteFault

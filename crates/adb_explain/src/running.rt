@@ -1,6 +1,7 @@
 //! The program over three streams.
 
 ghost use Rattle.std.specs.Prelude.{◌≡◌, ◌⊎◌, drop, IfErr, IfOk, None, Some};
+ghost use Rattle.adb_outside.specs.Outside.{Rises};
 ghost use Rattle.adb_entry_lines.specs.declared.payload.Payloads.{Payloads};
 ghost use Rattle.adb_explain.specs.Explaining.{WritesLines};
 ghost use Rattle.adb_explain.specs.Stopping.{SaysLine};
@@ -31,6 +32,11 @@ pub fn start<S: Source, K: Sink, N: Sink>(
         → payloads_in (drop 1 (texts list.items)) ≡ Some payloads
         → WritesLines result payloads S.left source.old source.new K.written sink.old sink.new) }
     ensures told { SaysLine result (N.written note.old) (N.written note.new) }
+    ensures read_fault { result ≡ Status.ReadFault
+        → Rises (S.faults source.old) (S.faults source.new) }
+    ensures write_fault { result ≡ Status.WriteFault
+        → Rises (K.faults sink.old) (K.faults sink.new)
+        ⊎ Rises (N.faults note.old) (N.faults note.new) }
 {
     match arguments {
         Ok(list) => match list.as_slice() {
@@ -68,6 +74,13 @@ pub fn run<S: Source, K: Sink, N: Sink>(
 
     // The note has the line of the status.
     ensures told { SaysLine result (N.written note.old) (N.written note.new) }
+
+    // A fault is reported only if a read or a write failed.
+    ensures read_fault { result ≡ Status.ReadFault
+        → Rises (S.faults source.old) (S.faults source.new) }
+    ensures write_fault { result ≡ Status.WriteFault
+        → Rises (K.faults sink.old) (K.faults sink.new)
+        ⊎ Rises (N.faults note.old) (N.faults note.new) }
 {
     let Some(payloads) = payloads_of(words) else {
         return say_usage(note);
