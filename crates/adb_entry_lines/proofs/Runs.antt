@@ -20,13 +20,15 @@ numbers_pushed old new more a b c d is pushed =
     go p q r s w x y z rest wp xq yr zs is =
         ap (λ (n : List ℕ). n ++ rest) is ∙ (append_assoc old (p ++ (q ++ (r ++ s))) rest ∙ ap (λ (n : List ℕ). old ++ n)
         (append_assoc p (q ++ (r ++ s)) rest ∙ (ap (λ (n : List ℕ). p ++ n) (append_assoc q (r ++ s) rest ∙ ap (λ (n : List ℕ). q ++ n)
-        (append_assoc r s rest)) ∙ (ap (λ (n : List ℕ). n ++ (q ++ (r ++ (s ++ rest)))) (sym wp) ∙ (ap (λ (n : List ℕ). w ++ (n ++ (r ++ (s ++ rest)))) (sym xq)
+        (append_assoc r s rest)) ∙ (ap (λ (n : List ℕ). n ++ (q ++ (r ++ (s ++ rest)))) (sym wp) ∙
+        (ap (λ (n : List ℕ). w ++ (n ++ (r ++ (s ++ rest)))) (sym xq)
         ∙ (ap (λ (n : List ℕ). w ++ (x ++ (n ++ (s ++ rest)))) (sym yr) ∙ ap (λ (n : List ℕ). w ++ (x ++ (y ++ (n ++ rest)))) (sym zs)))))))
 
 -- the first four of some bytes are
 pub front_pushed : (old new bytes : List ℕ) → 4 ≤ length bytes
     → AreNumbered (get_or bytes 0 0) (get_or bytes 1 0) (get_or bytes 2 0) (get_or bytes 3 0)
-    → new ≡ old ++ (by_number (get_or bytes 0 0) ++ (by_number (get_or bytes 1 0) ++ (by_number (get_or bytes 2 0) ++ by_number (get_or bytes 3 0))))
+    → new ≡ old ++ (by_number (get_or bytes 0 0) ++ (by_number (get_or bytes 1 0) ++
+    (by_number (get_or bytes 2 0) ++ by_number (get_or bytes 3 0))))
     → new ++ flat_map escaped (take (length bytes - 4) (drop 4 bytes)) ≡ old ++ flat_map escaped bytes
 front_pushed old new [] long is pushed = absurd (omega (arith, long))
 front_pushed old new (a ∷ []) long is pushed = absurd (omega (arith, long))

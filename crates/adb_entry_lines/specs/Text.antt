@@ -1,5 +1,6 @@
 -- Bytes as a JSON string, and numbers beside their names.
-use Rattle.std.specs.Prelude.{ℕ, ◌+◌, ◌/◌, ◌%◌, if◌then◌else◌, ◌&&◌, nat_eq, nat_lt, nat_le, List, [], ◌∷◌, ◌++◌, length, flat_map, codes, decimal}
+use Rattle.std.specs.Prelude.{ℕ, ◌+◌, ◌/◌, ◌%◌, if◌then◌else◌, ◌&&◌, nat_eq, nat_lt, nat_le, List, [], ◌∷◌, ◌++◌}
+use Rattle.std.specs.Prelude.{length, flat_map, codes, decimal}
 use Rattle.adb_entry_lines.specs.declared.payload.Payloads.{Payloads}
 use Rattle.adb_entry_lines.specs.declared.payload.Payloads.TheVariants.{Whole, Lengths}
 

@@ -196,7 +196,8 @@ line_so {broken} {other} {payloads} {shown} {e} {h} {new} {before} {after} is sa
     (subst (λ (o : Option Rule). KeepsLine o payloads e h new before after) is k)
 
 -- ---- the source ends, or the reader stops
-module _ {before start : Option (List ℕ)} {payloads : Payloads} {now : Reading} {left : Option (List ℕ)} {entries : ℕ} {holds : Kept} {out : Out}
+module _ {before start : Option (List ℕ)} {payloads : Payloads} {now : Reading} {left : Option (List ℕ)} {entries : ℕ} {holds : Kept}
+    {out : Out}
     (new : Reading) (after : Option (List ℕ)) (x : ExplainingOn before start payloads now left entries holds out) where
   judging_of : JudgingOn before now left entries (judging holds)
   judging_of = record {
@@ -238,11 +239,14 @@ module _ {before start : Option (List ℕ)} {payloads : Payloads} {now : Reading
       → KeepsAll (Err (stop_of why)) payloads (formed all) had out
   kept_stopped why gives all had was has = go (refusal_by why) refl
     where
-      go : (o : Option Refusal) → refusal_by why ≡ o → KeepsAll (Err (refused_or (refusal_by why) (fault_of why))) payloads (formed all) had out
+      go : (o : Option Refusal) → refusal_by why ≡ o → KeepsAll (Err (refused_or (refusal_by why) (fault_of why))) payloads
+          (formed all) had out
       go None is = subst (λ (o : Option Refusal). KeepsAll (Err (refused_or o (fault_of why))) payloads (formed all) had out) (sym is)
           (kept_at_fault why all had (kept_first all had was has))
-      go (Some refusal) is = subst (λ (o : Option Refusal). KeepsAll (Err (refused_or o (fault_of why))) payloads (formed all) had out) (sym is)
-          (subst (λ (h : History). Keeps had (lines payloads h) out) (sym (ap history_of formed_is ∙ history_given x.given (refusal_by why)))
+      go (Some refusal) is = subst (λ (o : Option Refusal). KeepsAll (Err (refused_or o (fault_of why))) payloads (formed all) had out)
+          (sym is)
+          (subst (λ (h : History). Keeps had (lines payloads h) out)
+          (sym (ap history_of formed_is ∙ history_given x.given (refusal_by why)))
           (x.kept had has))
         where
           some : refusal_by why ≢ None
@@ -259,6 +263,7 @@ module _ {before start : Option (List ℕ)} {payloads : Payloads} {now : Reading
       refused = judging_stopped new after why gives judging_of all was after
 
       go : (o : Option Refusal) → refusal_by why ≡ o → EndsAs (Err (refused_or (refusal_by why) (fault_of why))) (formed all) after
-      go None is = subst (λ (o : Option Refusal). EndsAs (Err (refused_or o (fault_of why))) (formed all) after) (sym is) (ends_at_fault why all)
+      go None is = subst (λ (o : Option Refusal). EndsAs (Err (refused_or o (fault_of why))) (formed all) after) (sym is)
+          (ends_at_fault why all)
       go (Some refusal) is = subst (λ (o : Option Refusal). EndsAs (Err (refused_or o (fault_of why))) (formed all) after) (sym is)
           (subst (λ (o : Option Refusal). IsRefusedAs o (formed all)) is refused)

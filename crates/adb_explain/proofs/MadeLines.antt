@@ -74,7 +74,8 @@ line_kept broken payloads e h new text before after m kept = record {
 }
 
 -- it was made, and is lost
-pub line_lost : (why : Stop) (broken : Option Rule) (payloads : Payloads) (e : Entry) (h : History) (new : Kept) (text : List ℕ) (before after : Out)
+pub line_lost : (why : Stop) (broken : Option Rule) (payloads : Payloads) (e : Entry) (h : History) (new : Kept) (text : List ℕ)
+    (before after : Out)
     → MakesLine broken payloads e h new text → KeepsBytes (Err why) text before after → IsLoss (Err why)
     → Explained (Err why) payloads e h new before after
 line_lost stop.ReadFault broken payloads e h new text before after m kept loss = loss

@@ -1,5 +1,6 @@
 -- What went out of the lines that were kept, and how a run ends then.
-use Rattle.std.proofs.Common.{ℕ, ◌≡◌, ◌⊎◌, inl, inr, Bool, true, false, List, [], ◌++◌, Option, Some, Result, Ok, Err, refl, sym, ◌∙◌, ap, subst}
+use Rattle.std.proofs.Common.{ℕ, ◌≡◌, ◌⊎◌, inl, inr, Bool, true, false, List, [], ◌++◌, Option, Some, Result, Ok, Err}
+use Rattle.std.proofs.Common.{refl, sym, ◌∙◌, ap, subst}
 use Rattle.std.proofs.lemmas.List.{append-nil}
 use Rattle.adb_history.specs.Machine.{History, IsLegal}
 use Rattle.adb_check.specs.Formed.{Formed, history_of}
@@ -25,7 +26,8 @@ same_some x y e = cc
 begins_none : (all : History) → Begins [] all
 begins_none all = record { later = all; is = sym (append-nil all); legal = tt }
 
-pub kept_none : (payloads : Payloads) (all : History) (had : List ℕ) (out : Out) → out.0 ≡ Some had → out.1 ≡ [] → KeepsFirst payloads all had out
+pub kept_none : (payloads : Payloads) (all : History) (had : List ℕ) (out : Out) → out.0 ≡ Some had → out.1 ≡ []
+    → KeepsFirst payloads all had out
 kept_none payloads all had out has none = record {
   earlier = [];
   begins = begins_none all;
@@ -90,7 +92,8 @@ module _ (payloads : Payloads) (f : Formed) (had : List ℕ) (out : Out) (writte
       → EndsAs (Ok (judged.Legal entries)) f left → WritesBy status.Done payloads f left had written
   run_done entries left w ends = (ends.0, ends.1, ends.3, w)
 
-  pub run_illegal : (place : ℕ) (rule : Rule) (left : Option (List ℕ)) (said : Status) → (said ≡ status.Illegal) ⊎ (said ≡ status.WriteFault)
+  pub run_illegal : (place : ℕ) (rule : Rule) (left : Option (List ℕ)) (said : Status) → (said ≡ status.Illegal) ⊎
+      (said ≡ status.WriteFault)
       → Writes (Ok (judged.Illegal place rule)) payloads f had written → EndsAs (Ok (judged.Illegal place rule)) f left
       → WritesBy said payloads f left had written
   run_illegal place rule left said (inl own) w ends =

@@ -18,10 +18,12 @@ returns-in_err-write_out-clause-writes g c all had was has =
     rw (passed.1, passed.2, write_fault_of c.in_err-write_out.field-0.0 c.in_err-write_out.ensures.fault)
     (written_part c.args.payloads (formed all) had out (g.K.Sink.written c.write_out.new.sink) c.explain_records-ended.result
     (g.S.Source.left c.explain_records-ended.new.source) (c.explain_records-ended.ensures.keeps all had was has)
-    (c.explain_records-ended.ensures.ends all was) (c.in_err-write_out.ensures.out had) (λ none. ap g.K.Sink.written (c.write_out.ensures.nothing none)))
+    (c.explain_records-ended.ensures.ends all was) (c.in_err-write_out.ensures.out had)
+    (λ none. ap g.K.Sink.written (c.write_out.ensures.nothing none)))
 
 pub returns-clause-writes : goal.returns-clause-writes
 returns-clause-writes g c all had was has =
     let out : Out = (g.K.Sink.written c.explain_records-ended.new.sink, c.explain_records-ended.new.output) in
     written_all c.args.payloads (formed all) had out (g.K.Sink.written c.write_out.new.sink) c.explain_records-ended.result
-    (c.explain_records-ended.ensures.keeps all had was has) (c.in_ok-write_out.ensures.out had) (λ none. ap g.K.Sink.written (c.write_out.ensures.nothing none))
+    (c.explain_records-ended.ensures.keeps all had was has) (c.in_ok-write_out.ensures.out had)
+    (λ none. ap g.K.Sink.written (c.write_out.ensures.nothing none))

@@ -5,7 +5,8 @@ use Rattle.adb_replay.specs.Keeping.{Out}
 use Rattle.adb_check.proofs.Captured.{Turn, Gives}
 use Rattle.adb_entry_lines.specs.declared.payload.Payloads.{Payloads}
 use Rattle.adb_explain.specs.Making.{Explained}
-use Rattle.adb_explain.proofs.HowFar.{explaining_on, kept_illegal, first_illegal, kept_broken, line_so, kept_all, ends_all, kept_stopped, ends_stopped}
+use Rattle.adb_explain.proofs.HowFar.{explaining_on, kept_illegal, first_illegal, kept_broken, line_so, kept_all}
+use Rattle.adb_explain.proofs.HowFar.{ends_all, kept_stopped, ends_stopped}
 use Rattle.adb_explain.proofs.explaining.explain_all.Goals as goal
 
 pub returns-in_err-entry-clause-keeps : goal.returns-in_err-entry-clause-keeps
@@ -36,7 +37,8 @@ returns-in_err-rule-clause-keeps g c all had was has =
     let before : Out = (g.K.Sink.written c.loop-entry.sink, c.loop-entry.output) in
     let after : Out = (g.K.Sink.written c.explain_entry.new.sink, c.explain_entry.new.output) in
     let x = c.loop-entry.invariant.explaining in
-    let ended = subst (λ (p : Payloads). Explained (Err c.in_err-rule.field-0.0) p c.in-Some.entry x.given c.explain_entry.new.explainer.hub before after)
+    let hub = c.explain_entry.new.explainer.hub in
+    let ended = subst (λ (p : Payloads). Explained (Err c.in_err-rule.field-0.0) p c.in-Some.entry x.given hub before after)
     c.loop-entry.invariant.payloads (c.in_err-rule.ensures.explained x.given x.lawful (ap (λ (n : ℕ). n + 1) x.count)) in
     rw (passed.1, passed.2) (kept_broken turn c.explain_entry.new.explainer.hub after c.in_err-rule.field-0.0 x ended all had was has)
 

@@ -6,7 +6,8 @@ use Rattle.adb_explain.proofs.explaining.explain_all.Given as goal
 
 abbrev pub invariant-loop-entry : goal.invariant-loop-entry
 invariant-loop-entry g l = record {
-  explaining : ExplainingOn (g.S.Source.left l.fn.source) (g.K.Sink.written l.fn.sink) l.fn.explainer.payloads l.reader (g.S.Source.left l.source)
+  explaining : ExplainingOn (g.S.Source.left l.fn.source) (g.K.Sink.written l.fn.sink) l.fn.explainer.payloads l.reader
+      (g.S.Source.left l.source)
       l.entries l.explainer.hub (g.K.Sink.written l.sink, l.output);
   payloads : l.explainer.payloads ≡ l.fn.explainer.payloads;
   reads : Counts g.S.Source.steady g.S.Source.faults l.fn.source l.source false;

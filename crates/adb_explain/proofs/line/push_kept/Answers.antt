@@ -6,5 +6,6 @@ use Rattle.adb_explain.proofs.line.push_kept.Goals as goal
 
 pub returns : goal.returns
 returns c =
-    subst (λ (s : Summary). OnOk c.push_counts.result (c.push_counts.new.text ≡ c.args.text.now ++ count_fields s.clients s.links s.streams))
+    let new = c.push_counts.new.text in
+    subst (λ (s : Summary). OnOk c.push_counts.result (new ≡ c.args.text.now ++ count_fields s.clients s.links s.streams))
     c.summary-summary.ensures c.push_counts.ensures

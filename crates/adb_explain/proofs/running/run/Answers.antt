@@ -13,7 +13,8 @@ returns-in-Ok-Illegal-clause-writes g c payloads is all had was has =
     let written : Option (List ℕ) = g.K.Sink.written c.explain.new.sink in
     let writes = subst (λ (j : Judgement). Writes (Ok j) c.in-Some.payloads (formed all) had written) c.in-Ok-Illegal.field-0-is
     (c.in-Ok-Illegal.ensures.writes all had was has) in
-    let ends = subst (λ (j : Judgement). EndsAs (Ok j) (formed all) left) c.in-Ok-Illegal.field-0-is (c.in-Ok-Illegal.ensures.ends all was) in
+    let ends = subst (λ (j : Judgement). EndsAs (Ok j) (formed all) left) c.in-Ok-Illegal.field-0-is
+    (c.in-Ok-Illegal.ensures.ends all was) in
     subst (λ (p : Payloads). WritesBy c.say_illegal.result p (formed all) left had written) same
     (run_illegal c.in-Some.payloads (formed all) had (written, []) written c.in-Ok-Illegal.field-0-0 c.in-Ok-Illegal.field-0-1 left
     c.say_illegal.result c.say_illegal.ensures.status writes ends)
