@@ -1,7 +1,7 @@
 -- How far a history was explained.
 use Rattle.std.proofs.Common.{ℕ, ◌+◌, ◌≡◌, ◌≢◌, ◌≤◌, true, false, List, [], ◌∷◌, ◌++◌, length, reverse, Option, Some, None, Ok, Err}
 use Rattle.std.proofs.Common.{refl, sym, ◌∙◌, ap, subst, arith, inl, inr}
-use Rattle.std.proofs.lemmas.List.{append_assoc, append-nil}
+use Rattle.std.proofs.lemmas.List.{append-nil}
 use Rattle.adb_capture.specs.declared.entry.Entry.{Entry}
 use Rattle.adb_capture.specs.declared.error.CaptureError.{CaptureError}
 use Rattle.adb_capture.specs.declared.error.CaptureError.TheVariants as capture
@@ -12,7 +12,7 @@ use Rattle.adb_history.specs.Refusal.{refusal_by}
 use Rattle.adb_history.specs.declared.refusal.Refusal.{Refusal}
 use Rattle.adb_check.specs.Capture.{IsRefusedAs}
 use Rattle.adb_check.specs.FirstBad.{IsFirstBad}
-use Rattle.adb_check.specs.Formed.{Formed, formed, formed_ahead, history_of}
+use Rattle.adb_check.specs.Formed.{formed, formed_ahead, history_of}
 use Rattle.adb_check.specs.Judging.{Judging, Takes}
 use Rattle.adb_check.specs.declared.capture.Judgement.TheVariants as judged
 use Rattle.adb_check.specs.declared.verdict.Rule.{Rule}

@@ -1,4 +1,4 @@
-use Rattle.std.proofs.Common.{rules, ℕ, ◌+◌, Option, Some, Ok, Err, ◌∙◌, ap, subst}
+use Rattle.std.proofs.Common.{rules, ℕ, ◌+◌, Option, Ok, Err, ◌∙◌, ap, subst}
 use Rattle.std.proofs.lemmas.Result.{err_from_is_err_and}
 use Rattle.adb_capture.specs.declared.entry.Entry.{Entry}
 use Rattle.adb_replay.specs.Keeping.{Out}

@@ -1,4 +1,4 @@
-use Rattle.std.proofs.Common.{ℕ, ◌≡◌, List, [], Option, Ok, sym, ◌∙◌, subst}
+use Rattle.std.proofs.Common.{ℕ, List, [], Option, Ok, sym, ◌∙◌, subst}
 use Rattle.adb_check.specs.Formed.{formed}
 use Rattle.adb_check.specs.declared.capture.Judgement.{Judgement}
 use Rattle.adb_entry_lines.specs.declared.payload.Payloads.{Payloads}
