@@ -12,14 +12,15 @@ help:
 
 # Programs without any proof, for a first look. They are compiled anew if the source of a crate changed.
 UNPROVED := $(patsubst crates/%,bin/unproved/%,$(wildcard crates/adbhub crates/adbexplain))
-SOURCE := crates.txt examples/unproved_build $(wildcard $(foreach part,src/*.rt src/*/*.rt specs/*.antt specs/*/*.antt,crates/*/$(part)))
+SOURCE := crates.txt $(wildcard $(foreach part,src/*.rt src/*/*.rt specs/*.antt specs/*/*.antt,crates/*/$(part)))
 
 bin/unproved/%: $(SOURCE)
 	@mkdir -p bin/unproved
-	@echo 'Compiling $* without proving anything, as $@: one to two minutes, and again only if its source changes.'
+	@echo 'Compiling $* without proving anything, as $@: about two minutes, and again only if its source changes.'
 	@examples/unproved_build $* $@
 
-unproved: $(UNPROVED)
+unproved:
+	@+$(MAKE) --no-print-directory --jobs=2 $(UNPROVED)
 	@echo 'Nothing of bin/unproved/adbhub is proved: make build proves this source, and makes bin/adbhub.'
 
 demo: unproved
