@@ -4,7 +4,7 @@
 help:
 	@echo 'make demo       compiles the program without any proof, runs a short session, and shows its history: three minutes'
 	@echo 'make try        the same up to a running server, and leaves it running'
-	@echo 'make build      proves and links the program, as bin/adbhub: most of an hour the first time, then what changed'
+	@echo 'make build      proves and links the programs, bin/adbhub and bin/adbexplain: most of an hour the first time, then what changed'
 	@echo 'make install    copies bin/adbhub, its manual page and its completion below PREFIX (/usr/local); make uninstall'
 	@echo 'make test       the gate: every proof, must-fail edit, test and program, and the built program run as a user runs it'
 	@echo 'make serve      builds the program, starts a server with a model device, and says how to ask it something'
@@ -38,8 +38,8 @@ BELOW := $(shell awk -F: '{ split($$1, head, " "); needs[head[1]] = $$2 } \
     seen[crate]; n = split(needs[crate], words, " "); \
     for (i = 1; i <= n; i++) walk(words[i]); \
     print crate } \
-  END { walk("adbhub") }' crates.txt)
-LIBRARIES := $(filter-out adbhub,$(BELOW))
+  END { walk("adbhub"); walk("adbexplain") }' crates.txt)
+LIBRARIES := $(filter-out adbhub adbexplain,$(BELOW))
 STANDING := bin/standing
 
 build:
@@ -49,7 +49,9 @@ build:
 	  $$(printf '%s\n' $(LIBRARIES) | grep -vxFf $(STANDING)); exit 1; }
 	@cd crates/adbhub && rt run -- replay < ../../examples/version.capture > /dev/null
 	@cp crates/adbhub/out/adbhub bin/adbhub
-	@echo '$(words $(BELOW)) of $(words $(BELOW)) crates stand: bin/adbhub is proved and linked'
+	@cd crates/adbexplain && rt run < stdin > /dev/null
+	@cp crates/adbexplain/out/adbexplain bin/adbexplain
+	@echo '$(words $(BELOW)) of $(words $(BELOW)) crates stand: bin/adbhub and bin/adbexplain are proved and linked'
 
 define library
 .PHONY: library-$(1)
