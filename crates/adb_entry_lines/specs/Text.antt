@@ -1,5 +1,6 @@
 -- Bytes as a JSON string, and numbers beside their names.
-use Rattle.std.specs.Prelude.{ℕ, ◌+◌, ◌/◌, ◌%◌, if◌then◌else◌, ◌&&◌, nat_eq, nat_lt, nat_le, List, [], ◌∷◌, ◌++◌, length, flat_map, codes, decimal}
+use Rattle.std.specs.Prelude.{ℕ, ◌+◌, ◌/◌, ◌%◌, if◌then◌else◌, ◌&&◌, nat_eq, nat_lt, nat_le, List, [], ◌∷◌, ◌++◌}
+use Rattle.std.specs.Prelude.{length, flat_map, codes, decimal}
 use Rattle.adb_entry_lines.specs.declared.payload.Payloads.{Payloads}
 use Rattle.adb_entry_lines.specs.declared.payload.Payloads.TheVariants.{Whole, Lengths}
 
@@ -7,13 +8,17 @@ use Rattle.adb_entry_lines.specs.declared.payload.Payloads.TheVariants.{Whole, L
 abbrev pub hex_digit : ℕ → ℕ
 hex_digit value = if nat_lt value 10 then 48 + value else 87 + value
 
+-- a byte by its number
+abbrev pub by_number : ℕ → List ℕ
+by_number byte = codes "\\u00" ++ hex_digit (byte / 16) ∷ hex_digit (byte % 16) ∷ []
+
 -- A byte in a JSON string: printable ASCII as it is, but for the quote and the backslash, and any other byte by its number.
 abbrev pub escaped : ℕ → List ℕ
 escaped byte =
     if nat_eq byte 34 then codes "\\\""
     else (if nat_eq byte 92 then codes "\\\\"
     else (if nat_le 32 byte && nat_le byte 126 then byte ∷ []
-    else codes "\\u00" ++ hex_digit (byte / 16) ∷ hex_digit (byte % 16) ∷ []))
+    else by_number byte))
 
 -- bytes as a JSON string
 abbrev pub quoted : List ℕ → List ℕ

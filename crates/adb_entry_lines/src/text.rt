@@ -1,7 +1,7 @@
 //! Bytes as a JSON string, and numbers beside their names.
 
 ghost use Rattle.std.specs.Prelude.{◌≡◌, ◌<◌, ◌≤◌, ◌∷◌, ◌++◌, [], true, IfOk, OnOk, flat_map, length, take};
-ghost use Rattle.adb_entry_lines.specs.Text.{escaped, hex_digit, named, numbered, quoted};
+ghost use Rattle.adb_entry_lines.specs.Text.{by_number, escaped, hex_digit, named, numbered, quoted};
 
 use adb_outside::Text;
 use itoa::Buffer;
@@ -47,20 +47,88 @@ pub(crate) fn push_escaped(text: &mut Text, bytes: &[u8]) -> Result<(), AllocErr
     Ok(())
 }
 
-/// Appends the first bytes that stay as they are and the byte after them, and returns the rest.
+/// Appends the first bytes that stay as they are, or some bytes that do not, and returns the rest.
 fn push_run<'a>(text: &mut Text, bytes: &'a [u8]) -> Result<&'a [u8], AllocError>
     requires some { 0 < length bytes.now }
     ensures pushed { IfOk result (λ rest. text.new ++ flat_map escaped rest.now
         ≡ text.old ++ flat_map escaped bytes.entry.now) }
     ensures fewer { IfOk result (λ rest. length rest.now < length bytes.entry.now) }
 {
-    let (run, more) = bytes.split_at(plain_run(bytes));
-    text.push_slice(run)?;
-    let [byte, rest @ ..] = more else {
-        return Ok(more);
+    if let [a, b, c, d, rest @ ..] = bytes {
+        if are_numbered(*a, *b, *c, *d) {
+            push_numbers(text, *a, *b, *c, *d)?;
+            return Ok(rest);
+        }
+    }
+    push_plain(text, bytes)
+}
+
+/// Appends the first bytes that stay as they are, or one byte that does not, and returns the rest.
+fn push_plain<'a>(text: &mut Text, bytes: &'a [u8]) -> Result<&'a [u8], AllocError>
+    requires some { 0 < length bytes.now }
+    ensures pushed { IfOk result (λ rest. text.new ++ flat_map escaped rest.now
+        ≡ text.old ++ flat_map escaped bytes.entry.now) }
+    ensures fewer { IfOk result (λ rest. length rest.now < length bytes.entry.now) }
+{
+    let run = plain_run(bytes);
+    if run > 0 {
+        let (plain, rest) = bytes.split_at(run);
+        text.push_slice(plain)?;
+        return Ok(rest);
+    }
+    let [byte, rest @ ..] = bytes else {
+        return Ok(bytes);
     };
     push_byte(text, *byte)?;
     Ok(rest)
+}
+
+/// Returns whether four bytes are written by their numbers.
+fn are_numbered(a: u8, b: u8, c: u8, d: u8) -> bool
+    ensures { result ≡ true → (escaped a ≡ by_number a) × (escaped b ≡ by_number b)
+        × (escaped c ≡ by_number c) × (escaped d ≡ by_number d) }
+{
+    is_numbered(a) && is_numbered(b) && is_numbered(c) && is_numbered(d)
+}
+
+/// Returns whether a byte is written by its number.
+fn is_numbered(byte: u8) -> bool
+    ensures { result ≡ true → escaped byte ≡ by_number byte }
+{
+    byte < b' ' || b'~' < byte
+}
+
+/// Appends four bytes by their numbers.
+fn push_numbers(text: &mut Text, a: u8, b: u8, c: u8, d: u8) -> Result<(), AllocError>
+    ensures { OnOk result (text.new
+        ≡ text.old ++ (by_number a ++ (by_number b ++ (by_number c ++ by_number d)))) }
+{
+    text.push_slice(&[
+        b'\\',
+        b'u',
+        b'0',
+        b'0',
+        digit_of(a / 16),
+        digit_of(a % 16),
+        b'\\',
+        b'u',
+        b'0',
+        b'0',
+        digit_of(b / 16),
+        digit_of(b % 16),
+        b'\\',
+        b'u',
+        b'0',
+        b'0',
+        digit_of(c / 16),
+        digit_of(c % 16),
+        b'\\',
+        b'u',
+        b'0',
+        b'0',
+        digit_of(d / 16),
+        digit_of(d % 16),
+    ])
 }
 
 /// Returns how many of the first bytes stay as they are.

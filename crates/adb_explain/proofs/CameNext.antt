@@ -17,17 +17,20 @@ use Rattle.adb_check.proofs.Captured.{behind, with_entry, Came}
 
 -- a whole record is the first of those that bytes hold
 formed_whole : (offset : ℕ) (bytes : List ℕ) (n : ℕ) → record_at offset bytes ≡ Whole n
-    → formed_records offset bytes ≡ with_entry (entry_in offset (take n bytes)).1 (formed_records (offset_after offset (take n bytes)) (drop n bytes))
+    → formed_records offset bytes ≡ with_entry (entry_in offset (take n bytes)).1
+    (formed_records (offset_after offset (take n bytes)) (drop n bytes))
 formed_whole offset bytes n is =
     ap (λ (c : Cut ℕ (ℕ × Entry) FormFault). formed_cut c) (cut_first record_at entry_in offset_after framing offset bytes)
-    ∙ ap (λ (f : Front FormFault). formed_cut (cut_by record_at entry_in offset_after offset bytes f (cut record_at entry_in offset_after))) is
+    ∙ ap (λ (f : Front FormFault). formed_cut (cut_by record_at entry_in offset_after offset bytes f
+    (cut record_at entry_in offset_after))) is
 
 -- an entry that was given stands before the rest
 given_next : (e : Entry) (given : History) (f : Formed) → behind given (with_entry e f) ≡ behind (e ∷ given) f
 given_next e given f i = record { entries = entries i; refused = f.refused }
   where
     entries : reverse given ++ e ∷ f.entries ≡ reverse (e ∷ given) ++ f.entries
-    entries = sym (append_assoc (reverse given) (e ∷ []) f.entries) ∙ ap (λ (g : List Entry). g ++ f.entries) (sym (reverse-append (e ∷ []) given))
+    entries = sym (append_assoc (reverse given) (e ∷ []) f.entries) ∙ ap (λ (g : List Entry). g ++ f.entries)
+        (sym (reverse-append (e ∷ []) given))
 
 -- what is ahead was told, so the source tells what it still has
 told_ahead : (f : List ℕ → Option (List ℕ)) (o : Option (List ℕ)) (y : List ℕ) → option_and_then f o ≡ Some y → (x : List ℕ) × (o ≡ Some x)
@@ -36,7 +39,8 @@ told_ahead f (Some x) y e = (x, refl)
 
 -- The entries given so far, and one more.
 pub came_next : (all : List ℕ) (now : Reading) (left : Option (List ℕ)) (given : History) (new : Reading) (after : Option (List ℕ))
-    (offset : ℕ) (e : Entry) → AnswersNext now left new after (Ok (Some (offset, e))) → Came all now left given → Came all new after (e ∷ given)
+    (offset : ℕ) (e : Entry) → AnswersNext now left new after (Ok (Some (offset, e))) → Came all now left given → Came all new after
+    (e ∷ given)
 came_next all now left given new after offset e answers c = go (ahead_of now left) refl
   where
     go : (o : Option (List ℕ)) → ahead_of now left ≡ o → Came all new after (e ∷ given)
@@ -54,7 +58,8 @@ came_next all now left given new after offset e answers c = go (ahead_of now lef
 
         first : formed_records now.offset bytes ≡ with_entry e (formed_records new.offset (drop g.size bytes))
         first = formed_whole now.offset bytes g.size g.whole
-            ∙ (ap (λ (p : ℕ × Entry). with_entry p.1 (formed_records (offset_after now.offset (take g.size bytes)) (drop g.size bytes))) (sym g.is)
+            ∙ (ap (λ (p : ℕ × Entry). with_entry p.1 (formed_records (offset_after now.offset (take g.size bytes))
+            (drop g.size bytes))) (sym g.is)
             ∙ ap (λ n. with_entry e (formed_records n (drop g.size bytes))) (sym g.next_offset_is))
 
 -- the history of entries that were given before others

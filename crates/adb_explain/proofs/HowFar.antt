@@ -1,5 +1,5 @@
 -- How far a history was explained.
-use Rattle.std.proofs.Common.{ℕ, ◌+◌, ◌≡◌, ◌≢◌, ◌≤◌, List, [], ◌∷◌, ◌++◌, length, reverse, Option, Some, None, Ok, Err}
+use Rattle.std.proofs.Common.{ℕ, ◌+◌, ◌≡◌, ◌≢◌, ◌≤◌, true, false, List, [], ◌∷◌, ◌++◌, length, reverse, Option, Some, None, Ok, Err}
 use Rattle.std.proofs.Common.{refl, sym, ◌∙◌, ap, subst, arith, inl, inr}
 use Rattle.std.proofs.lemmas.List.{append_assoc, append-nil}
 use Rattle.adb_capture.specs.declared.entry.Entry.{Entry}
@@ -21,11 +21,12 @@ use Rattle.adb_check.proofs.Captured.{ends_with, behind, came_over, came_refused
 use Rattle.adb_check.proofs.Places as places
 use Rattle.adb_replay.specs.Keeping.{Out, Keeps}
 use Rattle.adb_replay.specs.Stop.{fault_of, refused_or, stop_of}
+use Rattle.adb_replay.specs.declared.stop.Stop.{Stop}
 use Rattle.adb_replay.specs.declared.stop.Stop.TheVariants as stop
 use Rattle.adb_entry_lines.specs.declared.payload.Payloads.{Payloads}
 use Rattle.adb_explain.specs.Explaining.{Begins, KeepsFirst, KeepsIllegal, KeepsAll, EndsAs, LosesPart, IsText}
 use Rattle.adb_explain.specs.Lines.{lines}
-use Rattle.adb_explain.specs.Making.{KeepsLine, LosesLine, lines_by}
+use Rattle.adb_explain.specs.Making.{KeepsLine, LosesLine, Explained, lines_by}
 use Rattle.adb_explain.proofs.CameNext.{came_next, history_came}
 
 -- The lines of the entries given so far are kept.
@@ -176,8 +177,27 @@ lost_part {payloads = payloads} t after x l all had was has = record {
   lost = l.lost had (x.kept had has);
 }
 
+-- No line was kept of an entry that came: the sink failed, or an allocation did.
+pub kept_broken : {before start : Option (List ℕ)} {payloads : Payloads} {entries : ℕ} {holds : Kept} {out : Out} (t : Turn) (new : Kept)
+    (after : Out) (why : Stop) → (x : ExplainingOn before start payloads t.now t.left entries holds out)
+    → Explained (Err why) payloads t.entry x.given new out after → (all had : List ℕ) → before ≡ Some all → start ≡ Some had
+    → KeepsAll (Err why) payloads (formed all) had after
+kept_broken t new after stop.ReadFault x ended all had was has = absurd ended
+kept_broken t new after stop.WriteFault x ended all had was has = lost_part t after x ended all had was has
+kept_broken t new after stop.OutOfMemory x ended all had was has =
+    record { earlier = x.given; begins = begins_so x all was; kept = ended had (x.kept had has) }
+kept_broken t new after (stop.Refused why) x ended all had was has = absurd ended
+
+-- the same line, by other words for what it is of
+pub line_so : {broken other : Option Rule} {payloads shown : Payloads} {e : Entry} {h : History} {new : Kept} {before after : Out}
+    → broken ≡ other → payloads ≡ shown → KeepsLine broken payloads e h new before after → KeepsLine other shown e h new before after
+line_so {broken} {other} {payloads} {shown} {e} {h} {new} {before} {after} is same k =
+    subst (λ (p : Payloads). KeepsLine other p e h new before after) same
+    (subst (λ (o : Option Rule). KeepsLine o payloads e h new before after) is k)
+
 -- ---- the source ends, or the reader stops
-module _ {before start : Option (List ℕ)} {payloads : Payloads} {now : Reading} {left : Option (List ℕ)} {entries : ℕ} {holds : Kept} {out : Out}
+module _ {before start : Option (List ℕ)} {payloads : Payloads} {now : Reading} {left : Option (List ℕ)} {entries : ℕ} {holds : Kept}
+    {out : Out}
     (new : Reading) (after : Option (List ℕ)) (x : ExplainingOn before start payloads now left entries holds out) where
   judging_of : JudgingOn before now left entries (judging holds)
   judging_of = record {
@@ -219,11 +239,14 @@ module _ {before start : Option (List ℕ)} {payloads : Payloads} {now : Reading
       → KeepsAll (Err (stop_of why)) payloads (formed all) had out
   kept_stopped why gives all had was has = go (refusal_by why) refl
     where
-      go : (o : Option Refusal) → refusal_by why ≡ o → KeepsAll (Err (refused_or (refusal_by why) (fault_of why))) payloads (formed all) had out
+      go : (o : Option Refusal) → refusal_by why ≡ o → KeepsAll (Err (refused_or (refusal_by why) (fault_of why))) payloads
+          (formed all) had out
       go None is = subst (λ (o : Option Refusal). KeepsAll (Err (refused_or o (fault_of why))) payloads (formed all) had out) (sym is)
           (kept_at_fault why all had (kept_first all had was has))
-      go (Some refusal) is = subst (λ (o : Option Refusal). KeepsAll (Err (refused_or o (fault_of why))) payloads (formed all) had out) (sym is)
-          (subst (λ (h : History). Keeps had (lines payloads h) out) (sym (ap history_of formed_is ∙ history_given x.given (refusal_by why)))
+      go (Some refusal) is = subst (λ (o : Option Refusal). KeepsAll (Err (refused_or o (fault_of why))) payloads (formed all) had out)
+          (sym is)
+          (subst (λ (h : History). Keeps had (lines payloads h) out)
+          (sym (ap history_of formed_is ∙ history_given x.given (refusal_by why)))
           (x.kept had has))
         where
           some : refusal_by why ≢ None
@@ -240,6 +263,7 @@ module _ {before start : Option (List ℕ)} {payloads : Payloads} {now : Reading
       refused = judging_stopped new after why gives judging_of all was after
 
       go : (o : Option Refusal) → refusal_by why ≡ o → EndsAs (Err (refused_or (refusal_by why) (fault_of why))) (formed all) after
-      go None is = subst (λ (o : Option Refusal). EndsAs (Err (refused_or o (fault_of why))) (formed all) after) (sym is) (ends_at_fault why all)
+      go None is = subst (λ (o : Option Refusal). EndsAs (Err (refused_or o (fault_of why))) (formed all) after) (sym is)
+          (ends_at_fault why all)
       go (Some refusal) is = subst (λ (o : Option Refusal). EndsAs (Err (refused_or o (fault_of why))) (formed all) after) (sym is)
           (subst (λ (o : Option Refusal). IsRefusedAs o (formed all)) is refused)

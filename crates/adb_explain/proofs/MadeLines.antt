@@ -1,7 +1,7 @@
 -- The line of an entry, from what was made and reported of it.
-use Rattle.std.proofs.Common.{ℕ, ◌+◌, ◌≡◌, true, false, if◌then◌else◌, List, [], ◌++◌, length, Option, Some, None, Result, Ok, Err}
+use Rattle.std.proofs.Common.{ℕ, ◌+◌, ◌≡◌, Bool, true, false, List, [], ◌++◌, length, Option, Some, None, Result, Ok, Err}
 use Rattle.std.proofs.Common.{refl, sym, ◌∙◌, ap, subst}
-use Rattle.std.specs.Prelude.{IfOk}
+use Rattle.std.specs.Prelude.{if◌then◌else◌, IfOk}
 use Rattle.std.specs.declared.alloc.AllocError.{AllocError}
 use Rattle.adb_capture.specs.declared.entry.Entry.{Entry}
 use Rattle.adb_capture.specs.declared.entry.Entry.TheVariants.{Put, Send}
@@ -42,7 +42,7 @@ reports_none (Err why) e h ends empty none = tt
 pub reports_came : (e : Entry) (h : History) (before after : List Ended) → before ≡ [] → is_input e ≡ true
     → after ≡ before ++ applied_endings e h → after ≡ endings_at e h
 reports_came e h before after empty input is =
-    is ∙ (ap (λ (x : List Ended). x ++ applied_endings e h) empty ∙ ap (λ b. if b then endings_at e h else []) input)
+    is ∙ (ap (λ (x : List Ended). x ++ applied_endings e h) empty ∙ ap (λ (b : Bool). if b then endings_at e h else []) input)
 
 -- nothing is reported of an entry that breaks a rule
 pub reports_refused : (s : State) (e : Entry) (h : History) (why : Reason) (ends : List Ended) → s.stopped ≡ false → is_input e ≡ true
@@ -74,7 +74,8 @@ line_kept broken payloads e h new text before after m kept = record {
 }
 
 -- it was made, and is lost
-pub line_lost : (why : Stop) (broken : Option Rule) (payloads : Payloads) (e : Entry) (h : History) (new : Kept) (text : List ℕ) (before after : Out)
+pub line_lost : (why : Stop) (broken : Option Rule) (payloads : Payloads) (e : Entry) (h : History) (new : Kept) (text : List ℕ)
+    (before after : Out)
     → MakesLine broken payloads e h new text → KeepsBytes (Err why) text before after → IsLoss (Err why)
     → Explained (Err why) payloads e h new before after
 line_lost stop.ReadFault broken payloads e h new text before after m kept loss = loss

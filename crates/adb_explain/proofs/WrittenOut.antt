@@ -1,5 +1,6 @@
 -- What went out of the lines that were kept, and how a run ends then.
-use Rattle.std.proofs.Common.{ℕ, ◌≡◌, ◌⊎◌, inl, inr, Bool, true, false, List, [], ◌++◌, Option, Some, Result, Ok, Err, refl, sym, ◌∙◌, ap, subst}
+use Rattle.std.proofs.Common.{ℕ, ◌≡◌, ◌⊎◌, inl, inr, Bool, true, false, List, [], ◌++◌, Option, Some, Result, Ok, Err}
+use Rattle.std.proofs.Common.{refl, sym, ◌∙◌, ap, subst}
 use Rattle.std.proofs.lemmas.List.{append-nil}
 use Rattle.adb_history.specs.Machine.{History, IsLegal}
 use Rattle.adb_check.specs.Formed.{Formed, history_of}
@@ -17,11 +18,16 @@ use Rattle.adb_explain.specs.Stopping.{EndsIn}
 use Rattle.adb_explain.specs.declared.status.Status.{Status}
 use Rattle.adb_explain.specs.declared.status.Status.TheVariants as status
 
+-- what is the same in an option is the same
+pub same_some : {A : Type 0} (x y : A) → Some x ≡ Some y → x ≡ y
+same_some x y e = cc
+
 -- ---- nothing was read
 begins_none : (all : History) → Begins [] all
 begins_none all = record { later = all; is = sym (append-nil all); legal = tt }
 
-pub kept_none : (payloads : Payloads) (all : History) (had : List ℕ) (out : Out) → out.0 ≡ Some had → out.1 ≡ [] → KeepsFirst payloads all had out
+pub kept_none : (payloads : Payloads) (all : History) (had : List ℕ) (out : Out) → out.0 ≡ Some had → out.1 ≡ []
+    → KeepsFirst payloads all had out
 kept_none payloads all had out has none = record {
   earlier = [];
   begins = begins_none all;
@@ -86,16 +92,17 @@ module _ (payloads : Payloads) (f : Formed) (had : List ℕ) (out : Out) (writte
       → EndsAs (Ok (judged.Legal entries)) f left → WritesBy status.Done payloads f left had written
   run_done entries left w ends = (ends.0, ends.1, ends.3, w)
 
-  pub run_illegal : (place : ℕ) (rule : Rule) (left : Option (List ℕ)) (status : Status) → (status ≡ status.Illegal) ⊎ (status ≡ status.WriteFault)
+  pub run_illegal : (place : ℕ) (rule : Rule) (left : Option (List ℕ)) (said : Status) → (said ≡ status.Illegal) ⊎
+      (said ≡ status.WriteFault)
       → Writes (Ok (judged.Illegal place rule)) payloads f had written → EndsAs (Ok (judged.Illegal place rule)) f left
-      → WritesBy status payloads f left had written
-  run_illegal place rule left status (inl own) w ends =
+      → WritesBy said payloads f left had written
+  run_illegal place rule left said (inl own) w ends =
       subst (λ (s : Status). WritesBy s payloads f left had written) (sym own) (place, rule, w)
-  run_illegal place rule left status (inr other) w ends =
+  run_illegal place rule left said (inr other) w ends =
       subst (λ (s : Status). WritesBy s payloads f left had written) (sym other) (part_of (Ok (judged.Illegal place rule)) left w ends)
 
-  pub run_stopped : (why : Stop) (left : Option (List ℕ)) (status : Status) → EndsIn why status → Writes (Err why) payloads f had written
-      → EndsAs (Err why) f left → WritesBy status payloads f left had written
+  pub run_stopped : (why : Stop) (left : Option (List ℕ)) (said : Status) → EndsIn why said → Writes (Err why) payloads f had written
+      → EndsAs (Err why) f left → WritesBy said payloads f left had written
   run_stopped why left status.Done ends_in w ends = absurd ends_in
   run_stopped why left status.Usage ends_in w ends = absurd ends_in
   run_stopped why left status.ReadFault ends_in w ends = subst (λ (s : Stop). Writes (Err s) payloads f had written) ends_in w

@@ -41,7 +41,8 @@ pub record WritesPart (payloads : Payloads) (all : History) (had : List ℕ) (wr
   pub front : HasFront had text written
 
 -- the lines before the first entry that may not come went out, and the line of that
-pub record WritesIllegal (payloads : Payloads) (all : History) (place : ℕ) (rule : Rule) (had : List ℕ) (written : Option (List ℕ)) : Type 0 where
+pub record WritesIllegal (payloads : Payloads) (all : History) (place : ℕ) (rule : Rule) (had : List ℕ)
+    (written : Option (List ℕ)) : Type 0 where
   pub bad : IsFirstBad all (record { place = place; rule = rule })
   pub is : written ≡ Some (had ++ (lines payloads bad.earlier ++ illegal_line payloads bad.entry bad.earlier rule))
 

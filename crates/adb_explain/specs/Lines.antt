@@ -26,18 +26,31 @@ abbrev pub ended_field : List Ended → List ℕ
 ended_field [] = []
 ended_field (e ∷ more) = codes ",\"ended\":[" ++ (ended_object e ++ (flat_map next_ended more ++ codes "]"))
 
--- how many clients, links and streams are kept then
-unfoldable pub count_fields : Kept → List ℕ
-count_fields k =
-    numbered (codes ",\"clients\":") (length k.clients) ++ (numbered (codes ",\"links\":") (length k.links)
-    ++ numbered (codes ",\"streams\":") (length k.streams.streams))
+-- the names of fields
+unfoldable pub clients_name : List ℕ
+clients_name = codes ",\"clients\":"
+
+unfoldable pub streams_name : List ℕ
+streams_name = codes ",\"streams\":"
+
+unfoldable pub rule_name : List ℕ
+rule_name = codes ",\"illegal\":\""
+
+-- how many clients, links and streams there are
+unfoldable pub count_fields : (clients links streams : ℕ) → List ℕ
+count_fields clients links streams =
+    numbered clients_name clients ++ (numbered (codes ",\"links\":") links ++ numbered streams_name streams)
+
+-- how many of them are kept then
+abbrev pub kept_fields : Kept → List ℕ
+kept_fields k = count_fields (length k.clients) (length k.links) (length k.streams.streams)
 
 abbrev pub over : List ℕ
 over = codes "}\n"
 
 -- what an entry made: the streams that it ended, and what is kept then
 abbrev pub made_fields : List Ended → Kept → List ℕ
-made_fields ends k = ended_field ends ++ (count_fields k ++ over)
+made_fields ends k = ended_field ends ++ (kept_fields k ++ over)
 
 -- the line of an entry behind a history
 abbrev pub line : Payloads → Entry → History → List ℕ
@@ -45,7 +58,7 @@ line payloads e older =
     entry_fields payloads (length older + 1) e ++ made_fields (endings_at e older) (kept (state (e ∷ older)))
 
 unfoldable pub rule_field : Rule → List ℕ
-rule_field rule = named (codes ",\"illegal\":\"") (rule_text rule) ++ over
+rule_field rule = named rule_name (rule_text rule) ++ over
 
 -- how the line of an entry ends, by the rule that it breaks, if it breaks one
 abbrev pub end_by : Option Rule → List Ended → Kept → List ℕ

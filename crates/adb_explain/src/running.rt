@@ -10,7 +10,7 @@ ghost use Rattle.adb_explain.specs.Words.{payloads_in, texts};
 use crate::explaining::explain;
 use crate::note::{say_illegal, say_stop, say_usage};
 use crate::status::Status;
-use crate::words::payloads_of;
+use crate::words::{payloads_of, words_after};
 use adb_check::Judgement;
 use adb_outside::{Sink, Source};
 use adb_replay::Stop;
@@ -39,10 +39,7 @@ pub fn start<S: Source, K: Sink, N: Sink>(
         ⊎ Rises (N.faults note.old) (N.faults note.new) }
 {
     match arguments {
-        Ok(list) => match list.as_slice() {
-            [] => run(alloc, &[], source, sink, note),
-            [_name, words @ ..] => run(alloc, words, source, sink, note),
-        },
+        Ok(list) => run(alloc, words_after(list.as_slice()), source, sink, note),
         Err(error) if error.kind() == ErrorKind::OutOfMemory => {
             say_stop(alloc, note, Stop::OutOfMemory)
         }

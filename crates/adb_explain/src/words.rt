@@ -1,6 +1,6 @@
 //! The words of the program.
 
-ghost use Rattle.std.specs.Prelude.{◌≡◌, string_bytes};
+ghost use Rattle.std.specs.Prelude.{◌≡◌, drop, string_bytes};
 ghost use Rattle.adb_explain.specs.Words.{payloads_in, payloads_named, texts};
 
 use adb_entry_lines::Payloads;
@@ -14,6 +14,16 @@ pub fn payloads_of(words: &[String]) -> Option<Payloads>
         [] => Some(Payloads::Whole),
         [word] => payloads_named(word),
         _ => None,
+    }
+}
+
+/// Returns the words after the program's name.
+pub(crate) fn words_after(arguments: &[String]) -> &[String]
+    ensures { texts result.now ≡ drop 1 (texts arguments.now) }
+{
+    match arguments {
+        [] => arguments,
+        [_name, words @ ..] => words,
     }
 }
 
