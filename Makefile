@@ -63,19 +63,21 @@ ifneq ($(filter library-%,$(MAKECMDGOALS)),)
 $(foreach crate,$(LIBRARIES),$(eval $(call library,$(crate))))
 endif
 
-# What is installed is what `make build` left. PROGRAM may name another build of it.
+# What `make build` left is installed. PROGRAM may name another build; adbexplain is installed if it is in the same folder.
 PROGRAM ?= bin/adbhub
+EXPLAINER := $(wildcard $(dir $(PROGRAM))adbexplain)
 PREFIX ?= /usr/local
-INSTALLED := $(addprefix $(DESTDIR)$(PREFIX)/,bin/adbhub share/man/man1/adbhub.1 share/bash-completion/completions/adbhub)
+AT := $(DESTDIR)$(PREFIX)
 
 install:
 	@test -x $(PROGRAM) || { echo '$(PROGRAM) is not built: make build'; exit 1; }
-	install -D -m 755 $(PROGRAM) $(word 1,$(INSTALLED))
-	install -D -m 644 docs/adbhub.1 $(word 2,$(INSTALLED))
-	install -D -m 644 examples/adbhub.bash $(word 3,$(INSTALLED))
+	install -D -m 755 $(PROGRAM) $(AT)/bin/adbhub
+	$(if $(EXPLAINER),install -D -m 755 $(EXPLAINER) $(AT)/bin/adbexplain)
+	install -D -m 644 docs/adbhub.1 $(AT)/share/man/man1/adbhub.1
+	install -D -m 644 examples/adbhub.bash $(AT)/share/bash-completion/completions/adbhub
 
 uninstall:
-	rm -f $(INSTALLED)
+	rm -f $(addprefix $(AT)/,bin/adbhub bin/adbexplain share/man/man1/adbhub.1 share/bash-completion/completions/adbhub)
 
 test:
 	.ci/run
