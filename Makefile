@@ -16,7 +16,7 @@ SOURCE := crates.txt $(wildcard $(foreach part,src/*.rt src/*/*.rt specs/*.antt 
 
 bin/unproved/%: $(SOURCE)
 	@mkdir -p bin/unproved
-	@echo 'Compiling $* without proving anything, as $@: about two minutes, and again only if its source changes.'
+	@echo 'Compiling $* without proving anything, as $@: up to three processor minutes, and again only if its source changes.'
 	@examples/unproved_build $* $@
 
 unproved:
