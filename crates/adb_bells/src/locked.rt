@@ -2,10 +2,10 @@
 
 use crate::bells::{Bells, Side};
 use crate::rings::Rings;
+use adb_capture::Recorder;
 use adb_desk::Desk;
 use adb_desk_log::Marks;
 use adb_hub::Owner;
-use adb_recorder::Recorder;
 use std::sync::ledger::Ledger;
 
 /// The desk, and beside it whom to wake.

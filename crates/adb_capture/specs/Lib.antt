@@ -1,4 +1,5 @@
 pub mod Records
 pub mod Faults
 pub mod Pieces
+pub mod Recording
 pub mod Lent

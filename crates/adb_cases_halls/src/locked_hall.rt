@@ -5,12 +5,12 @@ ghost use Rattle.adb_desk_log.specs.declared.marks.TheConstants.{ALL_PARTS};
 
 use crate::hands::{Client, asks, is_answered};
 use adb_bells::{Bells, Locked, Pair, Side};
+use adb_capture::NullRecorder;
 use adb_desk::Desk;
 use adb_desk_log::{ALL_PARTS, ClientIn, ClientOut, Marks};
 use adb_hall::Hall;
 use adb_hub::{Life, Owner};
 use adb_locked_hall::LockedHall;
-use adb_recorder::NullRecorder;
 use std::alloc::{AllocError, Global};
 use std::marker::Brand;
 use std::sync::Wait;

@@ -4,12 +4,12 @@ ghost use Rattle.std.specs.Prelude.{◌≡◌};
 ghost use Rattle.adb_desk_log.specs.declared.marks.TheConstants.{ALL_PARTS};
 
 use crate::hands::{Client, asks, hands_out, is_answered, len_of};
+use adb_capture::MemoryRecorder;
 use adb_desk_log::{ALL_PARTS, ClientIn, ClientOut, DeskError, LinkIn, LinkOut, Marks};
 use adb_hall::Hall;
 use adb_hub::{MAX_HELD, Room};
 use adb_one_desk::OneDesk;
 use adb_outside::{Cause, Kind};
-use adb_recorder::MemoryRecorder;
 use std::alloc::{AllocError, Global};
 use std::marker::Brand;
 use std::sync::ledger::{Blank, Ledger};

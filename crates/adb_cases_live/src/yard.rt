@@ -1,11 +1,10 @@
 //! A yard over sockets of this machine.
 
 use adb_binder::{Binder, Binding};
-use adb_capture::Entry;
+use adb_capture::{Entry, RecordError, Recorder};
 use adb_connections::{Bell, Came, Door, PortIn, PortOut};
 use adb_outside::{Got, NeverSink, Wrote};
 use adb_ports::{Ending, RealYard};
-use adb_recorder::{RecordError, Recorder};
 use adb_yard::{Dialled, Listening, Staff, Yard};
 use std::alloc::{AllocError, Global};
 use std::net::{Net, TcpListener, TcpStream};

@@ -14,11 +14,10 @@ ghost use Rattle.adb_desk.specs.Desk.{Lives, Draws, Rung, client_life, desk_refu
 ghost use Rattle.adb_desk.specs.Desk.{rung, or_given_by, is_later};
 
 use crate::desk::Desk;
-use adb_capture::{Entry, Owner};
+use adb_capture::{Entry, Owner, Recorder};
 use adb_desk_log::{DeskError, Marks, marks_error, marks_life, marks_room};
 use adb_hub::{Hub, HubError, Life, MAX_HELD, Room};
 use adb_outside::Cause;
-use adb_recorder::Recorder;
 use std::sync::ledger::Ledger;
 
 impl<R: Recorder, E: Ledger, M: Ledger, K: Marks> Desk<R, E, M, K> {

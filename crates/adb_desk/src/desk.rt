@@ -9,13 +9,13 @@ ghost use Rattle.adb_desk_log.specs.Marked.{marks_error};
 ghost use Rattle.adb_desk.specs.Desk.{or_given_by, over_at, rung, summary_of};
 ghost use Rattle.adb_desk.specs.Sound.{IsSound, TellsPromises};
 
+use adb_capture::Recorder;
 use adb_desk_log::{DeskError, Log, Marks, is_marked};
 use adb_headline::{
     every_legal_history_has_causes, every_legal_history_is_answered, every_legal_history_is_fifo,
 };
 use adb_hub::{Hub, HubError, Summary};
 use adb_laws_fifo_down::every_stream_keeps_its_window;
-use adb_recorder::Recorder;
 use std::alloc::Global;
 use std::marker::Model;
 use std::sync::ledger::{Blank, Ledger};

@@ -13,9 +13,9 @@ ghost use Rattle.adb_desk_log.specs.Marked.{marks_handed};
 ghost use Rattle.adb_desk.specs.Desk.{Hands, Rung};
 
 use crate::desk::Desk;
+use adb_capture::Recorder;
 use adb_desk_log::{DeskError, Marks, keep_put, keep_sent, marks_handed};
 use adb_hub::{Handed, Owner};
-use adb_recorder::Recorder;
 use std::sync::ledger::Ledger;
 
 impl<R: Recorder, E: Ledger, M: Ledger, K: Marks> Desk<R, E, M, K> {

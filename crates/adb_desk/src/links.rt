@@ -9,11 +9,10 @@ ghost use Rattle.adb_desk_log.specs.Marked.{marks_life, marks_error};
 ghost use Rattle.adb_desk.specs.Desk.{Lives, Draws, Rung, link_life};
 
 use crate::desk::Desk;
-use adb_capture::{Entry, Owner};
+use adb_capture::{Entry, Owner, Recorder};
 use adb_desk_log::{DeskError, Marks, keep_attach, marks_error, marks_life};
 use adb_hub::{HubError, Life, Whole};
 use adb_outside::{Cause, Kind, Text};
-use adb_recorder::Recorder;
 use std::sync::ledger::Ledger;
 
 impl<R: Recorder, E: Ledger, M: Ledger, K: Marks> Desk<R, E, M, K> {

@@ -7,8 +7,8 @@ ghost use Rattle.adb_desk_log.specs.Pass.{first_pass, noted};
 ghost use Rattle.adb_desk.specs.Desk.{IsSameDesk};
 
 use crate::desk::Desk;
+use adb_capture::Recorder;
 use adb_desk_log::{Mark, Marks, Pass};
-use adb_recorder::Recorder;
 use std::sync::ledger::Ledger;
 
 impl<R: Recorder, E: Ledger, M: Ledger, K: Marks> Desk<R, E, M, K> {

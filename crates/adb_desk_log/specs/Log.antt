@@ -4,8 +4,8 @@ use Rattle.std.specs.Prelude.{option_map, Result, Ok, Err, nat_le, nat_lt, ⊤}
 use Rattle.adb_outside.specs.Outside.{Rises}
 use Rattle.adb_capture.specs.declared.entry.Entry.{Entry}
 use Rattle.adb_capture.specs.declared.entry.Entry.TheVariants.{Join, Enter, Read, Attach, Recv, Put, Send}
-use Rattle.adb_recorder.specs.declared.recorder.RecordError.{RecordError}
-use Rattle.adb_recorder.specs.declared.recorder.RecordError.TheVariants.{Failed, OutOfMemory as WantOfMemory}
+use Rattle.adb_capture.specs.declared.recorder.RecordError.{RecordError}
+use Rattle.adb_capture.specs.declared.recorder.RecordError.TheVariants.{Failed, OutOfMemory as WantOfMemory}
 use Rattle.adb_hub.specs.declared.error.HubError.TheVariants.{OutOfMemory}
 use Rattle.adb_hub.specs.declared.answers.Handed.{Handed}
 use Rattle.adb_hub.specs.declared.answers.Handed.TheVariants.{Bytes}

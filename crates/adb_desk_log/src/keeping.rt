@@ -10,10 +10,9 @@ ghost use Rattle.adb_desk_log.specs.Entries.{IsHandOut, bytes_of};
 use crate::error::DeskError;
 use crate::log::Log;
 use crate::marks::Marks;
-use adb_capture::Entry;
+use adb_capture::{Entry, Recorder};
 use adb_hub::Handed;
 use adb_outside::{HandOut, Kind, Text};
-use adb_recorder::Recorder;
 use std::sync::ledger::Ledger;
 
 /// Keeps the entry of a device that was plugged in, whose serial was copied before.

@@ -2,7 +2,7 @@
 
 ghost use Rattle.std.specs.Prelude.{◌≡◌, ◌≢◌, ◌<◌, ◌≤◌, ◌||◌, Some, None, Err, length};
 ghost use Rattle.adb_capture.specs.declared.limits.TheConstants.{MAX_DATA};
-ghost use Rattle.adb_recorder.specs.declared.recorder.RecordError.{RecordError};
+ghost use Rattle.adb_capture.specs.declared.recorder.RecordError.{RecordError};
 ghost use Rattle.adb_capture.specs.Records.{HasRecord, came_from};
 ghost use Rattle.adb_desk_log.specs.declared.error.DeskError.{DeskError};
 ghost use Rattle.adb_desk_log.specs.declared.marks.TheConstants.{ALL_PARTS};
@@ -11,9 +11,8 @@ ghost use Rattle.adb_desk_log.specs.Log.{Keeps, counting, fault_of};
 
 use crate::error::DeskError;
 use crate::marks::Marks;
-use adb_capture::{Entry, Owner};
+use adb_capture::{Entry, Owner, RecordError, Recorder};
 use adb_hub::HubError;
-use adb_recorder::{RecordError, Recorder};
 use std::marker::Model;
 use std::sync::ledger::{Blank, Book, Ledger, Share};
 

@@ -8,7 +8,7 @@ ghost use Rattle.adb_desk_log.specs.Pass.{first_pass};
 use crate::log::Log;
 use crate::marks::Marks;
 use crate::pass::{Mark, Pass};
-use adb_recorder::Recorder;
+use adb_capture::Recorder;
 use std::sync::ledger::Ledger;
 
 impl<R: Recorder, E: Ledger, M: Ledger, K: Marks> Log<R, E, M, K> {

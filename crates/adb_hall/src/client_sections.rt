@@ -14,11 +14,11 @@ ghost use Rattle.adb_hall.specs.Passes.{ArePair, after_handed, after_life, after
 
 use crate::notes::{note_error, note_handed, note_life, note_room};
 use crate::sections::seat_pair;
+use adb_capture::Recorder;
 use adb_desk::Desk;
 use adb_desk_log::{ClientIn, ClientOut, DeskError, Marks};
 use adb_hub::{Handed, HubError, Life, Owner, Room};
 use adb_outside::Cause;
-use adb_recorder::Recorder;
 use std::sync::ledger::Ledger;
 
 /// The next client comes.

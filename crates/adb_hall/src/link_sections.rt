@@ -15,11 +15,11 @@ ghost use Rattle.adb_hall.specs.Passes.{ArePair, after_handed, after_life};
 
 use crate::notes::{note_handed, note_life};
 use crate::sections::seat_pair;
+use adb_capture::Recorder;
 use adb_desk::Desk;
 use adb_desk_log::{DeskError, LinkIn, LinkOut, Marks};
 use adb_hub::{Handed, Life, Owner, Whole};
 use adb_outside::{Cause, Kind};
-use adb_recorder::Recorder;
 use std::sync::ledger::Ledger;
 
 /// A device is plugged in.

@@ -6,10 +6,10 @@ ghost use Rattle.adb_hall.specs.Passes.{MayNoteError, MayNoteHanded, MayNoteLife
 ghost use Rattle.adb_hall.specs.Passes.{after_error, after_handed, after_life, after_room};
 ghost use Rattle.adb_hall.specs.Passes.{is_starved};
 
+use adb_capture::Recorder;
 use adb_desk::Desk;
 use adb_desk_log::{DeskError, Marks, Pass, is_marked, marks_life};
 use adb_hub::{Handed, HubError, Life, Room};
-use adb_recorder::Recorder;
 use std::sync::ledger::Ledger;
 
 /// Whether memory ran out.

@@ -5,9 +5,9 @@ ghost use Rattle.adb_desk_log.specs.declared.error.DeskError.{DeskError};
 ghost use Rattle.adb_hall.specs.Telling.{Halts, Overs, telling_of};
 ghost use Rattle.adb_hall.specs.Passes.{ArePair};
 
+use adb_capture::Recorder;
 use adb_desk::Desk;
 use adb_desk_log::{DeskError, Mark, Marks, Pass};
-use adb_recorder::Recorder;
 use std::sync::ledger::Ledger;
 
 /// The passes of a number that was drawn just now: that of its reader, which counts the entry by

@@ -3,9 +3,8 @@
 ghost use Rattle.std.specs.Prelude.{◌≡◌};
 
 use crate::roll::Roll;
-use adb_capture::{Entry, Owner};
+use adb_capture::{Entry, Owner, RecordError, Recorder, SinkRecorder};
 use adb_outside::{Sink, Wrote};
-use adb_recorder::{RecordError, Recorder, SinkRecorder};
 use std::alloc::Global;
 use std::marker::Model;
 use std::sync::{Arc, Wait};
@@ -77,8 +76,6 @@ impl<W: Wait + Drop> Recorder for SwitchRecorder<W> {
     ghost use Rattle.std.specs.Prelude.{◌≡◌, false, None};
 
     ghost told = { λ r. None };
-
-    ghost stands = { λ r kept. Unit {0} };
 
     ghost faults = { λ r. r.faults };
 

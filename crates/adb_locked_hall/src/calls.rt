@@ -6,6 +6,7 @@ ghost use Rattle.adb_hall.specs.Passes.{or_marked};
 use crate::handing::Piece;
 use crate::locked_hall::LockedHall;
 use adb_bells::{Bells, Pair, Side};
+use adb_capture::Recorder;
 use adb_desk::Desk;
 use adb_desk_log::{
     ClientIn, ClientOut, DeskError, LinkIn, LinkOut, Mark, Marks, marks_error, marks_life,
@@ -13,7 +14,6 @@ use adb_desk_log::{
 use adb_hall::{Hall, section};
 use adb_hub::{Handed, HubError, Life, Owner, Room, Whole};
 use adb_outside::{Cause, Kind};
-use adb_recorder::Recorder;
 use adb_spawner::NoThread;
 use std::sync::ledger::Ledger;
 use std::sync::{Mutex, Wait};

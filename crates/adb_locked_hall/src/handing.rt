@@ -9,11 +9,11 @@ ghost use Rattle.adb_hall.specs.Telling.{IsSomeHanded};
 
 use crate::locked_hall::Shared;
 use adb_bells::Side;
+use adb_capture::Recorder;
 use adb_desk::Desk;
 use adb_desk_log::{ClientOut, DeskError, LinkOut, Marks};
 use adb_hall::section;
 use adb_hub::{Handed, Owner};
-use adb_recorder::Recorder;
 use std::sync::Wait;
 use std::sync::ledger::Ledger;
 

@@ -5,10 +5,10 @@ ghost use Rattle.adb_desk_log.specs.declared.marks.TheConstants.{ALL_PARTS};
 ghost use Rattle.adb_desk_log.specs.Log.{IsFresh};
 
 use adb_bells::{Bells, Locked, Side};
+use adb_capture::Recorder;
 use adb_desk::Desk;
 use adb_desk_log::{ClientIn, ClientOut, LinkIn, LinkOut, Mark, Marks, Pass};
 use adb_hub::Owner;
-use adb_recorder::Recorder;
 use std::alloc::{AllocError, Global};
 use std::marker::Model;
 use std::sync::ledger::{Blank, Ledger};

@@ -1,13 +1,13 @@
 //! The calls of workers.
 
 use crate::one_desk::OneDesk;
+use adb_capture::Recorder;
 use adb_desk_log::{
     ClientIn, ClientOut, DeskError, LinkIn, LinkOut, Marks, marks_error, marks_life,
 };
 use adb_hall::{Hall, section};
 use adb_hub::{Handed, Life, Room, Whole};
 use adb_outside::{Cause, Kind};
-use adb_recorder::Recorder;
 use adb_spawner::NoThread;
 use std::sync::ledger::Ledger;
 

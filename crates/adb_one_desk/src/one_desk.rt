@@ -8,9 +8,9 @@ ghost use Rattle.adb_desk_log.specs.Pass.{PassView};
 ghost use Rattle.adb_desk.specs.Sound.{IsSound, TellsPromises};
 ghost use Rattle.adb_one_desk.specs.OneDesk.{OneView};
 
+use adb_capture::Recorder;
 use adb_desk::Desk;
 use adb_desk_log::{ClientIn, ClientOut, LinkIn, LinkOut, Mark, Marks, Pass};
-use adb_recorder::Recorder;
 use std::alloc::Global;
 use std::marker::Model;
 use std::sync::ledger::{Blank, Ledger};

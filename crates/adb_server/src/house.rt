@@ -5,12 +5,12 @@ ghost use Rattle.std.specs.Prelude.{◌≢◌, ◌<◌, Err, OnOk, vec_len, vec_
 use crate::arriving::{Arrival, Linked, let_in, link_up};
 use crate::server::Served;
 use crate::workers::{Guest, Jobs, Pair, start, start_all};
+use adb_capture::Recorder;
 use adb_connections::{DeviceIn, DeviceOut, Door};
 use adb_desk_log::{DeskError, Marks};
 use adb_device_reader::{Device, Packets};
 use adb_hall::Hall;
 use adb_locked_hall::LockedHall;
-use adb_recorder::Recorder;
 use adb_spawner::Crew;
 use adb_yard::Yard;
 use std::alloc::{AllocError, Global};

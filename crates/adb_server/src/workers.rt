@@ -2,12 +2,12 @@
 
 use crate::arriving::{Arrival, Linked};
 use adb_binder::Binder;
+use adb_capture::Recorder;
 use adb_connections::{Bell, DeviceIn, DeviceOut, Gate, PortIn, PortOut};
 use adb_desk_log::Marks;
 use adb_hall::Hall;
 use adb_hub::Owner;
 use adb_locked_hall::LockedHall;
-use adb_recorder::Recorder;
 use adb_spawner::{Crew, Job, NoThread};
 use adb_work::{BellHandle, Kits, Task, Work, make_kits};
 use adb_yard::Staff;

@@ -1,10 +1,10 @@
 //! What a worker of a server owns.
 
+use adb_capture::Recorder;
 use adb_connections::Bell;
 use adb_desk_log::Marks;
 use adb_hall::Hall;
 use adb_locked_hall::LockedHall;
-use adb_recorder::Recorder;
 use std::alloc::{AllocError, Global};
 use std::sync::ledger::Ledger;
 use std::sync::{Arc, Wait};

@@ -2,11 +2,11 @@
 
 use crate::kit::{Kit, Ringing};
 use adb_binder::Binder;
+use adb_capture::Recorder;
 use adb_client_reader::read_client;
 use adb_connections::{DeviceIn, DeviceOut, Gate, PortIn, PortOut};
 use adb_desk_log::{ClientIn, ClientOut, LinkIn, LinkOut, Marks};
 use adb_device_reader::{Packets, read_device};
-use adb_recorder::Recorder;
 use adb_spawner::Job;
 use adb_writers::{write_client, write_device};
 use std::sync::Wait;

@@ -5,8 +5,8 @@ ghost use Rattle.adb_outside.specs.Outside.{Counts};
 
 use crate::yard::{Dialled, Listening, Staff, Yard};
 use adb_binder::MemoryBinder;
+use adb_capture::NullRecorder;
 use adb_connections::{Came, Door, MemoryIn, MemoryOut, OpenGate, SilentBell};
-use adb_recorder::NullRecorder;
 use std::alloc::Global;
 
 /// A door at which nobody comes in.

@@ -1,8 +1,8 @@
 //! What a server is given of the outside.
 
 use adb_binder::Binder;
+use adb_capture::Recorder;
 use adb_connections::{Bell, Door, Gate, PortIn, PortOut};
-use adb_recorder::Recorder;
 
 /// What became of listening.
 #[derive(Drop)]

@@ -1,8 +1,8 @@
 use Rattle.std.proofs.Common.{◌≡◌, ◌++◌, false, sym, ◌∙◌, ap}
 use Rattle.adb_capture.specs.Records.{magic}
-use Rattle.adb_recorder.proofs.Recorded.{magic_in_part, first_whole, first_in_part}
-use Rattle.adb_recorder.proofs.sink_recorder.SinkRecorder.write.Goals as goal
-use Rattle.adb_recorder.proofs.sink_recorder.SinkRecorder.write.Goals.{in-All-write_both, in-Failed-write_both}
+use Rattle.adb_capture.proofs.Recorded.{magic_in_part, first_whole, first_in_part}
+use Rattle.adb_capture.proofs.sink_recorder.SinkRecorder.write.Goals as goal
+use Rattle.adb_capture.proofs.sink_recorder.SinkRecorder.write.Goals.{in-All-write_both, in-Failed-write_both}
 
 pub returns-in-Failed-clause-told : goal.returns-in-Failed-clause-told
 returns-in-Failed-clause-told g c = λ out told.

@@ -1,7 +1,7 @@
 use Rattle.std.proofs.Common.{◌++◌, ap}
-use Rattle.adb_recorder.specs.Recording.{behind_magic}
-use Rattle.adb_recorder.proofs.Recorded.{front_recorded}
-use Rattle.adb_recorder.proofs.sink_recorder.SinkRecorder.put.Goals as goal
+use Rattle.adb_capture.specs.Recording.{behind_magic}
+use Rattle.adb_capture.proofs.Recorded.{front_recorded}
+use Rattle.adb_capture.proofs.sink_recorder.SinkRecorder.put.Goals as goal
 
 pub returns-in-Failed-clause-writes : goal.returns-in-Failed-clause-writes
 returns-in-Failed-clause-writes g c = λ out sound told.

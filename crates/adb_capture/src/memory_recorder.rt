@@ -1,19 +1,18 @@
-//! A recorder in memory that fails at the calls that a test chooses.
+//! A recorder in memory, which fails where a test wants it.
 
-ghost use Rattle.std.specs.Prelude.{◌≡◌, ◌≤◌, ◌↔◌, [], List, length, Some, Err, Contains};
+ghost use Rattle.std.specs.Prelude.{◌≡◌, ◌≤◌, ◌↔◌, [], length, Some, Err, Contains};
 ghost use Rattle.adb_outside.specs.Outside.{Counts, counted, counted_on};
-ghost use Rattle.adb_capture.specs.declared.entry.Entry.{Entry};
 ghost use Rattle.adb_capture.specs.declared.limits.TheConstants.{MAX_DATA};
 ghost use Rattle.adb_capture.specs.Records.{HasRecord, came_from};
-ghost use Rattle.adb_recorder.specs.Recording.{TellsRecord, kept_by, is_failed_record};
+ghost use Rattle.adb_capture.specs.Recording.{TellsRecord, is_failed_record};
 
+use crate::entry::{Entry, Owner};
 use crate::recorder::{RecordError, Recorder};
-use adb_capture::{Entry, Owner};
 use adb_outside::{Failing, Text};
 use std::alloc::Global;
 use std::marker::Model;
 
-/// A recorder that keeps a copy of each entry in memory, and shows them.
+/// A recorder that keeps a copy of each entry. It tells them.
 #[derive(Drop)]
 pub struct MemoryRecorder {
     alloc: Global,
@@ -22,7 +21,7 @@ pub struct MemoryRecorder {
 }
 
 impl Model for MemoryRecorder {
-    ghost use Rattle.adb_recorder.specs.Recording.{MemoryRecording};
+    ghost use Rattle.adb_capture.specs.Recording.{MemoryRecording};
 
     ghost Value = { MemoryRecording };
 
@@ -35,8 +34,8 @@ impl Model for MemoryRecorder {
 }
 
 impl MemoryRecorder {
-    /// Returns a recorder that fails at the calls whose numbers, counted from 1, are in `failing`. It
-    /// allocates nothing.
+    /// A recorder that fails at the calls whose numbers, counted from 1, are in `failing`. It takes
+    /// no memory.
     pub fn new(alloc: Global, failing: Vec<u64>) -> MemoryRecorder
         ensures { result ≡ record { told = []; failing = failing.items; calls = 0; faults = 0 } }
     {
@@ -47,7 +46,7 @@ impl MemoryRecorder {
         }
     }
 
-    /// Returns the entries that are kept, the oldest first.
+    /// The entries that are kept, the oldest first.
     pub fn entries(&self) -> &[Entry]
         ensures { result.now ≡ self.now.told }
     {
@@ -60,18 +59,14 @@ impl Recorder for MemoryRecorder {
 
     ghost told = { λ r. Some r.told };
 
-    ghost stands = { λ r kept. r.told ≡ kept };
-
     ghost faults = { λ r. r.faults };
 
     ghost steady = { λ r. r.failing ≡ [] };
 
-    /// Appends a copy of the entry. Fails at the calls whose numbers are in the list.
+    /// Keeps a copy of the entry. It fails at the calls whose numbers are in the list.
     fn keep(&mut self, entry: &Entry) -> Result<(), RecordError>
         requires { HasRecord entry.now }
         ensures told { TellsRecord (Some self.old.told) (Some self.new.told) entry.now result }
-        ensures stands { (kept : List Entry) → self.old.told ≡ kept
-            → self.new.told ≡ kept_by kept entry.now result }
         ensures counts { Counts (λ r. r.failing ≡ []) (λ r. r.faults)
             self.old self.new (is_failed_record result) }
         ensures fails { (result ≡ Err RecordError.Failed) ↔ Contains self.old.failing self.new.calls }
@@ -89,13 +84,11 @@ impl Recorder for MemoryRecorder {
         }
     }
 
-    /// Appends a copy of the piece's entry. Fails at the calls whose numbers are in the list.
+    /// Keeps a copy of the piece. It fails at the calls whose numbers are in the list.
     fn keep_piece(&mut self, from: Owner, piece: &[u8]) -> Result<(), RecordError>
         requires { length piece.now ≤ MAX_DATA }
         ensures told { TellsRecord (Some self.old.told) (Some self.new.told)
             (came_from from piece.now) result }
-        ensures stands { (kept : List Entry) → self.old.told ≡ kept
-            → self.new.told ≡ kept_by kept (came_from from piece.now) result }
         ensures counts { Counts (λ r. r.failing ≡ []) (λ r. r.faults)
             self.old self.new (is_failed_record result) }
         ensures fails { (result ≡ Err RecordError.Failed) ↔ Contains self.old.failing self.new.calls }

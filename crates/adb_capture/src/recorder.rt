@@ -1,18 +1,18 @@
-//! The trait of recorders, and the recorder that keeps nothing.
+//! What keeps the entries of a running server.
 
 ghost use Rattle.std.specs.Prelude.{◌≡◌, ◌≤◌, None, Ok, length};
 ghost use Rattle.adb_outside.specs.Outside.{Counts};
 ghost use Rattle.adb_capture.specs.declared.limits.TheConstants.{MAX_DATA};
 ghost use Rattle.adb_capture.specs.Records.{HasRecord, came_from};
-ghost use Rattle.adb_recorder.specs.Recording.{TellsRecord, is_failed_record};
+ghost use Rattle.adb_capture.specs.Recording.{TellsRecord, is_failed_record};
 
-use adb_capture::{Entry, Owner};
+use crate::entry::{Entry, Owner};
 use std::alloc::AllocError;
 
-/// Why an entry was not kept. The entries that are kept are those before the call.
+/// Why an entry was not kept. The list of those that are kept is as before.
 #[derive(Clone, Copy, Debug, PartialEq, Eq, Drop)]
 pub enum RecordError {
-    /// An allocation failed.
+    /// Memory ran out.
     OutOfMemory,
     /// The recorder failed.
     Failed,
@@ -20,7 +20,7 @@ pub enum RecordError {
 
 impl From<AllocError> for RecordError {
     ghost use Rattle.std.specs.Prelude.{◌≡◌};
-    ghost use Rattle.adb_recorder.specs.declared.recorder.RecordError.TheVariants.{OutOfMemory};
+    ghost use Rattle.adb_capture.specs.declared.recorder.RecordError.TheVariants.{OutOfMemory};
 
     ghost from_gives = { λ error e. e ≡ OutOfMemory };
 
@@ -29,59 +29,45 @@ impl From<AllocError> for RecordError {
     }
 }
 
-/// A list of entries to which a running server appends.
-///
-/// What an implementation shows (its memory, the bytes of its sink) is tied to the entries that it has
-/// kept by the relation `stands`.
+/// What keeps the entries of a history, in their order.
 pub trait Recorder: Drop {
     ghost use Rattle.std.specs.Prelude.{◌≤◌, ℕ, List, Option, length};
     ghost use Rattle.adb_outside.specs.Outside.{Counts};
     ghost use Rattle.adb_capture.specs.declared.entry.Entry.{Entry};
     ghost use Rattle.adb_capture.specs.declared.limits.TheConstants.{MAX_DATA};
     ghost use Rattle.adb_capture.specs.Records.{HasRecord, came_from};
-    ghost use Rattle.adb_recorder.specs.Recording.{TellsRecord, kept_by, is_failed_record};
+    ghost use Rattle.adb_capture.specs.Recording.{TellsRecord, is_failed_record};
 
-    /// The entries that are kept, the oldest first, if the recorder shows them.
+    /// The entries that are kept, the oldest first, where the recorder tells them.
     ghost told: { Self → Option (List Entry) };
 
-    /// The recorder has kept exactly these entries, the oldest first.
-    ghost stands: { Self → List Entry → Type 0 };
-
-    /// How many of its calls failed. A count at its largest value counts as having risen.
+    /// How many of its calls failed. A count at its last value counts as having risen.
     ghost faults: { Self → ℕ };
 
-    /// No call of it fails.
+    /// It never fails.
     ghost steady: { Self → Type 0 };
 
-    /// Appends an entry, which has at most 2,097,152 bytes of data.
-    ///
-    /// `OutOfMemory`: an allocation failed; the entry is not kept.
-    /// `Failed`: the entry is not kept, and the count of faults rises. No other answer changes the
-    /// count.
+    /// Keeps an entry, which has at most 2,097,152 bytes of data. After an error none is kept. The
+    /// count of faults rises at `Failed`, and stands at every other answer.
     fn keep(&mut self, entry: &Entry) -> Result<(), RecordError>
         requires { HasRecord entry.now }
         ensures told { TellsRecord (told self.old) (told self.new) entry.now result }
-        ensures stands { (kept : List Entry) → stands self.old kept
-            → stands self.new (kept_by kept entry.now result) }
         ensures counts { Counts steady faults self.old self.new (is_failed_record result) };
 
-    /// Appends the entry of a piece that came from a client or a device, as `keep` does. The piece
-    /// has at most 2,097,152 bytes.
+    /// Keeps the entry of a piece that came from a client or a device, as `keep` does. The piece has
+    /// at most 2,097,152 bytes.
     fn keep_piece(&mut self, from: Owner, piece: &[u8]) -> Result<(), RecordError>
         requires { length piece.now ≤ MAX_DATA }
         ensures told { TellsRecord (told self.old) (told self.new)
             (came_from from piece.now) result }
-        ensures stands { (kept : List Entry) → stands self.old kept
-            → stands self.new (kept_by kept (came_from from piece.now) result) }
         ensures counts { Counts steady faults self.old self.new (is_failed_record result) };
 }
 
-/// A recorder that discards every entry. It never fails, and shows nothing.
+/// A recorder that keeps nothing. It never fails, and tells nothing.
 #[derive(Drop)]
 pub struct NullRecorder {}
 
 impl NullRecorder {
-    /// Returns a recorder.
     pub fn new() -> NullRecorder {
         NullRecorder {}
     }
@@ -91,8 +77,6 @@ impl Recorder for NullRecorder {
     ghost use Rattle.std.specs.Prelude.{None};
 
     ghost told = { λ r. None };
-
-    ghost stands = { λ r kept. Unit {0} };
 
     ghost faults = { λ r. 0 };
 
