@@ -111,6 +111,7 @@ impl<R: Recorder, E: Ledger, M: Ledger, K: Marks> Desk<R, E, M, K> {
     }
 
     /// Shuts the desk with `Halted`, where it is not shut.
+    #[tactic(auto, using(crate::proofs::Staying::shut_halted))]
     pub fn halt(&mut self)
         ensures { self.new ≡ record {
           hub = self.old.hub;

@@ -13,9 +13,9 @@ use std::sync::ledger::Ledger;
 
 impl<R: Recorder, E: Ledger, M: Ledger, K: Marks> Desk<R, E, M, K> {
     /// A new pass of the number that was drawn last, which may have two. It has no share yet.
-    pub fn seat(&mut self, number: u32) -> Pass<E, M, K>
+    pub fn seat(&mut self) -> Pass<E, M, K>
         requires { 0 < self.old.log.free }
-        ensures pass { result ≡ first_pass number 0 }
+        ensures pass { result ≡ first_pass self.old.log.drawn 0 }
         ensures out { self.new ≡ record {
           hub = self.old.hub;
           log = record self.old.log {
@@ -24,7 +24,7 @@ impl<R: Recorder, E: Ledger, M: Ledger, K: Marks> Desk<R, E, M, K> {
           };
         } }
     {
-        self.log.seat(number)
+        self.log.seat()
     }
 
     /// Notes in a pass what became of a call: whether it made an entry, which moved so many bytes,
@@ -50,7 +50,7 @@ impl<R: Recorder, E: Ledger, M: Ledger, K: Marks> Desk<R, E, M, K> {
             self.log.mark_pass(pass);
         }
         if starved {
-            pass.starve();
+            self.log.starve(pass);
         }
     }
 

@@ -1,6 +1,6 @@
 -- What a log is seen as, and what keeping an entry makes of it.
 use Rattle.std.specs.Prelude.{ℕ, ◌+◌, ◌-◌, ◌^◌, ◌≡◌, Bool, true, false, ◌||◌, if◌then◌else◌, List, [], ◌∷◌, ◌++◌, length, Option, Some, None}
-use Rattle.std.specs.Prelude.{option_map, Result, Ok, Err, nat_le, nat_lt, ⊤}
+use Rattle.std.specs.Prelude.{option_map, is_some, Result, Ok, Err, nat_le, nat_lt, ⊤}
 use Rattle.adb_outside.specs.Outside.{Rises}
 use Rattle.adb_capture.specs.declared.entry.Entry.{Entry}
 use Rattle.adb_capture.specs.declared.entry.Entry.TheVariants.{Join, Enter, Read, Attach, Recv, Put, Send}
@@ -14,7 +14,7 @@ use Rattle.adb_desk_log.specs.declared.error.DeskError.TheVariants.{Halted, Reco
 use Rattle.adb_desk_log.specs.Pass.{PassView}
 
 -- a log: what its recorder tells and how often that failed, the answer with which it is shut, the alarm, both counts, how many passes are
--- out and how many more may be made, whether the mark of the first handle is lent, and the shares that no pass holds
+-- out and how many more may be made, of the number that was drawn last, whether the mark of the first handle is lent, and the shares that no pass holds
 pub record LogView : Type 0 where
   pub told : Option (List Entry)
   pub faults : ℕ
@@ -24,6 +24,7 @@ pub record LogView : Type 0 where
   pub moved : ℕ
   pub out : ℕ
   pub free : ℕ
+  pub drawn : ℕ
   pub lent : Bool
   pub home_entries : ℕ
   pub home_moved : ℕ
@@ -44,6 +45,7 @@ first_log told = record {
   moved = 0;
   out = 0;
   free = 0;
+  drawn = 0;
   lent = false;
   home_entries = 0;
   home_moved = 0;
@@ -58,12 +60,21 @@ moves (Put c bytes) = length bytes
 moves (Send t bytes) = length bytes
 moves _ = 0
 
+-- the number that an entry draws
+abbrev pub draw_of : Entry → Option ℕ
+draw_of (Join c) = Some c
+draw_of (Enter c port) = Some c
+draw_of (Attach t kind serial) = Some t
+draw_of _ = None
+
 -- whether an entry draws a number
 abbrev pub is_draw : Entry → Bool
-is_draw (Join c) = true
-is_draw (Enter c port) = true
-is_draw (Attach t kind serial) = true
-is_draw _ = false
+is_draw e = is_some (draw_of e)
+
+-- the number that was drawn last
+abbrev pub or_drawn : Option ℕ → ℕ → ℕ
+or_drawn None n = n
+or_drawn (Some m) n = m
 
 -- ---- shut
 -- no entry more fits the counts
@@ -85,11 +96,12 @@ or_given None other = other
 
 -- ---- an entry is kept
 -- the counts with one entry more, counted in the shares that no pass holds; a number that was drawn may have two passes
-abbrev pub counting : LogView → Bool → ℕ → LogView
+abbrev pub counting : LogView → Option ℕ → ℕ → LogView
 counting l draws bytes = record l {
   entries = l.entries + 1;
   moved = l.moved + bytes;
-  free = if draws then 2 else l.free;
+  free = if is_some draws then 2 else l.free;
+  drawn = or_drawn draws l.drawn;
   home_entries = l.home_entries + 1;
   home_moved = l.home_moved + bytes;
 }
@@ -105,6 +117,7 @@ with_entry l e = record l {
   entries = l.entries + 1;
   moved = l.moved + moves e;
   free = if is_draw e then 2 else l.free;
+  drawn = or_drawn (draw_of e) l.drawn;
   home_entries = l.home_entries + 1;
   home_moved = l.home_moved + moves e;
 }

@@ -6,7 +6,7 @@ ghost use Rattle.adb_recorder.specs.declared.recorder.RecordError.{RecordError};
 ghost use Rattle.adb_capture.specs.Records.{HasRecord, came_from};
 ghost use Rattle.adb_desk_log.specs.declared.error.DeskError.{DeskError};
 ghost use Rattle.adb_desk_log.specs.declared.marks.TheConstants.{ALL_PARTS};
-ghost use Rattle.adb_desk_log.specs.Log.{LogView, first_log, shut_with, or_given, moves, is_draw};
+ghost use Rattle.adb_desk_log.specs.Log.{LogView, first_log, shut_with, or_given, moves, draw_of};
 ghost use Rattle.adb_desk_log.specs.Log.{Keeps, counting, fault_of};
 
 use crate::error::DeskError;
@@ -31,6 +31,8 @@ pub struct Log<R: Recorder, E: Ledger, M: Ledger, K: Marks> {
     pub(crate) out: u64,
     /// How many more passes the number that was drawn last may have.
     pub(crate) free: u64,
+    /// The number that was drawn last.
+    pub(crate) drawn: u32,
     /// Whether the mark of the first handle is lent.
     pub(crate) lent: bool,
     pub(crate) alarm: bool,
@@ -60,6 +62,7 @@ impl<R: Recorder, E: Ledger, M: Ledger, K: Marks> Model for Log<R, E, M, K> {
       moved = l.moved;
       out = l.out;
       free = l.free;
+      drawn = l.drawn;
       lent = l.lent;
       home_entries = l.home_entries.amount;
       home_moved = l.home_moved.amount;
@@ -99,6 +102,7 @@ impl<R: Recorder, E: Ledger, M: Ledger, K: Marks> Log<R, E, M, K> {
             moved: 0,
             out: 0,
             free: 0,
+            drawn: 0,
             lent: false,
             alarm: false,
             shut: None,
@@ -168,7 +172,7 @@ impl<R: Recorder, E: Ledger, M: Ledger, K: Marks> Log<R, E, M, K> {
     {
         match self.recorder.keep_piece(from, piece) {
             Ok(()) => {
-                self.count(false, piece.len());
+                self.count(None, piece.len());
                 Ok(())
             }
             Err(error) => Err(self.break_off(error)),
@@ -176,15 +180,16 @@ impl<R: Recorder, E: Ledger, M: Ledger, K: Marks> Log<R, E, M, K> {
     }
 
     /// Counts an entry at home.
-    fn count(&mut self, draws: bool, bytes: usize)
+    fn count(&mut self, draws: Option<u32>, bytes: usize)
         requires going { shut_with self.old ≡ None }
         requires bytes { bytes ≤ MAX_DATA }
         ensures { self.new ≡ counting self.old draws bytes }
     {
         self.entries += 1;
         self.moved += bytes as u64;
-        if draws {
+        if let Some(number) = draws {
             self.free = 2;
+            self.drawn = number;
         }
         self.entry_book.add(&mut self.home_entries, 1);
         self.moved_book.add(&mut self.home_moved, bytes as u64);
@@ -222,18 +227,19 @@ impl<R: Recorder, E: Ledger, M: Ledger, K: Marks> Log<R, E, M, K> {
     }
 }
 
-/// Whether an entry draws a number.
-fn draws(entry: &Entry) -> bool
-    ensures { result ≡ is_draw entry.now }
+/// The number that an entry draws.
+fn draws(entry: &Entry) -> Option<u32>
+    ensures { result ≡ draw_of entry.now }
 {
     match entry {
-        Entry::Join { .. } | Entry::Enter { .. } | Entry::Attach { .. } => true,
+        Entry::Join { client } | Entry::Enter { client, .. } => Some(*client),
+        Entry::Attach { link, .. } => Some(*link),
         Entry::Read { .. }
         | Entry::End { .. }
         | Entry::Bound { .. }
         | Entry::Recv { .. }
         | Entry::Detach { .. }
         | Entry::Put { .. }
-        | Entry::Send { .. } => false,
+        | Entry::Send { .. } => None,
     }
 }

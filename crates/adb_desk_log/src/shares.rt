@@ -50,6 +50,14 @@ impl<R: Recorder, E: Ledger, M: Ledger, K: Marks> Log<R, E, M, K> {
         self.mark(&mut pass.mark);
     }
 
+    /// Notes in a pass that a call of it found no memory. Only who has the log can.
+    pub fn starve(&mut self, pass: &mut Pass<E, M, K>)
+        ensures pass { pass.new ≡ record pass.old { starved = true } }
+        ensures same { self.new ≡ self.old }
+    {
+        pass.starved = true;
+    }
+
     /// A mark shows that the alarm is set.
     pub fn audit_mark(&mut self, mark: &mut Mark<K>)
         ensures alarm { mark.old ≡ true → self.old.alarm ≡ true }
@@ -100,10 +108,10 @@ impl<R: Recorder, E: Ledger, M: Ledger, K: Marks> Log<R, E, M, K> {
     }
 
     /// A new pass of the number that was drawn last.
-    pub fn seat(&mut self, number: u32) -> Pass<E, M, K>
+    pub fn seat(&mut self) -> Pass<E, M, K>
         requires free { 0 < self.old.free }
         requires few { self.old.out < 2 ^ 34 }
-        ensures pass { result ≡ first_pass number 0 }
+        ensures pass { result ≡ first_pass self.old.drawn 0 }
         ensures out { self.new ≡ record self.old {
           out = self.old.out + 1;
           free = self.old.free - 1;
@@ -115,7 +123,7 @@ impl<R: Recorder, E: Ledger, M: Ledger, K: Marks> Log<R, E, M, K> {
         let moved = self.home_moved.split_off(1, 0);
         let share = self.home_marks.split_off(1, 0);
         Pass {
-            number,
+            number: self.drawn,
             entries,
             moved,
             mark: Mark { share, set: false },

@@ -2,13 +2,13 @@
 
 ghost use Rattle.std.specs.Prelude.{◌≡◌};
 ghost use Rattle.adb_desk.specs.Desk.{IsSameDesk};
-ghost use Rattle.adb_hall.specs.Passes.{MayNoteError, MayNoteHanded, MayNoteLife, MayNoteRoom};
-ghost use Rattle.adb_hall.specs.Passes.{after_error, after_handed, after_life, after_room};
+ghost use Rattle.adb_hall.specs.Passes.{MayNoteError, MayNoteHanded, MayNoteRoom, MayNoteSubmit};
+ghost use Rattle.adb_hall.specs.Passes.{after_error, after_handed, after_room, after_submit};
 ghost use Rattle.adb_hall.specs.Passes.{is_starved};
 
-use adb_desk::Desk;
-use adb_desk_log::{DeskError, Marks, Pass, is_marked, marks_life};
-use adb_hub::{Handed, HubError, Life, Room};
+use adb_desk::{Desk, Progress, marks_progress};
+use adb_desk_log::{DeskError, Marks, Pass, is_marked};
+use adb_hub::{Handed, HubError, Room};
 use adb_recorder::Recorder;
 use std::sync::ledger::Ledger;
 
@@ -36,19 +36,19 @@ pub(crate) fn note_error<R: Recorder, E: Ledger, M: Ledger, K: Marks>(
     }
 }
 
-/// Notes in a pass what became of a call that makes an entry of that many bytes.
-pub(crate) fn note_life<R: Recorder, E: Ledger, M: Ledger, K: Marks>(
+/// Notes in a pass what became of an act of that many bytes.
+pub(crate) fn note_submit<R: Recorder, E: Ledger, M: Ledger, K: Marks>(
     desk: &mut Desk<R, E, M, K>,
     pass: &mut Pass<E, M, K>,
-    answer: &Result<Life, DeskError>,
+    answer: &Result<Progress, DeskError>,
     bytes: usize,
 )
-    requires may { MayNoteLife desk.old.log answer.now bytes }
-    ensures pass { pass.new ≡ after_life pass.old bytes answer.now }
+    requires may { MayNoteSubmit desk.old.log answer.now bytes }
+    ensures pass { pass.new ≡ after_submit pass.old bytes answer.now }
     ensures same { IsSameDesk desk.old desk.new }
 {
     match answer {
-        Ok(_) => desk.note(pass, true, bytes, marks_life(answer), false),
+        Ok(_) => desk.note(pass, true, bytes, marks_progress(answer), false),
         Err(error) => note_error(desk, pass, error),
     }
 }

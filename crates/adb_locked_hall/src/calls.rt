@@ -3,16 +3,12 @@
 ghost use Rattle.std.specs.Prelude.{◌≡◌, true};
 ghost use Rattle.adb_hall.specs.Passes.{or_marked};
 
-use crate::handing::Piece;
 use crate::locked_hall::LockedHall;
 use adb_bells::{Bells, Pair, Side};
-use adb_desk::Desk;
-use adb_desk_log::{
-    ClientIn, ClientOut, DeskError, LinkIn, LinkOut, Mark, Marks, marks_error, marks_life,
-};
+use adb_desk::{Act, Comer, Desk, Half, Piece, Progress, marks_progress};
+use adb_desk_log::{ClientIn, DeskError, Mark, Marks, Pass, marks_error};
 use adb_hall::{Hall, section};
-use adb_hub::{Handed, HubError, Life, Owner, Room, Whole};
-use adb_outside::{Cause, Kind};
+use adb_hub::{Handed, HubError, Owner, Room};
 use adb_recorder::Recorder;
 use adb_spawner::NoThread;
 use std::sync::ledger::Ledger;
@@ -20,66 +16,70 @@ use std::sync::{Mutex, Wait};
 
 impl<R: Recorder, E: Ledger, M: Ledger, K: Marks, W: Wait + Copy + Drop> Hall<E, M, K>
     for LockedHall<R, E, M, K, W> {
-    ghost use Rattle.std.specs.Prelude.{None};
+    ghost use Rattle.std.specs.Prelude.{None, true};
 
     ghost tells = { λ h. None };
 
+    ghost waits = { true };
+
     ghost marked = { λ h. h };
 
-    fn join(&mut self) -> Result<(ClientIn<E, M, K>, ClientOut<E, M, K>), DeskError> {
+    fn admit(&mut self, comer: Comer<'_>) -> Result<(Pass<E, M, K>, Pass<E, M, K>), DeskError> {
         let Ok(pair) = Pair::new(self.alloc) else {
             return Err(DeskError::Hub(HubError::OutOfMemory));
         };
         let mut guard = self.shared.locked.lock(&self.rt);
         let locked = &mut *guard;
-        let answer = section::join(&mut locked.desk);
+        let answer = section::admit(&mut locked.desk, comer);
         mark_own(&mut locked.desk, &mut self.mark, marks_error(&answer));
-        put_up(&mut locked.bells, client_of(&answer), pair);
+        put_up(&mut locked.bells, owner_of(comer, &answer), pair);
         self.shared.leave(guard);
         answer
     }
 
-    fn enter(&mut self, port: u16) -> Result<(ClientIn<E, M, K>, ClientOut<E, M, K>), DeskError> {
-        let Ok(pair) = Pair::new(self.alloc) else {
-            return Err(DeskError::Hub(HubError::OutOfMemory));
-        };
+    fn submit(&mut self, pass: &mut Pass<E, M, K>, act: Act<'_>) -> Result<Progress, DeskError> {
         let mut guard = self.shared.locked.lock(&self.rt);
-        let locked = &mut *guard;
-        let answer = section::enter(&mut locked.desk, port);
-        mark_own(&mut locked.desk, &mut self.mark, marks_error(&answer));
-        put_up(&mut locked.bells, client_of(&answer), pair);
-        self.shared.leave(guard);
-        answer
+        for _ in self.rt.forever() {
+            let answer = section::submit(&mut guard.desk, pass, act);
+            if let Err(DeskError::Later) = answer {
+                let client = Owner::Client(pass.number());
+                guard = self.shared.sleep(&self.rt, guard, client, Side::Reader);
+            } else {
+                self.shared.leave(guard);
+                return answer;
+            }
+        }
+        unreachable!()
     }
 
-    fn attach(
+    fn hand_out(
         &mut self,
-        kind: Kind,
-        serial: &[u8],
-    ) -> Result<(LinkIn<E, M, K>, LinkOut<E, M, K>), DeskError> {
-        let Ok(pair) = Pair::new(self.alloc) else {
-            return Err(DeskError::Hub(HubError::OutOfMemory));
-        };
+        pass: &mut Pass<E, M, K>,
+        half: Half,
+        max: usize,
+        piece: Piece,
+    ) -> Result<Handed, DeskError> {
         let mut guard = self.shared.locked.lock(&self.rt);
-        let locked = &mut *guard;
-        let answer = section::attach(&mut locked.desk, kind, serial);
-        mark_own(&mut locked.desk, &mut self.mark, marks_error(&answer));
-        put_up(&mut locked.bells, link_of(&answer), pair);
-        self.shared.leave(guard);
-        answer
+        for _ in self.rt.forever() {
+            let answer = section::hand_out(&mut guard.desk, pass, half, max, piece);
+            if let Ok(Handed::Nothing) = answer {
+                let owner = section::owner_of(half, pass.number());
+                guard = self.shared.sleep(&self.rt, guard, owner, Side::Writer);
+            } else {
+                self.shared.leave(guard);
+                return answer;
+            }
+        }
+        unreachable!()
     }
 
     fn room(&mut self, pass: &mut ClientIn<E, M, K>) -> Result<Room, DeskError> {
         let mut guard = self.shared.locked.lock(&self.rt);
         for _ in self.rt.forever() {
-            let answer = section::room(&mut guard.desk, pass);
+            let answer = section::room(&mut guard.desk, &mut pass.pass);
             if let Ok(Room::Later) = answer {
-                guard = self.shared.sleep(
-                    &self.rt,
-                    guard,
-                    Owner::Client(pass.number()),
-                    Side::Reader,
-                );
+                let client = Owner::Client(pass.number());
+                guard = self.shared.sleep(&self.rt, guard, client, Side::Reader);
             } else {
                 self.shared.leave(guard);
                 return answer;
@@ -88,123 +88,11 @@ impl<R: Recorder, E: Ledger, M: Ledger, K: Marks, W: Wait + Copy + Drop> Hall<E,
         unreachable!()
     }
 
-    fn read(&mut self, pass: &mut ClientIn<E, M, K>, piece: &[u8]) -> Result<Life, DeskError> {
-        let mut guard = self.shared.locked.lock(&self.rt);
-        for _ in self.rt.forever() {
-            let answer = section::read(&mut guard.desk, pass, piece);
-            if let Err(DeskError::Later) = answer {
-                guard = self.shared.sleep(
-                    &self.rt,
-                    guard,
-                    Owner::Client(pass.number()),
-                    Side::Reader,
-                );
-            } else {
-                self.shared.leave(guard);
-                return answer;
-            }
-        }
-        unreachable!()
-    }
-
-    fn end(&mut self, pass: &mut ClientIn<E, M, K>, cause: Cause) -> Result<Life, DeskError> {
-        let mut guard = self.shared.locked.lock(&self.rt);
-        let answer = section::end(&mut guard.desk, pass, cause);
-        self.shared.leave(guard);
-        answer
-    }
-
-    fn waiting(&mut self, pass: &mut ClientIn<E, M, K>) -> Result<Option<u16>, DeskError> {
-        let mut guard = self.shared.locked.lock(&self.rt);
-        let answer = section::waiting(&mut guard.desk, pass);
-        self.shared.leave(guard);
-        answer
-    }
-
-    fn bound(&mut self, pass: &mut ClientIn<E, M, K>, port: u16) -> Result<Life, DeskError> {
-        let mut guard = self.shared.locked.lock(&self.rt);
-        let answer = section::bound(&mut guard.desk, pass, port);
-        self.shared.leave(guard);
-        answer
-    }
-
-    fn put(&mut self, pass: &mut ClientOut<E, M, K>, max: usize) -> Result<Handed, DeskError> {
-        self.shared.put(&self.rt, pass, max, Piece::All)
-    }
-
-    fn put_front(
-        &mut self,
-        pass: &mut ClientOut<E, M, K>,
-        max: usize,
-    ) -> Result<Handed, DeskError> {
-        self.shared.put(&self.rt, pass, max, Piece::Front)
-    }
-
-    fn break_out(
-        &mut self,
-        pass: &mut ClientOut<E, M, K>,
-        cause: Cause,
-    ) -> Result<Life, DeskError> {
-        let mut guard = self.shared.locked.lock(&self.rt);
-        let answer = section::break_out(&mut guard.desk, pass, cause);
-        self.shared.leave(guard);
-        answer
-    }
-
-    fn recv(&mut self, pass: &mut LinkIn<E, M, K>, piece: &[u8]) -> Result<Life, DeskError> {
-        let mut guard = self.shared.locked.lock(&self.rt);
-        let answer = section::recv(&mut guard.desk, pass, piece);
-        self.shared.leave(guard);
-        answer
-    }
-
-    fn recv_whole(
-        &mut self,
-        pass: &mut LinkIn<E, M, K>,
-        packet: &Whole,
-    ) -> Result<Life, DeskError> {
-        let mut guard = self.shared.locked.lock(&self.rt);
-        let answer = section::recv_whole(&mut guard.desk, pass, packet);
-        self.shared.leave(guard);
-        answer
-    }
-
-    fn detach(&mut self, pass: &mut LinkIn<E, M, K>, cause: Cause) -> Result<Life, DeskError> {
-        let mut guard = self.shared.locked.lock(&self.rt);
-        let answer = section::detach(&mut guard.desk, pass, cause);
-        self.shared.leave(guard);
-        answer
-    }
-
-    fn send(&mut self, pass: &mut LinkOut<E, M, K>, max: usize) -> Result<Handed, DeskError> {
-        self.shared.send(&self.rt, pass, max, Piece::All)
-    }
-
-    fn send_front(&mut self, pass: &mut LinkOut<E, M, K>, max: usize) -> Result<Handed, DeskError> {
-        self.shared.send(&self.rt, pass, max, Piece::Front)
-    }
-
-    fn break_send(&mut self, pass: &mut LinkOut<E, M, K>, cause: Cause) -> Result<Life, DeskError> {
-        let mut guard = self.shared.locked.lock(&self.rt);
-        let answer = section::break_send(&mut guard.desk, pass, cause);
-        self.shared.leave(guard);
-        answer
-    }
-
-    fn no_thread_client(&mut self, client: u32, _shown: NoThread) -> Result<Life, DeskError> {
+    fn strand(&mut self, owner: Owner, _shown: NoThread) -> Result<Progress, DeskError> {
         let mut guard = self.shared.locked.lock(&self.rt);
         let locked = &mut *guard;
-        let answer = section::strand_client(&mut locked.desk, client);
-        mark_own(&mut locked.desk, &mut self.mark, marks_life(&answer));
-        self.shared.leave(guard);
-        answer
-    }
-
-    fn no_thread_link(&mut self, link: u32, _shown: NoThread) -> Result<Life, DeskError> {
-        let mut guard = self.shared.locked.lock(&self.rt);
-        let locked = &mut *guard;
-        let answer = section::strand_link(&mut locked.desk, link);
-        mark_own(&mut locked.desk, &mut self.mark, marks_life(&answer));
+        let answer = section::strand(&mut locked.desk, owner);
+        mark_own(&mut locked.desk, &mut self.mark, marks_progress(&answer));
         self.shared.leave(guard);
         answer
     }
@@ -247,22 +135,16 @@ fn put_up(bells: &mut Bells, came: Option<Owner>, pair: Pair) {
     }
 }
 
-/// The client who came.
-fn client_of<E: Ledger, M: Ledger, K: Marks>(
-    answer: &Result<(ClientIn<E, M, K>, ClientOut<E, M, K>), DeskError>,
+/// Who came.
+fn owner_of<E: Ledger, M: Ledger, K: Marks>(
+    comer: Comer<'_>,
+    answer: &Result<(Pass<E, M, K>, Pass<E, M, K>), DeskError>,
 ) -> Option<Owner> {
-    match answer {
-        Ok((reading, _)) => Some(Owner::Client(reading.number())),
-        Err(_) => None,
-    }
-}
-
-/// The link of the device that was plugged in.
-fn link_of<E: Ledger, M: Ledger, K: Marks>(
-    answer: &Result<(LinkIn<E, M, K>, LinkOut<E, M, K>), DeskError>,
-) -> Option<Owner> {
-    match answer {
-        Ok((reading, _)) => Some(Owner::Link(reading.number())),
-        Err(_) => None,
+    let Ok((reading, _)) = answer else {
+        return None;
+    };
+    match comer {
+        Comer::Client | Comer::Forward(_) => Some(Owner::Client(reading.number())),
+        Comer::Device(_, _) => Some(Owner::Link(reading.number())),
     }
 }

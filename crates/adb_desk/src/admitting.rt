@@ -1,0 +1,102 @@
+//! Who comes.
+
+ghost use Rattle.std.specs.Prelude.{◌≡◌, ◌≢◌, ◌<◌, Err};
+ghost use Rattle.adb_outside.specs.declared.kinds.Kind.{Kind};
+ghost use Rattle.adb_capture.specs.declared.entry.Entry.{Entry};
+ghost use Rattle.adb_desk_log.specs.declared.error.DeskError.{DeskError};
+ghost use Rattle.adb_desk_log.specs.Marked.{marks_error};
+ghost use Rattle.adb_hub.specs.declared.error.HubError.{HubError};
+ghost use Rattle.adb_desk.specs.Acts.{HasBadSerial, MayCome, entry_by};
+ghost use Rattle.adb_desk.specs.Desk.{Draws, Rung};
+
+use crate::act::Comer;
+use crate::desk::Desk;
+use adb_capture::Entry;
+use adb_desk_log::{DeskError, Marks, keep_attach, marks_error};
+use adb_hub::HubError;
+use adb_outside::{Kind, Text};
+use adb_recorder::Recorder;
+use std::sync::ledger::Ledger;
+
+impl<R: Recorder, E: Ledger, M: Ledger, K: Marks> Desk<R, E, M, K> {
+    /// A client or a device comes, and a number is drawn: one entry. An error is that of a shut
+    /// desk, `Hub` with `Stopped`, `Numbers`, of a device `Full` or `BadSerial`, or want of memory,
+    /// or the recorder's refusal.
+    pub fn admit(&mut self, comer: Comer<'_>) -> Result<u32, DeskError>
+        requires { MayCome comer }
+        ensures admitted { Rung (marks_error result)
+            (Draws self.old (entry_by comer.entry) result) self.new }
+        ensures serial { result ≡ Err (DeskError.Hub HubError.BadSerial)
+            → HasBadSerial comer.entry }
+        ensures steady { K.steady → result ≢ Err DeskError.RecordFault }
+    {
+        self.law();
+        let answer = self.draw(comer);
+        self.log.ring(marks_error(&answer));
+        answer
+    }
+
+    fn draw(&mut self, comer: Comer<'_>) -> Result<u32, DeskError>
+        requires { MayCome comer }
+        ensures drawn { Draws self.old (entry_by comer.entry) result self.new }
+        ensures steady { K.steady → result ≢ Err DeskError.RecordFault }
+    {
+        match comer {
+            Comer::Client => self.try_join(),
+            Comer::Forward(port) => self.try_enter(port),
+            Comer::Device(kind, serial) => self.try_attach(kind, serial),
+        }
+    }
+
+    fn try_join(&mut self) -> Result<u32, DeskError>
+        ensures join { Draws self.old Entry.Join result self.new }
+        ensures steady { K.steady → result ≢ Err DeskError.RecordFault }
+    {
+        if let Some(answer) = self.log.shut() {
+            return Err(answer);
+        }
+        match self.hub.join() {
+            Err(error) => Err(DeskError::Hub(error)),
+            Ok(client) => match self.log.keep_still(Entry::Join { client }) {
+                Err(error) => Err(error),
+                Ok(()) => Ok(client),
+            },
+        }
+    }
+
+    fn try_enter(&mut self, port: u16) -> Result<u32, DeskError>
+        requires { 0 < port }
+        ensures enter { Draws self.old (λ n. Entry.Enter n port) result self.new }
+        ensures steady { K.steady → result ≢ Err DeskError.RecordFault }
+    {
+        if let Some(answer) = self.log.shut() {
+            return Err(answer);
+        }
+        match self.hub.enter(port) {
+            Err(error) => Err(DeskError::Hub(error)),
+            Ok(client) => match self.log.keep_still(Entry::Enter { client, port }) {
+                Err(error) => Err(error),
+                Ok(()) => Ok(client),
+            },
+        }
+    }
+
+    fn try_attach(&mut self, kind: Kind, serial: &[u8]) -> Result<u32, DeskError>
+        ensures attach { Draws self.old (λ n. Entry.Attach n kind serial.now) result self.new }
+        ensures steady { K.steady → result ≢ Err DeskError.RecordFault }
+    {
+        if let Some(answer) = self.log.shut() {
+            return Err(answer);
+        }
+        let Ok(text) = Text::from_slice(self.alloc, serial) else {
+            return Err(DeskError::Hub(HubError::OutOfMemory));
+        };
+        match self.hub.attach(kind, serial) {
+            Err(error) => Err(DeskError::Hub(error)),
+            Ok(link) => match keep_attach(&mut self.log, link, kind, serial, text) {
+                Err(error) => Err(error),
+                Ok(()) => Ok(link),
+            },
+        }
+    }
+}

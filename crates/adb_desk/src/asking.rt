@@ -1,0 +1,69 @@
+//! What may come from clients.
+
+ghost use Rattle.std.specs.Prelude.{◌≡◌, ◌≢◌, ◌&&◌, List, Err};
+ghost use Rattle.adb_capture.specs.declared.entry.Entry.{Entry};
+ghost use Rattle.adb_history.specs.Accepted.{is_drawn};
+ghost use Rattle.adb_history.specs.Kept.{IsLawful};
+ghost use Rattle.adb_history.specs.Machine.{state};
+ghost use Rattle.adb_hub.specs.Answers.{room_of, port_of};
+ghost use Rattle.adb_desk_log.specs.declared.error.DeskError.{DeskError};
+ghost use Rattle.adb_desk_log.specs.Log.{shut_with};
+ghost use Rattle.adb_desk_log.specs.Marked.{marks_error, marks_room};
+ghost use Rattle.adb_desk.specs.Desk.{rung, or_given_by, is_later};
+
+use crate::desk::Desk;
+use adb_desk_log::{DeskError, Marks, marks_error, marks_room};
+use adb_hub::Room;
+use adb_recorder::Recorder;
+use std::sync::ledger::Ledger;
+
+impl<R: Recorder, E: Ledger, M: Ledger, K: Marks> Desk<R, E, M, K> {
+    /// How much more a client may send. It is no entry and takes no memory. An error is that of a
+    /// shut desk. A number that was never drawn has no room, and is not marked.
+    pub fn room(&mut self, client: u32) -> Result<Room, DeskError>
+        ensures answer { (h : List Entry) → IsLawful self.old.hub h
+            → result ≡ or_given_by (shut_with self.old.log) (room_of ((state h).clients client)) }
+        ensures rung { self.new
+            ≡ rung (marks_room result && is_drawn self.old.hub.joined client) self.old }
+        ensures steady { K.steady → result ≢ Err DeskError.RecordFault }
+    {
+        let answer = match self.log.shut() {
+            Some(error) => Err(error),
+            None => Ok(self.hub.room(client)),
+        };
+        let drawn = 0 < client && client <= self.hub.joined();
+        self.log.ring(marks_room(&answer) && drawn);
+        answer
+    }
+
+    /// The port that a client waits for: 0 where any port serves. It is no entry and takes no
+    /// memory. An error is that of a shut desk.
+    pub fn waiting_port(&mut self, client: u32) -> Result<Option<u16>, DeskError>
+        ensures answer { (h : List Entry) → IsLawful self.old.hub h
+            → result ≡ or_given_by (shut_with self.old.log) (port_of ((state h).clients client)) }
+        ensures rung { self.new ≡ rung (marks_error result) self.old }
+        ensures steady { K.steady → result ≢ Err DeskError.RecordFault }
+    {
+        let answer = match self.log.shut() {
+            Some(error) => Err(error),
+            None => Ok(self.hub.waiting_port(client)),
+        };
+        self.log.ring(marks_error(&answer));
+        answer
+    }
+
+    /// Whether a client's number was drawn.
+    pub fn is_drawn(&self, client: u32) -> bool
+        ensures { result ≡ is_drawn self.now.hub.joined client }
+    {
+        0 < client && client <= self.hub.joined()
+    }
+
+    /// Whether a client has no room for now. Asking sets no alarm, whatever the answer.
+    pub fn has_no_room_yet(&self, client: u32) -> bool
+        ensures { (h : List Entry) → IsLawful self.now.hub h
+            → result ≡ is_later (room_of ((state h).clients client)) }
+    {
+        matches!(self.hub.room(client), Room::Later)
+    }
+}
