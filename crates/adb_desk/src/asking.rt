@@ -1,4 +1,4 @@
-//! What may come from clients.
+//! Questions about clients. None of them makes an entry or allocates.
 
 ghost use Rattle.std.specs.Prelude.{◌≡◌, ◌≢◌, ◌&&◌, List, Err};
 ghost use Rattle.adb_capture.specs.declared.entry.Entry.{Entry};
@@ -18,8 +18,10 @@ use adb_recorder::Recorder;
 use std::sync::ledger::Ledger;
 
 impl<R: Recorder, E: Ledger, M: Ledger, K: Marks> Desk<R, E, M, K> {
-    /// How much more a client may send. It is no entry and takes no memory. An error is that of a
-    /// shut desk. A number that was never drawn has no room, and is not marked.
+    /// Returns how many more bytes a client may send: `Shut` for a number that was never drawn, which
+    /// sets no alarm.
+    ///
+    /// The answer of a shut desk: the desk is shut.
     pub fn room(&mut self, client: u32) -> Result<Room, DeskError>
         ensures answer { (h : List Entry) → IsLawful self.old.hub h
             → result ≡ or_given_by (shut_with self.old.log) (room_of ((state h).clients client)) }
@@ -36,8 +38,9 @@ impl<R: Recorder, E: Ledger, M: Ledger, K: Marks> Desk<R, E, M, K> {
         answer
     }
 
-    /// The port that a client waits for: 0 where any port serves. It is no entry and takes no
-    /// memory. An error is that of a shut desk.
+    /// Returns the port at which a client waits for a listener, 0 for any port.
+    ///
+    /// The answer of a shut desk: the desk is shut.
     pub fn waiting_port(&mut self, client: u32) -> Result<Option<u16>, DeskError>
         ensures answer { (h : List Entry) → IsLawful self.old.hub h
             → result ≡ or_given_by (shut_with self.old.log) (port_of ((state h).clients client)) }
@@ -52,14 +55,14 @@ impl<R: Recorder, E: Ledger, M: Ledger, K: Marks> Desk<R, E, M, K> {
         answer
     }
 
-    /// Whether a client's number was drawn.
+    /// Returns whether a client's number was drawn.
     pub fn is_drawn(&self, client: u32) -> bool
         ensures { result ≡ is_drawn self.now.hub.joined client }
     {
         0 < client && client <= self.hub.joined()
     }
 
-    /// Whether a client has no room for now. Asking sets no alarm, whatever the answer.
+    /// Returns whether a client has no room now, but may have later. It sets no alarm.
     pub fn has_no_room_yet(&self, client: u32) -> bool
         ensures { (h : List Entry) → IsLawful self.now.hub h
             → result ≡ is_later (room_of ((state h).clients client)) }

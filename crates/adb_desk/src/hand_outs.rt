@@ -1,4 +1,4 @@
-//! Handing out what is due, and who may be woken.
+//! Handing out the bytes that are due, and which clients and links to notify.
 
 ghost use Rattle.std.specs.Prelude.{◌≡◌, ◌≢◌, ◌<◌, ◌≤◌, All, List, Err, IfOk, None, OnErr, length};
 ghost use Rattle.adb_capture.specs.declared.entry.Entry.{Entry};
@@ -7,7 +7,7 @@ ghost use Rattle.adb_history.specs.Kept.{IsLawful};
 ghost use Rattle.adb_history.specs.Machine.{state};
 ghost use Rattle.adb_hub_hand_outs.specs.NextDue.{is_owed};
 ghost use Rattle.adb_hub.specs.Answers.{IsWithin, Hands as HubHands};
-ghost use Rattle.adb_desk_log.specs.Log.{KeepsHanded, shut_with};
+ghost use Rattle.adb_desk_log.specs.Log.{HasKeptHanded, KeepsHanded, shut_with};
 ghost use Rattle.adb_desk_log.specs.declared.error.DeskError.{DeskError};
 ghost use Rattle.adb_desk_log.specs.Marked.{marks_handed};
 ghost use Rattle.adb_desk.specs.Acts.{due_of, out_entry};
@@ -23,8 +23,13 @@ use std::sync::ledger::Ledger;
 
 impl<R: Recorder, E: Ledger, M: Ledger, K: Marks> Desk<R, E, M, K> {
     /// Hands out the first bytes that are due to a client or on a link, at most `max`: one Put or
-    /// Send, where there are any. An error is that of a shut desk, `Hub` with `NoClient`, `NoLink`
-    /// or want of memory, or the recorder's refusal.
+    /// Send. `Nothing` and `Done` make no entry.
+    ///
+    /// The answer of a shut desk: the desk is shut. It comes before every other error.
+    /// `Hub(NoClient)`, `Hub(NoLink)`: the number was never drawn.
+    /// `Hub(OutOfMemory)`: an allocation failed; the bytes are still due. If it was one of the
+    /// recorder, the desk is shut.
+    /// `RecordFault`: the recorder failed. The desk is shut.
     pub fn hand_out(&mut self, half: Half, number: u32, max: usize) -> Result<Handed, DeskError>
         requires { (0 < max) × (max ≤ MAX_DATA) }
         ensures handed { Rung (marks_handed result)
@@ -36,6 +41,7 @@ impl<R: Recorder, E: Ledger, M: Ledger, K: Marks> Desk<R, E, M, K> {
         answer
     }
 
+    /// Does what `hand_out` does, but sets no alarm.
     fn hand(&mut self, half: Half, number: u32, max: usize) -> Result<Handed, DeskError>
         requires { (0 < max) × (max ≤ MAX_DATA) }
         ensures handed { Hands self.old (out_entry half number) max (due_of half number)
@@ -53,8 +59,8 @@ impl<R: Recorder, E: Ledger, M: Ledger, K: Marks> Desk<R, E, M, K> {
         }
     }
 
-    /// How many bytes to hand out to a client or on a link at once, at most `max`, so that no payload
-    /// of 4 KiB or more is copied: see `Hub::front_len`.
+    /// Returns how many bytes, at most `max`, to hand out to a client or on a link at once so that no
+    /// payload of 4 KiB or more is copied. See `Hub::front_len`.
     pub fn front_len(&self, owner: Owner, max: usize) -> usize
         requires { 0 < max }
         ensures { (0 < result) × (result ≤ max) }
@@ -62,16 +68,16 @@ impl<R: Recorder, E: Ledger, M: Ledger, K: Marks> Desk<R, E, M, K> {
         self.hub.front_len(owner, max)
     }
 
-    /// Whom to wake: somebody to whom something may have come due, for whom room may have been
-    /// made, or who is gone, and who was not named since. After a kill all are gone, and not all
-    /// are named.
+    /// Returns the next client or link whose state changed since it was last returned: bytes may be
+    /// due to it, its room may have grown, or it may be gone. After a kill all are gone, but not all
+    /// are returned.
     pub fn next_touched(&mut self) -> Option<Owner>
         ensures same { self.new ≡ self.old }
     {
         self.hub.next_touched()
     }
 
-    /// Whether something is due to a client or on a link, or it is gone.
+    /// Returns whether bytes are due to a client or on a link, or it is gone.
     pub fn is_owed(&self, owner: Owner) -> bool
         ensures { (h : List Entry) → IsLawful self.now.hub h → result ≡ is_owed owner (state h) }
     {
@@ -79,7 +85,7 @@ impl<R: Recorder, E: Ledger, M: Ledger, K: Marks> Desk<R, E, M, K> {
     }
 }
 
-/// The hub hands out.
+/// Makes the hub's step of a hand-out.
 fn give(hub: &mut Hub, half: Half, number: u32, max: usize) -> Result<Handed, HubError>
     requires { 0 < max }
     ensures given { (h : List Entry) → IsLawful hub.old h
@@ -93,17 +99,19 @@ fn give(hub: &mut Hub, half: Half, number: u32, max: usize) -> Result<Handed, Hu
     }
 }
 
-/// Keeps the entry of what was handed out, and gives the bytes back.
+/// Keeps the entry of bytes that were handed out, and returns the bytes.
 fn keep_handed<R: Recorder, E: Ledger, M: Ledger, K: Marks>(
     log: &mut Log<R, E, M, K>,
     half: Half,
     number: u32,
     bytes: HandOut,
 ) -> Result<Handed, DeskError>
-    requires going { shut_with log.old ≡ None }
+    requires going { shut_with log.old.is ≡ None }
     requires bytes { All (λ b. b < 256) bytes }
     requires size { length bytes ≤ MAX_DATA }
-    ensures keeps { KeepsHanded log.old (out_entry half number) bytes result log.new }
+    ensures keeps { KeepsHanded log.old.is (out_entry half number) bytes result log.new.is }
+    ensures kept { HasKeptHanded R.stands log.old.recorder (out_entry half number bytes) result
+        log.new.recorder }
     ensures steady { K.steady → result ≢ Err DeskError.RecordFault }
 {
     match half {

@@ -1,4 +1,4 @@
-//! What comes from clients and devices.
+//! Acts of clients and devices.
 
 ghost use Rattle.std.specs.Prelude.{◌≡◌, ◌≢◌, ◌≤◌, List, ◌∷◌, Err, None, OnErr};
 ghost use Rattle.adb_capture.specs.declared.entry.Entry.{Entry};
@@ -7,7 +7,7 @@ ghost use Rattle.adb_history.specs.Kept.{IsLawful};
 ghost use Rattle.adb_history.specs.Machine.{state};
 ghost use Rattle.adb_hub.specs.Answers.{Answers};
 ghost use Rattle.adb_desk_log.specs.declared.error.DeskError.{DeskError};
-ghost use Rattle.adb_desk_log.specs.Log.{Keeps, moves, shut_with};
+ghost use Rattle.adb_desk_log.specs.Log.{HasKept, Keeps, moves, shut_with};
 ghost use Rattle.adb_desk.specs.Acts.{IsLateBy, Submits, entry_of, life_at, link_room};
 ghost use Rattle.adb_desk.specs.Acts.{marks_progress, progress_at};
 ghost use Rattle.adb_desk.specs.Desk.{Rung, desk_refusal};
@@ -21,10 +21,18 @@ use adb_recorder::Recorder;
 use std::sync::ledger::Ledger;
 
 impl<R: Recorder, E: Ledger, M: Ledger, K: Marks> Desk<R, E, M, K> {
-    /// Something comes from a client or a device, at most 2,097,152 bytes: one entry. It tells how
-    /// it stands behind that. An error is that of a shut desk, `Hub` with `Stopped`, `NoClient` or
-    /// `NoLink`, `Later` exactly where more would be held of a client than may be, `Hub` with want
-    /// of memory, or the recorder's refusal. An `End` and a `Detach` take no memory.
+    /// Submits an act of a client or a device, of at most 2,097,152 bytes: one entry. Returns the
+    /// state of that client or device after the act. An `End` and a `Detach` allocate nothing in the
+    /// hub.
+    ///
+    /// The answer of a shut desk: the desk is shut. It comes before every other error.
+    /// `Hub(Stopped)`: a kill was made.
+    /// `Hub(NoClient)`, `Hub(NoLink)`: the number was never drawn.
+    /// `Later`: a client's bytes do not fit: more would be held of it than 65,540 bytes. Nothing
+    /// changes.
+    /// `Hub(OutOfMemory)`: an allocation failed; the entry is not made. If it was one of the
+    /// recorder, the desk is shut.
+    /// `RecordFault`: the recorder failed. The desk is shut.
     pub fn submit(&mut self, number: u32, act: Act<'_>) -> Result<Progress, DeskError>
         requires { moves (entry_of act number) ≤ MAX_DATA }
         ensures submitted { Rung (marks_progress result)
@@ -36,6 +44,7 @@ impl<R: Recorder, E: Ledger, M: Ledger, K: Marks> Desk<R, E, M, K> {
         answer
     }
 
+    /// Does what `submit` does, but sets no alarm.
     fn try_submit(&mut self, number: u32, act: Act<'_>) -> Result<Progress, DeskError>
         requires { moves (entry_of act number) ≤ MAX_DATA }
         ensures submitted { Submits self.old (entry_of act.entry number) result self.new }
@@ -57,7 +66,7 @@ impl<R: Recorder, E: Ledger, M: Ledger, K: Marks> Desk<R, E, M, K> {
     }
 }
 
-/// Whether the answer of an act is marked: nothing more may come.
+/// Returns whether the answer of an act is marked: no more bytes may come, or a refusal that is marked.
 pub fn marks_progress(answer: &Result<Progress, DeskError>) -> bool
     ensures { result ≡ marks_progress answer.now }
 {
@@ -67,7 +76,7 @@ pub fn marks_progress(answer: &Result<Progress, DeskError>) -> bool
     }
 }
 
-/// Why an act does not come to the hub: a client's piece for which there is no room.
+/// Returns why an act is not handed to the hub: a client's bytes do not fit.
 fn late(hub: &Hub, number: u32, act: Act<'_>) -> Option<DeskError>
     ensures { (h : List Entry) → IsLawful hub.now h
         → IsLateBy (entry_of act.entry number) (state h) result }
@@ -78,7 +87,7 @@ fn late(hub: &Hub, number: u32, act: Act<'_>) -> Option<DeskError>
     }
 }
 
-/// Why a piece of a client is refused, memory and a shut desk aside.
+/// Returns why bytes of a client are refused, apart from a shut desk and an allocation failure.
 fn refuses_read(hub: &Hub, client: u32, piece: &[u8]) -> Option<DeskError>
     ensures { (h : List Entry) → IsLawful hub.now h
         → result ≡ desk_refusal (Entry.Read client piece.now) (state h) }
@@ -96,7 +105,7 @@ fn refuses_read(hub: &Hub, client: u32, piece: &[u8]) -> Option<DeskError>
     None
 }
 
-/// The hub makes an entry, and tells how it stands behind that.
+/// Makes the hub's step of an act, and returns the state after it.
 fn make(hub: &mut Hub, number: u32, act: Act<'_>) -> Result<Progress, HubError>
     ensures made { (h : List Entry) → IsLawful hub.old h
         → let e = entry_of act.entry number in
@@ -107,7 +116,7 @@ fn make(hub: &mut Hub, number: u32, act: Act<'_>) -> Result<Progress, HubError>
     Ok(progress(hub, number, act, life))
 }
 
-/// The hub makes an entry.
+/// Makes the hub's step of an act.
 fn step(hub: &mut Hub, number: u32, act: Act<'_>) -> Result<Life, HubError>
     ensures made { (h : List Entry) → IsLawful hub.old h
         → let e = entry_of act.entry number in
@@ -124,7 +133,7 @@ fn step(hub: &mut Hub, number: u32, act: Act<'_>) -> Result<Life, HubError>
     }
 }
 
-/// How it stands with who lives, or is gone.
+/// Returns the state of a client or a device, of which it is known whether it lives.
 fn progress(hub: &Hub, number: u32, act: Act<'_>, life: Life) -> Progress
     ensures { (h : List Entry) → IsLawful hub.now h
         → let e = entry_of act.entry number in life ≡ life_at e (state h)
@@ -144,7 +153,7 @@ fn progress(hub: &Hub, number: u32, act: Act<'_>, life: Life) -> Progress
     }
 }
 
-/// A device may send as long as it is there.
+/// Returns the room of a device: it may send as long as it is attached.
 fn link_room(life: Life) -> Room
     ensures { result ≡ link_room life }
 {
@@ -160,9 +169,11 @@ fn keep<R: Recorder, E: Ledger, M: Ledger, K: Marks>(
     number: u32,
     act: Act<'_>,
 ) -> Result<(), DeskError>
-    requires going { shut_with log.old ≡ None }
+    requires going { shut_with log.old.is ≡ None }
     requires bytes { moves (entry_of act number) ≤ MAX_DATA }
-    ensures keeps { Keeps log.old (entry_of act.entry number) result log.new }
+    ensures keeps { Keeps log.old.is (entry_of act.entry number) result log.new.is }
+    ensures kept { HasKept R.stands log.old.recorder (entry_of act.entry number) result
+        log.new.recorder }
     ensures steady { K.steady → result ≢ Err DeskError.RecordFault }
 {
     match act {
