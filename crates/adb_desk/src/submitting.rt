@@ -1,15 +1,16 @@
 //! Acts of clients and devices.
 
-ghost use Rattle.std.specs.Prelude.{◌≡◌, ◌≢◌, ◌≤◌, List, ◌∷◌, Err, None, OnErr};
+ghost use Rattle.std.specs.Prelude.{◌≡◌, ◌≢◌, ◌≤◌, List, ◌∷◌, Err, None, OnErr, is_some, true};
 ghost use Rattle.adb_capture.specs.declared.entry.Entry.{Entry};
 ghost use Rattle.adb_capture.specs.declared.limits.TheConstants.{MAX_DATA};
 ghost use Rattle.adb_history.specs.Kept.{IsLawful};
 ghost use Rattle.adb_history.specs.Machine.{state};
 ghost use Rattle.adb_hub.specs.Answers.{Answers};
+ghost use Rattle.adb_hub.specs.declared.error.HubError.{HubError};
 ghost use Rattle.adb_desk_log.specs.declared.error.DeskError.{DeskError};
 ghost use Rattle.adb_desk_log.specs.Log.{HasKept, Keeps, moves, shut_with};
 ghost use Rattle.adb_desk.specs.Acts.{IsLateBy, Submits, entry_of, life_at, link_room};
-ghost use Rattle.adb_desk.specs.Acts.{marks_progress, progress_at};
+ghost use Rattle.adb_desk.specs.Acts.{is_end, marks_progress, progress_at};
 ghost use Rattle.adb_desk.specs.Desk.{Rung, desk_refusal};
 
 use crate::act::{Act, Progress};
@@ -37,6 +38,9 @@ impl<R: Recorder, E: Ledger, M: Ledger, K: Marks> Desk<R, E, M, K> {
         requires { moves (entry_of act number) ≤ MAX_DATA }
         ensures submitted { Rung (marks_progress result)
             (Submits self.old (entry_of act.entry number) result) self.new }
+        ensures memory { is_end (entry_of act.entry number) ≡ true
+            → result ≡ Err (DeskError.Hub HubError.OutOfMemory)
+            → is_some (shut_with self.new.log) ≡ true }
         ensures steady { K.steady → result ≢ Err DeskError.RecordFault }
     {
         let answer = self.try_submit(number, act);
@@ -48,6 +52,9 @@ impl<R: Recorder, E: Ledger, M: Ledger, K: Marks> Desk<R, E, M, K> {
     fn try_submit(&mut self, number: u32, act: Act<'_>) -> Result<Progress, DeskError>
         requires { moves (entry_of act number) ≤ MAX_DATA }
         ensures submitted { Submits self.old (entry_of act.entry number) result self.new }
+        ensures memory { is_end (entry_of act.entry number) ≡ true
+            → result ≡ Err (DeskError.Hub HubError.OutOfMemory)
+            → is_some (shut_with self.new.log) ≡ true }
         ensures steady { K.steady → result ≢ Err DeskError.RecordFault }
     {
         if let Some(answer) = self.log.shut() {
@@ -111,6 +118,8 @@ fn make(hub: &mut Hub, number: u32, act: Act<'_>) -> Result<Progress, HubError>
         → let e = entry_of act.entry number in
         Answers e (λ progress. progress ≡ progress_at e (state (e ∷ h))) result h hub.new }
     ensures err { OnErr result (hub.new ≡ hub.old) }
+    ensures memory { is_end (entry_of act.entry number) ≡ true
+        → result ≢ Err HubError.OutOfMemory }
 {
     let life = step(hub, number, act)?;
     Ok(progress(hub, number, act, life))
@@ -122,6 +131,8 @@ fn step(hub: &mut Hub, number: u32, act: Act<'_>) -> Result<Life, HubError>
         → let e = entry_of act.entry number in
         Answers e (λ life. life ≡ life_at e (state (e ∷ h))) result h hub.new }
     ensures err { OnErr result (hub.new ≡ hub.old) }
+    ensures memory { is_end (entry_of act.entry number) ≡ true
+        → result ≢ Err HubError.OutOfMemory }
 {
     match act {
         Act::Read(piece) => hub.read(number, piece),

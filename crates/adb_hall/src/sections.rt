@@ -8,8 +8,8 @@ ghost use Rattle.adb_desk_log.specs.declared.error.DeskError.{DeskError};
 ghost use Rattle.adb_desk_log.specs.Log.{moves};
 ghost use Rattle.adb_desk_log.specs.Marked.{marks_error, marks_room};
 ghost use Rattle.adb_desk.specs.Acts.{HasBadSerial, MayCome, due_of, entry_by, entry_of, marks_progress};
-ghost use Rattle.adb_desk.specs.Acts.{out_entry};
-ghost use Rattle.adb_hall.specs.Telling.{Draws, Halts, Hands, HandsPiece, IsSomeHanded};
+ghost use Rattle.adb_desk.specs.Acts.{is_end, out_entry};
+ghost use Rattle.adb_hall.specs.Telling.{Draws, Halts, Hands, HandsPiece, IsShutAt, IsSomeHanded};
 ghost use Rattle.adb_hall.specs.Telling.{IsSomeProgress, IsSomeRoom, Overs, Rooms, Submits, ends_of};
 ghost use Rattle.adb_hall.specs.Telling.{telling_of};
 ghost use Rattle.adb_hall.specs.Passes.{ArePair, after_handed, after_room, after_submit};
@@ -72,6 +72,9 @@ pub fn submit<R: Recorder, E: Ledger, M: Ledger, K: Marks>(
         (moves (entry_of act.entry pass.old.number)) result }
     ensures told { Submits (entry_of act.entry pass.old.number) result (telling_of desk.old)
         (telling_of desk.new) }
+    ensures memory { is_end (entry_of act.entry pass.old.number) ≡ true
+        → result ≡ Err (DeskError.Hub HubError.OutOfMemory)
+        → IsShutAt (Some (telling_of desk.new)) }
     ensures steady { K.steady → result ≢ Err DeskError.RecordFault }
 {
     desk.law();
