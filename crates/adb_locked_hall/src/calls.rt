@@ -112,8 +112,8 @@ impl<R: Recorder, E: Ledger, M: Ledger, K: Marks, W: Wait + Copy + Drop> Hall<E,
     }
 }
 
-/// Marks a handle that has a mark, where the answer of its call is marked.
-fn mark_own<R: Recorder, E: Ledger, M: Ledger, K: Marks>(
+/// Sets the mark of a handle, if it has one and the answer of its call is marked.
+pub(crate) fn mark_own<R: Recorder, E: Ledger, M: Ledger, K: Marks>(
     desk: &mut Desk<R, E, M, K>,
     mark: &mut Option<Mark<K>>,
     marked: bool,
@@ -127,7 +127,7 @@ fn mark_own<R: Recorder, E: Ledger, M: Ledger, K: Marks>(
     }
 }
 
-/// Puts up the bells of who came. Where nobody did they are dropped.
+/// Puts up the bells of the client or the device that came. If none came, drops them.
 fn put_up(bells: &mut Bells, came: Option<Owner>, pair: Pair) {
     match came {
         Some(owner) => bells.put_up(owner, pair),
@@ -135,7 +135,7 @@ fn put_up(bells: &mut Bells, came: Option<Owner>, pair: Pair) {
     }
 }
 
-/// Who came.
+/// Returns the client or the device that came, if the answer says that one did.
 fn owner_of<E: Ledger, M: Ledger, K: Marks>(
     comer: Comer<'_>,
     answer: &Result<(Pass<E, M, K>, Pass<E, M, K>), DeskError>,

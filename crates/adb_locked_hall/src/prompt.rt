@@ -1,4 +1,4 @@
-//! A handle that does not wait.
+//! A handle that never waits.
 
 use crate::locked_hall::LockedHall;
 use adb_desk::{Act, Comer, Half, Piece, Progress};
@@ -10,10 +10,11 @@ use adb_spawner::NoThread;
 use std::sync::Wait;
 use std::sync::ledger::Ledger;
 
-/// A handle of a desk under a lock that answers at once: `Later` and `Nothing` where the handle that
-/// it is made of waits.
+/// A handle of a desk under a lock that never waits: it returns `Later` and `Nothing` where the handle
+/// that it is made of waits.
 #[derive(Drop)]
 pub struct Prompt<R: Recorder, E: Ledger, M: Ledger, K: Marks, W: Wait + Copy + Drop> {
+    /// The handle that it is made of.
     pub hall: LockedHall<R, E, M, K, W>,
 }
 

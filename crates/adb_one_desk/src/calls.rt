@@ -1,4 +1,4 @@
-//! The calls of workers.
+//! The calls of workers on a hall of one thread.
 
 use crate::one_desk::OneDesk;
 use adb_capture::Owner;
