@@ -1,4 +1,4 @@
-//! Tries halls where no clause says what they do, and tells of each case whether it holds.
+//! Tries halls for what no clause says of them, and reports of each case whether it holds.
 #![tactic(auto)]
 
 mod case;
@@ -10,7 +10,7 @@ use case::{CASES, Case};
 use std::io;
 use std::process::ExitCode;
 
-/// Writes a line for each case. Ends with status 1 where one does not hold.
+/// Writes a line for each case. Ends with status 1 if one does not hold.
 fn main(rt: HostRuntime) -> io::Result<ExitCode> {
     let mut code = ExitCode::SUCCESS;
     for &case in CASES {
