@@ -1,4 +1,4 @@
-//! What a pass notes of a call.
+//! Noting the answer of a call in its pass.
 
 ghost use Rattle.std.specs.Prelude.{◌≡◌};
 ghost use Rattle.adb_desk.specs.Desk.{IsSameDesk};
@@ -12,14 +12,14 @@ use adb_hub::{Handed, HubError, Room};
 use adb_recorder::Recorder;
 use std::sync::ledger::Ledger;
 
-/// Whether memory ran out.
+/// Returns whether an error is an allocation failure.
 fn is_starved(error: &DeskError) -> bool
     ensures { result ≡ is_starved error.now }
 {
     matches!(error, DeskError::Hub(HubError::OutOfMemory))
 }
 
-/// Notes in a pass that a call was refused.
+/// Notes in a pass that its call was refused.
 pub(crate) fn note_error<R: Recorder, E: Ledger, M: Ledger, K: Marks>(
     desk: &mut Desk<R, E, M, K>,
     pass: &mut Pass<E, M, K>,
@@ -36,7 +36,7 @@ pub(crate) fn note_error<R: Recorder, E: Ledger, M: Ledger, K: Marks>(
     }
 }
 
-/// Notes in a pass what became of an act of that many bytes.
+/// Notes in a pass the answer to an act of that many bytes.
 pub(crate) fn note_submit<R: Recorder, E: Ledger, M: Ledger, K: Marks>(
     desk: &mut Desk<R, E, M, K>,
     pass: &mut Pass<E, M, K>,
@@ -53,7 +53,7 @@ pub(crate) fn note_submit<R: Recorder, E: Ledger, M: Ledger, K: Marks>(
     }
 }
 
-/// Notes in a pass what became of a hand-out.
+/// Notes in a pass the answer to a hand-out.
 pub(crate) fn note_handed<R: Recorder, E: Ledger, M: Ledger, K: Marks>(
     desk: &mut Desk<R, E, M, K>,
     pass: &mut Pass<E, M, K>,
@@ -71,7 +71,7 @@ pub(crate) fn note_handed<R: Recorder, E: Ledger, M: Ledger, K: Marks>(
     }
 }
 
-/// Notes in a pass what it was told of its client's room.
+/// Notes in a pass the answer to a question about its client's room.
 pub(crate) fn note_room<R: Recorder, E: Ledger, M: Ledger, K: Marks>(
     desk: &mut Desk<R, E, M, K>,
     pass: &mut Pass<E, M, K>,

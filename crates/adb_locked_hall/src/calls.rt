@@ -1,16 +1,15 @@
-//! The calls of workers: one section each, in which the desk is called once.
+//! The sections that a locked hall runs, each while it holds the lock.
 
 ghost use Rattle.std.specs.Prelude.{◌≡◌, true};
 ghost use Rattle.adb_hall.specs.Passes.{or_marked};
 
 use crate::locked_hall::LockedHall;
 use adb_bells::{Bells, Pair, Side};
-use adb_desk::{Act, Comer, Desk, Half, Piece, Progress, marks_progress};
-use adb_desk_log::{ClientIn, DeskError, Mark, Marks, Pass, marks_error};
-use adb_hall::{Hall, section};
-use adb_hub::{Handed, HubError, Owner, Room};
+use adb_desk::{Desk, Half};
+use adb_desk_log::{DeskError, Mark, Marks, Pass, marks_error};
+use adb_hall::{Arrival, Call, Hall, Section, mark_handle};
+use adb_hub::{HubError, Owner};
 use adb_recorder::Recorder;
-use adb_spawner::NoThread;
 use std::sync::ledger::Ledger;
 use std::sync::{Mutex, Wait};
 
@@ -24,91 +23,54 @@ impl<R: Recorder, E: Ledger, M: Ledger, K: Marks, W: Wait + Copy + Drop> Hall<E,
 
     ghost marked = { λ h. h };
 
-    fn admit(&mut self, comer: Comer<'_>) -> Result<(Pass<E, M, K>, Pass<E, M, K>), DeskError> {
+    fn enter<A: Drop, S: Section<A>>(&mut self, pass: &mut Pass<E, M, K>, section: &S) -> A {
+        let mut guard = self.shared.locked.lock(&self.rt);
+        for _ in self.rt.forever() {
+            let answer = section.run(&mut guard.desk, pass);
+            if section.is_idle(&answer) {
+                let (owner, side) = sleeper(section.awaits(), pass.number());
+                guard = self.shared.sleep(&self.rt, guard, owner, side);
+            } else {
+                self.shared.leave(guard);
+                return answer;
+            }
+        }
+        unreachable!()
+    }
+
+    fn ask<A: Drop, C: Call<A>>(&mut self, call: &C) -> A {
+        let mut guard = self.shared.locked.lock(&self.rt);
+        let locked = &mut *guard;
+        let answer = call.run(&mut locked.desk);
+        let marked = call.is_marked(&answer);
+        mark_own(&mut locked.desk, &mut self.mark, marked);
+        self.shared.leave(guard);
+        answer
+    }
+
+    fn seat<C: Arrival>(
+        &mut self,
+        arrival: &C,
+    ) -> Result<(Pass<E, M, K>, Pass<E, M, K>), DeskError> {
         let Ok(pair) = Pair::new(self.alloc) else {
             return Err(DeskError::Hub(HubError::OutOfMemory));
         };
         let mut guard = self.shared.locked.lock(&self.rt);
         let locked = &mut *guard;
-        let answer = section::admit(&mut locked.desk, comer);
+        let answer = arrival.run(&mut locked.desk);
         mark_own(&mut locked.desk, &mut self.mark, marks_error(&answer));
-        put_up(&mut locked.bells, owner_of(comer, &answer), pair);
+        put_up(&mut locked.bells, owner_of(arrival, &answer), pair);
         self.shared.leave(guard);
         answer
     }
+}
 
-    fn submit(&mut self, pass: &mut Pass<E, M, K>, act: Act<'_>) -> Result<Progress, DeskError> {
-        let mut guard = self.shared.locked.lock(&self.rt);
-        for _ in self.rt.forever() {
-            let answer = section::submit(&mut guard.desk, pass, act);
-            if let Err(DeskError::Later) = answer {
-                let client = Owner::Client(pass.number());
-                guard = self.shared.sleep(&self.rt, guard, client, Side::Reader);
-            } else {
-                self.shared.leave(guard);
-                return answer;
-            }
-        }
-        unreachable!()
-    }
-
-    fn hand_out(
-        &mut self,
-        pass: &mut Pass<E, M, K>,
-        half: Half,
-        max: usize,
-        piece: Piece,
-    ) -> Result<Handed, DeskError> {
-        let mut guard = self.shared.locked.lock(&self.rt);
-        for _ in self.rt.forever() {
-            let answer = section::hand_out(&mut guard.desk, pass, half, max, piece);
-            if let Ok(Handed::Nothing) = answer {
-                let owner = section::owner_of(half, pass.number());
-                guard = self.shared.sleep(&self.rt, guard, owner, Side::Writer);
-            } else {
-                self.shared.leave(guard);
-                return answer;
-            }
-        }
-        unreachable!()
-    }
-
-    fn room(&mut self, pass: &mut ClientIn<E, M, K>) -> Result<Room, DeskError> {
-        let mut guard = self.shared.locked.lock(&self.rt);
-        for _ in self.rt.forever() {
-            let answer = section::room(&mut guard.desk, &mut pass.pass);
-            if let Ok(Room::Later) = answer {
-                let client = Owner::Client(pass.number());
-                guard = self.shared.sleep(&self.rt, guard, client, Side::Reader);
-            } else {
-                self.shared.leave(guard);
-                return answer;
-            }
-        }
-        unreachable!()
-    }
-
-    fn strand(&mut self, owner: Owner, _shown: NoThread) -> Result<Progress, DeskError> {
-        let mut guard = self.shared.locked.lock(&self.rt);
-        let locked = &mut *guard;
-        let answer = section::strand(&mut locked.desk, owner);
-        mark_own(&mut locked.desk, &mut self.mark, marks_progress(&answer));
-        self.shared.leave(guard);
-        answer
-    }
-
-    fn over(&mut self) -> Option<DeskError> {
-        let mut guard = self.shared.locked.lock(&self.rt);
-        let locked = &mut *guard;
-        let answer = section::over(&mut locked.desk);
-        mark_own(&mut locked.desk, &mut self.mark, answer.is_some());
-        answer
-    }
-
-    fn halt(&mut self) {
-        let mut guard = self.shared.locked.lock(&self.rt);
-        section::halt(&mut guard.desk);
-        self.shared.leave(guard);
+/// Returns which pass of which owner waits: for bytes that are due, or for room.
+fn sleeper(awaits: Option<Half>, number: u32) -> (Owner, Side) {
+    match awaits {
+        Some(Half::Client) => (Owner::Client(number), Side::Writer),
+        Some(Half::Link) => (Owner::Link(number), Side::Writer),
+        None => (Owner::Client(number), Side::Reader),
     }
 }
 
@@ -123,7 +85,7 @@ pub(crate) fn mark_own<R: Recorder, E: Ledger, M: Ledger, K: Marks>(
     ensures same { desk.new ≡ desk.old }
 {
     if let Some(mark) = mark {
-        section::mark_handle(desk, mark, marked);
+        mark_handle(desk, mark, marked);
     }
 }
 
@@ -136,15 +98,12 @@ fn put_up(bells: &mut Bells, came: Option<Owner>, pair: Pair) {
 }
 
 /// Returns the client or the device that came, if the answer says that one did.
-fn owner_of<E: Ledger, M: Ledger, K: Marks>(
-    comer: Comer<'_>,
+fn owner_of<E: Ledger, M: Ledger, K: Marks, C: Arrival>(
+    arrival: &C,
     answer: &Result<(Pass<E, M, K>, Pass<E, M, K>), DeskError>,
 ) -> Option<Owner> {
-    let Ok((reading, _)) = answer else {
-        return None;
-    };
-    match comer {
-        Comer::Client | Comer::Forward(_) => Some(Owner::Client(reading.number())),
-        Comer::Device(_, _) => Some(Owner::Link(reading.number())),
+    match answer {
+        Ok((reading, _)) => Some(arrival.owner(reading.number())),
+        Err(_) => None,
     }
 }

@@ -11,7 +11,7 @@ use crate::calls::mark_own;
 use adb_bells::{Bells, Locked, Side};
 use adb_desk::{Desk, Left};
 use adb_desk_log::{ClientIn, ClientOut, DeskError, LinkIn, LinkOut, Mark, Marks, Pass};
-use adb_hall::section;
+use adb_hall::{Call, Over};
 use adb_hub::Owner;
 use adb_recorder::Recorder;
 use std::alloc::{AllocError, Global};
@@ -209,7 +209,7 @@ impl<R: Recorder, E: Ledger, M: Ledger, K: Marks, W: Wait + Copy + Drop> LockedH
         let locked = &mut *guard;
         locked.desk.retire(pass);
         locked.bells.pass_back(owner);
-        let answer = section::over(&mut locked.desk);
+        let answer = Over {}.run(&mut locked.desk);
         mark_own(&mut locked.desk, &mut self.mark, answer.is_some());
         answer
     }

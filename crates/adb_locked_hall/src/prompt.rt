@@ -1,12 +1,9 @@
 //! A handle that never waits.
 
 use crate::locked_hall::LockedHall;
-use adb_desk::{Act, Comer, Half, Piece, Progress};
-use adb_desk_log::{ClientIn, DeskError, Marks, Pass};
-use adb_hall::{Hall, section};
-use adb_hub::{Handed, Owner, Room};
+use adb_desk_log::{DeskError, Marks, Pass};
+use adb_hall::{Arrival, Call, Hall, Section};
 use adb_recorder::Recorder;
-use adb_spawner::NoThread;
 use std::sync::Wait;
 use std::sync::ledger::Ledger;
 
@@ -28,46 +25,21 @@ impl<R: Recorder, E: Ledger, M: Ledger, K: Marks, W: Wait + Copy + Drop> Hall<E,
 
     ghost marked = { λ h. h.hall };
 
-    fn admit(&mut self, comer: Comer<'_>) -> Result<(Pass<E, M, K>, Pass<E, M, K>), DeskError> {
-        self.hall.admit(comer)
-    }
-
-    fn submit(&mut self, pass: &mut Pass<E, M, K>, act: Act<'_>) -> Result<Progress, DeskError> {
+    fn enter<A: Drop, S: Section<A>>(&mut self, pass: &mut Pass<E, M, K>, section: &S) -> A {
         let mut guard = self.hall.shared.locked.lock(&self.hall.rt);
-        let answer = section::submit(&mut guard.desk, pass, act);
+        let answer = section.run(&mut guard.desk, pass);
         self.hall.shared.leave(guard);
         answer
     }
 
-    fn hand_out(
+    fn ask<A: Drop, C: Call<A>>(&mut self, call: &C) -> A {
+        self.hall.ask(call)
+    }
+
+    fn seat<C: Arrival>(
         &mut self,
-        pass: &mut Pass<E, M, K>,
-        half: Half,
-        max: usize,
-        piece: Piece,
-    ) -> Result<Handed, DeskError> {
-        let mut guard = self.hall.shared.locked.lock(&self.hall.rt);
-        let answer = section::hand_out(&mut guard.desk, pass, half, max, piece);
-        self.hall.shared.leave(guard);
-        answer
-    }
-
-    fn room(&mut self, pass: &mut ClientIn<E, M, K>) -> Result<Room, DeskError> {
-        let mut guard = self.hall.shared.locked.lock(&self.hall.rt);
-        let answer = section::room(&mut guard.desk, &mut pass.pass);
-        self.hall.shared.leave(guard);
-        answer
-    }
-
-    fn strand(&mut self, owner: Owner, shown: NoThread) -> Result<Progress, DeskError> {
-        self.hall.strand(owner, shown)
-    }
-
-    fn over(&mut self) -> Option<DeskError> {
-        self.hall.over()
-    }
-
-    fn halt(&mut self) {
-        self.hall.halt();
+        arrival: &C,
+    ) -> Result<(Pass<E, M, K>, Pass<E, M, K>), DeskError> {
+        self.hall.seat(arrival)
     }
 }
