@@ -22,24 +22,27 @@ use std::thread::Threads;
 /// Number of clients that wait.
 const IDLE: u32 = 64;
 
-/// Puts up the pair of an owner whose reader and writer wait.
-fn both_wait(bells: &mut Bells, owner: Owner, pair: Pair) {
-    bells.put_up(owner, pair);
-    let _ = bells.sleep(owner, Side::Reader);
-    let _ = bells.sleep(owner, Side::Writer);
-}
-
-/// Joins the clients. The reader of each waits for room, and its writer for bytes.
-fn all_wait<E: Ledger, M: Ledger, K: Marks>(
+/// Joins the clients.
+fn all_join<E: Ledger, M: Ledger, K: Marks>(
     alloc: Global,
     locked: &mut Locked<NullRecorder, E, M, K>,
 ) -> Result<(), AllocError> {
     for _ in 0..IDLE {
         if let Ok(client) = locked.desk.admit(Comer::Client) {
-            both_wait(&mut locked.bells, Owner::Client(client), Pair::new(alloc)?);
+            locked
+                .bells
+                .put_up(Owner::Client(client), Pair::new(alloc)?);
         }
     }
     Ok(())
+}
+
+/// Has the reader of each client wait for room, and its writer for bytes.
+fn all_wait(bells: &mut Bells) {
+    for client in 1..=IDLE {
+        let _ = bells.sleep(Owner::Client(client), Side::Reader);
+        let _ = bells.sleep(Owner::Client(client), Side::Writer);
+    }
 }
 
 /// Attaches the first device, whose writer waits.
@@ -131,7 +134,9 @@ trait Bellman: Drop {
 
 impl<E: Ledger, M: Ledger, K: Marks> Bellman for Locked<NullRecorder, E, M, K> {
     fn rings(&mut self, alloc: Global, wake: Wake) -> Result<bool, AllocError> {
-        all_wait(alloc, self)?;
+        all_join(alloc, self)?;
+        let _ = rung(self);
+        all_wait(&mut self.bells);
         device_waits(alloc, self)?;
         Ok(notifies(self, wake))
     }

@@ -23,7 +23,7 @@ impl<R: Recorder, E: Ledger, M: Ledger, K: Marks, W: Wait + Copy + Drop> Hall<E,
 
     ghost marked = { λ h. h };
 
-    fn enter<A: Drop, S: Section<A>>(&mut self, pass: &mut Pass<E, M, K>, section: &S) -> A {
+    fn run<A: Drop, S: Section<A>>(&mut self, pass: &mut Pass<E, M, K>, section: &S) -> A {
         let mut guard = self.shared.locked.lock(&self.rt);
         for _ in self.rt.forever() {
             let answer = section.run(&mut guard.desk, pass);

@@ -25,7 +25,7 @@ impl<R: Recorder, E: Ledger, M: Ledger, K: Marks, W: Wait + Copy + Drop> Hall<E,
 
     ghost marked = { λ h. h.hall };
 
-    fn enter<A: Drop, S: Section<A>>(&mut self, pass: &mut Pass<E, M, K>, section: &S) -> A {
+    fn run<A: Drop, S: Section<A>>(&mut self, pass: &mut Pass<E, M, K>, section: &S) -> A {
         let mut guard = self.hall.shared.locked.lock(&self.hall.rt);
         let answer = section.run(&mut guard.desk, pass);
         self.hall.shared.leave(guard);

@@ -16,7 +16,7 @@ impl<R: Recorder, E: Ledger, M: Ledger, K: Marks> Hall<E, M, K> for OneDesk<R, E
 
     ghost marked = { λ h. Some h.mark };
 
-    fn enter<A: Drop, S: Section<A>>(&mut self, pass: &mut Pass<E, M, K>, section: &S) -> A {
+    fn run<A: Drop, S: Section<A>>(&mut self, pass: &mut Pass<E, M, K>, section: &S) -> A {
         section.run(&mut self.desk, pass)
     }
 
