@@ -1,3 +1,4 @@
 pub mod Drawn
 pub mod Made
 pub mod Some
+pub mod Shut
