@@ -15,7 +15,7 @@ fn main(rt: HostRuntime) -> io::Result<ExitCode> {
     let mut code = ExitCode::SUCCESS;
     for &case in CASES {
         let fault = case.first_fault(rt, rt.alloc())?;
-        tell(&rt, case, fault)?;
+        report(&rt, case, fault)?;
         if fault.is_some() {
             code = ExitCode::FAILURE;
         }
@@ -24,7 +24,7 @@ fn main(rt: HostRuntime) -> io::Result<ExitCode> {
 }
 
 /// Writes that a case holds, or which of its rows is the first that does not.
-fn tell(rt: &HostRuntime, case: Case, fault: Option<usize>) -> io::Result<()> {
+fn report(rt: &HostRuntime, case: Case, fault: Option<usize>) -> io::Result<()> {
     match fault {
         None => println!(rt; "{case:?}: holds"),
         Some(row) => println!(rt; "{case:?}: row {row} does not hold"),
