@@ -1,6 +1,6 @@
 //! A locked hall: which workers are notified, and two handles in two threads.
 
-ghost use Rattle.std.specs.Prelude.{◌≡◌};
+ghost use Rattle.std.specs.Prelude.{◌≡◌, ◌≤◌, length};
 ghost use Rattle.adb_desk_log.specs.declared.marks.TheConstants.{ALL_PARTS};
 
 use crate::hands::{Client, asks, is_answered, lives};
@@ -39,9 +39,10 @@ fn all_join<E: Ledger, M: Ledger, K: Marks>(
 
 /// Has the reader of each client wait for room, and its writer for bytes.
 fn all_wait(bells: &mut Bells) {
-    for client in 1..=IDLE {
-        let _ = bells.sleep(Owner::Client(client), Side::Reader);
-        let _ = bells.sleep(Owner::Client(client), Side::Writer);
+    for before in 0..IDLE {
+        let owner = Owner::Client(before + 1);
+        let _ = bells.sleep(owner, Side::Reader);
+        let _ = bells.sleep(owner, Side::Writer);
     }
 }
 
@@ -67,7 +68,9 @@ fn says<E: Ledger, M: Ledger, K: Marks>(
     locked: &mut Locked<NullRecorder, E, M, K>,
     client: u32,
     piece: &[u8],
-) -> bool {
+) -> bool
+    requires { length piece.now ≤ 64 }
+{
     lives(locked.desk.submit(client, Act::Read(piece)))
 }
 
