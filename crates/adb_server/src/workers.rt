@@ -9,9 +9,10 @@ use adb_hub::Owner;
 use adb_locked_hall::LockedHall;
 use adb_recorder::Recorder;
 use adb_spawner::{Crew, Job, NoThread};
-use adb_work::{BellHandle, Kits, Task, Work, make_kits};
+use adb_work::{BellHandle, Kits, Parts, Ringing, Task, Work, make_kits};
 use adb_yard::Staff;
 use std::alloc::{AllocError, Global};
+use std::marker::PhantomData;
 use std::sync::Wait;
 use std::sync::ledger::Ledger;
 use std::thread::Threads;
@@ -55,6 +56,59 @@ pub(crate) struct Workers<W: Drop, B: Drop> {
     pub(crate) bell: BellHandle<B>,
 }
 
+/// The parts of a server: each a type of its own, so that who starts its jobs can say of each that
+/// it may go to another thread.
+#[derive(Drop)]
+pub(crate) struct Over<R, E, M, K, I, O, P, X, Z, G, B> {
+    recorder: PhantomData<R>,
+    entries: PhantomData<E>,
+    moved: PhantomData<M>,
+    marks: PhantomData<K>,
+    client_in: PhantomData<I>,
+    client_out: PhantomData<O>,
+    binder: PhantomData<P>,
+    device_in: PhantomData<X>,
+    device_out: PhantomData<Z>,
+    gate: PhantomData<G>,
+    bell: PhantomData<B>,
+}
+
+impl<
+    R: Recorder,
+    E: Ledger,
+    M: Ledger,
+    K: Marks,
+    I: PortIn + Drop,
+    O: PortOut + Drop,
+    P: Binder + Drop,
+    X: DeviceIn,
+    Z: DeviceOut,
+    G: Gate + Drop,
+    B: Ringing,
+> Parts for Over<R, E, M, K, I, O, P, X, Z, G, B> {
+    type Recorder = R;
+
+    type Entries = E;
+
+    type Moved = M;
+
+    type Marks = K;
+
+    type ClientIn = I;
+
+    type ClientOut = O;
+
+    type Binder = P;
+
+    type DeviceIn = X;
+
+    type DeviceOut = Z;
+
+    type Gate = G;
+
+    type Bell = B;
+}
+
 impl<
     W: Wait + Copy + Send + Sync + Drop + 'static,
     R: Recorder + Send + 'static,
@@ -70,23 +124,26 @@ impl<
     Z: DeviceOut + Send + 'static,
 > Jobs<LockedHall<R, E, M, K, W>, G, P, Arrival<E, M, K, I, O>, Linked<E, M, K, X, Z>>
     for Workers<W, B> {
-    type Kits = Kits<W, R, E, M, K, G, BellHandle<B>>;
+    type Kits = Kits<W, Over<R, E, M, K, I, O, P, X, Z, G, BellHandle<B>>>;
 
-    type Job = Work<W, R, E, M, K, I, O, P, G, BellHandle<B>, X, Z>;
+    type Job = Work<W, Over<R, E, M, K, I, O, P, X, Z, G, BellHandle<B>>>;
 
     fn provide(
         &mut self,
         hall: &LockedHall<R, E, M, K, W>,
         gates: (G, G),
-    ) -> Result<Kits<W, R, E, M, K, G, BellHandle<B>>, AllocError> {
-        make_kits(self.rt, gates, hall, &self.bell)
+    ) -> Result<Kits<W, Over<R, E, M, K, I, O, P, X, Z, G, BellHandle<B>>>, AllocError> {
+        let bells = (self.bell.handle()?, self.bell.handle()?);
+        make_kits::<W, Over<R, E, M, K, I, O, P, X, Z, G, BellHandle<B>>>(
+            self.rt, gates, hall, bells,
+        )
     }
 
     fn pair(
         &mut self,
-        kits: Kits<W, R, E, M, K, G, BellHandle<B>>,
+        kits: Kits<W, Over<R, E, M, K, I, O, P, X, Z, G, BellHandle<B>>>,
         guest: Guest<P, Arrival<E, M, K, I, O>, Linked<E, M, K, X, Z>>,
-    ) -> Pair<Work<W, R, E, M, K, I, O, P, G, BellHandle<B>, X, Z>> {
+    ) -> Pair<Work<W, Over<R, E, M, K, I, O, P, X, Z, G, BellHandle<B>>>> {
         match guest {
             Guest::Client(ports, arrival) => Pair {
                 owner: Owner::Client(arrival.reading.number()),
