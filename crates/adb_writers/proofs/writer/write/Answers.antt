@@ -1,24 +1,25 @@
 use Rattle.std.proofs.Common.{◌∙◌, arith, refl}
-use Rattle.adb_writers.specs.Writing.{client_side}
+use Rattle.adb_writers.specs.Writing.{side_of}
 use Rattle.adb_writers.proofs.Writings.{so_far_first, so_far_more, written_after}
-use Rattle.adb_writers.proofs.client_writer.write_client.Goals as goal
+use Rattle.adb_writers.proofs.writer.write.Goals as goal
 
 pub loop-init : goal.loop-init
 loop-init g c =
-    (tt, tt, refl, refl, omega arith, (λ a es t held. so_far_first (client_side c.args.pass.pass.number) es a _ _ held t))
+    (tt, tt, refl, refl, omega arith, (λ a es t held. so_far_first (side_of c.args.half c.args.pass.now.number) es a _ _ _ held t))
 
 pub returns-in-Idle-clause-told : goal.returns-in-Idle-clause-told
 returns-in-Idle-clause-told g c a es t held =
     let inv = c.loop.invariant in
     let x = inv.5 a es t held in
-    written_after (client_side c.args.pass.pass.number) es _ _ _ _ _ _ x (rw inv.2 at (c.in-Idle.ensures.told x.now x.entries x.is x.held))
+    written_after (side_of c.args.half c.args.pass.now.number) es _ _ _ _ _ _ _ _ x (rw inv.2 at (c.in-Idle.ensures.told x.now x.entries x.is x.held))
 
 pub returns-in-Stop-clause-told : goal.returns-in-Stop-clause-told
 returns-in-Stop-clause-told g c a es t held =
     let inv = c.loop.invariant in
     let x = inv.5 a es t held in
     rw (c.close.ensures.told, c.close.ensures.counts.stands refl, c.close.ensures.closed)
-    (written_after (client_side c.args.pass.pass.number) es _ _ _ _ _ _ x (rw inv.2 at (c.in-Stop.ensures.told x.now x.entries x.is x.held)))
+    (written_after (side_of c.args.half c.args.pass.now.number) es _ _ _ _ _ _ _ _ x
+    (rw inv.2 at (c.in-Stop.ensures.told x.now x.entries x.is x.held)))
 
 pub loop-preserved : goal.loop-preserved
 loop-preserved g c =
@@ -30,6 +31,6 @@ loop-preserved g c =
       omega (arith, c.turn.ensures.count, inv.4),
       (λ a es t held.
           let x = inv.5 a es t held in
-          so_far_more (client_side c.args.pass.pass.number) es _ _ _ _ _ x
+          so_far_more (side_of c.args.half c.args.pass.now.number) es _ _ _ _ _ _ _ _ x
           (rw inv.2 at (c.in-More.ensures.told x.now x.entries x.is x.held))),
     )
