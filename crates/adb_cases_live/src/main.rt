@@ -5,7 +5,9 @@
 mod binder;
 mod case;
 mod connections;
+mod halting;
 mod pipes;
+mod ports;
 mod rows;
 mod served;
 mod spawner;

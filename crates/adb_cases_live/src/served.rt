@@ -21,7 +21,7 @@ const SENDS: &[u8] = b"CNXN\x01\0\0\x01\0\x10\0\0\x08\0\0\0\0\0\0\0\xbc\xb1\xa7\
 /// A device of bytes in memory, which shares with the test what it is sent.
 type TestDevice<W> = Device<MemoryDeviceIn, SharedOut<W>>;
 
-/// How a server ended that is wanted to listen on port 5037, if its note says that it does.
+/// How a server ended that is to listen on port 5037, if its note says that it does.
 fn served<
     W: Threads + Wait + Copy + Send + Sync + Drop + 'static,
     Y: Yard + 'static,
@@ -29,8 +29,8 @@ fn served<
     Z: DeviceOut + Send + 'static,
 >(rt: W, alloc: Global, yard: Y, devices: Vec<Device<X, Z>>) -> Option<Served> {
     let mut note = MemorySink::new(alloc, Vec::new(alloc));
-    let served = serve(rt, alloc, yard, devices, 5037, true, &mut note);
-    (note.bytes() == LINE).then_some(served)
+    let ended = serve(rt, alloc, yard, devices, 5037, true, &mut note);
+    (note.bytes() == LINE).then_some(ended.served)
 }
 
 /// What the device sends, in pieces of ten bytes.
@@ -73,34 +73,32 @@ fn once(alloc: Global, call: u64) -> Result<Vec<u64>, AllocError> {
     Vec::from_slice(alloc, &[call])
 }
 
-/// The yard's calls fail that should, and the client comes, if it does.
+/// Makes the calls of a yard fail that should, and lets the client come, if it does. Returns what
+/// the client is sent.
 fn prepare<W: Wait + Copy + Send + Sync + Drop + 'static>(
     alloc: Global,
     row: Row,
     yard: &mut FakeYard<W>,
-) -> Result<(), AllocError> {
+) -> Result<Option<Sent<W>>, AllocError> {
     yard.fail_accepts(once(alloc, row.accept)?);
     yard.fail_spawns(once(alloc, row.spawn)?);
-    if row.comes {
-        let reads = once(alloc, row.read)?;
-        let writes = once(alloc, row.write)?;
-        yard.call(b"000Chost:version", reads, writes)?;
+    if !row.comes {
+        return Ok(None);
     }
-    Ok(())
+    let reads = once(alloc, row.read)?;
+    let writes = once(alloc, row.write)?;
+    Ok(Some(yard.call(b"000Chost:version", reads, writes)?))
 }
 
-fn yard<W: Wait + Copy + Send + Sync + Drop + 'static>(
-    rt: W,
-    alloc: Global,
-    row: Row,
-    kept: Kept<W>,
-) -> Result<FakeYard<W>, AllocError> {
-    let mut yard = FakeYard::new(rt, alloc, kept)?;
-    prepare(alloc, row, &mut yard)?;
-    Ok(yard)
+/// Whether the client's connection is closed, if the door let the client in.
+fn is_closed<W: Wait + Copy + Drop>(row: Row, client: &Option<Sent<W>>) -> bool {
+    match client {
+        Some(sent) => sent.is_closed() == (row.accept == 0),
+        None => true,
+    }
 }
 
-/// Whether the server ends so.
+/// Whether the server ends so, and closes the connection of its client.
 fn ends<W: Threads + Wait + Copy + Send + Sync + Drop + 'static>(
     rt: W,
     alloc: Global,
@@ -108,8 +106,10 @@ fn ends<W: Threads + Wait + Copy + Send + Sync + Drop + 'static>(
     kept: Kept<W>,
     devices: Vec<TestDevice<W>>,
 ) -> Result<bool, AllocError> {
-    let yard = yard(rt, alloc, row, kept)?;
-    Ok(served(rt, alloc, yard, devices) == Some(row.served))
+    let mut yard = FakeYard::new(rt, alloc, kept)?;
+    let client = prepare(alloc, row, &mut yard)?;
+    let ended = served(rt, alloc, yard, devices);
+    Ok(ended == Some(row.served) && is_closed(row, &client))
 }
 
 fn is_told<W: Wait + Copy + Drop>(kept: &Kept<W>, told: &[u8]) -> Result<bool, AllocError> {
