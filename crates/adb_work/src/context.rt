@@ -1,4 +1,4 @@
-//! What a worker owns besides its task.
+//! The context of a worker: everything that it owns besides its task.
 
 use crate::parts::{HallOf, Parts};
 use adb_connections::Bell;
