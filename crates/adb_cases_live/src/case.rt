@@ -1,4 +1,4 @@
-//! What is tried, each by itself.
+//! The cases, in the order in which they run.
 
 use crate::{binder, connections, halting, pipes, ports, served, spawner, streams, yard};
 use std::alloc::{AllocError, Global};
@@ -44,13 +44,14 @@ pub const CASES: &[Case] = &[
     Case::AYardGivesWhatItIsAsked,
 ];
 
-/// Which row does not hold of a case that has one.
+/// Returns the first row that does not hold of a case with one row.
 fn fault_of(holds: bool) -> Option<usize> {
     if holds { None } else { Some(0) }
 }
 
 impl Case {
-    /// The number of the first of its rows, from 0, that does not hold; `None` where all do.
+    /// Returns the number, counted from 0, of the first row that does not hold, or `None` if all
+    /// rows hold.
     pub fn first_fault<
         W: Net<Listener = TcpListener, Stream = TcpStream>
             + Threads

@@ -1,4 +1,4 @@
-//! Three clients of one server: what each port holds at the end.
+//! Three clients of one server, and the bytes that each port holds at the end.
 
 use adb_connections::{MemoryDeviceIn, MemoryDeviceOut};
 use adb_device_reader::Device;
@@ -9,7 +9,7 @@ use std::alloc::{AllocError, Global};
 use std::sync::Wait;
 use std::thread::Threads;
 
-/// What the clients send in order, and what each is sent.
+/// The bytes that each client sends, in order, and the bytes that it is sent.
 const PORTS: &[(&[u8], &[u8])] = &[
     (b"000Chost:version", b"OKAY00040029"),
     (b"000Chost:version", b"OKAY00040029"),

@@ -17,8 +17,8 @@ use std::alloc::{AllocError, Global};
 use std::sync::Wait;
 use std::thread::Threads;
 
-/// What the server makes the workers of: its runtime, its allocator, the bell of its door, what
-/// makes jobs, and its yard, which gives gates and binders.
+/// Everything from which the server makes workers: its runtime, its allocator, the bell of its door,
+/// its maker of jobs, and its yard, which gives gates and binders.
 #[derive(Drop)]
 pub(crate) struct Supplies<W: Drop, B: Drop, S: Drop, Y: Drop> {
     pub(crate) rt: W,
@@ -28,8 +28,8 @@ pub(crate) struct Supplies<W: Drop, B: Drop, S: Drop, Y: Drop> {
     pub(crate) yard: Y,
 }
 
-/// What a device needs before it is asked for: the contexts of its workers, and the reader of its
-/// packets.
+/// Everything that the server allocates for a device before it attaches it: the contexts of its
+/// workers and the reader of its packets.
 #[derive(Drop)]
 struct Provision<W: Wait + Copy + Drop, P: Parts> {
     contexts: Contexts<W, P>,
@@ -116,7 +116,7 @@ fn plug<W: Wait + Copy + Drop, P: Parts, Y: Yard<Ports = P::Binder, Gate = P::Ga
     Ok(())
 }
 
-/// Makes what the next device needs, and reserves its place in `plugged`. `AllocError`: an
+/// Makes the provision of the next device, and reserves its place in `plugged`. `AllocError`: an
 /// allocation failed, and `plugged` holds what it held.
 fn provide<
     W: Wait + Copy + Drop,

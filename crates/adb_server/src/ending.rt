@@ -11,7 +11,7 @@ use adb_desk_log::DeskError;
 use adb_hub::HubError;
 use adb_recorder::Recorder;
 
-/// The end of a server that an allocation failure kept from serving.
+/// Returns the end of a server that could not serve since an allocation failed.
 pub(crate) fn starved<R: Recorder>() -> Ended<R>
     ensures kept { KeepsHistory R.stands R.faults result.served result.recorder }
     ensures is { result.served ≡ Served.OutOfMemory }
@@ -22,7 +22,7 @@ pub(crate) fn starved<R: Recorder>() -> Ended<R>
     }
 }
 
-/// The end of a server whose workers have returned, from what is left of its desk. `None` for
+/// Returns the end of a server after all workers have returned, from what is left of its desk. `None` for
 /// `left`, which means that a handle of the hall is still in use, is reported as an allocation
 /// failure: no worker that has returned keeps a handle.
 #[tactic(auto, using(crate::proofs::Keeping::keeps_by))]
@@ -45,8 +45,8 @@ pub(crate) fn end_of<R: Recorder>(served: Served, left: Option<Left<R>>) -> Ende
     }
 }
 
-/// How a server ended whose accept loop ended with `served` and whose desk is shut with `shut`: the
-/// desk knows whether the recorder failed.
+/// Returns how a server ended, if its accept loop ended with `served` and its desk is shut with
+/// `shut`. The desk alone knows whether the recorder failed.
 fn served_by(shut: Option<DeskError>, served: Served) -> Served
     requires { served ≢ Served.WriteFault }
     ensures fault { is_record_fault result ≡ is_fault shut }

@@ -1,4 +1,4 @@
-//! What the server does after its hall refused a client or a device.
+//! Whether the server goes on after its hall refused a client or a device.
 
 ghost use Rattle.std.specs.Prelude.{◌≢◌, Err};
 ghost use Rattle.adb_desk_log.specs.declared.error.DeskError.{DeskError};
