@@ -1,4 +1,4 @@
-use Rattle.adb_server.proofs.server.serve.Given as goal
+use Rattle.adb_server.proofs.server.serve_at.Given as goal
 
 abbrev pub ghosts-serve_with-E-Ledger : goal.ghosts-serve_with-E-Ledger
 ghosts-serve_with-E-Ledger g a = record { name = a.entries.name; parts = a.entries.parts }
