@@ -4,7 +4,9 @@
 
 mod real_yard;
 
-pub use adb_live::{Errand, Lobby, Porter, Roll, SwitchRecorder, TcpBell, TcpBinder, TcpDoor};
+pub use adb_live::{
+    Entrance, Errand, Listeners, Porter, Roll, SwitchRecorder, TcpBell, TcpBinder, TcpDoor,
+};
 pub use adb_model_device::{DeviceEnd, PipeDeviceIn, PipeDeviceOut, run_device};
 pub use adb_sockets::{Ending, TcpDeviceIn, TcpDeviceOut, TcpIn, TcpOut, tcp_device};
 pub use real_yard::{Helpers, RealYard};

@@ -5,7 +5,8 @@ ghost use Rattle.adb_yard.specs.Yard.{FitsPort, is_deaf};
 
 use adb_connections::OpenGate;
 use adb_live::{
-    Errand, Lobby, Porter, Roll, SwitchRecorder, TcpBell, TcpBinder, TcpDoor, begin_porter,
+    Entrance, Errand, Listeners, Porter, Roll, SwitchRecorder, TcpBell, TcpBinder, TcpDoor,
+    begin_porter,
 };
 use adb_outside::Sink;
 use adb_sockets::{Ending, TcpIn, TcpOut, halves};
@@ -51,7 +52,7 @@ pub struct RealYard<
     rt: W,
     alloc: Global,
     ending: Ending,
-    lobby: Option<Arc<Lobby, Global>>,
+    listeners: Option<Arc<Listeners, Global>>,
     porter: Arc<Porter<K>, Global>,
     roll: Arc<Roll, Global>,
     sink: Option<K>,
@@ -78,7 +79,7 @@ impl<
             rt,
             alloc,
             ending,
-            lobby: None,
+            listeners: None,
             porter: begin_porter(rt, alloc)?,
             roll: Arc::new(alloc, Roll::new(alloc))?,
             sink: Some(sink),
@@ -106,32 +107,13 @@ fn open<W: Net<Listener = TcpListener, Stream = TcpStream>>(
     Ok((listener, address))
 }
 
-/// The lobby of a door at an address, for the door, its bell, and the ports of forwards.
-#[derive(Drop)]
-struct Lobbies {
-    door: Arc<Lobby, Global>,
-    bell: Arc<Lobby, Global>,
-    ports: Arc<Lobby, Global>,
-}
-
-impl Lobbies {
-    fn new(alloc: Global, address: SocketAddr, ending: &Ending) -> Result<Lobbies, AllocError> {
-        let lobby = Arc::new(alloc, Lobby::new(alloc, address, ending.share()?))?;
-        Ok(Lobbies {
-            door: Arc::try_clone(&lobby)?,
-            bell: Arc::try_clone(&lobby)?,
-            ports: lobby,
-        })
-    }
-}
-
-/// A door and its bell at a port of this machine, and the lobby of both.
+/// A door and its bell at a port of this machine, and the listeners of both.
 fn listen<W: Net<Listener = TcpListener, Stream = TcpStream> + Wait + Copy + Drop>(
     rt: W,
     alloc: Global,
     ending: &Ending,
     port: u16,
-) -> Option<(Listening<TcpDoor<W>, TcpBell<W>>, Arc<Lobby, Global>)>
+) -> Option<(Listening<TcpDoor<W>, TcpBell>, Arc<Listeners, Global>)>
     ensures { IfSome result (λ here. FitsPort port here.0 × (is_deaf here.0 ≡ false)) }
 {
     let (listener, address) = open(&rt, port).ok()?;
@@ -139,10 +121,12 @@ fn listen<W: Net<Listener = TcpListener, Stream = TcpStream> + Wait + Copy + Dro
     if bound == 0 || port != 0 && bound != port {
         return None;
     }
-    let lobbies = Lobbies::new(alloc, address, ending).ok()?;
-    let door = TcpDoor::new(rt, alloc, listener, lobbies.door);
-    let bell = TcpBell::new(rt, lobbies.bell);
-    Some((Listening::Here(door, bell, bound), lobbies.ports))
+    let Entrance {
+        door,
+        bell,
+        listeners,
+    } = Entrance::new(rt, alloc, listener, ending).ok()?;
+    Some((Listening::Here(door, bell, bound), listeners))
 }
 
 /// Starts the thread that writes the record; whether it was started.
@@ -181,11 +165,11 @@ impl<
 > Yard for RealYard<W, K> {
     type Door = TcpDoor<W>;
 
-    type Bell = TcpBell<W>;
+    type Bell = TcpBell;
 
     type Keeper = SwitchRecorder<W>;
 
-    type Ports = TcpBinder<W, K>;
+    type Ports = TcpBinder<W>;
 
     type Gate = OpenGate;
 
@@ -204,10 +188,10 @@ impl<
     ghost answers = { λ yard. None };
 
     /// Listens on this machine alone.
-    fn listen(&mut self, port: u16) -> Listening<TcpDoor<W>, TcpBell<W>> {
+    fn listen(&mut self, port: u16) -> Listening<TcpDoor<W>, TcpBell> {
         match listen(self.rt, self.alloc, &self.ending, port) {
-            Some((listening, lobby)) => {
-                self.lobby = Some(lobby);
+            Some((listening, listeners)) => {
+                self.listeners = Some(listeners);
                 listening
             }
             None => {
@@ -232,12 +216,12 @@ impl<
         Staff::Threads
     }
 
-    fn ports(&mut self) -> TcpBinder<W, K> {
-        let lobby = match &self.lobby {
-            Some(lobby) => Arc::try_clone(lobby).ok(),
+    fn ports(&mut self) -> TcpBinder<W> {
+        let listeners = match &self.listeners {
+            Some(listeners) => Arc::try_clone(listeners).ok(),
             None => None,
         };
-        TcpBinder::new(self.rt, lobby, Arc::try_clone(&self.porter).ok())
+        TcpBinder::new(self.rt, listeners)
     }
 
     fn gate(&mut self) -> OpenGate {

@@ -19,7 +19,7 @@ struct Line {
     ending: Ending,
 }
 
-/// What a device sends that listens on a port of this machine. It tells nothing.
+/// The half of a link to a device at a port of this machine that is read. It tells nothing.
 #[derive(Drop)]
 pub struct TcpDeviceIn<W: Net<Listener = TcpListener, Stream = TcpStream> + Drop> {
     rt: W,
@@ -28,8 +28,8 @@ pub struct TcpDeviceIn<W: Net<Listener = TcpListener, Stream = TcpStream> + Drop
     faults: u64,
 }
 
-/// What such a device is sent. A write to one that does not read waits until the server ends, and
-/// fails then. It tells nothing.
+/// The half of such a link that is written to. A write to a device that does not read waits until the
+/// server ends, and fails then. It tells nothing.
 #[derive(Drop)]
 pub struct TcpDeviceOut {
     line: Arc<Line, Global>,
@@ -37,7 +37,8 @@ pub struct TcpDeviceOut {
     faults: u64,
 }
 
-/// The two halves of a link to the device at a port, which is not plugged in yet.
+/// The two halves of a link to the device at a port, which is not plugged in yet. It fails at an
+/// allocation failure.
 pub fn tcp_device<W: Net<Listener = TcpListener, Stream = TcpStream> + Drop>(
     rt: W,
     alloc: Global,
@@ -106,7 +107,7 @@ impl<W: Net<Listener = TcpListener, Stream = TcpStream> + Drop> DeviceIn for Tcp
 
     ghost steady = { λ device. ⊥ };
 
-    /// Connects. Where nobody listens on the port the device will not come.
+    /// Connects. If the port refuses the connection the device will not come.
     fn plug(&mut self) -> Plug {
         let plug = plug(&self.rt, self.port, &self.line);
         if plug == Plug::Failed {
@@ -144,7 +145,7 @@ impl DeviceOut for TcpDeviceOut {
         self.write_both(&[], piece)
     }
 
-    /// Both parts by one call of the system, where that takes them whole.
+    /// Writes both parts by one call of the system, if that takes them whole.
     fn write_both(&mut self, start: &[u8], rest: &[u8]) -> Wrote {
         let wrote = match self.line.stream.get() {
             Some(stream) => send(stream, &self.line.ending, start, rest),
@@ -156,7 +157,7 @@ impl DeviceOut for TcpDeviceOut {
         wrote
     }
 
-    /// Ends both directions, so that the half that reads ends too.
+    /// Shuts both directions down, which ends the reads of the other half too.
     fn unplug(&mut self) {
         if let Some(stream) = self.line.stream.get() {
             let _ = stream.shutdown(Shutdown::Both);
