@@ -20,6 +20,9 @@ pub const MAX_CHUNKS: usize = 1_024;
 /// Chunks are gathered into one write until they have this many bytes.
 const BATCH: usize = 65_536;
 
+/// A chunk of at least this many bytes is written by itself, so that it is not copied.
+const LARGE: usize = 16_384;
+
 /// The state of a thread that has written.
 #[derive(Drop)]
 pub struct Written<W: Wait + Drop, K: Drop> {
@@ -36,7 +39,7 @@ pub struct Written<W: Wait + Drop, K: Drop> {
 pub enum Next {
     /// Nothing that was taken.
     More,
-    /// A chunk that was taken. An allocation failed, so it is not in the batch.
+    /// A chunk that was taken and is not in the batch: it is large, or an allocation failed.
     Chunk(Text),
     /// The end mark.
     End,
@@ -58,6 +61,9 @@ fn gather_one<W: Wait + Drop>(input: &mut PipeIn<W>, batch: &mut Text) -> Option
         Some(Taken::Lost) => Some(Next::More),
         Some(Taken::End) => Some(Next::End),
         Some(Taken::Chunk(chunk)) => {
+            if chunk.len() >= LARGE {
+                return Some(Next::Chunk(chunk));
+            }
             if batch.push_slice(chunk.as_slice()).is_err() {
                 return Some(Next::Chunk(chunk));
             }
