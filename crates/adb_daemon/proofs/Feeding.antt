@@ -2,7 +2,7 @@
 use Rattle.std.specs.Prelude.{ℕ, ◌≡◌, ◌≢◌, ◌<◌, Bool, true, false, List, [], ◌∷◌, ◌++◌, fold, Option, Some, None, option_map, Result, Ok, Err}
 use Rattle.std.proofs.Common.{refl, sym, ◌∙◌, ap, subst, inl}
 use Rattle.std.proofs.lemmas.Bool.{true≢false}
-use Rattle.std.proofs.lemmas.List.{append_assoc}
+use Rattle.std.proofs.lemmas.List.{append-nil, append_assoc}
 use Rattle.std.proofs.lemmas.List.Elements.{All-append}
 use Rattle.adb_wire.specs.declared.command.Command.{Command}
 use Rattle.adb_wire.specs.declared.command.Command.TheVariants as commands
@@ -21,7 +21,7 @@ use Rattle.adb_daemon.specs.Serving.{Serving, sent_bytes}
 use Rattle.adb_daemon.specs.Device.{Device, Setting, step, first_device, device_behind}
 use Rattle.adb_daemon.specs.Held.{CutFiles}
 use Rattle.adb_daemon.specs.Behind.{Stands, setting_of}
-use Rattle.adb_daemon.specs.Daemon.{HasDone, HasDoneFront, Answers, CutAt, Treats, TreatsFront, daemon_of, device_of, verdict, error_of, ran_out, answer_to}
+use Rattle.adb_daemon.specs.Daemon.{CutsOff, HasDone, HasDoneFront, Answers, CutAt, Treats, TreatsFront, daemon_of, device_of, verdict, error_of, ran_out, answer_to}
 use Rattle.adb_daemon.proofs.Machines.{step_more, all_refused}
 
 -- files as before are those behind a front of what a packet asks for
@@ -34,7 +34,7 @@ cut_none commands.Clse p s files is = is
 cut_none commands.Auth p s files is = is
 cut_none commands.Stls p s files is = is
 
-cut_at_none : (rest : List Packet) (s : Serving) (files : List Entry) → files ≡ s.files → CutAt rest s files
+pub cut_at_none : (rest : List Packet) (s : Serving) (files : List Entry) → files ≡ s.files → CutAt rest s files
 cut_at_none [] s files is = is
 cut_at_none (p ∷ more) s files is = cut_none p.command p s files is
 
@@ -113,6 +113,19 @@ module _ (setting : Setting) (fed taken piece : List ℕ) (read : Deframing) (ma
         files = cut_at_none on.others (device_of setting fed).serving machine.services.files h.stands.holds.files;
       }
 
+  -- no packet of the piece was treated
+  pub read_cut : IsBytes piece → CutsOff setting (parts_of fed).packets (parts_of all).packets machine.services.files
+  read_cut bytes =
+      let on = goes_on bytes in
+      let none = append-nil before in
+      record {
+        more = [];
+        rest = on.others;
+        is = on.begins ∙ ap (λ (ps : List Packet). ps ++ on.others) (sym none);
+        files = subst (λ (ps : List Packet). CutAt on.others (device_behind setting ps).serving machine.services.files) (sym none)
+            (cut_at_none on.others (device_of setting fed).serving machine.services.files h.stands.holds.files);
+      }
+
   module _ (bytes : IsBytes piece) (open_still : machine.refused ≡ false) (mid : Deframing) (takes : Takes read piece mid) where
     reads : StandsFor all before mid
     reads = takes.stands fed before (h.reads (sym h.stands.refused ∙ open_still))
@@ -137,6 +150,21 @@ module _ (setting : Setting) (fed taken piece : List ℕ) (read : Deframing) (ma
           rest = t.packet ∷ t.rest;
           is = packets_are ∙ (ap (λ (ps : List Packet). before ++ ps) t.is ∙ sym (append_assoc before t.front (t.packet ∷ t.rest)));
           given_out = t.given_out ∙ ap (λ (d : Device). sent_bytes d.serving.made) (sym behind);
+          files = subst (λ (d : Device). CutFiles t.packet.command t.packet d.serving machine'.services.files) (sym behind) t.files;
+        }
+
+    pub treat_cut : (machine' : Machine)
+        → ((files : List Entry) (d : Device) (gone : List ℕ) → Stands d gone machine
+        → TreatsFront (setting_of machine.most machine.credit files) d mid.given gone machine')
+        → CutsOff setting (parts_of fed).packets (parts_of all).packets machine'.services.files
+    treat_cut machine' front =
+        let t = subst (λ (s : Setting). TreatsFront s (device_of setting fed) mid.given taken machine') same_setting
+        (front setting.files (device_of setting fed) taken h.stands) in
+        let behind = step_more setting (first_device setting) before t.front in
+        record {
+          more = t.front;
+          rest = t.packet ∷ t.rest;
+          is = packets_are ∙ (ap (λ (ps : List Packet). before ++ ps) t.is ∙ sym (append_assoc before t.front (t.packet ∷ t.rest)));
           files = subst (λ (d : Device). CutFiles t.packet.command t.packet d.serving machine'.services.files) (sym behind) t.files;
         }
 

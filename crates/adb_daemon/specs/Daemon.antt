@@ -83,6 +83,13 @@ pub record HasDoneFront (setting : Setting) (fed taken : List ℕ) (daemon : Dae
   pub given_out : taken ++ owed daemon ≡ sent_bytes (device_behind setting front).serving.made
   pub files : CutAt rest (device_behind setting front).serving (files_of daemon)
 
+-- Memory ran out as more packets came: some more of them were treated, and the files are those after them, or after a prefix of what the next one asks for.
+pub record CutsOff (setting : Setting) (before all : List Packet) (left : List Entry) : Type 0 where
+  pub more : List Packet
+  pub rest : List Packet
+  pub is : all ≡ (before ++ more) ++ rest
+  pub files : CutAt rest (device_behind setting (before ++ more)).serving left
+
 -- Packets were treated up to one at which memory ran out.
 pub record TreatsFront (setting : Setting) (d : Device) (packets : List Packet) (taken : List ℕ) (machine : Machine) : Type 0 where
   pub front : List Packet

@@ -2,6 +2,7 @@
 
 ghost use Rattle.std.specs.Prelude.{◌≡◌, ◌≢◌, ◌≤◌, ◌++◌, [], ℕ, List, Err, true, false, Option, length, take, drop, option_map, OnOk, OnErr, IfOk};
 ghost use Rattle.adb_wire.specs.declared.headers.TheConstants.{MAX_PAYLOAD};
+ghost use Rattle.adb_wire.specs.Cutting.{parts_of};
 ghost use Rattle.adb_wire.specs.declared.format.PacketFault.{PacketFault};
 ghost use Rattle.adb_wire.specs.Header.{IsBytes};
 ghost use Rattle.adb_wire.specs.declared.limits.TheConstants.{MIN_MAXDATA};
@@ -9,7 +10,7 @@ ghost use Rattle.adb_wire.specs.Deframing.{Takes};
 ghost use Rattle.adb_files.specs.Entries.{Entry};
 ghost use Rattle.adb_daemon.specs.Device.{Device, Setting};
 ghost use Rattle.adb_daemon.specs.Behind.{Stands, setting_in, setting_of};
-ghost use Rattle.adb_daemon.specs.Daemon.{HasDone, HasDoneFront, Answers, Treats, TreatsFront, daemon_of, error_of, files_of, owed, ran_out, verdict};
+ghost use Rattle.adb_daemon.specs.Daemon.{CutsOff, HasDone, HasDoneFront, Answers, Treats, TreatsFront, daemon_of, error_of, files_of, owed, ran_out, verdict};
 
 use crate::error::DaemonError;
 use crate::machine::Machine;
@@ -50,9 +51,12 @@ impl Daemon {
     /// Takes the next piece of what the host sends. Each whole packet is treated in order.
     /// `BadCnxn` comes exactly where one of the packets is a CNXN that is refused; else `Broken`
     /// exactly where the bytes have a fault, which is that of `Deframer`. Both stay, and nothing
-    /// behind them is treated. After want of memory the device is spent: every call answers it and
-    /// changes nothing. What it owes is then that of a front of the packets, and the files are
-    /// those behind it, or behind a front of what the next packet asks for.
+    /// behind them is treated.
+    ///
+    /// - `OutOfMemory`: an allocation failed. The device is spent: every later call returns
+    ///   `OutOfMemory` and changes nothing. What the device owes is that of a prefix of the packets.
+    ///   The files are those after all packets of earlier pieces and a prefix of the new ones, or
+    ///   after a prefix of what the next packet asks for.
     pub fn feed(&mut self, piece: &[u8]) -> Result<(), DaemonError>
         ensures whole { result ≢ Err DaemonError.OutOfMemory → (setting : Setting)
             (fed taken : List ℕ) → HasDone setting fed taken self.old
@@ -60,6 +64,10 @@ impl Daemon {
         ensures front { result ≡ Err DaemonError.OutOfMemory → (setting : Setting)
             (fed taken : List ℕ) → HasDone setting fed taken self.old
             → HasDoneFront setting (fed ++ piece.now) taken self.new }
+        ensures cut { result ≡ Err DaemonError.OutOfMemory → (setting : Setting)
+            (fed taken : List ℕ) → HasDone setting fed taken self.old
+            → CutsOff setting (parts_of fed).packets (parts_of (fed ++ piece.now)).packets
+            (files_of self.new) }
         ensures spent { result ≡ Err DaemonError.OutOfMemory → self.new.spent ≡ true }
         ensures stays { self.old.spent ≡ true
             → (result ≡ Err DaemonError.OutOfMemory) × (self.new ≡ self.old) }
@@ -134,6 +142,10 @@ fn feed_open(
     ensures front { result ≡ Err DaemonError.OutOfMemory → (setting : Setting)
         (fed taken : List ℕ) → HasDone setting fed taken (daemon_of deframer.old machine.old)
         → HasDoneFront setting (fed ++ piece.now) taken (daemon_of deframer.new machine.new) }
+    ensures cut { result ≡ Err DaemonError.OutOfMemory → (setting : Setting)
+        (fed taken : List ℕ) → HasDone setting fed taken (daemon_of deframer.old machine.old)
+        → CutsOff setting (parts_of fed).packets (parts_of (fed ++ piece.now)).packets
+        machine.new.services.files }
 {
     if machine.refused {
         return Err(DaemonError::BadCnxn);

@@ -101,6 +101,13 @@ module _ (first : List Entry) (past : List Came) (taken : List ℕ) (came : Came
         sym (ap (λ t. cond t came.files (served_by past came).files) ended),
       )
 
+  -- the files after a prefix of the requests, if the service goes on, and if it has ended
+  files_up_to : (ended : Bool) → (sync_answer past).ended ≡ ended → (k : ℕ)
+      → sync_files (sync_answer past).ended came.files (serve_all came.files (take k (completed_by (bytes_in past) came.bytes)))
+      ≡ sync_files ended came.files (serve_all came.files (take k (completed_by (bytes_in past) came.bytes)))
+  files_up_to ended is k =
+      ap (λ (t : Bool). sync_files t came.files (serve_all came.files (take k (completed_by (bytes_in past) came.bytes)))) is
+
   -- memory ran out in a service that goes on
   pub front_on : (old new : Service) (files : List Entry) → old.ended ≡ false → HasAnswered Syncs first past taken (services.Sync old)
       → FeedsFront (bytes_in past) came.bytes old new came.files files
@@ -125,8 +132,9 @@ module _ (first : List Entry) (past : List Came) (taken : List ℕ) (came : Came
         (
           length done,
           front.files
-              ∙ ap (λ (rs : List Request). (serve_all came.files rs).files)
-              (sym (ap (take (length done)) (completed (bytes_in past) came.bytes feeds.requests feeds.is ∙ whole) ∙ take-append_seam done front.back)),
+              ∙ (ap (λ (rs : List Request). (serve_all came.files rs).files)
+              (sym (ap (take (length done)) (completed (bytes_in past) came.bytes feeds.requests feeds.is ∙ whole) ∙ take-append_seam done front.back))
+              ∙ sym (files_up_to false goes (length done))),
         ),
       )
 
@@ -137,23 +145,21 @@ module _ (first : List Entry) (past : List Came) (taken : List ℕ) (came : Came
       let answer = more_over (sync_answer past) (served_by past came) (sym has.ends ∙ over) in (
         starts_with_of_append (sync_answer (came ∷ past)).bytes (taken ++ old.out) []
             (ap (λ (a : Answer). a.bytes) answer ∙ (sym has.given_out ∙ sym (append-nil (taken ++ old.out)))),
-        (0, refl),
+        (0, sym (files_up_to true (sym has.ends ∙ over) 0)),
       )
 
 -- The files that a payload leaves are those behind all the sync requests that it makes whole.
 pub whole_front : (kind : Kind) (past : List Came) (came : Came) (files : List Entry) → files ≡ files_fed kind past came → HasFrontOfFiles kind past came files
 whole_front Echoes past came files is = is
 whole_front (Shells packets command) past came files is = is
-whole_front Syncs past came files is = go (sync_answer past).ended is
+whole_front Syncs past came files is =
+    (length requests, is ∙ ap (λ (rs : List Request). sync_files (sync_answer past).ended came.files (serve_all came.files rs)) (sym all))
   where
     requests : List Request
     requests = completed_by (bytes_in past) came.bytes
 
-    go : (ended : Bool) → files ≡ sync_files ended came.files (served_by past came) → HasFrontOfFiles Syncs past came files
-    go true same = (0, same)
-    go false same =
-        let all = take_all (length requests) requests (omega arith) in
-        (length requests, same ∙ ap (λ (rs : List Request). (serve_all came.files rs).files) (sym all))
+    all : take (length requests) requests ≡ requests
+    all = take_all (length requests) requests (omega arith)
 
 -- what holds at an error, where it holds at all
 pub at_err : {T E : Type 0} (P : Type 0) (result : Result T E) → P → OnErr result P

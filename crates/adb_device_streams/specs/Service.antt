@@ -85,10 +85,12 @@ pub record HasAnswered (kind : Kind) (first : List Entry) (past : List Came) (ta
   pub given_out : taken ++ out_of service ≡ (service_answer kind first past).bytes
   pub ends : ended_of service ≡ (service_answer kind first past).ended
 
--- Memory ran out at a payload: the files are those behind a front of the sync requests that it makes whole.
+-- Memory ran out at a payload: the files are those after a prefix of the sync requests that it makes whole, if the service had not ended.
 abbrev pub HasFrontOfFiles : Kind → List Came → Came → List Entry → Type 0
 HasFrontOfFiles Echoes past came files = files ≡ came.files
-HasFrontOfFiles Syncs past came files = (k : ℕ) × (files ≡ (serve_all came.files (take k (completed_by (bytes_in past) came.bytes))).files)
+HasFrontOfFiles Syncs past came files =
+    (k : ℕ)
+    × (files ≡ sync_files (sync_answer past).ended came.files (serve_all came.files (take k (completed_by (bytes_in past) came.bytes))))
 HasFrontOfFiles (Shells packets command) past came files = files ≡ came.files
 
 -- A payload was taken, over the files that stood: the answer is that to all that came with it, and the files are those that it leaves.

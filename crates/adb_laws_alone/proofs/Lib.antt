@@ -4,3 +4,5 @@ mod Alone
 pub mod Through
 mod Together
 mod Rows
+mod Asked
+pub mod InPart

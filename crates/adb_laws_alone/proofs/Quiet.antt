@@ -33,7 +33,7 @@ drop_all [] = refl
 drop_all (x ∷ xs) = drop_all xs
 
 -- nothing that comes makes no request whole
-none_completed : (before : List ℕ) → completed_by before [] ≡ []
+pub none_completed : (before : List ℕ) → completed_by before [] ≡ []
 none_completed before =
     ap (λ (x : List ℕ). drop (length (requests_in before)) (requests_in x)) (append-nil before) ∙ drop_all (requests_in before)
 

@@ -1,40 +1,26 @@
 -- The rows of streams that run over one set of files.
-use Rattle.std.specs.Prelude.{ℕ, ◌+◌, ◌-◌, ◌^◌, ◌≡◌, ◌≢◌, ◌==◌, ◌||◌, ◌⊎◌, ◌≤◌, ◌<◌, ◌&&◌, nat_eq, if◌then◌else◌, Bool, true, false, cond, List, [], ◌∷◌, ◌++◌, length, map, fold}
+use Rattle.std.specs.Prelude.{ℕ, ◌≡◌, ◌≢◌, ◌⊎◌, ◌≤◌, ◌<◌, Bool, true, false, cond, List, [], ◌∷◌, ◌++◌, map}
 use Rattle.std.specs.Prelude.{Option, Some, None}
-use Rattle.std.proofs.Common.{refl, sym, ◌∙◌, ap, subst, arith, inl, inr, append_assoc}
-use Rattle.std.specs.List.{AllByRecursion}
+use Rattle.std.proofs.Common.{refl, sym, ◌∙◌, ap, subst, inl, inr}
 use Rattle.std.specs.List.Sorted.{IsStrictlySortedBy}
-use Rattle.std.proofs.lemmas.Bool.{cases_eq, cases_lt, eq-eqb, ne_eqb, eqb-true}
-use Rattle.std.proofs.lemmas.List.{append-nil}
+use Rattle.std.proofs.lemmas.Bool.{cases_eq, eq-eqb, ne_eqb}
 use Rattle.adb_outside.specs.Tables.{at, IsRising, put_at, without}
 use Rattle.adb_outside.proofs.TableLaws.{put_at_rises, without_rises}
-use Rattle.adb_wire.specs.Format.{is_cnxn}
-use Rattle.adb_wire.specs.declared.command.Command.{Command}
-use Rattle.adb_wire.specs.declared.command.Command.TheVariants as commands
 use Rattle.adb_wire.specs.declared.packets.Packet.{Packet}
 use Rattle.adb_files.specs.Entries.{Entry}
 use Rattle.adb_history.specs.Births.{count_from, is_open}
 use Rattle.adb_device_streams.specs.Asked.{Kind}
-use Rattle.adb_device_streams.specs.Link.{credit_word_in, link_of}
-use Rattle.adb_device_streams.specs.Service.{Came, came_over, files_fed, files_opened}
-use Rattle.adb_device_streams.specs.Stream.{Row, is_done, okay, opened, opening_word, row_acked, row_took, row_written, writes}
+use Rattle.adb_device_streams.specs.Service.{Came}
+use Rattle.adb_device_streams.specs.Stream.{Row, is_done, row_written}
 use Rattle.adb_device_streams.specs.declared.link.Link.{Link}
-use Rattle.adb_daemon.specs.Device.{Device, Setting, device_behind, first_device, linked_to, served_on, step, treated}
-use Rattle.adb_daemon.specs.Serving.{Ended, Serving, acked_to, closable, closed_to, credit_of, ended_at, all_gone, granted, is_taken, kind_for, named}
-use Rattle.adb_daemon.specs.Serving.{on_close, on_okay, on_open, on_write, open_as, owing, sent_ack, sent_writes, served, settled, settled_as}
-use Rattle.adb_daemon.specs.Serving.{with_sum, written_to}
+use Rattle.adb_daemon.specs.Serving.{Ended, Serving, ended_at}
+use Rattle.adb_daemon.specs.Serving.{owing, sent_writes, settled, settled_as}
 use Rattle.adb_daemon.specs.Streams.{over_at}
-use Rattle.adb_daemon.proofs.Machines.{step_more}
-use Rattle.adb_daemon.proofs.Rules.{named_is, closable_is, or_over, all_over}
+use Rattle.adb_daemon.proofs.Rules.{or_over, all_over}
 use Rattle.adb_laws_model_device.proofs.Tables.{put_found, left_found}
-use Rattle.adb_laws_alone.specs.Alone.{AsksNone, Every}
-use Rattle.adb_laws_alone.specs.Calls.{Ask, Call, asks_of, files_after}
-use Rattle.adb_laws_alone.specs.Together.{IsAskedIn, IsOfLater, RanThrough, RanTogether, RowRan, RunTogether}
-use Rattle.adb_laws_alone.proofs.Alone.{none_unasked}
-use Rattle.adb_laws_alone.proofs.Quiet.{fed_none}
-use Rattle.adb_laws_alone.proofs.Through.{asks_fed, asks_opened, asks_other, calls_of, feeds_through, files_fed_through, files_opened_through}
-use Rattle.adb_laws_alone.proofs.Through.{opens_through, stays_through}
-use Rattle.adb_laws_alone.proofs.Watching.{IsSameRow, acked_same, host_of, written_same}
+use Rattle.adb_laws_alone.specs.Calls.{Call}
+use Rattle.adb_laws_alone.specs.Together.{IsOpenedFor, RanThrough, RowRan}
+use Rattle.adb_laws_alone.proofs.Watching.{IsSameRow, written_same}
 
 -- one more has ended: this one, or one that had ended
 pub one_over : (closed : Bool) (q : ℕ) (row : Row) (ended : List Ended) (own : ℕ) (e : Ended) → over_at own (ended_at closed (q, row) ∷ ended) ≡ Some e
@@ -56,6 +42,7 @@ pub record Holding (first : List Entry) (calls : List Call) (place : ℕ → ℕ
   pub here : place row.host ≡ own
   pub within : own ≤ drawn
   pub asked : 1 ≤ count_from is_open row.host done
+  pub known : IsOpenedFor row.host row.kind done
 
 pub holds_same : {first : List Entry} {calls : List Call} {place : ℕ → ℕ} {drawn : ℕ} {done : List Packet} {own : ℕ} (a b : Row) → IsSameRow a b
     → Holding first calls place drawn done own a → Holding first calls place drawn done own b
@@ -67,6 +54,7 @@ holds_same {first} {calls} {place} {drawn} {done} {own} a b same h = record {
   here = ap place same.host ∙ h.here;
   within = h.within;
   asked = subst (λ (l : ℕ). 1 ≤ count_from is_open l done) (sym same.host) h.asked;
+  known = subst (λ (l : ℕ). IsOpenedFor l b.kind done) (sym same.host) (subst (λ (k : Kind). IsOpenedFor a.host k done) (sym same.kind) h.known);
 }
 
 module _ (d : ℕ) (first : List Entry) (calls : List Call) (place : ℕ → ℕ) (drawn : ℕ) (done : List Packet) where

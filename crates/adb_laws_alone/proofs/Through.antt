@@ -1,7 +1,8 @@
 -- Services that run through calls: what one more call leaves of each.
-use Rattle.std.specs.Prelude.{ℕ, ◌+◌, ◌≡◌, ◌≢◌, ◌==◌, ◌||◌, Bool, true, false, cond, List, [], ◌∷◌, ◌++◌, length, map, Option, Some, None}
-use Rattle.std.proofs.Common.{refl, sym, ◌∙◌, ap, subst, append_assoc}
-use Rattle.std.specs.List.{AllByRecursion, flat_map, list_any}
+use Rattle.std.specs.Prelude.{ℕ, ◌≡◌, ◌≢◌, ◌==◌, ◌||◌, Bool, true, false, cond, suc, List, [], ◌∷◌, ◌++◌, length, map, take, Option, Some, None}
+use Rattle.adb_outside.specs.Bytes.{IsPrefixOf}
+use Rattle.std.proofs.Common.{refl, sym, ◌∙◌, ap, append_assoc}
+use Rattle.std.specs.List.{AllByRecursion}
 use Rattle.std.proofs.lemmas.Bool.{eq-eqb, ne_eqb}
 use Rattle.std.proofs.lemmas.List.{append-nil}
 use Rattle.std.proofs.lemmas.List.Folds.{list_any-append}
@@ -16,9 +17,9 @@ use Rattle.adb_files.specs.Served.{Served, send_by, send_moded, sent_file, serve
 use Rattle.adb_shell_service.specs.Service.{Answer, shell_answer}
 use Rattle.adb_shell_service.proofs.Answering.{ended_stays}
 use Rattle.adb_device_streams.specs.Asked.{Kind, Echoes, Syncs, Shells}
-use Rattle.adb_device_streams.specs.Service.{Came, bytes_in, came_over, completed_by, files_fed, files_opened, served_by, service_answer, sync_answer, sync_files, sync_more}
-use Rattle.adb_laws_payloads.proofs.Payloads.{Further, completes, further}
-use Rattle.adb_laws_alone.specs.Calls.{Ask, Call, Runs, Serves, answer_if, answer_in, answer_over, answers_of, ask_if, asks_in, asks_of, call_of}
+use Rattle.adb_device_streams.specs.Service.{Came, bytes_in, came_over, completed_by, files_fed, files_opened, served_by, service_answer, sync_answer, sync_files}
+use Rattle.adb_laws_payloads.proofs.Payloads.{completes, further}
+use Rattle.adb_laws_alone.specs.Calls.{AreFirst, Ask, Call, Runs, Serves, answer_if, answer_in, answer_over, answers_of, ask_if, asks_in, asks_of, call_of}
 use Rattle.adb_laws_alone.specs.Calls.{files_after, files_past, found_by, has_last, is_last, up_to_last}
 use Rattle.adb_laws_alone.specs.Together.{AnswersThrough, RanThrough}
 
@@ -27,7 +28,7 @@ pub files_both : (files : List Entry) (xs ys : List Call) → files_after files 
 files_both files [] ys = refl
 files_both files (x ∷ xs) ys = files_both (files_past files x.ask) xs ys
 
-asks_both : (l : ℕ) (xs ys : List Call) → asks_of l (xs ++ ys) ≡ asks_of l xs ++ asks_of l ys
+pub asks_both : (l : ℕ) (xs ys : List Call) → asks_of l (xs ++ ys) ≡ asks_of l xs ++ asks_of l ys
 asks_both l [] ys = refl
 asks_both l (x ∷ xs) ys =
     ap (λ (asks : List Ask). ask_if l x ++ asks) (asks_both l xs ys) ∙ sym (append_assoc (ask_if l x) (asks_of l xs) (asks_of l ys))
@@ -95,7 +96,7 @@ moded_goes_on : (files : List Entry) (path bytes : List ℕ) (mtime : ℕ) (o : 
 moded_goes_on files path bytes mtime None = refl
 moded_goes_on files path bytes mtime (Some mode) = send_goes_on files path (sent_file mode mtime bytes) (put_refusal files path (length bytes))
 
-last_ends : (files : List Entry) (request : Request) → (serve_one files request).ended ≡ is_last request
+pub last_ends : (files : List Entry) (request : Request) → (serve_one files request).ended ≡ is_last request
 last_ends files (Stats path) = refl
 last_ends files (Lists path) = refl
 last_ends files (Receives path) = refl
@@ -107,7 +108,7 @@ last_ends files (Sends path mode bytes mtime) = go (is_path path)
 last_ends files Quits = refl
 last_ends files (Fails fault) = refl
 
-abbrev asks_for : List Request → List Ask
+abbrev pub asks_for : List Request → List Ask
 asks_for requests = map Serves (up_to_last requests)
 
 -- what is served, by whether the first request ends the service
@@ -135,12 +136,12 @@ module _ (one : Served) (more : List Entry → Served) where
       })) is
 
 -- Requests that are served one behind the other are calls.
-record AreCalls (l : ℕ) (files : List Entry) (requests : List Request) : Type 0 where
-  left : files_after files (calls_of l (asks_for requests)) ≡ (serve_all files requests).files
-  answer : answers_of l files (calls_of l (asks_for requests)) ≡ (serve_all files requests).answer
-  ended : (serve_all files requests).ended ≡ has_last requests
+pub record AreCalls (l : ℕ) (files : List Entry) (requests : List Request) : Type 0 where
+  pub left : files_after files (calls_of l (asks_for requests)) ≡ (serve_all files requests).files
+  pub answer : answers_of l files (calls_of l (asks_for requests)) ≡ (serve_all files requests).answer
+  pub ended : (serve_all files requests).ended ≡ has_last requests
 
-are_calls : (l : ℕ) (files : List Entry) (requests : List Request) → AreCalls l files requests
+pub are_calls : (l : ℕ) (files : List Entry) (requests : List Request) → AreCalls l files requests
 are_calls l files [] = record { left = refl; answer = refl; ended = refl }
 are_calls l files (request ∷ more) =
     let rest = are_calls l (serve_one files request).files more in
@@ -177,7 +178,7 @@ are_calls l files (request ∷ more) =
     ended rest false is = ap (λ (s : Served). s.ended) (on one later is) ∙ rest.ended
 
 -- requests behind others
-up_both : (xs ys : List Request) → up_to_last (xs ++ ys) ≡ up_to_last xs ++ cond (has_last xs) [] (up_to_last ys)
+pub up_both : (xs ys : List Request) → up_to_last (xs ++ ys) ≡ up_to_last xs ++ cond (has_last xs) [] (up_to_last ys)
 up_both [] ys = refl
 up_both (x ∷ xs) ys = ap (λ (rs : List Request). x ∷ rs) (go (is_last x) (up_both xs ys))
   where
@@ -186,11 +187,11 @@ up_both (x ∷ xs) ys = ap (λ (rs : List Request). x ∷ rs) (go (is_last x) (u
     go true rest = refl
     go false rest = rest
 
-map_both : (xs ys : List Request) → map Serves (xs ++ ys) ≡ map Serves xs ++ map Serves ys
+pub map_both : (xs ys : List Request) → map Serves (xs ++ ys) ≡ map Serves xs ++ map Serves ys
 map_both [] ys = refl
 map_both (x ∷ xs) ys = ap (λ (asks : List Ask). Serves x ∷ asks) (map_both xs ys)
 
-whole : (before piece : List ℕ) → requests_in (before ++ piece) ≡ requests_in before ++ completed_by before piece
+pub whole : (before piece : List ℕ) → requests_in (before ++ piece) ≡ requests_in before ++ completed_by before piece
 whole before piece =
     let f = further before piece in
     f.is ∙ ap (λ (rs : List Request). requests_in before ++ rs) (sym (completes before piece f))
@@ -231,7 +232,7 @@ files_opened_through first calls l Echoes = sym (files_both first calls [])
 files_opened_through first calls l Syncs = sym (files_both first calls [])
 files_opened_through first calls l (Shells packets command) = sym (files_both first calls (calls_of l (Runs command ∷ [])))
 
-at_first : (kind : Kind) → asks_opened kind ≡ asks_in kind []
+pub at_first : (kind : Kind) → asks_opened kind ≡ asks_in kind []
 at_first Echoes = refl
 at_first Syncs = refl
 at_first (Shells packets command) = refl
@@ -318,7 +319,7 @@ answers_fed first calls l Echoes opened past piece answers = tt
 answers_fed first calls l Syncs opened past piece answers = sync_fed first calls l past piece answers.0 answers.1
 answers_fed first calls l (Shells packets command) opened past piece answers = answers ∙ sym (ap (found_by l first) (append-nil calls))
 
-asks_joined : (kind : Kind) (past : List Came) (piece : List ℕ) (first opened : List Entry) (calls : List Call) (l : ℕ)
+pub asks_joined : (kind : Kind) (past : List Came) (piece : List ℕ) (first opened : List Entry) (calls : List Call) (l : ℕ)
     → AnswersThrough kind first calls l opened past
     → asks_in kind (bytes_in past) ++ asks_fed kind past piece ≡ asks_in kind (bytes_in past ++ piece)
 asks_joined Echoes past piece first opened calls l answers = refl
@@ -413,3 +414,72 @@ module _ (name : ℕ → ℕ) (n l : ℕ) where
   answer_renamed Syncs text files calls all = answers_renamed files calls all
   answer_renamed (Shells packets command) text files calls all =
       ap (λ (fs : List Entry). (shell_answer (record { packets = packets; command = command; files = fs }) text).bytes) (found_renamed files calls all)
+
+-- ---- the first asks
+-- what is asked of a prefix of a text is a prefix of what is asked of the text
+pub asks_first : (kind : Kind) (came text : List ℕ) → IsPrefixOf came text → AreFirst (asks_in kind came) (asks_in kind text)
+asks_first Echoes came text first = ([], refl)
+asks_first (Shells packets command) came text first = ([], refl)
+asks_first Syncs came text (more, is) =
+    let before = requests_in came in
+    let rest = cond (has_last before) [] (up_to_last (completed_by came more)) in (
+      map Serves rest,
+      sym (map_both (up_to_last before) rest)
+          ∙ ap (map Serves) (sym (up_both before (completed_by came more)) ∙ (ap up_to_last (sym (whole came more)) ∙ ap (λ (x : List ℕ). up_to_last (requests_in x)) is)),
+    )
+
+pub first_of_first : (a b c : List Ask) → AreFirst a b → AreFirst b c → AreFirst a c
+first_of_first a b c (x, is) (y, too) = (x ++ y, sym (append_assoc a x y) ∙ (ap (λ (z : List Ask). z ++ y) is ∙ too))
+
+-- calls of one stream alone
+pub calls_own : (n : ℕ) (calls : List Call) → AllByRecursion (λ (call : Call). call.caller ≡ n) calls → calls ≡ calls_of n (asks_of n calls)
+calls_own n [] all = refl
+calls_own n (call ∷ calls) all =
+    ap (λ (more : List Call). call ∷ more) (calls_own n calls all.1)
+    ∙ (ap (λ (m : ℕ). call_of m call.ask ∷ calls_of n (asks_of n calls)) all.0
+    ∙ ap (λ (t : Bool). calls_of n (cond t (call.ask ∷ []) [] ++ asks_of n calls)) (sym (eq-eqb call.caller n all.0)))
+
+-- the first of what requests ask is to serve some first requests
+pub served_first : (l : ℕ) (files : List Entry) (requests : List Request) (asks : List Ask) → AreFirst asks (asks_for requests)
+    → (k : ℕ) × (files_after files (calls_of l asks) ≡ (serve_all files (take k requests)).files)
+served_first l files requests [] first = (0, refl)
+served_first l files [] (ask ∷ asks) first = absurd (let clash : ask ∷ (asks ++ first.0) ≡ [] = first.1 in cc)
+served_first l files (request ∷ more) (ask ∷ asks) first =
+    go (is_last request) refl tail (λ (f : AreFirst asks (asks_for more)). served_first l (serve_one files request).files more asks f)
+  where
+    one : Served
+    one = serve_one files request
+
+    later : ℕ → List Entry → Served
+    later k left = serve_all left (take k more)
+
+    same : ask ≡ Serves request
+    same =
+        let both : ask ∷ (asks ++ first.0) ≡ Serves request ∷ map Serves (cond (is_last request) [] (up_to_last more)) = first.1 in
+        cc
+
+    tail : asks ++ first.0 ≡ map Serves (cond (is_last request) [] (up_to_last more))
+    tail =
+        let both : ask ∷ (asks ++ first.0) ≡ Serves request ∷ map Serves (cond (is_last request) [] (up_to_last more)) = first.1 in
+        cc
+
+    empty : (xs ys : List Ask) → xs ++ ys ≡ [] → xs ≡ []
+    empty [] ys none = refl
+    empty (x ∷ xs) ys none = absurd (let clash : x ∷ (xs ++ ys) ≡ [] = none in cc)
+
+    past : files_after files (calls_of l (ask ∷ asks)) ≡ files_after (serve_one files request).files (calls_of l asks)
+    past = ap (λ (a : Ask). files_after (files_past files a) (calls_of l asks)) same
+
+    go : (t : Bool) → is_last request ≡ t → asks ++ first.0 ≡ map Serves (cond t [] (up_to_last more))
+        → (AreFirst asks (asks_for more) → (k : ℕ) × (files_after (serve_one files request).files (calls_of l asks)
+        ≡ (serve_all (serve_one files request).files (take k more)).files))
+        → (k : ℕ) × (files_after files (calls_of l (ask ∷ asks)) ≡ (serve_all files (take k (request ∷ more))).files)
+    go true last rest recurs = (
+      1,
+      past
+          ∙ (ap (λ (few : List Ask). files_after one.files (calls_of l few)) (empty asks first.0 rest)
+          ∙ ap (λ (s : Served). s.files) (sym (over one (later 0) (last_ends files request ∙ last)))),
+    )
+    go false goes_on rest recurs =
+        let all = recurs (first.0, rest) in
+        (suc all.0, past ∙ (all.1 ∙ ap (λ (s : Served). s.files) (sym (on one (later all.0) (last_ends files request ∙ goes_on)))))

@@ -54,7 +54,7 @@ host_of host row (Some other) e = by (other.host == host) refl e
     by false f is = absurd (let clash : None ≡ Some row = is in cc)
 
 -- an OPEN that gets a service asks for it
-known_by : (drawn : ℕ) (p : Packet) (kind : Kind) → kind_for drawn p ≡ Some kind → service_of (name_of p.payload) ≡ Some kind
+pub known_by : (drawn : ℕ) (p : Packet) (kind : Kind) → kind_for drawn p ≡ Some kind → service_of (name_of p.payload) ≡ Some kind
 known_by drawn p kind is = go (drawn == 2 ^ 32 - 1) is
   where
     go : (b : Bool) → (if b then None else service_of (name_of p.payload)) ≡ Some kind → service_of (name_of p.payload) ≡ Some kind

@@ -55,6 +55,10 @@ abbrev pub found_by : ℕ → List Entry → List Call → List Entry
 found_by caller files [] = files
 found_by caller files (call ∷ more) = if call.caller == caller then files else found_by caller (files_past files call.ask) more
 
+-- what is asked is a prefix of all that is asked
+abbrev pub AreFirst : List Ask → List Ask → Type 0
+AreFirst asks all = (more : List Ask) × (asks ++ more ≡ all)
+
 -- ---- what a service asks for whose text this is, and what it answers
 -- whether a request ends the service
 abbrev pub is_last : Request → Bool

@@ -2,7 +2,7 @@
 
 ghost use Rattle.adb_daemon.specs.Device.{Setting};
 ghost use Rattle.adb_laws_alone.specs.Alone.{EchoesLeaveFiles, OneRunsAlone};
-ghost use Rattle.adb_laws_alone.specs.Together.{RunTogether};
+ghost use Rattle.adb_laws_alone.specs.Together.{RunInPart, RunTogether};
 
 /// Where all packets of the host are of one id, behind others that did not ask for it, its stream
 /// was opened over the files that stood, each payload came over the files that those before it
@@ -22,4 +22,11 @@ pub fn echoes_leave_files()
 /// came to it and was answered through them.
 pub fn streams_run_together()
     ensures { (setting : Setting) → RunTogether setting }
+{}
+
+/// If an allocation fails in the device, its files are those after all commands and whole sync
+/// requests that its streams asked by then, in one order, and each stream asked for a prefix of what
+/// came for it. No request and no command is left half done.
+pub fn streams_run_in_part()
+    ensures { (setting : Setting) → RunInPart setting }
 {}

@@ -4,4 +4,7 @@
 
 mod laws;
 
-pub use laws::{a_stream_alone_runs_over_its_files, echoes_leave_files, streams_run_together};
+pub use laws::{
+    a_stream_alone_runs_over_its_files, echoes_leave_files, streams_run_in_part,
+    streams_run_together,
+};

@@ -190,7 +190,7 @@ lived_front l c (e ∷ older) =
     go false true f = read_more c e older
     go false false f = ([], append-nil (bytes_read c (e ∷ older)))
 
-drop_front : (n : ℕ) (a b : List ℕ) → IsPrefixOf a b → IsPrefixOf (drop n a) (drop n b)
+pub drop_front : (n : ℕ) (a b : List ℕ) → IsPrefixOf a b → IsPrefixOf (drop n a) (drop n b)
 drop_front n a b (rest, is) = subst (λ (x : List ℕ). IsPrefixOf (drop n a) (drop n x)) is (go n a)
   where
     go : (n : ℕ) (a : List ℕ) → IsPrefixOf (drop n a) (drop n (a ++ rest))

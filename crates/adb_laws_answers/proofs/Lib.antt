@@ -1,3 +1,3 @@
 pub mod Asked
-mod Ends
+pub mod Ends
 mod Answered

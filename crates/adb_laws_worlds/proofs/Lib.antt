@@ -13,7 +13,7 @@ mod Payloads
 mod Quiet
 mod Linked
 mod Starts
-mod Told
+pub mod Told
 mod Settled
 mod Unasked
 mod Replied

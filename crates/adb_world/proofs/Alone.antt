@@ -1,26 +1,18 @@
 -- Sessions that begin where nothing is on its way: what one alone is answered, and which files it leaves.
-use Rattle.std.specs.Prelude.{ℕ, ◌+◌, ◌≡◌, ◌≢◌, ◌≤◌, ◌<◌, Bool, true, false, is_some, suc}
-use Rattle.std.specs.Prelude.{List, [], ◌∷◌, ◌++◌, length, take, drop, Option, Some, None, codes}
+use Rattle.std.specs.Prelude.{ℕ, ◌+◌, ◌≡◌, ◌≢◌, ◌≤◌, ◌<◌, true, false, is_some, suc}
+use Rattle.std.specs.Prelude.{List, [], ◌∷◌, ◌++◌, Option, Some, None, codes}
 use Rattle.std.proofs.Common.{refl, sym, ◌∙◌, ap, subst, arith, ◌⊎◌, inl, inr}
 use Rattle.std.proofs.lemmas.Bool.{cases_eq}
-use Rattle.std.proofs.lemmas.List.{length-append, length-drop}
 use Rattle.adb_outside.specs.Tables.{at}
 use Rattle.adb_wire.specs.declared.command.Command.{Command}
 use Rattle.adb_wire.specs.declared.command.Command.TheVariants.{Cnxn, Open, Okay, Wrte, Clse, Auth, Stls}
 use Rattle.adb_wire.specs.declared.packets.Packet.{Packet}
 use Rattle.adb_files.specs.Entries.{Entry as File}
-use Rattle.adb_history.specs.Asking.{Asked, nothing_asked, asks_with}
 use Rattle.adb_history.specs.Births.{Birth, born, count_from, is_open}
 use Rattle.adb_history.specs.Book.{asked}
-use Rattle.adb_history.specs.Bytes.{bytes_read, sent}
-use Rattle.adb_history.specs.Fifo.{CarriesRest, IsOpenOf}
-use Rattle.adb_history.specs.Lives.{lived, packets_of, rest_of}
+use Rattle.adb_history.specs.Bytes.{sent}
+use Rattle.adb_history.specs.Fifo.{IsOpenOf}
 use Rattle.adb_history.specs.Machine.{History, IsLegal, state}
-use Rattle.adb_history.specs.Orderly.{HasOwner}
-use Rattle.adb_history.specs.Rows.{Client}
-use Rattle.adb_history.specs.Tied.{came_count}
-use Rattle.adb_history.proofs.Books.{all_books}
-use Rattle.adb_history.proofs.OrderlyStates.{orderly}
 use Rattle.adb_laws_births.proofs.Born.{all_births}
 use Rattle.adb_laws_births.proofs.Crossing.{no_crossing}
 use Rattle.adb_laws_births.proofs.Once.{count_append}
@@ -32,51 +24,25 @@ use Rattle.adb_device_streams.specs.Stream.{Row}
 use Rattle.adb_shell_service.specs.Service.{Answer}
 use Rattle.adb_daemon.specs.Daemon.{files_of}
 use Rattle.adb_daemon.specs.Device.{device_behind}
-use Rattle.adb_laws_alone.specs.Alone.{AllRanAlone, AsksNone, EchoesLeaveFiles, Every, IsOfEchoes, IsOfOne, OneRunsAlone, RanAlone}
+use Rattle.adb_laws_alone.specs.Alone.{AllRanAlone, AsksNone, Every, IsOfEchoes, IsOfOne, RanAlone}
 use Rattle.adb_laws_answers.specs.Answers.{HasEndedAs}
 use Rattle.adb_laws_answers.proofs.Asked.{born_for, born_as}
-use Rattle.adb_request.specs.Requests.{hex_digits}
-use Rattle.adb_laws_sessions.specs.Words.{requests_for, selects, words_of}
-use Rattle.adb_laws_sessions.specs.Model.{model_devices, model_setting}
-use Rattle.adb_laws_sessions.specs.Asked.{Opens}
-use Rattle.adb_laws_sessions.specs.Sessions.{AsksForServices, IsOfSessions}
-use Rattle.adb_laws_worlds.specs.Unbroken.{BringsSound}
+use Rattle.adb_laws_sessions.specs.Model.{model_setting}
+use Rattle.adb_laws_sessions.specs.Sessions.{AsksForServices}
 use Rattle.adb_world.specs.Answered.{AreEchoes, IsAnsweredAlone, IsEcho, IsNewAlone, text_over}
-use Rattle.adb_world.specs.Parts.{Holds, IsGreeted, IsKeptAt, IsOver, IsRunning, IsSame}
-use Rattle.adb_world.specs.Session.{IsTold, left_of, text_of}
+use Rattle.adb_world.specs.Parts.{Holds, IsGreeted, IsKeptAt, IsSame}
+use Rattle.adb_world.specs.Session.{left_of, text_of}
 use Rattle.adb_world.specs.Settled.{GoesOn, IsAtEase, Rests}
 use Rattle.adb_world.specs.declared.parts.Parts.{Parts}
 use Rattle.adb_world.specs.declared.session.Session.{Session}
-use Rattle.adb_world.proofs.Answered.{AreAnswered, IsToldAnswer, all_read, few_births, has_opened, served_by, told_answer}
-use Rattle.adb_world.proofs.Counted.{IsThere, RequestsOpen, asks_as_written, there}
-use Rattle.adb_world.proofs.Devices.{devices_of}
-use Rattle.adb_world.proofs.Ended.{IsIdleState, idle_state}
+use Rattle.adb_world.proofs.Answered.{IsToldAnswer, few_births, has_opened, served_by, told_answer}
 use Rattle.adb_world.proofs.Files.{files_behind as files_sent}
-use Rattle.adb_world.proofs.Going.{AllStay}
 use Rattle.adb_world.proofs.Greeted.{stays_greeted}
-use Rattle.adb_world.proofs.Rest.{Laws}
-use Rattle.adb_world.proofs.SentAll.{all_sent}
-use Rattle.adb_world.proofs.Since.{ReadNoMore, since, quiet_since, own_since}
-use Rattle.adb_world.proofs.Unread.{lived_read}
-use Rattle.adb_world.proofs.OneStream.{PayloadLaws, HasAskedForIt, IsPast, IsWhole, all_past}
-use Rattle.adb_world.proofs.OneStream.{asked_born, asked_of_birth, asks_none, born_behind, every_past, is_whole}
-
--- ---- a world that settles
-pub record AloneLaws : Type 0 where
-  pub rest : Laws
-  pub carried : (h : History) → IsLegal h → CarriesRest h
-  pub stays : AllStay
-  pub asks : (h : History) → IsLegal h → IsOfSessions h → AsksForServices h
-  pub sound : (parts : Parts) (runs : IsRunning parts) → BringsSound runs.history
-  pub requests : RequestsOpen
-  pub answered : AreAnswered
-  pub payloads : PayloadLaws
-  pub alone : OneRunsAlone model_setting
-  pub echoes : EchoesLeaveFiles model_setting
-
--- Sessions that have not written all their words have written nothing.
-abbrev pub AreUnbegun : Parts → Type 0
-AreUnbegun parts = (c : ℕ) (session : Session) → at c parts.sessions.entries ≡ Some session → (left_of session ≡ []) ⊎ (session.written ≡ 0)
+use Rattle.adb_world.proofs.Later.{AloneLaws, AreUnbegun, IsFresh, IsLater, later_of}
+use Rattle.adb_world.proofs.Later.{all_sent_past as all_later_past, fresh as is_fresh, has_asked as had_asked, sent_since as sent_later}
+use Rattle.adb_world.proofs.Later.{unasked as was_unasked}
+use Rattle.adb_world.proofs.OneStream.{IsPast, IsWhole}
+use Rattle.adb_world.proofs.OneStream.{asked_of_birth, asks_none, born_behind, every_past, is_whole}
 
 -- where one begins alone, and where all that begin are echoes
 pub alone_begun : (n : ℕ) (parts : Parts) → IsNewAlone n parts.sessions.entries → AreUnbegun parts
@@ -119,6 +85,9 @@ module _ (laws : AloneLaws) (old new : Parts) (ease : IsAtEase old) (goes : Goes
   pub legal_now : IsLegal now
   legal_now = holds_now.lawful.legal
 
+  is_later : IsLater old ease.runs.history more
+  is_later = later_of old new ease goes
+
   pub asks : AsksForServices h
   asks = laws.asks h legal holds.asks
 
@@ -139,37 +108,11 @@ module _ (laws : AloneLaws) (old new : Parts) (ease : IsAtEase old) (goes : Goes
   pub words_now : (c : ℕ) (session : Session) → at c new.sessions.entries ≡ Some session → left_of session ≡ []
   words_now c session is = rests.written c session (kept_now c session is).0.0 is
 
-  told_of : (c : ℕ) (session : Session) → at c old.sessions.entries ≡ Some session → IsTold h c session
-  told_of c session is = (subst (IsKeptAt old.given h c) is (holds.sessions c)).1
-
-  -- a session that has written nothing asked for nothing, and one that has written all asked for its service
   pub unasked : (c : ℕ) (session : Session) → at c old.sessions.entries ≡ Some session → session.written ≡ 0 → is_some (asked c h).next ≡ false
-  unasked c session is zeroth =
-      ap is_some (ap (λ (q : Asked). q.next) (asks.clients c).asked ∙ opens.asks (omega (arith, none, long)))
-    where
-      nothing : bytes_read c h ≡ []
-      nothing = (told_of c session is).read ∙ ap (λ (n : ℕ). take n session.words) zeroth
-
-      empty : (a b : List ℕ) → a ++ b ≡ [] → a ≡ []
-      empty [] b e = refl
-      empty (x ∷ a) b e = absurd (let clash : x ∷ (a ++ b) ≡ [] = e in cc)
-
-      front_none : (asks.clients c).front ≡ []
-      front_none = empty (asks.clients c).front (asks.clients c).first.0 ((asks.clients c).first.1 ∙ nothing)
-
-      opens : Opens session.service (asks.clients c).front (asks_with model_devices [] (asks.clients c).front nothing_asked)
-      opens =
-          laws.requests session.service (text_of session) (asks.clients c).front (told_of c session is).known
-          (words_of session.service (text_of session), ap (λ (x : List ℕ). x ++ words_of session.service (text_of session)) front_none)
-
-      none : length (asks.clients c).front ≡ 0
-      none = ap length front_none
-
-      long : length (requests_for session.service) ≡ 26 + length (hex_digits (length session.service) ++ session.service)
-      long = length-append selects (hex_digits (length session.service) ++ session.service)
+  unasked = was_unasked laws old ease begun more is_later
 
   has_asked : (c : ℕ) (session : Session) → at c old.sessions.entries ≡ Some session → left_of session ≡ [] → is_some (asked c h).next ≡ true
-  has_asked c session is none = asks_as_written laws.requests h legal c session (asks.clients c) (told_of c session is) none
+  has_asked = had_asked laws old ease begun more is_later
 
   pub not_both : (c : ℕ) → is_some (asked c h).next ≡ false → is_some (asked c h).next ≡ true → ⊥
   not_both c off on = let clash : false ≡ true = sym off ∙ on in cc
@@ -186,112 +129,15 @@ module _ (laws : AloneLaws) (old new : Parts) (ease : IsAtEase old) (goes : Goes
       go (Some later) found same = (later, (found, same))
 
   -- ---- streams
-  -- a client that had asked has its stream since then
-  born_before : (l : ℕ) (b : Birth) → born l now ≡ Some b → is_some (asked b.client h).next ≡ true → l ≤ (state h).drawn
-  born_before l b is done =
-      let x = asked_born laws.requests h asks b.client done in
-      let was = born_as h x.1.place x.1.birth x.1.is (few_births h old holds asks) in
-      let same : l ≡ suc x.1.place =
-      one_stream_each now legal_now l (suc x.1.place) b x.1.birth is (born_behind (suc x.1.place) x.1.birth more h was) (sym x.1.client) in
-      let within = (born_within (suc x.1.place) h x.1.birth was).1 in
-      let drawn = (all_births h legal).drawn in
-      omega (arith, same, within, drawn)
-
-  -- a stream that was born since is that of a session that had written nothing
-  pub record IsFresh (b : Birth) : Type 0 where
-    pub session : Session
-    pub is : at b.client old.sessions.entries ≡ Some session
-    pub unwritten : session.written ≡ 0
-
-  pub fresh : (l : ℕ) (b : Birth) → born l now ≡ Some b → (state h).drawn < l → IsFresh b
-  fresh l b is past = go (there h old holds b.client by.some (omega (arith, came, count, given)))
-    where
-      by : HasAskedForIt now b
-      by = asked_of_birth now legal_now holds_now.asks asks_now l b is
-
-      came : b.client ≤ came_count now
-      came = by.came
-
-      count : came_count now ≡ new.given
-      count = holds_now.came
-
-      given : new.given ≡ old.given
-      given = goes.given
-
-      late : is_some (asked b.client h).next ≡ true → ⊥
-      late done = let le = born_before l b is done in omega (arith, le, past)
-
-      go : IsThere h old b.client ⊎ IsOver old.given h b.client → IsFresh b
-      go (inr over) = absurd (late (asks.ended b.client over.ended))
-      go (inl t) = by_words (begun b.client t.session t.is)
-        where
-          by_words : (left_of t.session ≡ []) ⊎ (t.session.written ≡ 0) → IsFresh b
-          by_words (inl none) = absurd (late (has_asked b.client t.session t.is none))
-          by_words (inr zeroth) = record { session = t.session; is = t.is; unwritten = zeroth }
-
-  -- no more is read for streams that live
-  pub idle : IsIdleState (state h)
-  idle = idle_state h old.hub _ _ ease.runs.holds.lawful ease.calm
-
-  pub same_read : (c : ℕ) (session : Session) → at c old.sessions.entries ≡ Some session → left_of session ≡ [] → bytes_read c now ≡ bytes_read c h
-  same_read c session is none =
-      let later = same_now c session is in
-      all_read now c later.0 (kept_now c later.0 later.1.0).1 (words_now c later.0 later.1.0)
-      ∙ (later.1.1.1 ∙ sym (all_read h c session (told_of c session is) none))
-
-  pub read : ReadNoMore h now
-  read l b x live is = go (there h old holds b.client by.some (omega (arith, came, count)))
-    where
-      by : HasAskedForIt h b
-      by = asked_of_birth h legal holds.asks asks l b is
-
-      came : b.client ≤ came_count h
-      came = by.came
-
-      count : came_count h ≡ old.given
-      count = holds.came
-
-      owned : (o : Bool) → HasOwner o (state h) l x → (client : Client) × ((state h).clients x.client ≡ Some client)
-      owned false owner = (owner.client, owner.is)
-      owned true owner = absurd ((idle.streams l x live).opened owner.0)
-
-      of_client : x.client ≡ b.client
-      of_client =
-          let kept = (all_births h legal).kept l x live in
-          let both : Some kept.birth ≡ Some b = sym kept.is ∙ is in
-          let same : kept.birth ≡ b = cc in
-          kept.client ∙ ap (λ (a : Birth). a.client) same
-
-      go : IsThere h old b.client ⊎ IsOver old.given h b.client → length (rest_of l b now) ≤ length (drop b.head (bytes_read b.client h))
-      go (inr over) =
-          let owner = owned x.part.orphan ((orderly h legal).stream l x live).owner in
-          absurd (let clash : None ≡ Some owner.0 =
-          sym over.gone ∙ (ap (state h).clients (sym of_client) ∙ owner.1) in cc)
-      go (inl t) = by_words (begun b.client t.session t.is)
-        where
-          by_words : (left_of t.session ≡ []) ⊎ (t.session.written ≡ 0) → length (rest_of l b now) ≤ length (drop b.head (bytes_read b.client h))
-          by_words (inr zeroth) = absurd (not_both b.client (unasked b.client t.session t.is zeroth) by.asked_it)
-          by_words (inl none) =
-              let lives = lived_read l b.client now in
-              let same : length (bytes_read b.client now) ≡ length (bytes_read b.client h) = ap length (same_read b.client t.session t.is none) in
-              let long = length-drop b.head (bytes_read b.client (lived l now)) in
-              let before = length-drop b.head (bytes_read b.client h) in
-              omega (arith, lives, same, long, before)
+  pub fresh : (l : ℕ) (b : Birth) → born l now ≡ Some b → (state h).drawn < l → IsFresh old b
+  fresh = is_fresh laws old ease begun more (later_of old new ease goes)
 
   -- ---- the device
-  pub known : (state h).devices ≡ model_devices
-  known = (all_books h legal).devices ∙ devices_of old ease.runs (laws.sound old ease.runs) (laws.asks h legal holds.asks) h holds
-
-  pub whole_link : sent 1 h ≡ packets_of 1 h
-  whole_link = all_sent h old.hub ease.runs.holds.lawful known ease.calm.link
-
   abbrev pub sent_since : (ps : List Packet) × (sent 1 h ++ ps ≡ sent 1 now)
-  sent_since = since laws.carried laws.stays h more legal legal_now idle whole_link read
+  sent_since = sent_later laws old ease begun more (later_of old new ease goes)
 
   pub all_sent_past : Every (IsPast now (state h).drawn) sent_since.0
-  all_sent_past =
-      all_past now (state h).drawn sent_since.0 (own_since laws.carried laws.stays h more legal legal_now idle whole_link read)
-      (quiet_since laws.carried laws.stays h more legal legal_now idle whole_link read)
+  all_sent_past = all_later_past laws old ease begun more (later_of old new ease goes)
 
   abbrev pub stood : List File
   stood = (served_by h).files
@@ -326,7 +172,7 @@ module _ (laws : AloneLaws) (old new : Parts) (ease : IsAtEase old) (goes : Goes
     mine : (l : ℕ) (b : Birth) → born l now ≡ Some b → (state h).drawn < l → l ≡ a.number
     mine l b was late = go (cases_eq b.client n)
       where
-        f : IsFresh b
+        f : IsFresh old b
         f = fresh l b was late
 
         go : (b.client ≡ n) ⊎ (b.client ≢ n) → l ≡ a.number
@@ -392,7 +238,7 @@ module _ (laws : AloneLaws) (old new : Parts) (ease : IsAtEase old) (goes : Goes
     asks_echo : (p : Packet) → (state h).drawn < p.arg0 → (own : IsOpenOf now 1 p) → service_of (name_of p.payload) ≡ Some Echoes
     asks_echo p late own = go (echoes own.birth.client f.session f.is)
       where
-        f : IsFresh own.birth
+        f : IsFresh old own.birth
         f = fresh p.arg0 own.birth own.is late
 
         named : own.birth.service ≡ codes "echo:" → service_of (name_of p.payload) ≡ Some Echoes

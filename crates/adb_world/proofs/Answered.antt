@@ -30,7 +30,7 @@ use Rattle.adb_world.proofs.Counted.{RequestsOpen, asks_as_written}
 use Rattle.adb_world.proofs.Rest.{Laws, at_rest, one_device}
 
 -- no more clients are done than came
-few_done : (what : ℕ → Asked) (k : ℕ) → done_among what k ≤ k
+pub few_done : (what : ℕ → Asked) (k : ℕ) → done_among what k ≤ k
 few_done what zero = omega arith
 few_done what (suc k) = go (is_some (what (suc k)).next) (few_done what k)
   where

@@ -2,14 +2,15 @@
 use Rattle.std.specs.Prelude.{ℕ, ◌^◌, ◌≡◌, ◌≢◌, ◌≤◌, ◌<◌, Bool, true, false, List, [], ◌∷◌, Option, Some, None}
 use Rattle.std.proofs.Common.{refl, sym, ◌∙◌, ap, subst, arith, ◌⊎◌, inl, inr}
 use Rattle.std.proofs.lemmas.Bool.{cases_lt, cases_eq}
-use Rattle.adb_outside.specs.Tables.{at}
+use Rattle.adb_outside.specs.Tables.{at, Puts}
 use Rattle.adb_outside.specs.declared.kinds.Cause.TheVariants.{Eof}
-use Rattle.adb_outside.proofs.TableLaws.{at_head}
+use Rattle.adb_outside.proofs.TableLaws.{at_head, puts_put_at}
 use Rattle.adb_capture.specs.declared.entry.Entry.TheVariants.{End}
 use Rattle.adb_history.specs.Machine.{History}
 use Rattle.adb_daemon.specs.Daemon.{files_of}
-use Rattle.adb_world.specs.Parts.{AreSame, AreSameBut, Drops, Holds, IsKeptAt, IsRunning, IsSame}
-use Rattle.adb_world.specs.Settled.{IsAtEase, IsDone, IsSettled, IsSound}
+use Rattle.adb_world.specs.Parts.{Adds, AreSame, AreSameBut, Drops, Holds, IsKeptAt, IsRunning, IsSame}
+use Rattle.adb_world.specs.Session.{left_of, new_session}
+use Rattle.adb_world.specs.Settled.{AreWhole, IsAtEase, IsDone, IsSettled, IsSound}
 use Rattle.adb_world.specs.World.{view_of}
 use Rattle.adb_world.specs.declared.parts.Parts.{Parts}
 use Rattle.adb_world.specs.declared.session.Session.{Session}
@@ -37,13 +38,42 @@ settled_now parts done = record { calm = done.ease.calm; words = done.words }
 -- a world that is not spent is at ease
 pub at_ease : (settled : Bool) (parts : Parts) → IsSound false settled parts → IsAtEase parts
 at_ease true parts sound = sound.ease
-at_ease false parts sound = sound
+at_ease false parts sound = sound.0
 
 pub ease_of : (spent settled : Bool) (parts : Parts) → spent ≡ false → IsSound spent settled parts → IsAtEase parts
 ease_of true settled parts off sound = absurd (let clash : true ≡ false = off in cc)
 ease_of false settled parts off sound = at_ease settled parts sound
 
--- and where it has settled all is done
+-- each session has written all its words or nothing
+pub whole_of : (spent settled : Bool) (parts : Parts) → spent ≡ false → IsSound spent settled parts → AreWhole parts.sessions.entries
+whole_of true settled parts off sound = absurd (let clash : true ≡ false = off in cc)
+whole_of false true parts off sound = λ n session is. inl (sound.words n session is)
+whole_of false false parts off sound = sound.1
+
+-- a world in which a session was started is sound
+pub sound_with : (spent : Bool) (parts : Parts) → IsAtEase parts → AreWhole parts.sessions.entries → IsSound spent false parts
+sound_with true parts ease whole = tt
+sound_with false parts ease whole = (ease, whole)
+
+-- and so it is with one more
+pub whole_with : (number : ℕ) (service text : List ℕ) (old new : Parts) → AreWhole old.sessions.entries → Adds number (new_session service text) old new
+    → AreWhole new.sessions.entries
+whole_with number service text old new whole adds c session is = go (cases_eq c number)
+  where
+    puts : Puts number (Some (new_session service text)) old.sessions.entries new.sessions.entries
+    puts =
+        subst (Puts number (Some (new_session service text)) old.sessions.entries) (sym adds.sessions)
+        (puts_put_at number (new_session service text) old.sessions.entries)
+
+    go : (c ≡ number) ⊎ (c ≢ number) → (left_of session ≡ []) ⊎ (session.written ≡ 0)
+    go (inl same) =
+        let both : Some (new_session service text) ≡ Some session =
+        sym puts.here ∙ (ap (λ (k : ℕ). at k new.sessions.entries) (sym same) ∙ is) in
+        let one : new_session service text ≡ session = cc in
+        inr (ap (λ (s : Session). s.written) (sym one))
+    go (inr other) = whole c session (sym (puts.others c other) ∙ is)
+
+-- where it has settled all is done
 pub done_of : (spent settled : Bool) (parts : Parts) → spent ≡ false → settled ≡ true → IsSound spent settled parts → IsDone parts
 done_of true settled parts off on sound = absurd (let clash : true ≡ false = off in cc)
 done_of false false parts off on sound = absurd (let clash : false ≡ true = on in cc)

@@ -31,3 +31,7 @@ pub mod Bound
 pub mod NextDue
 pub mod Written
 pub mod Together
+pub mod Later
+pub mod Stopping
+pub mod InPart
+pub mod EndedInPart

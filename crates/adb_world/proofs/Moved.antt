@@ -5,11 +5,13 @@ use Rattle.std.proofs.lemmas.List.{take_min, length-take}
 use Rattle.adb_outside.specs.Tables.{at}
 use Rattle.adb_capture.specs.declared.entry.Entry.TheVariants.{Read, Recv, Put, Send}
 use Rattle.adb_history.specs.Book.{devices}
-use Rattle.adb_history.specs.Bytes.{bytes_received, bytes_sent}
+use Rattle.adb_files.specs.Entries.{Entry as File}
+use Rattle.adb_history.specs.Bytes.{bytes_received, bytes_sent, sent}
 use Rattle.adb_history.specs.Kept.{Kept, IsLawful}
 use Rattle.adb_history.specs.Machine.{History, state, IsLegal}
 use Rattle.adb_hub.specs.Answers.{due_on, offered_to}
-use Rattle.adb_daemon.specs.Daemon.{HasDone, answer_to, owed}
+use Rattle.adb_daemon.specs.Daemon.{CutsOff, HasDone, answer_to, owed}
+use Rattle.adb_world.specs.Stopped.{IsCutAt}
 use Rattle.adb_daemon.specs.Device.{Setting}
 use Rattle.adb_daemon.specs.declared.daemon.Daemon.{Daemon}
 use Rattle.adb_laws_sessions.specs.Model.{model_devices, model_setting}
@@ -56,6 +58,9 @@ module _ (h : History) (parts : Parts) (holds : Holds h parts) (max : ℕ) where
       same = same_sessions parts.sessions.entries;
       given = refl;
     }
+
+    pub down_cut : (files : List File) → CutsOff model_setting (sent 1 h) (sent 1 (Send 1 piece ∷ h)) files → IsCutAt h files
+    down_cut files cut = record { piece = piece; hub = hub; lawful = out.2; cut = cut }
 
   -- ---- up
   pub up_moved : (hub : Kept) (device : Daemon) (n : ℕ) (piece : List ℕ) → piece ≡ take n (owed parts.device) → n ≡ min max (length (owed parts.device))

@@ -7,13 +7,11 @@ use Rattle.adb_outside.specs.Tables.{Rows, at}
 use Rattle.adb_registry.specs.Registry.{DeviceTable}
 use Rattle.adb_capture.specs.declared.entry.Entry.{Entry}
 use Rattle.adb_capture.specs.declared.entry.Entry.TheVariants.{Put}
-use Rattle.adb_capture.specs.declared.entry.Owner.{Owner}
 use Rattle.adb_capture.specs.declared.entry.Owner.TheVariants as owner
 use Rattle.adb_history.specs.declared.hand_out.TheConstants.{MAX_HAND_OUT}
 use Rattle.adb_history.specs.Drained.{first_put, first_send, next_out, put_of, put_to, send_on}
 use Rattle.adb_history.specs.Kept.{IsLawful}
 use Rattle.adb_history.specs.Machine.{History, state}
-use Rattle.adb_history.specs.Orderly.{IsDrawnOnly}
 use Rattle.adb_history.specs.Rows.{Client, Link}
 use Rattle.adb_history.specs.Tracking.{offered}
 use Rattle.adb_history.proofs.Numbers.{counted}

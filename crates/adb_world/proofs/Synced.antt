@@ -1,19 +1,27 @@
 -- A session of the file service that runs alone and is dropped then: what it is answered, and what it leaves.
-use Rattle.std.specs.Prelude.{ℕ, ◌+◌, ◌≡◌, ◌≢◌, true, is_some, List, [], ◌∷◌, length, drop, Option, Some, None, codes, option_map}
+use Rattle.std.specs.Prelude.{ℕ, ◌+◌, ◌≡◌, ◌≢◌, true, is_some, List, [], ◌∷◌, ◌++◌, length, drop, take, Option, Some, None, codes, option_map}
+use Rattle.std.specs.List.{AllByRecursion}
 use Rattle.std.proofs.Common.{refl, sym, ◌∙◌, ap, subst, arith, ◌⊎◌, inl, inr}
 use Rattle.std.proofs.lemmas.Bool.{cases_eq}
 use Rattle.std.proofs.Math.Seq.{drop-append_seam}
 use Rattle.adb_outside.specs.Tables.{at}
 use Rattle.adb_outside.proofs.TableLaws.{puts_put_at}
 use Rattle.adb_files.specs.Entries.{Entry}
-use Rattle.adb_files.specs.Served.{Served, served}
+use Rattle.adb_files.specs.Requests.{Request, requests_in}
+use Rattle.adb_files.specs.Served.{Served, serve_all, served}
+use Rattle.std.proofs.lemmas.List.{length-append, take_all}
+use Rattle.adb_laws_alone.specs.Calls.{AreFirst, Call, asks_of, files_after}
+use Rattle.adb_laws_alone.proofs.Through.{asks_for, calls_of, calls_own, served_first}
+use Rattle.adb_request.specs.Requests.{hex_digits}
 use Rattle.adb_device_streams.specs.Asked.{Kind, Syncs, service_of}
 use Rattle.adb_device_streams.specs.Service.{files_fed, service_answer}
-use Rattle.adb_laws_sessions.specs.Words.{IsKnown, requests_for}
+use Rattle.adb_laws_sessions.specs.Words.{IsKnown, requests_for, selects}
 use Rattle.adb_world.specs.Answered.{IsAnsweredAlone, IsNewAlone, answer_of, text_over}
 use Rattle.adb_world.specs.Parts.{Adds, AreSame, AreSameBut, IsKeptAt, IsSame}
 use Rattle.adb_world.specs.Session.{left_of, new_session, text_of}
-use Rattle.adb_world.specs.Settled.{Each, IsAtEase}
+use Rattle.adb_world.specs.Settled.{Each, IsAtEase, IsDone}
+use Rattle.adb_world.specs.Stopped.{IsServedInPart}
+use Rattle.adb_world.specs.Together.{AreAskedInPart, IsUnwritten}
 use Rattle.adb_world.specs.declared.parts.Parts.{Parts}
 use Rattle.adb_world.specs.declared.session.Session.{Session}
 
@@ -131,3 +139,49 @@ module _ (number : ℕ) (ask : List ℕ) (old mid after : Parts) (adds : Adds nu
       go (inr apart) =
           then_same (at c old.sessions.entries) (at c after.sessions.entries) (at c new.sessions.entries)
           (subst (λ (o : Option Session). IsSame o (at c after.sessions.entries)) (others c apart) (same c)) (but.others c apart)
+
+  -- what it asked for by the time at which a step failed: a prefix of its requests was served
+  pub in_part : IsDone old → (files left : List Entry) → AreAskedInPart files left mid.sessions.entries → IsServedInPart files left ask
+  in_part done files left part = (
+    first.0,
+    part.left_files ∙ (ap (files_after files) (calls_own number part.calls (only part.calls part.only)) ∙ first.1),
+  )
+    where
+      unwritten : IsUnwritten number mid.sessions.entries
+      unwritten = record { session = started; is = here; unwritten = refl }
+
+      -- a session that has written all has written something
+      some_words : (c : ℕ) (session : Session) → at c old.sessions.entries ≡ Some session → session.written ≡ 0 → ⊥
+      some_words c session is none =
+          let told = (subst (IsKeptAt old.given done.ease.runs.history c) is (done.ease.runs.holds.sessions c)).1 in
+          let all : session.words ≡ [] = sym (ap (λ (n : ℕ). drop n session.words) none) ∙ done.words c session is in
+          let long = length-append (requests_for session.service) (text_of session) in
+          let first = length-append selects (hex_digits (length session.service) ++ session.service) in
+          let same : 0 ≡ length (requests_for session.service ++ text_of session) = ap length (sym all ∙ told.words) in
+          omega (arith, long, first, same)
+
+      one : (c : ℕ) → IsUnwritten c mid.sessions.entries → c ≡ number
+      one c u = go (cases_eq c number)
+        where
+          go : (c ≡ number) ⊎ (c ≢ number) → c ≡ number
+          go (inl same) = same
+          go (inr apart) = absurd (some_words c u.session (sym (others c apart) ∙ u.is) u.unwritten)
+
+      only : (calls : List Call) → AllByRecursion (λ (call : Call). IsUnwritten call.caller mid.sessions.entries) calls
+          → AllByRecursion (λ (call : Call). call.caller ≡ number) calls
+      only [] all = tt
+      only (call ∷ calls) all = (one call.caller all.0, only calls all.1)
+
+      asked : AreFirst (asks_of number part.calls) (asks_for (requests_in ask))
+      asked =
+          subst (λ (text : List ℕ). AreFirst (asks_of number part.calls) (asks_for (requests_in text))) (drop-append_seam (requests_for (codes "sync:")) ask)
+          (part.asked number unwritten Syncs refl)
+
+      first : (k : ℕ) × (files_after files (calls_of number (asks_of number part.calls)) ≡ (serve_all files (take k (requests_in ask))).files)
+      first = served_first number files (requests_in ask) (asks_of number part.calls) asked
+
+-- all requests are a prefix of them
+pub all_served : (files left : List Entry) (ask : List ℕ) → left ≡ (served files ask).files → IsServedInPart files left ask
+all_served files left ask is =
+    let requests = requests_in ask in
+    (length requests, is ∙ ap (λ (rs : List Request). (serve_all files rs).files) (sym (take_all (length requests) requests (omega arith))))

@@ -14,7 +14,7 @@ use Rattle.adb_history.specs.Births.{Birth, births, born, count_from, is_open}
 use Rattle.adb_history.specs.Bytes.{sent}
 use Rattle.adb_history.specs.Machine.{History, state}
 use Rattle.adb_history.specs.Streams.{stream_ids}
-use Rattle.adb_laws_births.proofs.Born.{all_births, all_born}
+use Rattle.adb_laws_births.proofs.Born.{all_births}
 use Rattle.adb_laws_births.proofs.Crossing.{no_crossing}
 use Rattle.adb_laws_births.proofs.Once.{count_append}
 use Rattle.adb_laws_births.proofs.Single.{one_stream_each}
@@ -25,8 +25,8 @@ use Rattle.adb_device_streams.specs.Stream.{Row}
 use Rattle.adb_daemon.specs.Daemon.{files_of}
 use Rattle.adb_daemon.specs.Device.{device_behind}
 use Rattle.adb_laws_alone.specs.Alone.{AsksNone, Every}
-use Rattle.adb_laws_alone.specs.Calls.{Call, answer_in, asks_in, asks_of, files_after}
-use Rattle.adb_laws_alone.specs.Together.{IsAskedIn, IsOfLater, RanThrough, RanTogether, RowRan, RunTogether}
+use Rattle.adb_laws_alone.specs.Calls.{Call, answer_in, asks_in, asks_of}
+use Rattle.adb_laws_alone.specs.Together.{IsAskedIn, IsOfLater, RanTogether, RowRan, RunTogether}
 use Rattle.adb_laws_alone.proofs.Through.{IsNamed, answer_enough, answer_renamed, answer_through, asks_enough, asks_renamed, files_renamed, renamed}
 use Rattle.adb_laws_answers.specs.Answers.{CameOf, HasEndedAs}
 use Rattle.adb_laws_sessions.specs.Model.{model_setting}
@@ -35,7 +35,8 @@ use Rattle.adb_world.specs.Settled.{GoesOn, IsAtEase, Rests}
 use Rattle.adb_world.specs.Together.{AreAnsweredTogether, IsAnsweredThrough, IsUnwritten}
 use Rattle.adb_world.specs.declared.parts.Parts.{Parts}
 use Rattle.adb_world.specs.declared.session.Session.{Session}
-use Rattle.adb_world.proofs.Alone.{AloneLaws, AreUnbegun, IsFresh, all_sent_past, asks, asks_now, files_now, files_old, fresh, greeted_now, h, holds_now}
+use Rattle.adb_world.proofs.Alone.{all_sent_past, asks, asks_now, files_now, files_old, fresh, greeted_now, h, holds_now}
+use Rattle.adb_world.proofs.Later.{AloneLaws, AreUnbegun}
 use Rattle.adb_world.proofs.Alone.{kept_now, legal, legal_now, more, not_both, now, sent_since, stood, unasked, words_now}
 use Rattle.adb_world.proofs.Answered.{IsToldAnswer, served_by, told_answer}
 use Rattle.adb_world.proofs.OneStream.{IsPast, asked_of_birth, asks_none, born_behind, every_past}
@@ -66,11 +67,11 @@ whole_through first calls row text ran came = go (service_answer row.kind row.fi
     }
 
 -- ---- streams that were asked for
-record IsBorn (g : History) (l : ℕ) : Type 0 where
-  birth : Birth
-  is : born l g ≡ Some birth
+pub record IsBorn (g : History) (l : ℕ) : Type 0 where
+  pub birth : Birth
+  pub is : born l g ≡ Some birth
 
-found_open : (g : History) (d l : ℕ) (ps : List Packet) → Every (IsPast g d) ps → 1 ≤ count_from is_open l ps → IsBorn g l
+pub found_open : (g : History) (d l : ℕ) (ps : List Packet) → Every (IsPast g d) ps → 1 ≤ count_from is_open l ps → IsBorn g l
 found_open g d l [] every once = absurd (omega (arith, once))
 found_open g d l (p ∷ ps) every once = go (is_open p.command && nat_eq p.arg0 l) refl once (found_open g d l ps every.1)
   where
@@ -102,7 +103,7 @@ within_get (x ∷ xs) zero less = (x, refl)
 within_get (x ∷ xs) (suc k) less = within_get xs k (omega (arith, less))
 
 -- a stream that is born later, and whose number was drawn, is born
-drawn_born : (g later : History) (l : ℕ) (b : Birth) → born l later ≡ Some b → l ≤ length (births g) → IsBorn g l
+pub drawn_born : (g later : History) (l : ℕ) (b : Birth) → born l later ≡ Some b → l ≤ length (births g) → IsBorn g l
 drawn_born g later zero b is le = absurd (let clash : None ≡ Some b = is in cc)
 drawn_born g later (suc k) b is le = go (nat_lt k stream_ids) refl is
   where
@@ -114,14 +115,14 @@ drawn_born g later (suc k) b is le = go (nat_lt k stream_ids) refl is
     go false few e = absurd (let clash : None ≡ Some b = e in cc)
 
 -- the client of a stream, where it was born
-abbrev client_of : History → ℕ → ℕ
+abbrev pub client_of : History → ℕ → ℕ
 client_of g l = unwrap_or (option_map (λ (b : Birth). b.client) (born l g)) 0
 
-client_is : (g : History) (l : ℕ) (b : Birth) → born l g ≡ Some b → client_of g l ≡ b.client
+pub client_is : (g : History) (l : ℕ) (b : Birth) → born l g ≡ Some b → client_of g l ≡ b.client
 client_is g l b is = ap (λ (o : Option Birth). unwrap_or (option_map (λ (x : Birth). x.client) o) 0) is
 
 -- two tests have the same outcome
-same_tests : (a b c d : ℕ) → (a ≡ b → c ≡ d) → (c ≡ d → a ≡ b) → (a == b) ≡ (c == d)
+pub same_tests : (a b c d : ℕ) → (a ≡ b → c ≡ d) → (c ≡ d → a ≡ b) → (a == b) ≡ (c == d)
 same_tests a b c d there back = go (cases_eq a b)
   where
     go : (a ≡ b) ⊎ (a ≡ b → ⊥) → (a == b) ≡ (c == d)

@@ -1,5 +1,5 @@
 -- Sessions that have written all their words write no more.
-use Rattle.std.specs.Prelude.{ℕ, ◌+◌, ◌^◌, ◌≡◌, ◌≢◌, ◌≤◌, ◌<◌, Bool, true, false, List, [], ◌∷◌, ◌++◌, length, take, drop, Option, Some, None}
+use Rattle.std.specs.Prelude.{ℕ, ◌+◌, ◌≡◌, ◌≢◌, ◌≤◌, Bool, true, false, List, [], ◌∷◌, ◌++◌, length, Option, Some, None}
 use Rattle.std.proofs.Common.{refl, sym, ◌∙◌, ap, subst, arith, ◌⊎◌, inl, inr}
 use Rattle.std.proofs.lemmas.List.{drop_all, length-drop, length-take}
 use Rattle.std.proofs.lemmas.Bool.{cases_eq}
@@ -8,9 +8,9 @@ use Rattle.adb_outside.proofs.TableLaws.{puts_put_at}
 use Rattle.adb_history.specs.Bytes.{bytes_read}
 use Rattle.adb_history.specs.Machine.{History}
 use Rattle.adb_world.specs.Calls.{HasNone}
-use Rattle.adb_world.specs.Parts.{Adds, Drops, Holds, IsKeptAt, IsRunning, IsSame}
+use Rattle.adb_world.specs.Parts.{Adds, Drops, IsKeptAt, IsRunning, IsSame}
 use Rattle.adb_world.specs.Session.{IsTold, left_of, new_session}
-use Rattle.adb_world.specs.Settled.{Each, Goes, GoesOn, GrowsFrom, HasMade, HaveWritten, NoneWritten}
+use Rattle.adb_world.specs.Settled.{Each, Goes, GoesOn, GrowsFrom, HasMade, HaveWritten}
 use Rattle.adb_world.specs.declared.parts.Parts.{Parts}
 use Rattle.adb_world.specs.declared.session.Session.{Session}
 use Rattle.adb_world.proofs.Going.{Tried, to_write}
@@ -21,7 +21,7 @@ more_read c [] h = omega arith
 more_read c (e ∷ more) h = let one = read_more c e (more ++ h) in let rest = more_read c more h in omega (arith, one, rest)
 
 -- a session that wrote all its words has written them since
-still_all : (c : ℕ) (old new : Session) (h more : History) → IsTold h c old → IsTold (more ++ h) c new → new.words ≡ old.words → left_of old ≡ []
+pub still_all : (c : ℕ) (old new : Session) (h more : History) → IsTold h c old → IsTold (more ++ h) c new → new.words ≡ old.words → left_of old ≡ []
     → left_of new ≡ []
 still_all c old new h more before after same none =
     drop_all new.written new.words (omega (

@@ -6,3 +6,4 @@ pub mod Settled
 pub mod Answered
 pub mod Steps
 pub mod Together
+pub mod Stopped

@@ -1,5 +1,5 @@
 -- A world in which nothing can move, and in which nothing is left to be moved.
-use Rattle.std.specs.Prelude.{ℕ, ◌≡◌, ◌≢◌, ◌<◌, ◌≤◌, Bool, true, false, List, [], ◌∷◌, ◌++◌, length, Some}
+use Rattle.std.specs.Prelude.{ℕ, ◌≡◌, ◌≢◌, ◌<◌, ◌≤◌, ◌⊎◌, Bool, true, false, List, [], ◌∷◌, ◌++◌, length, Some}
 use Rattle.adb_outside.specs.Tables.{at}
 use Rattle.adb_outside.specs.declared.kinds.Cause.TheVariants.{Eof}
 use Rattle.adb_capture.specs.declared.entry.Entry.TheVariants.{End as Ends}
@@ -64,11 +64,15 @@ pub record IsDone (parts : Parts) : Type 0 where
   pub ease : IsAtEase parts
   pub words : Each parts.sessions.entries (λ (session : Session). left_of session ≡ [])
 
--- A world that is not spent runs and is calm, and where it has settled all is written.
+-- each session has written all its words, or nothing
+abbrev pub AreWhole : List (ℕ × Session) → Type 0
+AreWhole sessions = Each sessions (λ (session : Session). (left_of session ≡ []) ⊎ (session.written ≡ 0))
+
+-- A world that is not spent runs and is calm, and each session has written all its words or nothing. Where it has settled all is written.
 abbrev pub IsSound : (spent settled : Bool) → Parts → Type 0
 IsSound true settled parts = Unit {0}
 IsSound false true parts = IsDone parts
-IsSound false false parts = IsAtEase parts
+IsSound false false parts = IsAtEase parts × AreWhole parts.sessions.entries
 
 -- ---- where no step is possible
 -- nothing is due on the link

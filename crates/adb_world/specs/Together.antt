@@ -1,12 +1,11 @@
 -- Sessions that ran side by side: all their commands and whole sync requests, in one order.
-use Rattle.std.specs.Prelude.{ℕ, ◌≡◌, ◌⊎◌, List, [], ◌++◌, Some, codes}
+use Rattle.std.specs.Prelude.{ℕ, ◌≡◌, List, ◌++◌, Some, codes}
 use Rattle.std.specs.List.{AllByRecursion}
 use Rattle.adb_outside.specs.Tables.{at}
 use Rattle.adb_files.specs.Entries.{Entry}
 use Rattle.adb_device_streams.specs.Asked.{Kind, service_of}
-use Rattle.adb_laws_alone.specs.Calls.{Call, answer_in, asks_in, asks_of, files_after}
-use Rattle.adb_world.specs.Session.{left_of, text_of}
-use Rattle.adb_world.specs.Settled.{Each}
+use Rattle.adb_laws_alone.specs.Calls.{AreFirst, Call, answer_in, asks_in, asks_of, files_after}
+use Rattle.adb_world.specs.Session.{text_of}
 use Rattle.adb_world.specs.declared.session.Session.{Session}
 
 -- The session of a number has written nothing.
@@ -14,10 +13,6 @@ pub record IsUnwritten (n : ℕ) (sessions : List (ℕ × Session)) : Type 0 whe
   pub session : Session
   pub is : at n sessions ≡ Some session
   pub unwritten : session.written ≡ 0
-
--- each session has written all its words, or nothing
-abbrev pub AreWhole : List (ℕ × Session) → Type 0
-AreWhole sessions = Each sessions (λ (session : Session). (left_of session ≡ []) ⊎ (session.written ≡ 0))
 
 -- A session was answered through calls over some files: it asked for what its service asks for of its whole text, and was handed the replies to its
 -- requests and the answer of its service.
@@ -33,4 +28,18 @@ pub record AreAnsweredTogether (files left : List Entry) (old new : List (ℕ ×
   pub calls : List Call
   pub left_files : left ≡ files_after files calls
   pub answered : (n : ℕ) (session : Session) → IsUnwritten n old → at n new ≡ Some session → IsAnsweredThrough files calls n session
+  pub only : AllByRecursion (λ (call : Call). IsUnwritten call.caller old) calls
+
+-- ---- an allocation failure
+-- A session asked in calls for a prefix of what its service asks for of its whole text.
+abbrev pub IsAskedInPart : List Call → ℕ → Session → Type 0
+IsAskedInPart calls n session =
+    (kind : Kind) → service_of session.service ≡ Some kind → AreFirst (asks_of n calls) (asks_in kind (text_of session))
+
+-- Whole calls of the sessions that had written nothing, in one order, lead from some files to those that are left, and each of these sessions asked for a
+-- prefix of what it asks for. The calls are named by the numbers of the sessions.
+pub record AreAskedInPart (files left : List Entry) (old : List (ℕ × Session)) : Type 0 where
+  pub calls : List Call
+  pub left_files : left ≡ files_after files calls
+  pub asked : (n : ℕ) (u : IsUnwritten n old) → IsAskedInPart calls n u.session
   pub only : AllByRecursion (λ (call : Call). IsUnwritten call.caller old) calls

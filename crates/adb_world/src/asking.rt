@@ -1,10 +1,11 @@
 //! What a session is answered that runs alone, and is dropped then.
 
-ghost use Rattle.std.specs.Prelude.{◌≡◌, ◌+◌, ◌<◌, IfOk, OnOk};
+ghost use Rattle.std.specs.Prelude.{◌≡◌, ◌+◌, ◌<◌, IfOk, OnErr, OnOk};
 ghost use Rattle.adb_daemon.specs.Daemon.{files_of};
 ghost use Rattle.adb_files.specs.Served.{served};
 ghost use Rattle.adb_world.specs.Parts.{AreSame, most_sessions};
 ghost use Rattle.adb_world.specs.Settled.{IsDone};
+ghost use Rattle.adb_world.specs.Stopped.{IsServedInPart};
 
 use crate::answer::Answer;
 use crate::ending::finish_one;
@@ -15,6 +16,9 @@ use adb_outside::Text;
 use std::alloc::{AllocError, Global};
 
 /// What a new session of the file service is answered to some bytes.
+///
+/// - `AllocError`: an allocation failed. The files are those after a prefix of the whole requests of
+///   the bytes.
 pub(crate) fn sync_parts(
     alloc: Global,
     parts: &mut Parts,
@@ -31,6 +35,8 @@ pub(crate) fn sync_parts(
     ensures same { OnOk result
         (AreSame parts.old.sessions.entries parts.new.sessions.entries) }
     ensures given { OnOk result (parts.new.given ≡ parts.old.given + 1) }
+    ensures in_part { OnErr result (IsServedInPart (files_of parts.old.device)
+        (files_of parts.new.device) ask) }
 {
     let wrote = parts.given;
     let number = begin(alloc, parts, b"sync:", ask)?;

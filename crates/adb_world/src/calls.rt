@@ -1,12 +1,13 @@
 //! What a world asks of its hub and its device, which refuse none of it.
 
-ghost use Rattle.std.specs.Prelude.{◌≡◌, ◌≢◌, ◌<◌, ◌≤◌, ◌+◌, ◌-◌, ◌^◌, ◌++◌, ◌∷◌, [], true, false, ℕ, List, Err, length, take, IfOk, OnOk};
+ghost use Rattle.std.specs.Prelude.{◌≡◌, ◌≢◌, ◌<◌, ◌≤◌, ◌+◌, ◌-◌, ◌^◌, ◌++◌, ◌∷◌, [], true, false, ℕ, List, Err, length, take, IfOk, OnErr, OnOk};
+ghost use Rattle.adb_wire.specs.Cutting.{parts_of};
 ghost use Rattle.adb_outside.specs.declared.kinds.Cause.{Cause};
 ghost use Rattle.adb_capture.specs.declared.entry.Entry.{Entry};
 ghost use Rattle.adb_history.specs.Accepted.{is_drawn};
 ghost use Rattle.adb_history.specs.Kept.{IsLawful};
 ghost use Rattle.adb_history.specs.Machine.{History, state};
-ghost use Rattle.adb_daemon.specs.Daemon.{HasDone};
+ghost use Rattle.adb_daemon.specs.Daemon.{CutsOff, HasDone, files_of};
 ghost use Rattle.adb_daemon.specs.Device.{Setting};
 ghost use Rattle.adb_daemon.specs.declared.error.DaemonError.{DaemonError};
 ghost use Rattle.adb_hub.specs.Answers.{due_on, offered_to};
@@ -164,11 +165,19 @@ fn bytes_of(handed: Handed) -> Option<HandOut>
     }
 }
 
-/// The device takes bytes that were handed out, in which it finds nothing wrong.
+/// Feeds the device bytes that were handed out, in which it finds nothing wrong.
+///
+/// - `AllocError`: an allocation failed. The device has treated some of the packets; its files are
+///   those after them, or after a prefix of what the next packet asks for.
 pub(crate) fn feed(device: &mut Daemon, out: &HandOut) -> Result<(), AllocError>
     requires { TakesSoundly device.old out.now }
-    ensures { OnOk result ((fed taken : List ℕ) → HasDone model_setting fed taken device.old
+    ensures done { OnOk result ((fed taken : List ℕ)
+        → HasDone model_setting fed taken device.old
         → HasDone model_setting (fed ++ out.now) taken device.new) }
+    ensures cut { OnErr result ((fed taken : List ℕ)
+        → HasDone model_setting fed taken device.old
+        → CutsOff model_setting (parts_of fed).packets (parts_of (fed ++ out.now)).packets
+        (files_of device.new)) }
 {
     let Parts { start, rest } = out.parts();
     feed_front(device, start)?;
@@ -178,9 +187,13 @@ pub(crate) fn feed(device: &mut Daemon, out: &HandOut) -> Result<(), AllocError>
 
 /// The device takes bytes. What it finds wrong in them it tells of those behind them too.
 fn feed_front(device: &mut Daemon, piece: &[u8]) -> Result<(), AllocError>
-    ensures { OnOk result ((setting : Setting) (fed taken : List ℕ)
+    ensures done { OnOk result ((setting : Setting) (fed taken : List ℕ)
         → HasDone setting fed taken device.old
         → HasDone setting (fed ++ piece.now) taken device.new) }
+    ensures cut { OnErr result ((setting : Setting) (fed taken : List ℕ)
+        → HasDone setting fed taken device.old
+        → CutsOff setting (parts_of fed).packets (parts_of (fed ++ piece.now)).packets
+        (files_of device.new)) }
 {
     let answer = device.feed(piece);
     if ran_out(&answer) {
@@ -191,7 +204,8 @@ fn feed_front(device: &mut Daemon, piece: &[u8]) -> Result<(), AllocError>
 
 /// Whether a device found no memory.
 fn ran_out(answer: &Result<(), DaemonError>) -> bool
-    ensures { result ≡ false → answer.now ≢ Err DaemonError.OutOfMemory }
+    ensures found { result ≡ false → answer.now ≢ Err DaemonError.OutOfMemory }
+    ensures none { result ≡ true → answer.now ≡ Err DaemonError.OutOfMemory }
 {
     matches!(answer, Err(DaemonError::OutOfMemory))
 }
@@ -199,8 +213,13 @@ fn ran_out(answer: &Result<(), DaemonError>) -> bool
 /// The device takes bytes in which it finds nothing wrong.
 fn feed_last(device: &mut Daemon, piece: &[u8]) -> Result<(), AllocError>
     requires { TakesSoundly device.old piece.now }
-    ensures { OnOk result ((fed taken : List ℕ) → HasDone model_setting fed taken device.old
+    ensures done { OnOk result ((fed taken : List ℕ)
+        → HasDone model_setting fed taken device.old
         → HasDone model_setting (fed ++ piece.now) taken device.new) }
+    ensures cut { OnErr result ((fed taken : List ℕ)
+        → HasDone model_setting fed taken device.old
+        → CutsOff model_setting (parts_of fed).packets (parts_of (fed ++ piece.now)).packets
+        (files_of device.new)) }
 {
     match device.feed(piece) {
         Ok(()) => Ok(()),

@@ -1,25 +1,26 @@
 //! Ending sessions, one after the other.
 
-ghost use Rattle.std.specs.Prelude.{◌≡◌, [], true, is_some, Some, IfOk, OnOk};
+ghost use Rattle.std.specs.Prelude.{◌≡◌, [], true, is_some, Some, IfOk, OnErr, OnOk};
 ghost use Rattle.adb_outside.specs.Tables.{at};
 ghost use Rattle.adb_daemon.specs.Daemon.{files_of};
 ghost use Rattle.adb_world.specs.Parts.{AreSameBut};
 ghost use Rattle.adb_world.specs.Settled.{IsDone};
 
-use crate::laws::ended_sessions_change_no_file;
+use crate::laws::{ended_sessions_change_no_file, sessions_that_end_in_part_change_no_file};
 use crate::parts::Parts;
 use crate::session::Session;
 use crate::settling::settle_parts;
 use adb_laws_births::what_came_stays;
 use std::alloc::AllocError;
 
-/// The client of each session ends in order, and no session is kept.
+/// The client of each session ends in order, and no session is kept. The files stay, also if an
+/// allocation fails.
 pub(crate) fn finish_parts(parts: &mut Parts, seed: u64) -> Result<(), AllocError>
     requires { IsDone parts.old }
     ensures done { OnOk result (IsDone parts.new) }
     ensures none { OnOk result (parts.new.sessions.entries ≡ []) }
     ensures given { OnOk result (parts.new.given ≡ parts.old.given) }
-    ensures files { OnOk result (files_of parts.new.device ≡ files_of parts.old.device) }
+    ensures files { files_of parts.new.device ≡ files_of parts.old.device }
 {
     let mut after = 0;
     while let Some(number) = parts.next_session(after) {
@@ -30,6 +31,7 @@ pub(crate) fn finish_parts(parts: &mut Parts, seed: u64) -> Result<(), AllocErro
 }
 
 /// The client of a session ends in order, and all settles without it. The session is given away.
+/// The files stay, also if an allocation fails.
 pub(crate) fn finish_one(parts: &mut Parts, number: u32, seed: u64) -> Result<Session, AllocError>
     requires done { IsDone parts.old }
     requires there { is_some (at number parts.old.sessions.entries) ≡ true }
@@ -39,10 +41,11 @@ pub(crate) fn finish_one(parts: &mut Parts, number: u32, seed: u64) -> Result<Se
     ensures same { OnOk result
         (AreSameBut number parts.old.sessions.entries parts.new.sessions.entries) }
     ensures given { OnOk result (parts.new.given ≡ parts.old.given) }
-    ensures files { OnOk result (files_of parts.new.device ≡ files_of parts.old.device) }
+    ensures files { files_of parts.new.device ≡ files_of parts.old.device }
 {
     what_came_stays();
     ended_sessions_change_no_file();
+    sessions_that_end_in_part_change_no_file();
     let session = parts.end(number);
     settle_parts(parts, seed, u32::MAX)?;
     Ok(session)

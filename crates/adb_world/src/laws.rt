@@ -5,16 +5,18 @@ ghost use Rattle.adb_world.specs.Parts.{IsRunning};
 ghost use Rattle.adb_daemon.specs.Daemon.{files_of};
 ghost use Rattle.adb_outside.specs.Tables.{at};
 ghost use Rattle.adb_world.specs.Answered.{AreEchoes, IsAnswered, IsAnsweredAlone, IsNewAlone};
-ghost use Rattle.adb_world.specs.Settled.{Each, GoesOn, HasEnded, HasMade, IsAtEase, IsCounted, IsDone, Rests};
+ghost use Rattle.adb_world.specs.Settled.{AreWhole, Each, GoesOn, HasEnded, HasMade, IsAtEase, IsCounted, IsDone, Rests};
 ghost use Rattle.adb_world.specs.Steps.{most_steps};
-ghost use Rattle.adb_world.specs.Together.{AreAnsweredTogether, AreWhole};
+ghost use Rattle.adb_world.specs.Stopped.{HasEndedInPart, HasStopped};
+ghost use Rattle.adb_world.specs.Together.{AreAnsweredTogether, AreAskedInPart};
 ghost use Rattle.std.specs.Prelude.{ℕ, ◌≡◌, ◌≤◌, [], Some, false, true};
 ghost use Rattle.adb_world.specs.World.{view_of};
 ghost use Rattle.adb_world.specs.declared.parts.Parts.{Parts};
 ghost use Rattle.adb_world.specs.declared.session.Session.{Session};
 
 use adb_laws_alone::{
-    a_stream_alone_runs_over_its_files, echoes_leave_files, streams_run_together,
+    a_stream_alone_runs_over_its_files, echoes_leave_files, streams_run_in_part,
+    streams_run_together,
 };
 use adb_laws_answers::clients_are_answered;
 use adb_laws_births::what_came_stays;
@@ -171,4 +173,45 @@ pub(crate) fn sessions_are_answered_together()
     a_stream_alone_runs_over_its_files();
     echoes_leave_files();
     streams_run_together();
+}
+
+/// If a step fails, the files are those after whole commands and whole sync requests, in one order,
+/// and each session that had written nothing asked for a prefix of what it asks for.
+pub(crate) fn sessions_are_asked_in_part()
+    ensures { (old new : Parts) → IsAtEase old → HasStopped old new
+        → AreWhole old.sessions.entries
+        → AreAskedInPart (files_of old.device) (files_of new.device) old.sessions.entries }
+{
+    carries_rest();
+    what_came_stays();
+    requests_open_their_service();
+    sessions_ask_for_services();
+    streams_have_settled_at_rest();
+    clients_hold_nothing_at_rest();
+    streams_are_open_at_rest();
+    streams_of_one_plain_device_are_plain();
+    streams_of_one_device_are_on_its_link();
+    a_device_breaks_no_link();
+    streams_that_live_heard_no_close();
+    clients_are_answered();
+    payloads_in_turn_are_one();
+    an_ended_service_takes_no_more();
+    a_stream_alone_runs_over_its_files();
+    echoes_leave_files();
+    streams_run_in_part();
+}
+
+/// If all is settled, a session's client ends, and a step fails before all has settled again, no file
+/// has changed.
+pub(crate) fn sessions_that_end_in_part_change_no_file()
+    ensures { (number : ℕ) (old mid new : Parts) → IsDone old
+        → HasEndedInPart number old mid new → files_of new.device ≡ files_of old.device }
+{
+    carries_rest();
+    what_came_stays();
+    most_entries_send_nothing();
+    a_client_sends_up_its_own_stream();
+    sessions_ask_for_services();
+    a_device_breaks_no_link();
+    settled_worlds_are_counted();
 }

@@ -1,7 +1,9 @@
 //! Moving bytes of one kind, where any can move.
 
-ghost use Rattle.std.specs.Prelude.{◌<◌, IfOk, OnOk};
+ghost use Rattle.std.specs.Prelude.{◌≡◌, ◌<◌, IfOk, OnErr, OnOk};
+ghost use Rattle.adb_daemon.specs.Daemon.{files_of};
 ghost use Rattle.adb_world.specs.Parts.{IsRunning};
+ghost use Rattle.adb_world.specs.Stopped.{Fails};
 ghost use Rattle.adb_world.specs.Settled.{Anything, Goes, HaveWritten, NoneDown, NoneHanded, NoneUp, NoneWritten};
 
 use crate::parts::Parts;
@@ -12,7 +14,8 @@ use std::alloc::AllocError;
 pub(crate) fn down(parts: &mut Parts, most: usize) -> Result<bool, AllocError>
     requires runs { IsRunning parts.old }
     requires some { 0 < most }
-    ensures { IfOk result (λ moved. Goes NoneDown moved parts.old parts.new) }
+    ensures moves { IfOk result (λ moved. Goes NoneDown moved parts.old parts.new) }
+    ensures fails { OnErr result (Fails parts.old parts.new) }
 {
     what_came_stays();
     let moved = parts.down(most)?;
@@ -23,7 +26,8 @@ pub(crate) fn down(parts: &mut Parts, most: usize) -> Result<bool, AllocError>
 pub(crate) fn up(parts: &mut Parts, most: usize) -> Result<bool, AllocError>
     requires runs { IsRunning parts.old }
     requires some { 0 < most }
-    ensures { IfOk result (λ moved. Goes NoneUp moved parts.old parts.new) }
+    ensures moves { IfOk result (λ moved. Goes NoneUp moved parts.old parts.new) }
+    ensures kept { OnErr result (files_of parts.new.device ≡ files_of parts.old.device) }
 {
     what_came_stays();
     let moved = parts.up(most)?;
@@ -34,7 +38,8 @@ pub(crate) fn up(parts: &mut Parts, most: usize) -> Result<bool, AllocError>
 pub(crate) fn hand_one(parts: &mut Parts, after: u32, most: usize) -> Result<bool, AllocError>
     requires runs { IsRunning parts.old }
     requires some { 0 < most }
-    ensures { IfOk result (λ moved. Goes Anything moved parts.old parts.new) }
+    ensures moves { IfOk result (λ moved. Goes Anything moved parts.old parts.new) }
+    ensures kept { OnErr result (files_of parts.new.device ≡ files_of parts.old.device) }
 {
     what_came_stays();
     let Some(number) = parts.next_session(after) else {
@@ -48,7 +53,8 @@ pub(crate) fn hand_one(parts: &mut Parts, after: u32, most: usize) -> Result<boo
 pub(crate) fn write_one(parts: &mut Parts, after: u32, most: usize) -> Result<bool, AllocError>
     requires runs { IsRunning parts.old }
     requires some { 0 < most }
-    ensures { IfOk result (λ moved. Goes Anything moved parts.old parts.new) }
+    ensures moves { IfOk result (λ moved. Goes Anything moved parts.old parts.new) }
+    ensures kept { OnErr result (files_of parts.new.device ≡ files_of parts.old.device) }
 {
     what_came_stays();
     let Some(number) = parts.next_session(after) else {
@@ -64,7 +70,8 @@ pub(crate) fn hand_next(parts: &mut Parts, most: usize) -> Result<bool, AllocErr
     requires runs { IsRunning parts.old }
     requires some { 0 < most }
     requires down { NoneDown parts.old }
-    ensures { IfOk result (λ moved. Goes (NoneHanded 0) moved parts.old parts.new) }
+    ensures moves { IfOk result (λ moved. Goes (NoneHanded 0) moved parts.old parts.new) }
+    ensures kept { OnErr result (files_of parts.new.device ≡ files_of parts.old.device) }
 {
     what_came_stays();
     let Some(number) = parts.next_owed() else {
@@ -85,6 +92,7 @@ pub(crate) fn write_next(
     requires some { 0 < most }
     requires wrote { HaveWritten wrote.old parts.old }
     ensures moves { IfOk result (λ moved. Goes (NoneWritten 0) moved parts.old parts.new) }
+    ensures kept { OnErr result (files_of parts.new.device ≡ files_of parts.old.device) }
     ensures wrote { OnOk result (HaveWritten wrote.new parts.new) }
 {
     what_came_stays();

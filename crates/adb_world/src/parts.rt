@@ -1,6 +1,6 @@
 //! What a world is made of.
 
-ghost use Rattle.std.specs.Prelude.{◌≡◌, ◌+◌, ◌^◌, ◌<◌, [], ◌∷◌, ℕ, Some, None, true, is_some, IfOk, OnOk, MatchOption};
+ghost use Rattle.std.specs.Prelude.{◌≡◌, ◌+◌, ◌^◌, ◌<◌, [], ◌∷◌, ℕ, Some, None, true, is_some, IfOk, OnErr, OnOk, MatchOption};
 ghost use Rattle.adb_outside.specs.Tables.{at, put_at, Puts};
 ghost use Rattle.adb_outside.specs.declared.kinds.Cause.{Cause};
 ghost use Rattle.adb_capture.specs.declared.entry.Entry.{Entry};
@@ -79,6 +79,7 @@ impl Parts {
         ensures calm { OnOk result
             (IsCalm self.old.hub (owed self.old.device) (ends_of self.old.device)
             → IsCalm self.new.hub (owed self.new.device) (ends_of self.new.device)) }
+        ensures kept { OnErr result (self.new.device ≡ self.old.device) }
     {
         sessions_ask_for_services();
         most_entries_send_nothing();

@@ -1,19 +1,20 @@
 //! Running a world until nothing in it can move.
 
-ghost use Rattle.std.specs.Prelude.{ℕ, ◌<◌, ◌≤◌, ◌≡◌, Some, IfOk, OnOk};
+ghost use Rattle.std.specs.Prelude.{ℕ, ◌<◌, ◌≤◌, ◌≡◌, Some, IfOk, OnErr, OnOk};
 ghost use Rattle.adb_outside.specs.Tables.{at};
 ghost use Rattle.adb_daemon.specs.Daemon.{files_of};
 ghost use Rattle.adb_world.specs.Answered.{AreEchoes, IsAnswered, IsAnsweredAlone, IsNewAlone};
 ghost use Rattle.adb_world.specs.Parts.{IsRunning};
-ghost use Rattle.adb_world.specs.Settled.{Anything, Each, Goes, GoesOn, HasMade, HaveWritten, IsAtEase, IsDone, Rests};
+ghost use Rattle.adb_world.specs.Settled.{Anything, AreWhole, Each, Goes, GoesOn, HasMade, HaveWritten, IsAtEase, IsDone, Rests};
 ghost use Rattle.adb_world.specs.Steps.{most_steps};
-ghost use Rattle.adb_world.specs.Together.{AreAnsweredTogether, AreWhole};
+ghost use Rattle.adb_world.specs.Stopped.{Fails, HasStopped};
+ghost use Rattle.adb_world.specs.Together.{AreAnsweredTogether, AreAskedInPart};
 ghost use Rattle.adb_world.specs.declared.session.Session.{Session};
 
 use crate::choices::{Side, Turn, turn_of};
 use crate::laws::{
     echoes_change_no_file, sessions_alone_are_answered, sessions_are_answered_together,
-    settling_takes_few_steps, worlds_that_rest_are_settled,
+    sessions_are_asked_in_part, settling_takes_few_steps, worlds_that_rest_are_settled,
 };
 use crate::moving::{down, hand_next, hand_one, up, write_next, write_one};
 use crate::parts::Parts;
@@ -24,6 +25,9 @@ use std::alloc::AllocError;
 
 /// Makes steps until none is possible, and returns their number. The sessions up to `wrote` have
 /// written everything.
+///
+/// - `AllocError`: an allocation failed. The files are those after whole commands and whole sync
+///   requests.
 pub(crate) fn settle_parts(parts: &mut Parts, seed: u64, wrote: u32) -> Result<u64, AllocError>
     requires runs { IsRunning parts.old }
     requires wrote { HaveWritten wrote parts.old }
@@ -42,12 +46,17 @@ pub(crate) fn settle_parts(parts: &mut Parts, seed: u64, wrote: u32) -> Result<u
         (files_of parts.new.device) parts.old.sessions.entries parts.new.sessions.entries) }
     ensures steps { IsAtEase parts.old
         → IfOk result (λ steps. steps ≤ most_steps parts.new.sessions.entries) }
+    ensures stopped { OnErr result (HasStopped parts.old parts.new) }
+    ensures in_part { IsAtEase parts.old → AreWhole parts.old.sessions.entries
+        → OnErr result (AreAskedInPart (files_of parts.old.device)
+        (files_of parts.new.device) parts.old.sessions.entries) }
 {
     settling_takes_few_steps();
     worlds_that_rest_are_settled();
     sessions_alone_are_answered();
     echoes_change_no_file();
     sessions_are_answered_together();
+    sessions_are_asked_in_part();
     let mut words = Pcg32::seed_from_u64(seed);
     let mut wrote = wrote;
     for steps in 0..u64::MAX {
@@ -66,6 +75,7 @@ fn step(parts: &mut Parts, turn: Turn, wrote: &mut u32) -> Result<bool, AllocErr
     requires some { 0 < turn.most }
     requires wrote { HaveWritten wrote.old parts.old }
     ensures moves { IfOk result (λ moved. Goes Rests moved parts.old parts.new) }
+    ensures fails { OnErr result (Fails parts.old parts.new) }
     ensures wrote { OnOk result (HaveWritten wrote.new parts.new) }
 {
     if first_step(parts, turn)? {
@@ -88,7 +98,8 @@ fn step(parts: &mut Parts, turn: Turn, wrote: &mut u32) -> Result<bool, AllocErr
 fn first_step(parts: &mut Parts, turn: Turn) -> Result<bool, AllocError>
     requires runs { IsRunning parts.old }
     requires some { 0 < turn.most }
-    ensures { IfOk result (λ moved. Goes Anything moved parts.old parts.new) }
+    ensures moves { IfOk result (λ moved. Goes Anything moved parts.old parts.new) }
+    ensures fails { OnErr result (Fails parts.old parts.new) }
 {
     match turn.first {
         Side::Down => {

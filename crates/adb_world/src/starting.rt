@@ -1,6 +1,6 @@
 //! Starting a session.
 
-ghost use Rattle.std.specs.Prelude.{◌≡◌, ◌+◌, ◌<◌, IfOk, OnOk};
+ghost use Rattle.std.specs.Prelude.{◌≡◌, ◌+◌, ◌<◌, IfOk, OnErr, OnOk};
 ghost use Rattle.adb_laws_sessions.specs.Words.{IsKnown};
 ghost use Rattle.adb_world.specs.Parts.{Adds, most_sessions};
 ghost use Rattle.adb_world.specs.Session.{new_session};
@@ -25,6 +25,7 @@ pub(crate) fn begin(
     ensures added { OnOk result (Adds (parts.old.given + 1)
         (new_session service.now text) parts.old parts.new) }
     ensures ease { OnOk result (IsAtEase parts.new) }
+    ensures kept { OnErr result (parts.new.device ≡ parts.old.device) }
 {
     let session = Session::new(alloc, service, text)?;
     let number = parts.join(session)?;

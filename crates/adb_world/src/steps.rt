@@ -1,10 +1,11 @@
 //! The steps of a world: each moves some bytes from one part to the next.
 
-ghost use Rattle.std.specs.Prelude.{◌≡◌, ◌+◌, ◌<◌, ◌≤◌, true, is_some, length, Some, IfOk, IfSome, OnOk, option_map};
+ghost use Rattle.std.specs.Prelude.{◌≡◌, ◌+◌, ◌<◌, ◌≤◌, true, is_some, length, Some, IfOk, IfSome, OnErr, OnOk, option_map};
 ghost use Rattle.adb_outside.specs.Tables.{at};
 ghost use Rattle.adb_capture.specs.declared.entry.Entry.{Entry};
 ghost use Rattle.adb_history.specs.Machine.{History, state};
 ghost use Rattle.adb_daemon.specs.Daemon.{owed};
+ghost use Rattle.adb_world.specs.Stopped.{Fails};
 ghost use Rattle.adb_hub.specs.Answers.{due_on, offered_to};
 ghost use Rattle.adb_world.specs.Parts.{Holds, IsHeld, IsRunning, Moves};
 ghost use Rattle.adb_world.specs.Session.{Changes, handed, left_of, wrote};
@@ -28,6 +29,7 @@ impl Parts {
         ensures moves { IfOk result (λ moved. (h : History) → Holds h self.old
             → Moves (Entry.Send 1) max (due_on ((state h).links 1)) moved
             h self.old self.new) }
+        ensures fails { OnErr result (Fails self.old self.new) }
         ensures sessions { self.new.sessions ≡ self.old.sessions }
         ensures given { self.new.given ≡ self.old.given }
     {
@@ -46,6 +48,7 @@ impl Parts {
         ensures moves { IfOk result (λ moved. (h : History) → Holds h self.old
             → Moves (Entry.Recv 1) max (Some (owed self.old.device)) moved
             h self.old self.new) }
+        ensures kept { OnErr result (self.new.device ≡ self.old.device) }
         ensures sessions { self.new.sessions ≡ self.old.sessions }
         ensures given { self.new.given ≡ self.old.given }
     {
@@ -66,10 +69,11 @@ impl Parts {
         requires some { 0 < max }
         requires held { IsHeld self.old }
         requires there { is_some (at number self.old.sessions.entries) ≡ true }
-        ensures { IfOk result (λ moved. (h : History) → Holds h self.old
+        ensures moves { IfOk result (λ moved. (h : History) → Holds h self.old
             → Moves (Entry.Put number) max
             (offered_to (state h).devices ((state h).clients number)) moved
             h self.old self.new) }
+        ensures kept { OnErr result (self.new.device ≡ self.old.device) }
     {
         let Some(piece) = put(&mut self.hub, number, max)? else {
             return Ok(false);
@@ -83,10 +87,11 @@ impl Parts {
     pub(crate) fn write(&mut self, number: u32, max: usize) -> Result<bool, AllocError>
         requires some { 0 < max }
         requires runs { IsRunning self.old }
-        ensures { IfOk result (λ moved. (h : History) → Holds h self.old
+        ensures moves { IfOk result (λ moved. (h : History) → Holds h self.old
             → Moves (Entry.Read number) max
             (option_map left_of (at number self.old.sessions.entries)) moved
             h self.old self.new) }
+        ensures kept { OnErr result (self.new.device ≡ self.old.device) }
     {
         sessions_ask_for_services();
         a_device_breaks_no_link();

@@ -9,8 +9,9 @@ ghost use Rattle.adb_world.specs.Answered.{AreEchoes, IsAnswered, IsAnsweredAlon
 ghost use Rattle.adb_world.specs.Parts.{AreSame, most_sessions};
 ghost use Rattle.adb_world.specs.Session.{new_session};
 ghost use Rattle.adb_world.specs.Settled.{Each, HasMoved, IsCounted, IsSettled};
+ghost use Rattle.adb_world.specs.Stopped.{IsServedInPart};
 ghost use Rattle.adb_world.specs.Steps.{most_steps};
-ghost use Rattle.adb_world.specs.Together.{AreAnsweredTogether, AreWhole};
+ghost use Rattle.adb_world.specs.Together.{AreAnsweredTogether, AreAskedInPart};
 ghost use Rattle.adb_world.specs.World.{HasStarted};
 ghost use Rattle.adb_world.specs.declared.session.Session.{Session};
 
@@ -26,8 +27,10 @@ use adb_outside::Text;
 use std::alloc::{AllocError, Global};
 use std::marker::Model;
 
-/// One hub, one model device, and the sessions of scripted clients by their numbers. After want of
-/// memory it is spent: each later call that may answer so does, and changes nothing.
+/// One hub, one model device, and the sessions of scripted clients by their numbers. Between two
+/// calls each session has written all its words, or none. After an allocation failure the world is
+/// spent: each later call that can fail returns an error and changes nothing, and the files are those
+/// after whole commands and whole sync requests.
 #[derive(Drop)]
 pub struct World {
     alloc: Global,
@@ -75,9 +78,10 @@ impl World {
         })
     }
 
-    /// Adds a session, and gives its number, the next one. Its client will select the device, ask
-    /// for a service and write a text, and then neither write nor close. After want of memory the
-    /// world is spent.
+    /// Adds a session and returns its number, the next one. Its client will select the device, ask
+    /// for a service and write a text, and then neither write nor close.
+    ///
+    /// - `AllocError`: an allocation failed. The world is spent, and its files are as before.
     pub fn start(&mut self, service: &[u8], text: &[u8]) -> Result<u32, AllocError>
         requires known { is_some (service_of service.now) ≡ true }
         requires short { length service.now ≤ most_service }
@@ -88,6 +92,7 @@ impl World {
         ensures whole { OnOk result (self.new.spent ≡ false) }
         ensures new { OnOk result (self.new.settled ≡ false) }
         ensures spent { OnErr result (self.new.spent ≡ true) }
+        ensures kept { OnErr result (self.new.files ≡ self.old.files) }
         ensures stays { self.old.spent ≡ true → IsErr result × (self.new ≡ self.old) }
     {
         if self.spent {
@@ -103,6 +108,8 @@ impl World {
     }
 
     /// The same with a text that is moved, and not copied.
+    ///
+    /// - `AllocError`: an allocation failed. The world is spent, and its files are as before.
     pub fn start_text(&mut self, service: &[u8], text: Text) -> Result<u32, AllocError>
         requires known { is_some (service_of service.now) ≡ true }
         requires short { length service.now ≤ most_service }
@@ -113,6 +120,7 @@ impl World {
         ensures whole { OnOk result (self.new.spent ≡ false) }
         ensures new { OnOk result (self.new.settled ≡ false) }
         ensures spent { OnErr result (self.new.spent ≡ true) }
+        ensures kept { OnErr result (self.new.files ≡ self.old.files) }
         ensures stays { self.old.spent ≡ true → IsErr result × (self.new ≡ self.old) }
     {
         if self.spent {
@@ -153,9 +161,12 @@ impl World {
         }
     }
 
-    /// What a new session of the file service is answered to some bytes, alone: what is served to
-    /// their whole requests, in order, over the files. The session is dropped then, and the others
-    /// stay. All that was started has to have settled. After want of memory the world is spent.
+    /// Returns what a new session of the file service is answered to some bytes, alone: what is
+    /// served to their whole requests, in order, over the files. The session is dropped then, and the
+    /// others stay. All that was started has to have settled.
+    ///
+    /// - `AllocError`: an allocation failed. The world is spent, and its files are those after a
+    ///   prefix of the whole requests.
     pub fn sync(&mut self, seed: u64, ask: &[u8]) -> Result<Text, AllocError>
         requires settled { self.old.settled ≡ true }
         requires room { self.old.given < most_sessions }
@@ -169,6 +180,7 @@ impl World {
         ensures settled { OnOk result (self.new.settled ≡ true) }
         ensures whole { OnOk result (self.new.spent ≡ false) }
         ensures spent { OnErr result (self.new.spent ≡ true) }
+        ensures in_part { OnErr result (IsServedInPart self.old.files self.new.files ask.now) }
         ensures stays { self.old.spent ≡ true → IsErr result × (self.new ≡ self.old) }
     {
         if self.spent {
@@ -187,6 +199,9 @@ impl World {
     }
 
     /// The same with bytes that are moved, and an answer that is: neither is copied.
+    ///
+    /// - `AllocError`: an allocation failed. The world is spent, and its files are those after a
+    ///   prefix of the whole requests.
     pub fn sync_text(&mut self, seed: u64, ask: Text) -> Result<Answer, AllocError>
         requires settled { self.old.settled ≡ true }
         requires room { self.old.given < most_sessions }
@@ -199,6 +214,7 @@ impl World {
         ensures settled { OnOk result (self.new.settled ≡ true) }
         ensures whole { OnOk result (self.new.spent ≡ false) }
         ensures spent { OnErr result (self.new.spent ≡ true) }
+        ensures in_part { OnErr result (IsServedInPart self.old.files self.new.files ask) }
         ensures stays { self.old.spent ≡ true → IsErr result × (self.new ≡ self.old) }
     {
         settled_worlds_are_counted();
@@ -216,14 +232,16 @@ impl World {
 
     /// Ends the client of each session in order, one after the other, and drops the sessions, whose
     /// numbers are not given again. All settles without them. All that was started has to have
-    /// settled. After want of memory the world is spent.
+    /// settled.
+    ///
+    /// - `AllocError`: an allocation failed. The world is spent, and its files are as before.
     pub fn finish(&mut self, seed: u64) -> Result<(), AllocError>
         requires settled { self.old.settled ≡ true }
         ensures empty { OnOk result (self.new.sessions ≡ []) }
         ensures calm { OnOk result (IsSettled self.new) }
         ensures counted { OnOk result (IsCounted self.new) }
         ensures given { OnOk result (self.new.given ≡ self.old.given) }
-        ensures files { OnOk result (self.new.files ≡ self.old.files) }
+        ensures files { self.new.files ≡ self.old.files }
         ensures settled { OnOk result (self.new.settled ≡ true) }
         ensures whole { OnOk result (self.new.spent ≡ false) }
         ensures spent { OnErr result (self.new.spent ≡ true) }
@@ -261,9 +279,13 @@ fn keep_memory(alloc: Global) {
     drop(block);
 }
 
-/// Moves bytes, in pieces and between sides that the seed picks, until none can move, and gives the
-/// number of steps, each of which is an entry of the hub's history: at most 64 for each byte of the sessions' services, of their texts and of what
-/// they were handed, 1,024 for each session, and 1,024. After want of memory the world is spent.
+/// Moves bytes, in pieces and between sides that the seed picks, until none can move, and returns the
+/// number of steps, each of which is an entry of the hub's history: at most 64 for each byte of the
+/// sessions' services, of their texts and of what they were handed, 1,024 for each session, and 1,024.
+///
+/// - `AllocError`: an allocation failed. The world is spent. Its files are those after whole commands
+///   and whole sync requests of the sessions that had written nothing, in one order, each session's
+///   a prefix of what it asks for.
 pub fn settle(world: &mut World, seed: u64) -> Result<u64, AllocError>
     ensures settled { OnOk result (IsSettled world.new) }
     ensures counted { OnOk result (IsCounted world.new) }
@@ -273,9 +295,10 @@ pub fn settle(world: &mut World, seed: u64) -> Result<u64, AllocError>
     ensures alone { (n : ℕ) (session : Session) → IsNewAlone n world.old.sessions
         → at n world.new.sessions ≡ Some session
         → OnOk result (IsAnsweredAlone session world.old.files world.new.files) }
-    ensures together { AreWhole world.old.sessions
-        → OnOk result (AreAnsweredTogether world.old.files world.new.files
+    ensures together { OnOk result (AreAnsweredTogether world.old.files world.new.files
         world.old.sessions world.new.sessions) }
+    ensures in_part { OnErr result (AreAskedInPart world.old.files world.new.files
+        world.old.sessions) }
     ensures files { AreEchoes world.old.sessions
         → OnOk result (world.new.files ≡ world.old.files) }
     ensures moved { IfOk result (λ steps. HasMoved steps world.old.hub world.new.hub) }

@@ -10,7 +10,7 @@ unreachable-requires c =
     let e : c.in-Err.field-0 ≡ OutOfMemory = device_starves c.args.device.now c.feed.new.self c.args.piece.now c.requires c.in-Err.field-0 whole in
     first_of (search rules, grind arith, omega arith, cc)
 
-pub returns-in-Ok : goal.returns-in-Ok
-returns-in-Ok c fed taken done =
+pub returns-in-Ok-clause-done : goal.returns-in-Ok-clause-done
+returns-in-Ok-clause-done c fed taken done =
     (subst (Whole c.args.device.now c.feed.new.self c.args.piece.now c.requires) c.in-Ok.is c.feed.ensures.whole
     (λ same. cc) model_setting fed taken done).done

@@ -22,3 +22,11 @@ returns-clause-files c =
       goes = c.in_ok-settle_parts.ensures.goes;
       done = c.in_ok-settle_parts.ensures.done;
     })
+
+pub returns-in_err-settle_parts-clause-files : goal.returns-in_err-settle_parts-clause-files
+returns-in_err-settle_parts-clause-files c =
+    c.sessions_that_end_in_part_change_no_file.ensures c.args.number c.args.parts.now c.end-session.new.self c.settle_parts.new.parts c.requires.done (record {
+      dropped = c.end-session.ensures.dropped;
+      ends = c.end-session.ensures.holds;
+      stopped = c.in_err-settle_parts.ensures.stopped;
+    })

@@ -1,3 +1,4 @@
+use Rattle.std.proofs.Common.{◌∙◌}
 use Rattle.adb_world.proofs.Finishing.{finished, finishes_one}
 use Rattle.adb_world.proofs.ending.finish_parts.Goals as goal
 
@@ -10,3 +11,6 @@ loop-number-preserved c =
 pub returns-clause-none : goal.returns-clause-none
 returns-clause-none c =
     finished c.loop-number.after c.args.parts.now c.loop-number.parts c.loop-number.invariant c.in_default.ensures
+
+pub returns-in_err-finish_one-clause-files : goal.returns-in_err-finish_one-clause-files
+returns-in_err-finish_one-clause-files c = c.in_err-finish_one.ensures.files ∙ c.loop-number.invariant.files

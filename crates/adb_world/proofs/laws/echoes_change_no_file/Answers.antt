@@ -1,7 +1,8 @@
 use Rattle.std.proofs.Common.{arith}
 use Rattle.adb_laws_sessions.specs.Model.{model_setting}
 use Rattle.adb_world.proofs.OneStream.{PayloadLaws}
-use Rattle.adb_world.proofs.Alone.{AloneLaws, echoes_left, echoes_begun}
+use Rattle.adb_world.proofs.Alone.{echoes_left, echoes_begun}
+use Rattle.adb_world.proofs.Later.{AloneLaws}
 use Rattle.adb_world.proofs.Rest.{Laws}
 use Rattle.adb_world.proofs.laws.echoes_change_no_file.Goals as goal
 

@@ -1,7 +1,8 @@
 use Rattle.std.proofs.Common.{arith}
 use Rattle.adb_laws_sessions.specs.Model.{model_setting}
 use Rattle.adb_world.proofs.OneStream.{PayloadLaws}
-use Rattle.adb_world.proofs.Alone.{AloneLaws, answered_alone, alone_begun}
+use Rattle.adb_world.proofs.Alone.{answered_alone, alone_begun}
+use Rattle.adb_world.proofs.Later.{AloneLaws}
 use Rattle.adb_world.proofs.Rest.{Laws}
 use Rattle.adb_world.proofs.laws.sessions_alone_are_answered.Goals as goal
 

@@ -1,7 +1,7 @@
 use Rattle.std.proofs.Common.{arith}
 use Rattle.adb_laws_sessions.specs.Model.{model_setting}
 use Rattle.adb_world.proofs.OneStream.{PayloadLaws}
-use Rattle.adb_world.proofs.Alone.{AloneLaws}
+use Rattle.adb_world.proofs.Later.{AloneLaws}
 use Rattle.adb_world.proofs.Rest.{Laws}
 use Rattle.adb_world.proofs.Together.{answered_together}
 use Rattle.adb_world.proofs.laws.sessions_are_answered_together.Goals as goal

@@ -1,4 +1,4 @@
-use Rattle.std.specs.Prelude.{ℕ, true, is_some}
+use Rattle.std.specs.Prelude.{true, is_some}
 use Rattle.std.proofs.Common.{◌≡◌, sym, subst}
 use Rattle.adb_outside.specs.Tables.{at}
 use Rattle.adb_world.specs.declared.parts.Parts.{Parts}
@@ -15,7 +15,7 @@ pub hand-requires-clause-there : goal.hand-requires-clause-there
 hand-requires-clause-there c =
     subst (λ (p : Parts). is_some (at c.in-Some.number p.sessions.entries) ≡ true) (sym c.next_owed.ensures.same) c.in-Some.ensures.next.0
 
-pub returns : goal.returns
-returns c =
+pub returns-clause-moves : goal.returns-clause-moves
+returns-clause-moves c =
     hands_next c.what_came_stays.ensures c.args.parts.now c.next_owed.new.self c.hand.new.self c.requires.runs c.args.most c.in-Some.number
-    c.in_ok-moved.moved c.next_owed.ensures.same c.in-Some.ensures.next.0 c.in-Some.ensures.next.1 c.in_ok-moved.ensures
+    c.in_ok-moved.moved c.next_owed.ensures.same c.in-Some.ensures.next.0 c.in-Some.ensures.next.1 c.in_ok-moved.ensures.moves

@@ -1,7 +1,9 @@
 use Rattle.std.specs.Prelude.{Bool}
-use Rattle.std.proofs.Common.{sym, subst}
+use Rattle.std.proofs.Common.{inl, refl, sym, subst}
+use Rattle.adb_device_streams.proofs.Syncing.{at_err}
 use Rattle.adb_world.specs.Parts.{IsRunning}
 use Rattle.adb_world.specs.Settled.{Goes, GoesOn, HasMade, Rests}
+use Rattle.adb_world.proofs.Stopping.{stops}
 use Rattle.adb_world.specs.declared.parts.Parts.{Parts}
 use Rattle.adb_world.proofs.Going.{made_more, made_none}
 use Rattle.adb_world.proofs.settling.settle_parts.Goals as goal
@@ -62,3 +64,20 @@ pub returns-then-not-branch-clause-made : goal.returns-then-not-branch-clause-ma
 returns-then-not-branch-clause-made c =
     let goes = subst (λ (b : Bool). Goes Rests b c.loop-steps.parts c.step.new.parts) c.if-not-branch.true c.in_ok-step.ensures.moves in
     subst (λ (parts : Parts). HasMade c.loop-steps.steps c.args.parts.now parts) (sym goes.0) c.loop-steps.invariant.0
+
+pub returns-in_err-step-clause-stopped : goal.returns-in_err-step-clause-stopped
+returns-in_err-step-clause-stopped c =
+    at_err _ c.from_residual.result (stops c.args.parts.now c.loop-steps.parts c.step.new.parts c.loop-steps.invariant.0.goes c.in_err-step.ensures.fails)
+
+pub returns-in_err-step-clause-in_part : goal.returns-in_err-step-clause-in_part
+returns-in_err-step-clause-in_part c = λ ease whole.
+    at_err _ c.from_residual.result (c.sessions_are_asked_in_part.ensures c.args.parts.now c.step.new.parts ease
+    (stops c.args.parts.now c.loop-steps.parts c.step.new.parts c.loop-steps.invariant.0.goes c.in_err-step.ensures.fails) whole)
+
+pub returns-clause-stopped : goal.returns-clause-stopped
+returns-clause-stopped c = stops c.args.parts.now c.loop-steps.parts c.loop-steps.parts c.loop-steps.invariant.0.goes (inl refl)
+
+pub returns-clause-in_part : goal.returns-clause-in_part
+returns-clause-in_part c = λ ease whole.
+    c.sessions_are_asked_in_part.ensures c.args.parts.now c.loop-steps.parts ease
+    (stops c.args.parts.now c.loop-steps.parts c.loop-steps.parts c.loop-steps.invariant.0.goes (inl refl)) whole

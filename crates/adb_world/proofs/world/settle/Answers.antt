@@ -2,9 +2,10 @@ use Rattle.std.proofs.Common.{arith, ◌∙◌, sym, ap, subst}
 use Rattle.adb_daemon.specs.Daemon.{files_of}
 use Rattle.adb_world.specs.Answered.{AreEchoes, IsAnsweredAlone, IsNewAlone}
 use Rattle.adb_world.specs.Settled.{HasMoved}
-use Rattle.adb_world.specs.Together.{AreAnsweredTogether, AreWhole}
+use Rattle.adb_world.specs.Together.{AreAnsweredTogether, AreAskedInPart}
 use Rattle.adb_world.specs.World.{View}
-use Rattle.adb_world.proofs.Finishing.{ease_of}
+use Rattle.adb_world.proofs.Finishing.{ease_of, whole_of}
+use Rattle.adb_world.proofs.Stopping.{none_asked}
 use Rattle.adb_world.proofs.Going.{has_moved}
 use Rattle.adb_world.proofs.world.settle.Goals as goal
 
@@ -20,11 +21,21 @@ returns-in-Ok-clause-alone c n session alone is =
     (c.in-Ok.ensures.alone ease n session (subst (λ (w : View). IsNewAlone n w.sessions) (sym c.world.view_is) alone) is)
 
 pub returns-in-Ok-clause-together : goal.returns-in-Ok-clause-together
-returns-in-Ok-clause-together c whole =
+returns-in-Ok-clause-together c =
     let ease = ease_of c.world.inside.spent c.world.inside.settled c.world.inside.parts c.if-world.false c.world.invariant in
+    let whole = whole_of c.world.inside.spent c.world.inside.settled c.world.inside.parts c.if-world.false c.world.invariant in
     subst (λ (w : View). AreAnsweredTogether w.files (files_of c.settle_parts.new.parts.device) w.sessions c.settle_parts.new.parts.sessions.entries)
-    c.world.view_is
-    (c.in-Ok.ensures.together ease (subst (λ (w : View). AreWhole w.sessions) (sym c.world.view_is) whole))
+    c.world.view_is (c.in-Ok.ensures.together ease whole)
+
+pub returns-in-Err-clause-in_part : goal.returns-in-Err-clause-in_part
+returns-in-Err-clause-in_part c =
+    let ease = ease_of c.world.inside.spent c.world.inside.settled c.world.inside.parts c.if-world.false c.world.invariant in
+    let whole = whole_of c.world.inside.spent c.world.inside.settled c.world.inside.parts c.if-world.false c.world.invariant in
+    subst (λ (w : View). AreAskedInPart w.files (files_of c.settle_parts.new.parts.device) w.sessions) c.world.view_is
+    (c.in-Err.ensures.in_part ease whole)
+
+pub returns-then-world-clause-in_part : goal.returns-then-world-clause-in_part
+returns-then-world-clause-in_part c = none_asked c.args.world.now.files c.args.world.now.sessions
 
 pub returns-in-Ok-clause-files : goal.returns-in-Ok-clause-files
 returns-in-Ok-clause-files c echoes =

@@ -18,3 +18,7 @@ pub returns-clause-front : goal.returns-clause-front
 returns-clause-front c = λ memory. λ setting fed taken done.
     spent_front setting (fed ++ c.args.piece.now) taken (daemon_of c.feed_open-result.new.deframer c.feed_open-result.new.machine) c.ran_out-self.result
     (c.feed_open-result.ensures.front memory setting fed taken (not_spent setting fed taken c.args.self.now false refl done))
+
+pub returns-clause-cut : goal.returns-clause-cut
+returns-clause-cut c = λ memory. λ setting fed taken done.
+    c.feed_open-result.ensures.cut memory setting fed taken (not_spent setting fed taken c.args.self.now false refl done)

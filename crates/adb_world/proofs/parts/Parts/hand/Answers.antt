@@ -12,8 +12,8 @@ pub put-requires-clause-drawn : goal.put-requires-clause-drawn
 put-requires-clause-drawn c =
     let held = c.requires.held in there_drawn held.history c.args.self.now held.holds c.args.number c.requires.there
 
-pub returns : goal.returns
-returns c h holds =
+pub returns-clause-moves : goal.returns-clause-moves
+returns-clause-moves c h holds =
     let n = c.args.number in
     let out = subst (λ (o : Option (List ℕ)). HasTaken (Put n) c.args.max (offered_to (state h).devices ((state h).clients n)) o h
     c.args.self.now.hub c.put.new.hub) c.in-Some.is (c.in_ok-piece.ensures h holds.lawful) in

@@ -23,8 +23,8 @@ read_next-requires-clause-drawn c =
     sym c.get.ensures.value ∙ ap option_copied c.in-Some.is in
     session_drawn runs.history c.args.self.now runs.holds c.args.number c.in-Some.session.now is
 
-pub returns : goal.returns
-returns c h holds =
+pub returns-clause-moves : goal.returns-clause-moves
+returns-clause-moves c h holds =
     let runs = c.requires.runs in
     let session = c.in-Some.session.now in
     let is : at c.args.number c.args.self.now.sessions.entries ≡ Some session = sym c.get.ensures.value ∙ ap option_copied c.in-Some.is in

@@ -1,4 +1,4 @@
-use Rattle.std.proofs.Common.{ℕ, List, ◌≡◌, ◌-◌, ◌∙◌, ap, take, drop, length, ◌++◌, subst, min}
+use Rattle.std.proofs.Common.{ℕ, List, ◌≡◌, ◌-◌, ◌∙◌, ap, take, drop, length, min}
 use Rattle.adb_world.proofs.Parted.{first_behind}
 use Rattle.adb_world.proofs.words.Words.behind.Goals as goal
 
