@@ -3,7 +3,7 @@
 
 help:
 	@echo 'make demo    runs the program over an example capture and shows the history, before any proof: two minutes'
-	@echo 'make build   proves and links the program, as bin/adbhub: most of an hour the first time, then what changed'
+	@echo 'make build   proves and links the programs, bin/adbhub and bin/adbexplain: most of an hour the first time, then what changed'
 	@echo 'make test    the gate: every proof, must-fail edit, test and program, and the built program run as a user runs it'
 	@echo 'make serve   builds the program, starts a server with a model device, and says how to ask it something'
 	@echo 'make cost    builds the program, and tells how replay and check grow with what they read'
@@ -27,8 +27,8 @@ BELOW := $(shell awk -F: '{ split($$1, head, " "); needs[head[1]] = $$2 } \
     seen[crate]; n = split(needs[crate], words, " "); \
     for (i = 1; i <= n; i++) walk(words[i]); \
     print crate } \
-  END { walk("adbhub") }' crates.txt)
-LIBRARIES := $(filter-out adbhub,$(BELOW))
+  END { walk("adbhub"); walk("adbexplain") }' crates.txt)
+LIBRARIES := $(filter-out adbhub adbexplain,$(BELOW))
 STANDING := bin/standing
 
 build:
@@ -38,7 +38,9 @@ build:
 	  $$(printf '%s\n' $(LIBRARIES) | grep -vxFf $(STANDING)); exit 1; }
 	@cd crates/adbhub && rt run -- replay < ../../examples/version.capture > /dev/null
 	@cp crates/adbhub/out/adbhub bin/adbhub
-	@echo '$(words $(BELOW)) of $(words $(BELOW)) crates stand: bin/adbhub is proved and linked'
+	@cd crates/adbexplain && rt run < stdin > /dev/null
+	@cp crates/adbexplain/out/adbexplain bin/adbexplain
+	@echo '$(words $(BELOW)) of $(words $(BELOW)) crates stand: bin/adbhub and bin/adbexplain are proved and linked'
 
 define library
 .PHONY: library-$(1)

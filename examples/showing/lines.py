@@ -1,8 +1,27 @@
 """How an entry is shown: as a line of examples/histories spells it, with the lengths of what is cut short."""
+import functools
+import itertools
+
+from spelling.histories import KINDS
 from spelling.packets import ESCAPES
 
 # How many columns the first bytes of a longer text take.
 COLUMNS = 64
+# What adbexplain names otherwise than a line of examples/histories and docs/rules.md.
+KIND_NAMES = {kind.lower(): kind for kind in KINDS}
+CAUSES = {'end of file': 'Eof', 'fault': 'Fault', 'out of memory': 'Starved', 'no thread': 'NoThread'}
+ENDINGS = {
+    'closed by its client': 'client_closed',
+    'closed by its device': 'peer_closed',
+    'its device wrote out of turn': 'out_of_turn',
+    'its device was disconnected': 'lost',
+    'its device broke the protocol': 'broken',
+    'its client was closed': 'client_failed Eof',
+    'the connection to its client failed': 'client_failed Fault',
+    'the server ran out of memory for its client': 'client_failed Starved',
+    'the server had no thread for its client': 'client_failed NoThread',
+    'the server was stopped': 'stopped',
+}
 ESCAPE_OF = {found[0]: f'\\{letter}' for letter, found in ESCAPES.items()}
 
 
@@ -12,14 +31,23 @@ def byte_text(byte):
     return chr(byte) if 0x20 <= byte < 0x7f else f'\\x{byte:02x}'
 
 
+BYTE_TEXTS = {byte: byte_text(byte) for byte in range(256)}
+
+
+@functools.lru_cache(maxsize=4096)
+def quoted_start(start):
+    """The first bytes of a text in quotes, and two dots after them if they do not fit."""
+    texts = [BYTE_TEXTS[byte] for byte in start]
+    shown = ''.join(texts)
+    if len(shown) <= COLUMNS:
+        return f'"{shown}"'
+    ends = itertools.accumulate(map(len, texts))
+    return f'"{shown[:max((end for end in ends if end <= COLUMNS), default=0)]}"..'
+
+
 def quoted(data):
     """The bytes in quotes, or the first of them and two dots."""
-    shown = ''
-    for byte in data[:COLUMNS + 1]:
-        if len(shown) + len(byte_text(byte)) > COLUMNS:
-            return f'"{shown}"..'
-        shown += byte_text(byte)
-    return f'"{shown}"'
+    return quoted_start(data[:COLUMNS + 1])
 
 
 def counted(data):
@@ -28,36 +56,51 @@ def counted(data):
 
 def text(data):
     """A text; its length is told where it is cut short."""
-    return counted(data) if quoted(data).endswith('..') else quoted(data)
+    shown = quoted(data)
+    return counted(data) if shown.endswith('..') else shown
 
 
 def packet_text(packet):
     first = f'0x{packet.first:08x}' if packet.command == 'CNXN' else packet.first
     head = f'{packet.command} {first} {packet.second}'
-    if packet.credit() is not None:
-        return f'{head} credit {packet.credit()}'
+    if (credit := packet.credit()) is not None:
+        return f'{head} credit {credit}'
     return f'{head}, {counted(packet.payload)}' if packet.payload else head
 
 
-def data_text(entry, told):
+def fields_text(entry):
+    """The data of an entry that has no bytes of a client or a link."""
+    if 'port' in entry:
+        return str(entry['port'])
+    if 'cause' in entry:
+        return CAUSES[entry['cause']]
+    return f'{entry["plug"]} {quoted(entry["serial"].encode("latin-1"))}'
+
+
+def data_text(entry, parts):
     """The data of an entry: what it makes whole, what is wrong behind that, and the bytes that are left."""
-    if entry.kind in ('Enter', 'Bound'):
-        return str(entry.port())
-    if entry.kind in ('End', 'Detach'):
-        return entry.cause()
-    if entry.kind == 'Attach':
-        return f'{entry.plug()} {quoted(entry.serial())}'
-    if entry.kind in ('Read', 'Put'):
-        parts = [f'request {text(one)}' for one in told.whole]
-        rest = text
+    if 'text' not in entry:
+        return fields_text(entry)
+    whole, rest, fault = parts
+    if 'client' in entry:
+        shown = [f'request {text(one)}' for one in whole]
+        last = text
     else:
-        parts = [packet_text(packet) for packet in told.whole] + ([told.fault] if told.fault else [])
-        rest = counted
-    return ' + '.join(parts + ([rest(told.rest)] if told.rest or not parts else []))
+        shown = [packet_text(packet) for packet in whole] + ([fault] if fault else [])
+        last = counted
+    return ' + '.join(shown + ([last(rest)] if rest or not shown else []))
 
 
-def line(place, entry, told):
+def ends_text(entry):
+    """The streams that end by an entry and why, or the rule that it breaks."""
+    if 'illegal' in entry:
+        return f'illegal: {entry["illegal"]}'
+    return '; '.join(f'stream {end["stream"]} of client {end["client"]} ends: {ENDINGS[end["cause"]]}'
+                     for end in entry['ended'])
+
+
+def line(place, entry, parts):
     """The line of an entry, with the streams that end by it and why."""
-    words = f'{entry.kind} {entry.number} {data_text(entry, told)}' if entry.kind != 'Join' else f'Join {entry.number}'
-    ends = '; '.join(f'stream {end.stream} of client {end.client} ends: {end.cause}' for end in told.ends)
-    return f'{place:7}  {words}  -- {ends}' if ends else f'{place:7}  {words}'
+    head = f'{place:7}  {KIND_NAMES[entry["kind"]]} {entry.get("client") or entry["link"]}'
+    words = head if entry['kind'] == 'join' else f'{head} {data_text(entry, parts)}'
+    return f'{words}  -- {ends_text(entry)}' if 'ended' in entry or 'illegal' in entry else words

@@ -1,0 +1,6 @@
+pub mod Lines
+pub mod Making
+pub mod Explaining
+pub mod Notes
+pub mod Stopping
+pub mod Words

@@ -1,0 +1,16 @@
+//! Explaining a history: a line for each entry, with the streams that it ended and why.
+#![tactic(auto)]
+
+mod ended;
+mod explaining;
+mod line;
+mod making;
+mod note;
+mod running;
+mod status;
+mod words;
+
+pub use explaining::explain;
+pub use running::{run, start};
+pub use status::Status;
+pub use words::payloads_of;

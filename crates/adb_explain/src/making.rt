@@ -1,0 +1,134 @@
+//! Making the next entry of a history, and its line.
+
+ghost use Rattle.std.specs.Prelude.{◌≡◌, ◌+◌, [], length, false, true, IfOk};
+ghost use Rattle.adb_outside.specs.Outside.{Counts};
+ghost use Rattle.adb_history.specs.Accepted.{is_input};
+ghost use Rattle.adb_history.specs.Kept.{IsLawful};
+ghost use Rattle.adb_history.specs.Machine.{History};
+ghost use Rattle.adb_check.specs.Judging.{Takes};
+ghost use Rattle.adb_replay.specs.Keeping.{IsLoss, is_write_fault};
+ghost use Rattle.adb_explain.specs.Making.{Explained, MakesLine, Reports, stopped_as};
+
+use crate::line::push_end;
+use adb_capture::Entry;
+use adb_check::{Rule, rule_of, take};
+use adb_entries::{Refused, apply_reporting};
+use adb_entry_lines::{Payloads, push_entry};
+use adb_hub::{Endings, Hub, others_end_no_stream};
+use adb_outside::{Sink, Text};
+use adb_replay::{Output, Stop};
+use std::alloc::{AllocError, Global};
+
+/// A hub with the streams that the last entry ended, and the line of that entry.
+#[derive(Drop)]
+pub(crate) struct Explainer {
+    hub: Hub,
+    ends: Endings,
+    line: Text,
+    payloads: Payloads,
+}
+
+impl Explainer {
+    /// Returns an explainer that was given no entry. It allocates nothing.
+    pub(crate) fn new(alloc: Global, payloads: Payloads) -> Explainer
+        ensures hub { IsLawful result.hub [] }
+        ensures payloads { result.payloads ≡ payloads }
+    {
+        Explainer {
+            hub: Hub::new(alloc),
+            ends: Endings::new(alloc),
+            line: Text::new(alloc),
+            payloads,
+        }
+    }
+
+    /// Makes the next entry, and keeps its line. Returns the first rule that the entry breaks, if it
+    /// may not come.
+    ///
+    /// `OutOfMemory`: memory ran out; the line is not kept.
+    /// `WriteFault`: the sink failed; a prefix of the lines is written.
+    pub(crate) fn explain<K: Sink>(
+        &mut self,
+        output: &mut Output,
+        sink: &mut K,
+        place: u64,
+        entry: &Entry,
+    ) -> Result<Option<Rule>, Stop>
+        ensures explained { (h : History) → IsLawful self.old.hub h → place ≡ length h + 1
+            → Explained result self.old.payloads entry.now h self.new.hub
+            (K.written sink.old, output.old) (K.written sink.new, output.new) }
+        ensures payloads { self.new.payloads ≡ self.old.payloads }
+        ensures loss { IsLoss (stopped_as result) }
+        ensures counts { Counts K.steady K.faults sink.old sink.new
+            (is_write_fault (stopped_as result)) }
+    {
+        let Ok(broken) = self.make_line(place, entry) else {
+            return Err(Stop::OutOfMemory);
+        };
+        match output.keep_bytes(sink, self.line.as_slice()) {
+            Ok(()) => Ok(broken),
+            Err(stop) => Err(stop),
+        }
+    }
+
+    /// Makes the next entry and its line.
+    fn make_line(&mut self, place: u64, entry: &Entry) -> Result<Option<Rule>, AllocError>
+        ensures made { (h : History) → IsLawful self.old.hub h → place ≡ length h + 1
+            → IfOk result (λ broken. MakesLine broken self.old.payloads entry.now h
+            self.new.hub self.new.line) }
+        ensures payloads { self.new.payloads ≡ self.old.payloads }
+    {
+        let broken = make(&mut self.hub, &mut self.ends, entry)?;
+        self.line.truncate(0);
+        push_entry(&mut self.line, self.payloads, place, entry.lend())?;
+        push_end(&mut self.line, broken, self.ends.as_slice(), &self.hub)?;
+        Ok(broken)
+    }
+}
+
+/// Makes the next entry of the history that a hub holds, and reports the streams that it ends; or
+/// returns the first rule that the entry breaks.
+fn make(hub: &mut Hub, ends: &mut Endings, entry: &Entry) -> Result<Option<Rule>, AllocError>
+    ensures taken { (h : History) → IsLawful hub.old h
+        → IfOk result (λ broken. Takes broken entry.now h hub.new) }
+    ensures told { (h : History) → IsLawful hub.old h
+        → IfOk result (λ broken. Reports broken entry.now h ends.new.list) }
+{
+    ends.clear();
+    match entry {
+        Entry::Put { .. } | Entry::Send { .. } => hand_out(hub, ends, entry),
+        _ => come(hub, ends, entry),
+    }
+}
+
+/// Makes a hand-out. No stream ends by it.
+fn hand_out(hub: &mut Hub, ends: &Endings, entry: &Entry) -> Result<Option<Rule>, AllocError>
+    requires output { is_input entry.now ≡ false }
+    requires empty { ends.now.list ≡ [] }
+    ensures taken { (h : History) → IsLawful hub.old h
+        → IfOk result (λ broken. Takes broken entry.now h hub.new) }
+    ensures told { (h : History) → IsLawful hub.old h
+        → IfOk result (λ broken. Reports broken entry.now h ends.now.list) }
+{
+    others_end_no_stream();
+    take(hub, entry)
+}
+
+/// Makes the entry of what comes from a client or a device.
+fn come(hub: &mut Hub, ends: &mut Endings, entry: &Entry) -> Result<Option<Rule>, AllocError>
+    requires input { is_input entry.now ≡ true }
+    requires empty { ends.old.list ≡ [] }
+    ensures taken { (h : History) → IsLawful hub.old h
+        → IfOk result (λ broken. Takes broken entry.now h hub.new) }
+    ensures told { (h : History) → IsLawful hub.old h
+        → IfOk result (λ broken. Reports broken entry.now h ends.new.list) }
+{
+    if hub.is_stopped() {
+        return Ok(Some(Rule::AfterKill));
+    }
+    match apply_reporting(hub, entry.lend(), ends) {
+        Ok(()) => Ok(None),
+        Err(Refused::Because(reason)) => Ok(rule_of(reason)),
+        Err(Refused::OutOfMemory) => Err(AllocError),
+    }
+}
