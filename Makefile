@@ -1,22 +1,33 @@
 .DEFAULT_GOAL := help
-.PHONY: help demo build test cost serve
+.PHONY: help unproved demo try build install uninstall test cost serve
 
 help:
-	@echo 'make demo    runs the program over an example capture and shows the history, before any proof: two minutes'
-	@echo 'make build   proves and links the programs, bin/adbhub and bin/adbexplain: most of an hour the first time, then what changed'
-	@echo 'make test    the gate: every proof, must-fail edit, test and program, and the built program run as a user runs it'
-	@echo 'make serve   builds the program, starts a server with a model device, and says how to ask it something'
-	@echo 'make cost    builds the program, and tells how replay and check grow with what they read'
+	@echo 'make demo       compiles the program without any proof, runs a short session, and shows its history: three minutes'
+	@echo 'make try        the same up to a running server, and leaves it running'
+	@echo 'make build      proves and links the programs, bin/adbhub and bin/adbexplain: most of an hour the first time, then what changed'
+	@echo 'make install    copies bin/adbhub, its manual page and its completion below PREFIX (/usr/local); make uninstall'
+	@echo 'make test       the gate: every proof, must-fail edit, test and program, and the built program run as a user runs it'
+	@echo 'make serve      builds the program, starts a server with a model device, and says how to ask it something'
+	@echo 'make cost       builds the program, and tells how replay and check grow with what they read'
 
-# rt try compiles the program with the crates below it and runs it with checks. It proves nothing, and says so.
-demo:
-	@mkdir -p bin
-	@echo 'examples/version.capture, a client that asks host:version:'
-	@od -A d -t x1z examples/version.capture
-	@echo 'Compiling the program. Nothing of it is proved here: that is make build.'
-	@cd crates/adbhub && rt try -- replay < ../../examples/version.capture > ../../bin/version.history
-	@echo 'Its history, the answer at its end:'
-	@od -A d -t x1z bin/version.history
+# Programs without any proof, for a first look. They are compiled anew if the source of a crate changed.
+UNPROVED := $(patsubst crates/%,bin/unproved/%,$(wildcard crates/adbhub crates/adbexplain))
+SOURCE := crates.txt $(wildcard $(foreach part,src/*.rt src/*/*.rt specs/*.antt specs/*/*.antt,crates/*/$(part)))
+
+bin/unproved/%: $(SOURCE)
+	@mkdir -p bin/unproved
+	@echo 'Compiling $* without proving anything, as $@: up to three processor minutes, and again only if its source changes.'
+	@examples/unproved_build $* $@
+
+unproved:
+	@+$(MAKE) --no-print-directory --jobs=2 $(UNPROVED)
+	@echo 'Nothing of bin/unproved/adbhub is proved: make build proves this source, and makes bin/adbhub.'
+
+demo: unproved
+	@examples/demo bin/unproved/adbhub
+
+try: unproved
+	@examples/demo bin/unproved/adbhub --serve
 
 # Proves the crates below the program side by side, each when those that it stands on are proved, and then the program.
 # Lists of crates.txt may be of neighbours or of all crates below.
@@ -51,6 +62,22 @@ endef
 ifneq ($(filter library-%,$(MAKECMDGOALS)),)
 $(foreach crate,$(LIBRARIES),$(eval $(call library,$(crate))))
 endif
+
+# What `make build` left is installed. PROGRAM may name another build; adbexplain is installed if it is in the same folder.
+PROGRAM ?= bin/adbhub
+EXPLAINER := $(wildcard $(dir $(PROGRAM))adbexplain)
+PREFIX ?= /usr/local
+AT := $(DESTDIR)$(PREFIX)
+
+install:
+	@test -x $(PROGRAM) || { echo '$(PROGRAM) is not built: make build'; exit 1; }
+	install -D -m 755 $(PROGRAM) $(AT)/bin/adbhub
+	$(if $(EXPLAINER),install -D -m 755 $(EXPLAINER) $(AT)/bin/adbexplain)
+	install -D -m 644 docs/adbhub.1 $(AT)/share/man/man1/adbhub.1
+	install -D -m 644 examples/adbhub.bash $(AT)/share/bash-completion/completions/adbhub
+
+uninstall:
+	rm -f $(addprefix $(AT)/,bin/adbhub bin/adbexplain share/man/man1/adbhub.1 share/bash-completion/completions/adbhub)
 
 test:
 	.ci/run

@@ -87,11 +87,12 @@ class RealServer(Running):
 class Server(Running):
     """`PROGRAM serve --port 0` with the words given. It is killed where it still runs at the end."""
 
-    def __init__(self, program, *words, record=None):
+    def __init__(self, program, *words, record=None, **how):
         super().__init__(
             [program, "serve", "--port", "0", *words, *(["--record"] if record else [])],
             stdout=record or subprocess.DEVNULL,
             stderr=subprocess.PIPE,
+            **how,
         )
         line = self.process.stderr.readline().decode()
         found = re.fullmatch(r"adbhub: listening on 127\.0\.0\.1:(\d+)\n", line)
