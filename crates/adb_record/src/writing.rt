@@ -15,7 +15,7 @@ use std::thread;
 use std::thread::{Promise, PromisedHandle, Threads};
 
 /// The most chunks that wait in the pipe of a record. A recorder blocks while there are as many.
-pub const MAX_CHUNKS: usize = 1_024;
+pub const MAX_CHUNKS: usize = 256;
 
 /// Chunks are gathered into one write until they have this many bytes.
 const BATCH: usize = 65_536;
