@@ -55,16 +55,16 @@ def rewound(source):
     return kept
 
 
-def entries(source, is_history):
+def entries(source, is_history, keeps_hand_outs=False):
     """What adbexplain writes for each entry of the file. Of a capture that has no hand-outs the history is that of
-    `adbhub replay`, and its hand-outs are left out. Raises Stopped where a program stopped."""
+    `adbhub replay`, and its hand-outs are left out if they are not to be kept. Raises Stopped where a program stopped."""
     feeding = None if is_history else start([program('adbhub'), 'replay'], source)
     running = start([program('adbexplain')], feeding.stdout if feeding else source)
     if feeding:
         feeding.stdout.close()
     with io.TextIOWrapper(running.stdout, encoding='ascii') as lines:
         for line in lines:
-            if is_history or not line.startswith(HAND_OUTS, line.index(',')):
+            if is_history or keeps_hand_outs or not line.startswith(HAND_OUTS, line.index(',')):
                 yield read_object(line)[0]
     for program_run in filter(None, (feeding, running)):
         end(program_run)
