@@ -57,7 +57,8 @@ use Rattle.adb_world.specs.Together.{AreAskedInPart, IsUnwritten}
 use Rattle.adb_world.specs.declared.parts.Parts.{Parts}
 use Rattle.adb_world.specs.declared.session.Session.{Session}
 use Rattle.adb_world.proofs.Answered.{few_done}
-use Rattle.adb_world.proofs.Later.{AloneLaws, AreUnbegun, IsLater, IsSameLater, all_sent_past, asks_now, files_old, fresh, later_of, legal, sent_since, stood, told_of}
+use Rattle.adb_world.proofs.Later.{AloneLaws, AreUnbegun, IsLater, IsSameLater, all_sent_past, asks_now}
+use Rattle.adb_world.proofs.Later.{files_old, fresh, later_of, legal, sent_since, stood, told_of}
 use Rattle.adb_world.proofs.OneStream.{IsPast, asked_of_birth, asks_none, every_past}
 use Rattle.adb_world.proofs.Stopping.{cut_before, cut_held, cut_is, later_sent}
 use Rattle.adb_world.proofs.Together.{IsBorn, client_is, client_of, found_open, same_tests}

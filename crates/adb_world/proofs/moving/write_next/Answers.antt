@@ -17,7 +17,8 @@ returns-then-branch-clause-moves c =
     tried_moves c.what_came_stays.ensures to_write 0 c.loop-number.wrote c.args.parts.now now c.write.new.self c.loop-number.invariant
     (λ (k : ℕ) (x : List ℕ). Read k x) c.args.most n (runs_still c.args.parts.now now c.loop-number.invariant.same c.requires.runs)
     (reads_step n now c.in-Some.ensures.1)
-    (λ h holds. subst (λ (b : Bool). Moves (Read n) c.args.most (to_write now h n) b h now c.write.new.self) c.if-branch.true (c.in_ok-write.ensures.moves h holds))
+    (λ h holds. subst (λ (b : Bool). Moves (Read n) c.args.most (to_write now h n) b h now c.write.new.self) c.if-branch.true
+    (c.in_ok-write.ensures.moves h holds))
 
 pub returns-then-branch-clause-wrote : goal.returns-then-branch-clause-wrote
 returns-then-branch-clause-wrote c =
@@ -27,6 +28,7 @@ returns-then-branch-clause-wrote c =
     (tried_moves c.what_came_stays.ensures to_write 0 c.loop-number.wrote c.args.parts.now now c.write.new.self c.loop-number.invariant
     (λ (k : ℕ) (x : List ℕ). Read k x) c.args.most n (runs_still c.args.parts.now now c.loop-number.invariant.same c.requires.runs)
     (reads_step n now c.in-Some.ensures.1)
-    (λ h holds. subst (λ (b : Bool). Moves (Read n) c.args.most (to_write now h n) b h now c.write.new.self) c.if-branch.true (c.in_ok-write.ensures.moves h holds)))
+    (λ h holds. subst (λ (b : Bool). Moves (Read n) c.args.most (to_write now h n) b h now c.write.new.self) c.if-branch.true
+    (c.in_ok-write.ensures.moves h holds)))
     (subst (HaveWritten c.loop-number.wrote) c.loop-number.invariant.same
     (tried_written c.loop-number.wrote c.args.parts.now now c.requires.runs c.loop-number.invariant))
