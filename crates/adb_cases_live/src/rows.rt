@@ -80,6 +80,13 @@ pub(crate) const CLIENTS: &[Row] = &[
         ..CLIENT
     },
     Row {
+        name: "first keep",
+        keep: 1,
+        told: b"",
+        served: Served::RecordFault,
+        ..CLIENT
+    },
+    Row {
         name: "second keep",
         keep: 2,
         told: b"Join 1\n",

@@ -90,10 +90,10 @@ fn prepare<W: Wait + Copy + Send + Sync + Drop + 'static>(
     Ok(Some(yard.call(b"000Chost:version", reads, writes)?))
 }
 
-/// Returns whether the client's connection is closed, if the door accepted it.
+/// Returns whether the client's connection is closed, if the hall admitted it.
 fn is_closed<W: Wait + Copy + Drop>(row: Row, client: &Option<Sent<W>>) -> bool {
     match client {
-        Some(sent) => sent.is_closed() == (row.accept == 0),
+        Some(sent) => sent.is_closed() == !row.told.is_empty(),
         None => true,
     }
 }
