@@ -56,6 +56,10 @@ pub fn run<
     yard: Y,
     devices: Vec<Device<X, Z>>,
 ) -> Ran<Y::Keeper>
+    // The yard of a server has the recorder that the words ask for.
+    requires records { is_serve (texts words.now) ≡ true → (asked : Serving)
+        → serve_of (texts words.now) ≡ Some asked → Y.records yard asked.records }
+
     // A command that neither serves nor dials keeps each promise of `run_alone`.
     ensures alone { is_serve (texts words.now) ≡ false → names_tool (texts words.now) ≡ false
         → RunsAlone words.now result.status

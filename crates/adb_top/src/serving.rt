@@ -38,6 +38,8 @@ pub(crate) fn run_serve<
     devices: Vec<Device<X, Z>>,
 ) -> Ran<Y::Keeper>
     requires serve { is_serve (texts words.now) ≡ true }
+    requires records { (asked : Serving) → serve_of (texts words.now) ≡ Some asked
+        → Y.records yard asked.records }
     ensures usage { serve_of (texts words.now) ≡ None
         → SaysUsage result.status (seen N.steady N.faults N.written) note.old note.new }
     ensures command { result.status ≡ Status.Usage → serve_of (texts words.now) ≡ None }
