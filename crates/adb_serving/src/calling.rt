@@ -51,7 +51,7 @@ pub(crate) fn call_live<
         return say_out_of_memory(note);
     };
     let nobody = Vec::<LocalDevice<W>>::new(alloc);
-    let status = run(rt, alloc, words, source, sink, note, yard, nobody);
+    let ran = run(rt, alloc, words, source, sink, note, yard, nobody);
     let _ = helpers.finish();
-    status
+    ran.status
 }

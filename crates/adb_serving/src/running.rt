@@ -77,5 +77,5 @@ pub(crate) fn run_live<
         return call_live(rt, alloc, words, source, sink, note);
     }
     let (yard, devices) = (NoYard::new(alloc), Vec::<LocalDevice<W>>::new(alloc));
-    run(rt, alloc, words, source, sink, note, yard, devices)
+    run(rt, alloc, words, source, sink, note, yard, devices).status
 }

@@ -11,7 +11,7 @@ use crate::devices::{LocalDevice, devices_of};
 use crate::yards::open_yard;
 use adb_outside::{Sink, Source};
 use adb_ports::Ending;
-use adb_top::{Status, run, say_out_of_memory, say_record_fault, wanted};
+use adb_top::{Ran, Status, run, say_out_of_memory, say_record_fault, wanted};
 use adb_words::WordsError;
 use std::alloc::{AllocError, Global};
 use std::net::{Net, TcpListener, TcpStream};
@@ -63,7 +63,8 @@ pub(crate) fn serve_live<
     let Ok((yard, helpers)) = open_yard(rt, alloc, ending, history) else {
         return say_out_of_memory(note);
     };
-    let status = run(rt, alloc, words, source, sink, note, yard, devices);
+    let Ran { status, recorder } = run(rt, alloc, words, source, sink, note, yard, devices);
+    drop(recorder);
     let kept = helpers.finish();
     ended(note, status, kept)
 }
