@@ -1,4 +1,4 @@
-//! The connections that wait at the listeners of a server.
+//! Connections that wait at the listeners of a server.
 
 use crate::listeners::{Listeners, OWN};
 use crate::troubles::{Trouble, trouble_of};
@@ -9,21 +9,18 @@ use std::net::{TcpListener, TcpStream};
 use std::sync::{Arc, Wait};
 use std::time::Duration;
 
-/// The most connections that are taken from one listener while others may be ready.
-const STREAK: u32 = 16;
-
 /// The first wait, in milliseconds, if a connection cannot be accepted.
 const FIRST_DELAY: u64 = 10;
 
 /// The longest of these waits, in milliseconds.
 const MOST_DELAY: u64 = 1_000;
 
-/// What comes next of the listeners.
+/// The next event at the listeners.
 #[derive(Drop)]
 pub enum Next {
     /// A connection, at the listener of this number.
     Came(u16, TcpStream),
-    /// Nothing yet.
+    /// No connection yet.
     Nothing,
     /// The server ends.
     Over,
@@ -33,8 +30,8 @@ pub enum Next {
 
 /// The connections that wait at the listeners of a server, taken from one listener after the other.
 ///
-/// A connection for which a descriptor is missing is closed at once: the descriptor that is kept in
-/// reserve is given up for it, and taken again. If that is not enough the queue waits, longer each
+/// If no descriptor is left for a connection, the queue accepts it with the one that it keeps in
+/// reserve, closes it, and takes the reserve again. If that fails too it waits, twice as long each
 /// time.
 #[derive(Drop)]
 pub struct AcceptQueue {
@@ -42,9 +39,9 @@ pub struct AcceptQueue {
     poll: Poll,
     events: Events,
     reserve: Option<TcpListener>,
-    /// The listener that was found ready, until it is found empty.
+    /// The listener that was found ready. It is found ready again only if it is watched again, or if a
+    /// connection comes after an accept that found none.
     ready: Option<u16>,
-    streak: u32,
     delay: u64,
     shortages: u64,
 }
@@ -65,13 +62,12 @@ impl AcceptQueue {
             events: Events::with_capacity(alloc, 1)?,
             reserve,
             ready: None,
-            streak: 0,
             delay: FIRST_DELAY,
             shortages: 0,
         })
     }
 
-    /// How many connections could not be accepted at once for want of a descriptor or of memory.
+    /// Returns how many calls of `accept` failed because a descriptor or memory was missing.
     pub fn shortages(&self) -> u64 {
         self.shortages
     }
@@ -98,7 +94,6 @@ impl AcceptQueue {
         if self.poll.poll(&mut self.events, None).is_err() {
             return Next::Broken;
         }
-        self.streak = 0;
         self.ready = match self.events.iter().next() {
             Some(event) => u16::try_from(event.token().0).ok(),
             None => None,
@@ -106,17 +101,17 @@ impl AcceptQueue {
         Next::Nothing
     }
 
-    /// Notes that a connection came, and turns to the other listeners after a streak.
+    /// Notes that a connection came. The listener is watched again, which takes less time than an
+    /// accept that finds none, and gives the other listeners their turn.
     fn took<W: Wait>(&mut self, rt: &W, number: u16, stream: TcpStream) -> Next {
         self.delay = FIRST_DELAY;
-        self.streak = self.streak.saturating_add(1);
-        if self.streak >= STREAK && self.listeners.watch_again(rt, number).is_ok() {
+        if self.listeners.watch_again(rt, number).is_ok() {
             self.ready = None;
         }
         Next::Came(number, stream)
     }
 
-    /// Does what an error of `accept` asks for.
+    /// Handles an error of `accept`.
     fn missed<W: Wait>(&mut self, rt: &W, number: u16, error: &io::Error) -> Next {
         match trouble_of(error) {
             Trouble::Passing => Next::Nothing,
@@ -137,7 +132,7 @@ impl AcceptQueue {
         }
     }
 
-    /// Accepts a connection by the descriptor in reserve and closes it. If that fails too it waits.
+    /// Accepts a connection with the descriptor in reserve and closes it. If that fails too it waits.
     fn refuse<W: Wait>(&mut self, rt: &W, number: u16) -> Next {
         self.reserve = None;
         let refused = self.listeners.accept(rt, number);

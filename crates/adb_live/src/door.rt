@@ -13,8 +13,8 @@ use std::io;
 use std::net::{Net, TcpListener, TcpStream};
 use std::sync::{Arc, Wait};
 
-/// The door of a server, at its own listener and those of its forwards. A connection that cannot be
-/// set up is closed, and the next is waited for. It tells nothing.
+/// The door of a server, at its own listener and those of its forwards. At an allocation failure the
+/// connection is closed, and the door waits for the next. It tells nothing.
 #[derive(Drop)]
 pub struct TcpDoor<W: Wait + Drop> {
     rt: W,
@@ -24,7 +24,7 @@ pub struct TcpDoor<W: Wait + Drop> {
     faults: u64,
 }
 
-/// The bell of a `TcpDoor`. Once it rang, what writes to a peer that does not read gives up.
+/// The bell of a `TcpDoor`. Once it has rung, writes to peers that do not read fail.
 #[derive(Drop)]
 pub struct TcpBell {
     listeners: Arc<Listeners, Global>,
@@ -70,12 +70,13 @@ impl<W: Net<Listener = TcpListener, Stream = TcpStream> + Wait + Drop> Entrance<
 }
 
 impl<W: Wait + Drop> TcpDoor<W> {
-    /// How many connections could not be accepted at once because a descriptor or memory was missing.
+    /// Returns how many calls of `accept` failed because a descriptor or memory was missing.
     pub fn shortages(&self) -> u64 {
         self.queue.shortages()
     }
 
-    /// Sets up a connection that came at a listener. It is closed if that fails.
+    /// Makes the two halves of a connection that came at a listener. At an allocation failure the
+    /// connection is closed.
     fn let_in(&self, number: u16, stream: TcpStream) -> Option<Came<TcpIn, TcpOut>>
         ensures { IfSome result (λ came. FitsCame came × (is_failed_came came ≡ false)) }
     {
@@ -102,7 +103,7 @@ impl<W: Wait + Drop> Door for TcpDoor<W> {
 
     ghost steady = { λ door. ⊥ };
 
-    /// `Closed` comes once the bell rang, and `Failed` if the server's own listener is broken. A
+    /// Returns `Closed` once the bell has rung, and `Failed` if the server's own listener is broken. A
     /// shortage of descriptors or of memory is no failure: the door goes on.
     fn accept(&mut self) -> Came<TcpIn, TcpOut> {
         for _ in 0..u64::MAX {

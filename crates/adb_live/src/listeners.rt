@@ -64,17 +64,17 @@ impl Listeners {
         })
     }
 
-    /// Whether the server ends.
+    /// Returns whether the server ends.
     pub fn is_over(&self) -> bool {
         self.ending.is_set()
     }
 
-    /// Whether the server ends, for what writes to its connections.
+    /// Returns the flag that says whether the server ends.
     pub fn ending(&self) -> &Ending {
         &self.ending
     }
 
-    /// Another descriptor of the server's own listener.
+    /// Returns another descriptor of the server's own listener. It fails if there is none.
     pub fn spare(&self) -> io::Result<TcpListener> {
         self.own.try_clone()
     }
@@ -118,7 +118,7 @@ impl Listeners {
         }
     }
 
-    /// Has the door find a listener ready again if a connection waits there.
+    /// Makes the door find a listener ready again if a connection waits there.
     pub fn watch_again<W: Wait>(&self, rt: &W, number: u16) -> io::Result<()> {
         if number == OWN {
             return watch_again(&self.registry, &self.own, OWN);
@@ -144,7 +144,7 @@ impl Listeners {
         }
     }
 
-    /// Says that the server ends, and wakes the door. Only the first call does anything.
+    /// Ends the server's accepts, and wakes the door. Only the first call does anything.
     pub fn ring(&self) {
         if self.ending.set() {
             let _ = self.waker.wake();
@@ -153,14 +153,14 @@ impl Listeners {
     }
 }
 
-/// Has a registry report a listener under its number when a connection comes.
+/// Makes a registry report a listener under its number when a connection comes.
 fn watch(registry: &Registry, listener: &TcpListener, number: u16) -> io::Result<()> {
     let token = Token(usize::from(number));
     let descriptor = listener.as_raw_fd();
     registry.register(&mut SourceFd(&descriptor), token, Interest::READABLE)
 }
 
-/// Has a registry report a listener again if a connection waits there.
+/// Makes a registry report a listener again if a connection waits there.
 fn watch_again(registry: &Registry, listener: &TcpListener, number: u16) -> io::Result<()> {
     let token = Token(usize::from(number));
     let descriptor = listener.as_raw_fd();

@@ -9,8 +9,9 @@ use adb_outside::{Got, Wrote};
 use std::alloc::{AllocError, Global};
 use std::io;
 use std::io::ErrorKind;
-use std::net::{Net, Shutdown, TcpListener, TcpStream};
+use std::net::{Ipv4Addr, Net, Shutdown, SocketAddr, TcpListener, TcpStream};
 use std::sync::{Arc, OnceLock};
+use std::time::Duration;
 
 /// A link to a device: its stream, once it is plugged in.
 #[derive(Drop)]
@@ -67,12 +68,16 @@ pub fn tcp_device<W: Net<Listener = TcpListener, Stream = TcpStream> + Drop>(
     Ok((input, output))
 }
 
+/// The seconds that a connect waits for a device at which too many connections wait already.
+const PATIENCE: u64 = 1;
+
 /// Connects to a port of this machine.
 fn connect<W: Net<Listener = TcpListener, Stream = TcpStream>>(
     rt: &W,
     port: u16,
 ) -> io::Result<TcpStream> {
-    let stream = TcpStream::connect(rt, ("127.0.0.1", port))?;
+    let address = SocketAddr::from((Ipv4Addr::LOCALHOST, port));
+    let stream = TcpStream::connect_timeout(rt, &address, Duration::from_secs(PATIENCE))?;
     set_up(&stream)?;
     Ok(stream)
 }
@@ -107,7 +112,8 @@ impl<W: Net<Listener = TcpListener, Stream = TcpStream> + Drop> DeviceIn for Tcp
 
     ghost steady = { λ device. ⊥ };
 
-    /// Connects. If the port refuses the connection the device will not come.
+    /// Connects, and waits a second at most. If the port refuses the connection the device will not
+    /// come.
     fn plug(&mut self) -> Plug {
         let plug = plug(&self.rt, self.port, &self.line);
         if plug == Plug::Failed {
