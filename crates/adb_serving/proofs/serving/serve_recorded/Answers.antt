@@ -1,0 +1,9 @@
+use Rattle.adb_asking.specs.Telling.{seen}
+use Rattle.adb_serving.proofs.Live.{serve_ended}
+use Rattle.adb_serving.proofs.serving.serve_recorded.Goals as goal
+
+pub returns-clause-serves : goal.returns-clause-serves
+returns-clause-serves g c asked is =
+    let served = c.run-status.ensures.serves asked is in
+    serve_ended (seen g.N.Sink.steady g.N.Sink.faults g.N.Sink.written) c.run-status.result.status c.settle_record.result.status c.args.note.now
+    c.run-status.new.note c.settle_record.new.note asked.port (served.end, served.tells) c.settle_record.ensures.ended
