@@ -49,5 +49,6 @@ pub(crate) fn call_live<
     };
     let yard = RealYard::<W, Brand>::new(rt, alloc, ending, None);
     let nobody = Vec::<LocalDevice<W>>::new(alloc);
-    run(rt, alloc, words, source, sink, note, yard, nobody).status
+    let ran = run(rt, alloc, words, source, sink, note, yard, nobody);
+    ran.status
 }

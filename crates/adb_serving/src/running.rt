@@ -120,5 +120,6 @@ fn run_other<
         return call_live(rt, alloc, words, source, sink, note);
     }
     let (yard, devices) = (NoYard::new(alloc), Vec::<LocalDevice<W>>::new(alloc));
-    run(rt, alloc, words, source, sink, note, yard, devices).status
+    let ran = run(rt, alloc, words, source, sink, note, yard, devices);
+    ran.status
 }

@@ -176,7 +176,8 @@ fn serve_unrecorded<
         records: _,
     } = prepared;
     let yard = RealYard::<W, Brand>::new(rt, alloc, ending, None);
-    run(rt, alloc, words, source, sink, note, yard, devices).status
+    let ran = run(rt, alloc, words, source, sink, note, yard, devices);
+    ran.status
 }
 
 /// Serves with the record that was begun, whose pipe is named by `B`.
