@@ -9,7 +9,7 @@ use Rattle.adb_client_reader.specs.declared.admitting.Admitted.TheVariants.{Clos
 use Rattle.adb_client_reader.specs.Admitting.{ComesBy, IsAdmission}
 use Rattle.adb_server.specs.Served.{HasClosed}
 
-closed_by : {I O E M K : Type 0} (arrival : Arrival) (before after : Option (List Arrival)) → ComesBy {I} {O} {E} {M} {K} arrival Closed
+closed_by : {I O E M K : Type 0} (arrival : Arrival) (before after : Option (List Arrival)) → ComesBy {I = I} {O = O} {E = E} {M = M} {K = K} arrival Closed
     → TellsOneMore before arrival after → HasClosed after
 closed_by arrival before None comes told = tt
 closed_by came.Closed before (Some answers) comes (told, was, is) = (told, is)
@@ -19,5 +19,5 @@ closed_by (came.Forward port) before (Some answers) comes told = absurd comes
 
 -- A door that admitted nobody since it is closed reported that last.
 pub closed_last : {I O E M K : Type 0} (a b : Option Telling) (before after : Option (List Arrival))
-    → IsAdmission {I} {O} {E} {M} {K} Closed a b before after → HasClosed after
+    → IsAdmission {I = I} {O = O} {E = E} {M = M} {K = K} Closed a b before after → HasClosed after
 closed_last a b before after is = closed_by is.arrival before after is.comes is.asked

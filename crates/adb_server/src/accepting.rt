@@ -11,7 +11,7 @@ use adb_connections::Door;
 use adb_device_reader::{Device, Packets};
 use adb_hall::Hall;
 use adb_spawner::Crew;
-use adb_work::{Contexts, HallOf, Parts, make_contexts};
+use adb_work::{Contexts, HallOf, Parts, Work, make_contexts};
 use adb_yard::Yard;
 use std::alloc::{AllocError, Global};
 use std::sync::Wait;
@@ -43,7 +43,7 @@ pub(crate) fn serve_all<
     P: Parts,
     D: Door<In = P::ClientIn, Out = P::ClientOut>,
     Y: Yard<Ports = P::Binder, Gate = P::Gate>,
-    S: Jobs<W, P>,
+    S: Jobs<Work<W, P>>,
 >(
     supplies: &mut Supplies<W, P::Bell, S, Y>,
     pool: &mut Crew<W, S::Job>,
@@ -73,7 +73,7 @@ fn plug_all<
     W: Wait + Copy + Drop,
     P: Parts,
     Y: Yard<Ports = P::Binder, Gate = P::Gate>,
-    S: Jobs<W, P>,
+    S: Jobs<Work<W, P>>,
 >(
     supplies: &mut Supplies<W, P::Bell, S, Y>,
     hall: &mut HallOf<W, P>,
@@ -95,7 +95,12 @@ fn plug_all<
 ///
 /// - `RecordFault`: the recorder failed. The hall is shut, and the device is unplugged.
 /// - `OutOfMemory`: an allocation failed. The hall is halted.
-fn plug<W: Wait + Copy + Drop, P: Parts, Y: Yard<Ports = P::Binder, Gate = P::Gate>, S: Jobs<W, P>>(
+fn plug<
+    W: Wait + Copy + Drop,
+    P: Parts,
+    Y: Yard<Ports = P::Binder, Gate = P::Gate>,
+    S: Jobs<Work<W, P>>,
+>(
     supplies: &mut Supplies<W, P::Bell, S, Y>,
     hall: &mut HallOf<W, P>,
     device: Device<P::DeviceIn, P::DeviceOut>,
@@ -122,7 +127,7 @@ fn provide<
     W: Wait + Copy + Drop,
     P: Parts,
     Y: Yard<Ports = P::Binder, Gate = P::Gate>,
-    S: Jobs<W, P>,
+    S: Jobs<Work<W, P>>,
 >(
     supplies: &mut Supplies<W, P::Bell, S, Y>,
     hall: &HallOf<W, P>,
@@ -149,7 +154,7 @@ fn take<
     P: Parts,
     D: Door<In = P::ClientIn, Out = P::ClientOut>,
     Y: Yard<Ports = P::Binder, Gate = P::Gate>,
-    S: Jobs<W, P>,
+    S: Jobs<Work<W, P>>,
 >(
     supplies: &mut Supplies<W, P::Bell, S, Y>,
     pool: &mut Crew<W, S::Job>,
@@ -184,7 +189,7 @@ fn take_all<
     P: Parts,
     D: Door<In = P::ClientIn, Out = P::ClientOut>,
     Y: Yard<Ports = P::Binder, Gate = P::Gate>,
-    S: Jobs<W, P>,
+    S: Jobs<Work<W, P>>,
 >(
     supplies: &mut Supplies<W, P::Bell, S, Y>,
     pool: &mut Crew<W, S::Job>,

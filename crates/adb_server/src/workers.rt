@@ -69,14 +69,14 @@ impl<
     type Bell = B;
 }
 
-/// Makes jobs of workers. A function over `P: Parts` can't show that a `Work<W, P>` is `Send`; an
-/// implementation of this trait shows it.
-pub(crate) trait Jobs<W: Wait + Copy + Drop, P: Parts>: Drop {
+/// Makes jobs of workers, which are a `Work<W, P>`. A function over `P: Parts` can't show that these
+/// are `Send`; an implementation of this trait shows it.
+pub(crate) trait Jobs<T: Drop>: Drop {
     /// The job of one worker.
     type Job: Job + Send + Drop + 'static;
 
     /// Makes the job of a worker.
-    fn job(&self, work: Work<W, P>) -> Self::Job;
+    fn job(&self, work: T) -> Self::Job;
 }
 
 /// Each worker is its own job, which may run in another thread.
@@ -96,7 +96,7 @@ impl<
     Z: DeviceOut + Send + 'static,
     G: Gate + Send + Drop + 'static,
     B: Bell,
-> Jobs<W, Over<R, E, M, K, I, O, P, X, Z, G, BellHandle<B>>> for Workers {
+> Jobs<Work<W, Over<R, E, M, K, I, O, P, X, Z, G, BellHandle<B>>>> for Workers {
     type Job = Work<W, Over<R, E, M, K, I, O, P, X, Z, G, BellHandle<B>>>;
 
     fn job(
@@ -116,7 +116,7 @@ pub(crate) struct Pair<J: Drop> {
 }
 
 /// Makes the jobs of a client. `binder` binds the ports of its forwards.
-pub(crate) fn client_jobs<W: Wait + Copy + Drop, P: Parts, S: Jobs<W, P>>(
+pub(crate) fn client_jobs<W: Wait + Copy + Drop, P: Parts, S: Jobs<Work<W, P>>>(
     jobs: &S,
     contexts: Contexts<W, P>,
     binder: P::Binder,
@@ -146,7 +146,7 @@ pub(crate) fn client_jobs<W: Wait + Copy + Drop, P: Parts, S: Jobs<W, P>>(
 }
 
 /// Makes the jobs of a device.
-pub(crate) fn device_jobs<W: Wait + Copy + Drop, P: Parts, S: Jobs<W, P>>(
+pub(crate) fn device_jobs<W: Wait + Copy + Drop, P: Parts, S: Jobs<Work<W, P>>>(
     jobs: &S,
     contexts: Contexts<W, P>,
     linked: Linked<P>,
