@@ -64,7 +64,7 @@ pub struct Ended<R: Drop> {
 ///   then.
 /// - `RecordFault`: the recorder failed, and kept the entries before that.
 /// - `DoorFault`: the port could not be listened on, or the door failed.
-#[tactic(auto, using(crate::proofs::Announcing::served_there, crate::proofs::Announcing::told_less, crate::proofs::Announcing::no_write_fault, crate::proofs::Announcing::served_here, crate::proofs::Announcing::told_here, crate::proofs::Keeping::keeps_none))]
+#[tactic(auto, using(crate::proofs::Announcing::served_there, crate::proofs::Announcing::no_write_fault, crate::proofs::Keeping::keeps_none))]
 pub fn serve<
     W: Threads + Wait + Copy + Send + Sync + Drop + 'static,
     Y: Yard + 'static,
