@@ -1,6 +1,8 @@
 //! The cases, in the order in which they run.
 
-use crate::{binder, connections, halting, pipes, ports, served, spawner, streams, yard};
+use crate::{
+    binder, connections, halting, pipes, ports, recording, served, spawner, streams, yard,
+};
 use std::alloc::{AllocError, Global};
 use std::net::{Net, TcpListener, TcpStream};
 use std::sync::Wait;
@@ -24,6 +26,7 @@ pub enum Case {
     ReadsStopShort,
     WritesStopShort,
     AYardGivesWhatItIsAsked,
+    ARecordIsWritten,
 }
 
 pub const CASES: &[Case] = &[
@@ -42,6 +45,7 @@ pub const CASES: &[Case] = &[
     Case::ReadsStopShort,
     Case::WritesStopShort,
     Case::AYardGivesWhatItIsAsked,
+    Case::ARecordIsWritten,
 ];
 
 /// Returns the first row that does not hold of a case with one row.
@@ -81,6 +85,7 @@ impl Case {
             Case::AYardGivesWhatItIsAsked => {
                 fault_of(yard::a_yard_gives_what_it_is_asked(rt, alloc)?)
             }
+            Case::ARecordIsWritten => fault_of(recording::a_record_is_written(rt, alloc)?),
         })
     }
 }

@@ -8,6 +8,7 @@ mod connections;
 mod halting;
 mod pipes;
 mod ports;
+mod recording;
 mod rows;
 mod served;
 mod spawner;
