@@ -1,5 +1,7 @@
 //! How a run ended.
 
+ghost use Rattle.std.specs.Prelude.{◌≡◌, None};
+
 use crate::status::Status;
 
 /// How a run ended, and the recorder of a server that served.
@@ -15,7 +17,8 @@ pub struct Ran<R: Drop> {
 impl<R: Drop> Ran<R> {
     /// The end of a run without a recorder.
     pub(crate) fn bare(status: Status) -> Ran<R>
-        ensures { result ≡ record { status = status; recorder = None } }
+        ensures status { result.status ≡ status }
+        ensures recorder { result.recorder ≡ None }
     {
         Ran {
             status,
