@@ -13,9 +13,9 @@ use Rattle.adb_top.specs.declared.status.Status.TheVariants.{Done, WriteFault, O
 
 module _ {R : Type 0} (stands : R → List Entry → Type 0) (faults : R → ℕ) where
   -- a recorder that kept a history, without what else is known of it
-  less : {P : R → Type 0} (recorder : Option R) → IfSome recorder (λ r. HasRecorded stands r × P r) → IfSome recorder (HasRecorded stands)
-  less None kept = kept
-  less (Some r) kept = kept.0
+  less : (P : R → Type 0) (recorder : Option R) → IfSome recorder (λ r. HasRecorded stands r × P r) → IfSome recorder (HasRecorded stands)
+  less P None kept = kept
+  less P (Some r) kept = kept.0
 
   served_less : {P : R → Type 0} (recorder : Option R) → HasServed stands P recorder → IfSome recorder (HasRecorded stands)
   served_less recorder kept = subst (λ (o : Option R). IfSome o (HasRecorded stands)) (sym kept.is) kept.recorded
@@ -32,7 +32,7 @@ module _ {R : Type 0} (stands : R → List Entry → Type 0) (faults : R → ℕ
   kept_by_status served.OutOfMemory status recorder (inl own) kept =
       subst (λ (s : Status). KeepsRecord stands faults s recorder) (sym own) kept
   kept_by_status served.OutOfMemory status recorder (inr own) kept =
-      subst (λ (s : Status). KeepsRecord stands faults s recorder) (sym own) (less recorder kept)
+      subst (λ (s : Status). KeepsRecord stands faults s recorder) (sym own) (less (λ r. faults r ≡ 0) recorder kept)
   kept_by_status served.RecordFault status recorder (inl own) kept =
       subst (λ (s : Status). KeepsRecord stands faults s recorder) (sym own) kept
   kept_by_status served.RecordFault status recorder (inr own) kept =
@@ -40,4 +40,4 @@ module _ {R : Type 0} (stands : R → List Entry → Type 0) (faults : R → ℕ
   kept_by_status served.DoorFault status recorder (inl own) kept =
       subst (λ (s : Status). KeepsRecord stands faults s recorder) (sym own) kept
   kept_by_status served.DoorFault status recorder (inr own) kept =
-      subst (λ (s : Status). KeepsRecord stands faults s recorder) (sym own) (less recorder kept)
+      subst (λ (s : Status). KeepsRecord stands faults s recorder) (sym own) (less (λ r. faults r ≡ 0) recorder kept)
