@@ -23,7 +23,7 @@ returns-in-Ok-clause-kept g c asked is =
     c.serve-ended.result.recorder c.say_ended.ensures.tells.own c.serve-ended.ensures.kept)
 
 pub serve-ended-requires-clause-records : goal.serve-ended-requires-clause-records
-serve-ended-requires-clause-records g c = c.requires.records _ c.in-Ok.ensures.serve
+serve-ended-requires-clause-records g c = λ κs lives. c.requires.records _ c.in-Ok.ensures.serve
 
 pub returns-clause-serves : goal.returns-clause-serves
 returns-clause-serves g c asked is =
