@@ -3,7 +3,7 @@
 ghost use Rattle.std.specs.Prelude.{◌≡◌};
 ghost use Rattle.adb_binder.specs.Binder.{FitsPort};
 
-use crate::listeners::Listeners;
+use crate::listeners::{Claim, Listeners};
 use adb_binder::{Binder, Binding};
 use std::alloc::Global;
 use std::net::{Net, TcpListener, TcpStream};
@@ -15,6 +15,8 @@ use std::sync::{Arc, Wait};
 pub struct TcpBinder<W: Drop> {
     rt: W,
     listeners: Option<Arc<Listeners, Global>>,
+    /// The claim to the port that was answered last, until it is given back.
+    claim: Option<Claim>,
     faults: u64,
 }
 
@@ -26,21 +28,20 @@ impl<W: Drop> TcpBinder<W> {
         TcpBinder {
             rt,
             listeners,
+            claim: None,
             faults: 0,
         }
     }
 }
 
-/// Binds a port, any if it is 0, unless it is bound already.
-fn bind<W: Net<Listener = TcpListener, Stream = TcpStream> + Wait>(
-    rt: &W,
-    listeners: &Listeners,
-    port: u16,
-) -> Binding
+/// The answer to a port that was asked for, by the claim that was made.
+fn binding_of(port: u16, claim: Option<Claim>) -> Binding
     ensures { FitsPort port result }
 {
-    match listeners.bind(rt, port) {
-        Ok(bound) if bound != 0 && (port == 0 || bound == port) => Binding::Bound(bound),
+    match claim {
+        Some(claim) if claim.port != 0 && (port == 0 || claim.port == port) => {
+            Binding::Bound(claim.port)
+        }
         _ => Binding::Failed,
     }
 }
@@ -55,13 +56,21 @@ impl<W: Net<Listener = TcpListener, Stream = TcpStream> + Wait + Drop> Binder fo
     ghost steady = { λ binder. ⊥ };
 
     fn bind(&mut self, port: u16) -> Binding {
-        let binding = match &self.listeners {
-            Some(listeners) => bind(&self.rt, listeners, port),
-            None => Binding::Failed,
+        self.claim = match &self.listeners {
+            Some(listeners) => listeners.bind(&self.rt, port).ok(),
+            None => None,
         };
+        let binding = binding_of(port, self.claim);
         if binding == Binding::Failed {
             self.faults = self.faults.saturating_add(1);
         }
         binding
+    }
+
+    /// Closes the listeners that no forward in `used` has, but those that a client still waits for.
+    fn release(&mut self, used: &[u16]) {
+        if let (Some(listeners), Some(claim)) = (&self.listeners, self.claim.take()) {
+            listeners.release(&self.rt, claim, used);
+        }
     }
 }

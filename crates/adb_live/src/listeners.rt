@@ -24,6 +24,60 @@ const BELL: usize = 65_536;
 struct Forward {
     port: u16,
     listener: TcpListener,
+    /// How many claims to it are not given back.
+    claims: u32,
+    /// When a claim to it was made or given back last.
+    touched: u64,
+}
+
+/// The listeners of forwards. Its clock counts the claims that were made and given back.
+#[derive(Drop)]
+struct Forwards {
+    all: Vec<Forward>,
+    clock: u64,
+}
+
+/// A port that is listened on for a client whose forward may not be there yet. It is given back by
+/// `release`.
+#[derive(Clone, Copy, Debug, PartialEq, Eq, Drop)]
+pub struct Claim {
+    pub port: u16,
+    made: u64,
+}
+
+impl Forwards {
+    /// Returns the listener at a port.
+    fn find(&self, port: u16) -> Option<&Forward> {
+        self.all.iter().find(|forward| forward.port == port)
+    }
+
+    /// Advances the clock.
+    fn tick(&mut self) -> u64 {
+        self.clock = self.clock.saturating_add(1);
+        self.clock
+    }
+
+    /// Claims a port, if it is listened on.
+    fn claim(&mut self, port: u16) -> Option<Claim> {
+        let made = self.tick();
+        let forward = self.all.iter_mut().find(|forward| forward.port == port)?;
+        forward.claims = forward.claims.saturating_add(1);
+        forward.touched = made;
+        Some(Claim { port, made })
+    }
+
+    /// Gives a claim back.
+    fn give_back(&mut self, claim: Claim) {
+        let now = self.tick();
+        if let Some(forward) = self
+            .all
+            .iter_mut()
+            .find(|forward| forward.port == claim.port)
+        {
+            forward.claims = forward.claims.saturating_sub(1);
+            forward.touched = now;
+        }
+    }
 }
 
 /// The listening sockets of a server, as its door, its bell and the binders of its clients share
@@ -36,7 +90,7 @@ pub struct Listeners {
     pause: Parker,
     ending: Ending,
     own: TcpListener,
-    forwards: Mutex<Vec<Forward>>,
+    forwards: Mutex<Forwards>,
 }
 
 impl Listeners {
@@ -60,7 +114,10 @@ impl Listeners {
             pause: Parker::new(),
             ending,
             own,
-            forwards: Mutex::new(Vec::new(alloc)),
+            forwards: Mutex::new(Forwards {
+                all: Vec::new(alloc),
+                clock: 0,
+            }),
         })
     }
 
@@ -79,8 +136,8 @@ impl Listeners {
         self.own.try_clone()
     }
 
-    /// Listens on a port of this machine, on any that is free if it is 0, and returns the port. A port
-    /// that is listened on already is returned again.
+    /// Listens on a port of this machine, on any that is free if it is 0, and claims it. A port that is
+    /// listened on already is claimed again.
     ///
     /// It fails if the system refuses the port or a descriptor, and at an allocation failure. No
     /// listener is then added.
@@ -88,21 +145,39 @@ impl Listeners {
         &self,
         rt: &W,
         port: u16,
-    ) -> io::Result<u16> {
+    ) -> io::Result<Claim> {
         let mut forwards = self.forwards.lock(rt);
-        if port != OWN && forwards.iter().any(|forward| forward.port == port) {
-            return Ok(port);
+        if port != OWN {
+            if let Some(claim) = forwards.claim(port) {
+                return Ok(claim);
+            }
         }
         let listener = TcpListener::bind(rt, SocketAddr::from((Ipv4Addr::LOCALHOST, port)))?;
         listener.set_nonblocking(true)?;
         set_up_listener(&listener)?;
         let bound = listener.local_addr()?.port();
         watch(&self.registry, &listener, bound)?;
-        forwards.push(Forward {
+        let made = forwards.tick();
+        forwards.all.push(Forward {
             port: bound,
             listener,
+            claims: 1,
+            touched: made,
         })?;
-        Ok(bound)
+        Ok(Claim { port: bound, made })
+    }
+
+    /// Gives a claim back, and closes each listener that no forward has and no client claims. `used`
+    /// has the ports of all forwards at a moment after the claim was made.
+    ///
+    /// A listener is kept if a claim to it was made or given back after this claim was made: its
+    /// forward may be younger than `used`.
+    pub fn release<W: Wait>(&self, rt: &W, claim: Claim, used: &[u16]) {
+        let mut forwards = self.forwards.lock(rt);
+        forwards.give_back(claim);
+        forwards.all.retain(|forward| {
+            forward.claims > 0 || forward.touched >= claim.made || used.contains(&forward.port)
+        });
     }
 
     /// Accepts a connection at a listener. It fails with `WouldBlock` if none waits there, and if there
@@ -112,7 +187,7 @@ impl Listeners {
             return Ok(self.own.accept()?.0);
         }
         let forwards = self.forwards.lock(rt);
-        match forwards.iter().find(|forward| forward.port == number) {
+        match forwards.find(number) {
             Some(forward) => Ok(forward.listener.accept()?.0),
             None => Err(io::Error::from(io::ErrorKind::WouldBlock)),
         }
@@ -124,7 +199,7 @@ impl Listeners {
             return watch_again(&self.registry, &self.own, OWN);
         }
         let forwards = self.forwards.lock(rt);
-        match forwards.iter().find(|forward| forward.port == number) {
+        match forwards.find(number) {
             Some(forward) => watch_again(&self.registry, &forward.listener, number),
             None => Ok(()),
         }
@@ -134,6 +209,7 @@ impl Listeners {
     pub fn close<W: Wait>(&self, rt: &W, port: u16) {
         self.forwards
             .lock(rt)
+            .all
             .retain(|forward| forward.port != port);
     }
 
