@@ -1,11 +1,15 @@
 //! The accept loop: devices are attached, clients are admitted, and their workers are started.
 
-ghost use Rattle.std.specs.Prelude.{◌≡◌, ◌≢◌, ◌<◌, ◌≤◌, Err, OnOk, vec_len, vec_capacity};
+ghost use Rattle.std.specs.Prelude.{◌≡◌, ◌≢◌, ◌<◌, ◌≤◌, [], Err, OnOk, vec_len, vec_capacity};
+ghost use Rattle.adb_desk_log.specs.declared.marks.TheConstants.{ALL_PARTS};
+ghost use Rattle.adb_desk_log.specs.Log.{IsFresh};
+ghost use Rattle.adb_server.specs.Ended.{KeepsHistory};
 ghost use Rattle.adb_outside.specs.Outside.{Rises};
 ghost use Rattle.adb_server.specs.Served.{HasClosed};
 
 use crate::arriving::{let_in, link_up};
-use crate::server::Served;
+use crate::ending::{end_of, starved};
+use crate::server::{Ended, Served};
 use crate::workers::{Jobs, Pair, client_jobs, device_jobs, start, start_all};
 use adb_connections::Door;
 use adb_device_reader::{Device, Packets};
@@ -15,6 +19,7 @@ use adb_work::{Contexts, HallOf, Parts, Work, make_contexts};
 use adb_yard::Yard;
 use std::alloc::{AllocError, Global};
 use std::sync::Wait;
+use std::sync::ledger::Blank;
 use std::thread::Threads;
 
 /// Everything from which the server makes workers: its runtime, its allocator, the bell of its door,
@@ -36,9 +41,56 @@ struct Provision<W: Wait + Copy + Drop, P: Parts> {
     packets: Packets,
 }
 
+/// Makes the hall, serves, waits for the workers, and closes the hall. `OutOfMemory` without a
+/// recorder: the hall could not be allocated, and nothing was served.
+pub(crate) fn serve_over<
+    W: Threads + Wait + Copy + Send + Sync + Drop + 'static,
+    P: Parts,
+    D: Door<In = P::ClientIn, Out = P::ClientOut>,
+    Y: Yard<Ports = P::Binder, Gate = P::Gate>,
+    S: Jobs<Work<W, P>>,
+>(
+    supplies: Supplies<W, P::Bell, S, Y>,
+    pool: Crew<W, S::Job>,
+    door: &mut D,
+    recorder: P::Recorder,
+    devices: Vec<Device<P::DeviceIn, P::DeviceOut>>,
+    entries: Blank,
+    moved: Blank,
+    marks: Blank,
+) -> Ended<P::Recorder>
+    requires entries { (entries.name ≡ P.Entries.name) × (entries.parts ≡ P.Entries.parts)
+        × (entries.parts ≡ ALL_PARTS) }
+    requires moved { (moved.name ≡ P.Moved.name) × (moved.parts ≡ P.Moved.parts)
+        × (moved.parts ≡ ALL_PARTS) }
+    requires marks { (marks.name ≡ P.Marks.name) × (marks.parts ≡ P.Marks.parts)
+        × (marks.parts ≡ ALL_PARTS) }
+    requires fresh { (P.Recorder.faults recorder ≡ 0) × IsFresh (P.Recorder.told recorder) }
+    requires stands { P.Recorder.stands recorder [] }
+    requires steady { P.Marks.steady → P.Recorder.steady recorder }
+    ensures kept { KeepsHistory P.Recorder.stands P.Recorder.faults result.served
+        result.recorder }
+    ensures record { P.Marks.steady → result.served ≢ Served.RecordFault }
+    ensures door { D.steady door.old → result.served ≢ Served.DoorFault }
+    ensures fault { result.served ≡ Served.DoorFault
+        → Rises (D.faults door.old) (D.faults door.new) }
+    ensures lasting { D.lasting door.old → result.served ≢ Served.Done }
+    ensures closed { result.served ≡ Served.Done → HasClosed (D.came door.new) }
+    ensures note { result.served ≢ Served.WriteFault }
+{
+    let (mut supplies, mut pool) = (supplies, pool);
+    let hall = HallOf::<W, P>::new(supplies.rt, supplies.alloc, recorder, entries, moved, marks);
+    let Ok(mut hall) = hall else {
+        return starved();
+    };
+    let served = serve_all::<W, P, D, Y, S>(&mut supplies, &mut pool, &mut hall, door, devices);
+    pool.finish();
+    end_of(served, hall.close())
+}
+
 /// Attaches the devices, starts their workers, and then accepts clients until the door is closed or
 /// fails, the hall is shut, or an allocation fails. It doesn't wait for the workers.
-pub(crate) fn serve_all<
+fn serve_all<
     W: Threads + Wait + Copy + Send + Sync + Drop + 'static,
     P: Parts,
     D: Door<In = P::ClientIn, Out = P::ClientOut>,

@@ -7,15 +7,14 @@ ghost use Rattle.adb_desk_log.specs.Log.{IsFresh};
 ghost use Rattle.adb_server.specs.Ended.{KeepsHistory};
 ghost use Rattle.adb_server.specs.Served.{Announces, HasClosed, NamesPort, is_write_fault};
 
-use crate::accepting::{Supplies, serve_all};
-use crate::ending::{end_of, starved};
+use crate::accepting::{Supplies, serve_over};
+use crate::ending::starved;
 use crate::listening::announce;
 use crate::workers::{Over, Workers, pool_of};
 use adb_binder::Binder;
 use adb_connections::{Bell, DeviceIn, DeviceOut, Door, Gate, PortIn, PortOut};
 use adb_desk_log::{ALL_PARTS, Marks};
 use adb_device_reader::Device;
-use adb_locked_hall::LockedHall;
 use adb_outside::Sink;
 use adb_recorder::Recorder;
 use adb_work::BellHandle;
@@ -214,27 +213,17 @@ fn serve_with<
     let Ok(bell) = BellHandle::new(alloc, bell) else {
         return starved();
     };
-    let Ok(mut pool) = pool_of(rt, alloc, yard.staff()) else {
+    let Ok(pool) = pool_of(rt, alloc, yard.staff()) else {
         return starved();
     };
-    let hall = LockedHall::<R, E, M, K, W>::new(rt, alloc, recorder, entries, moved, marks);
-    let Ok(mut hall) = hall else {
-        return starved();
-    };
-    let mut supplies = Supplies {
+    let supplies = Supplies {
         rt,
         alloc,
         bell,
         jobs: Workers {},
         yard,
     };
-    let served = serve_all::<W, Over<R, E, M, K, I, O, P, X, Z, G, BellHandle<B>>, D, Y, Workers>(
-        &mut supplies,
-        &mut pool,
-        &mut hall,
-        door,
-        devices,
-    );
-    pool.finish();
-    end_of(served, hall.close())
+    serve_over::<W, Over<R, E, M, K, I, O, P, X, Z, G, BellHandle<B>>, D, Y, Workers>(
+        supplies, pool, door, recorder, devices, entries, moved, marks,
+    )
 }
