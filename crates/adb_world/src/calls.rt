@@ -185,7 +185,7 @@ pub(crate) fn feed(device: &mut Daemon, out: &HandOut) -> Result<(), AllocError>
     Ok(())
 }
 
-/// The device takes bytes. What it finds wrong in them it tells of those behind them too.
+/// The device takes bytes. An error in them is dropped here: it returns it again for later bytes.
 fn feed_front(device: &mut Daemon, piece: &[u8]) -> Result<(), AllocError>
     ensures done { OnOk result ((setting : Setting) (fed taken : List ℕ)
         → HasDone setting fed taken device.old

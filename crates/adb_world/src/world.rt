@@ -138,7 +138,7 @@ impl World {
         }
     }
 
-    /// What a session was handed; `None` exactly where no session has the number.
+    /// The bytes that a session was handed; `None` exactly if no session has the number.
     pub fn got(&self, session: u32) -> Option<&[u8]>
         ensures { option_copied result
             ≡ option_map (λ session. session.got) (at session self.now.sessions) }
@@ -149,8 +149,8 @@ impl World {
         }
     }
 
-    /// What a session was handed behind the replies to its two requests; `None` exactly where no
-    /// session has the number.
+    /// The bytes that a session was handed after the replies to its two requests; `None` exactly if
+    /// no session has the number.
     pub fn answer(&self, session: u32) -> Option<&[u8]>
         ensures { option_copied result
             ≡ option_map answer_of (at session self.now.sessions) }
