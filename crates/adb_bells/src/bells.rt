@@ -1,4 +1,4 @@
-//! Whom to wake: a bell for each pass that may wait.
+//! Condition variables of workers: one for each pass that may wait.
 
 use crate::rings::Rings;
 use adb_hub::Owner;
@@ -6,16 +6,16 @@ use std::alloc::{AllocError, Global};
 use std::collections::BTreeMap;
 use std::sync::{Arc, Condvar};
 
-/// Which pass of a number waits.
+/// Which of the two passes of a number waits.
 #[derive(Clone, Copy, Debug, PartialEq, Eq, Drop)]
 pub enum Side {
-    /// The one that its reader has.
+    /// The pass of its reader.
     Reader,
-    /// The one that its writer has.
+    /// The pass of its writer.
     Writer,
 }
 
-/// On what a worker sleeps, and whether it does.
+/// The condition variable of a worker, and whether the worker sleeps on it.
 #[derive(Drop)]
 struct Bell {
     condvar: Arc<Condvar, Global>,
@@ -31,7 +31,7 @@ impl Bell {
     }
 }
 
-/// The bells of the two passes of a client or of a link.
+/// The condition variables of the two passes of a client or of a link.
 #[derive(Drop)]
 pub struct Pair {
     reader: Bell,
@@ -41,7 +41,8 @@ pub struct Pair {
 }
 
 impl Pair {
-    /// Nobody sleeps, and both passes are out.
+    /// Returns the pair of a number whose passes are both out, and of which neither sleeps. Fails if an
+    /// allocation fails.
     pub fn new(alloc: Global) -> Result<Pair, AllocError> {
         Ok(Pair {
             reader: Bell::new(alloc)?,
@@ -58,19 +59,19 @@ impl Pair {
     }
 }
 
-/// The bells of all passes that are out. A number whose bells found no memory waits on one that is
-/// common to all such.
+/// The condition variables of all passes that are out. The passes of a number whose own could not be
+/// allocated share one.
 #[derive(Drop)]
 pub struct Bells {
     alloc: Global,
     clients: BTreeMap<u32, Pair>,
     links: BTreeMap<u32, Pair>,
-    /// Whether somebody sleeps on the common bell.
+    /// Whether a worker sleeps on the shared condition variable.
     strays: bool,
 }
 
 impl Bells {
-    /// No number is drawn.
+    /// Returns a table without numbers.
     pub fn new(alloc: Global) -> Bells {
         Bells {
             alloc,
@@ -80,13 +81,13 @@ impl Bells {
         }
     }
 
-    /// Puts up the bells of a number that was drawn just now.
+    /// Adds the pair of a number that was drawn.
     pub fn put_up(&mut self, owner: Owner, pair: Pair) {
         let bells = self.of(owner);
         let _ = bells.insert(number_of(owner), pair);
     }
 
-    /// A pass of this number is back: with the second its bells are taken down.
+    /// Notes that a pass of this number is back. After the second one the pair is removed.
     pub fn pass_back(&mut self, owner: Owner) {
         let bells = self.of(owner);
         let number = number_of(owner);
@@ -102,7 +103,8 @@ impl Bells {
         }
     }
 
-    /// What a worker is to sleep on, if it is not the common bell.
+    /// Notes that a worker goes to sleep, and returns the condition variable on which it has to sleep:
+    /// None for the shared one.
     pub fn sleep(&mut self, owner: Owner, side: Side) -> Option<Arc<Condvar, Global>> {
         let own = match self.of(owner).get_mut(&number_of(owner)) {
             Some(pair) => {
@@ -116,21 +118,21 @@ impl Bells {
         own
     }
 
-    /// Rings for who sleeps on the common bell.
+    /// Returns a list that notifies the workers which sleep on the shared condition variable.
     pub fn ring_strays(&mut self) -> Rings {
         let rings = Rings::new(self.alloc, self.strays);
         self.strays = false;
         rings
     }
 
-    /// Wakes a worker, if it sleeps on its own bell.
+    /// Adds a worker's own condition variable to the list, if the worker sleeps on it.
     pub fn ring(&mut self, owner: Owner, side: Side, rings: &mut Rings) {
         if let Some(pair) = self.of(owner).get_mut(&number_of(owner)) {
             ring(pair.bell(side), rings);
         }
     }
 
-    /// Wakes all who sleep on their own bells.
+    /// Adds the condition variables of all workers that sleep on their own.
     pub fn ring_all(&mut self, rings: &mut Rings) {
         for (_, pair) in self.clients.iter_mut() {
             ring(&mut pair.reader, rings);

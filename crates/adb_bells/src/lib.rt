@@ -1,4 +1,4 @@
-//! What a hall for many threads has under its lock: a desk, and whom to wake.
+//! What a hall for many threads keeps under its lock: a desk, and the condition variables of its workers.
 #![tactic(auto)]
 
 mod bells;

@@ -1,28 +1,28 @@
-//! What lies under the lock.
+//! The state under the lock.
 
 use crate::bells::{Bells, Side};
 use crate::rings::Rings;
-use adb_capture::Recorder;
 use adb_desk::Desk;
 use adb_desk_log::Marks;
 use adb_hub::Owner;
+use adb_recorder::Recorder;
 use std::sync::ledger::Ledger;
 
-/// The desk, and beside it whom to wake.
+/// The desk, and the condition variables of the workers.
 #[derive(Drop)]
 pub struct Locked<R: Recorder, E: Ledger, M: Ledger, K: Marks> {
     /// The desk.
     pub desk: Desk<R, E, M, K>,
-    /// The bells of the passes that are out.
+    /// The condition variables of the passes that are out.
     pub bells: Bells,
-    /// Whether all were woken since the desk was shut or a kill was made.
+    /// Whether all workers were notified since the desk was shut or a kill was made.
     pub is_over: bool,
 }
 
 impl<R: Recorder, E: Ledger, M: Ledger, K: Marks> Locked<R, E, M, K> {
-    /// Wakes those for whom the section that ends has something: to whom something came due, for
-    /// whom room was made, or who are gone; and all, once, where the desk was shut or a kill was
-    /// made. Nobody else is woken.
+    /// Returns the workers to notify after a section: those of each client and link to which bytes came
+    /// due, for which room was made, or which is gone; and all workers, once, after the desk was shut
+    /// or a kill was made.
     pub fn ring(&mut self) -> Rings {
         let mut rings = self.bells.ring_strays();
         if !self.is_over && (self.desk.is_stopped() || !self.desk.is_open()) {
@@ -38,6 +38,7 @@ impl<R: Recorder, E: Ledger, M: Ledger, K: Marks> Locked<R, E, M, K> {
         rings
     }
 
+    /// Adds the workers of a client or a link whose state changed.
     fn ring_for(&mut self, owner: Owner, rings: &mut Rings) {
         if self.desk.is_owed(owner) {
             self.bells.ring(owner, Side::Writer, rings);

@@ -1,12 +1,12 @@
-//! Bells that are rung behind the lock.
+//! Condition variables to notify after the lock is released.
 
 ghost use Rattle.std.specs.Prelude.{◌≤◌};
 
 use std::alloc::Global;
 use std::sync::{Arc, Condvar};
 
-/// Bells that are rung when the lock is free again: who is woken while it is held looks for it in
-/// vain, and sleeps once more. The first four take no memory.
+/// Condition variables to notify after the lock is released: a thread that is notified while the lock is
+/// held would only block on it. The first four need no allocation.
 #[derive(Drop)]
 pub struct Rings {
     first: Option<Arc<Condvar, Global>>,
@@ -18,7 +18,8 @@ pub struct Rings {
 }
 
 impl Rings {
-    /// None is rung, but for the common bell where somebody sleeps on that.
+    /// Returns a list without condition variables. `strays` says whether a worker sleeps on the shared
+    /// one.
     pub(crate) fn new(alloc: Global, strays: bool) -> Rings {
         Rings {
             first: None,
@@ -30,7 +31,7 @@ impl Rings {
         }
     }
 
-    /// Takes a bell, or rings it at once where no memory is found.
+    /// Adds a condition variable, or notifies it at once if an allocation fails.
     pub(crate) fn ring(&mut self, bell: &Arc<Condvar, Global>) {
         let is_kept = match Arc::try_clone(bell) {
             Ok(copy) => self.keep(copy),
@@ -41,7 +42,7 @@ impl Rings {
         }
     }
 
-    /// Takes a bell, and says whether it is there.
+    /// Adds a condition variable, and returns whether it was added.
     fn keep(&mut self, bell: Arc<Condvar, Global>) -> bool {
         let Some(bell) = fill(&mut self.first, bell) else {
             return true;
@@ -58,13 +59,13 @@ impl Rings {
         self.further.push(bell).is_ok()
     }
 
-    /// How many bells it rings, but for the common one.
+    /// Returns how many condition variables it notifies, not counting the shared one.
     pub fn len(&self) -> usize {
         let few = count(&self.first) + count(&self.second) + count(&self.third);
         self.further.len().saturating_add(few + count(&self.fourth))
     }
 
-    /// Rings them all, behind the lock.
+    /// Notifies them all. The lock has to be released before.
     pub fn ring_rest(self, common: &Condvar) {
         notify(&self.first);
         notify(&self.second);
@@ -79,7 +80,7 @@ impl Rings {
     }
 }
 
-/// Puts a bell where none is, or gives it back.
+/// Puts a condition variable into a place, or returns it if the place is taken.
 fn fill(
     place: &mut Option<Arc<Condvar, Global>>,
     bell: Arc<Condvar, Global>,
@@ -91,14 +92,14 @@ fn fill(
     None
 }
 
-/// How many bells there are at a place.
+/// Returns how many condition variables a place holds.
 fn count(place: &Option<Arc<Condvar, Global>>) -> usize
     ensures { result ≤ 1 }
 {
     if place.is_some() { 1 } else { 0 }
 }
 
-/// Rings a bell where one is.
+/// Notifies the condition variable in a place, if there is one.
 fn notify(place: &Option<Arc<Condvar, Global>>) {
     if let Some(bell) = place {
         bell.notify_one();

@@ -94,8 +94,9 @@ fn append_parts(bytes: &mut ByteQueue, start: &[u8], rest: &[u8]) -> Result<(), 
     Ok(())
 }
 
-/// Writes a piece, and where it went out another behind it, which may be empty.
-pub(crate) fn write_both<K: Sink>(sink: &mut K, first: &[u8], last: &[u8]) -> Wrote
+/// Writes `first`, which is not empty, and then `last`, which may be. `Failed` says how many bytes of
+/// both went out. It takes no memory.
+pub fn write_both<K: Sink>(sink: &mut K, first: &[u8], last: &[u8]) -> Wrote
     requires some { 0 < length first.now }
     requires small { length first.now + length last.now < 2 ^ 63 }
     ensures fits { FitsPiece (first.now ++ last.now) result }
@@ -118,10 +119,10 @@ pub(crate) fn write_both<K: Sink>(sink: &mut K, first: &[u8], last: &[u8]) -> Wr
 /// How many bytes a head has at most: those before a text, and the start of one.
 const MAX_HEAD: usize = RECORD_HEADER_LEN + 2 + MAX_START;
 
-/// The bytes of a record before its text: the kind, the number, the length of the data, and the
-/// data that are no text; and behind these it may have the start of the text.
+/// The bytes of a record before its text: the kind, the number, the length of the data, the data that
+/// are no text, and possibly the start of the text.
 #[derive(Drop)]
-pub(crate) struct Head {
+pub struct Head {
     bytes: [u8; MAX_HEAD],
     len: usize,
 }
@@ -139,8 +140,8 @@ impl Model for Head {
 }
 
 impl Head {
-    /// That of an entry's record.
-    pub(crate) fn of(entry: &Entry) -> Head
+    /// Returns the head of an entry's record, without any of its text.
+    pub fn of(entry: &Entry) -> Head
         requires { HasRecord entry.now }
         ensures is { result ++ text_of entry.now ≡ record_of entry.now }
         ensures len { (RECORD_HEADER_LEN ≤ length result) × (length result ≤ 11) }
@@ -159,8 +160,8 @@ impl Head {
         }
     }
 
-    /// That of the record of a piece that came from a client or a device.
-    pub(crate) fn of_piece(from: Owner, piece: &[u8]) -> Head
+    /// Returns the head of the record of a piece that came from a client or a device.
+    pub fn of_piece(from: Owner, piece: &[u8]) -> Head
         requires { length piece.now ≤ MAX_DATA }
         ensures is { result ++ piece.now ≡ record_of (came_from from piece.now) }
         ensures len { length result ≡ RECORD_HEADER_LEN }
@@ -178,7 +179,8 @@ impl Head {
         }
     }
 
-    pub(crate) fn as_slice(&self) -> &[u8]
+    /// Returns the bytes of the head.
+    pub fn as_slice(&self) -> &[u8]
         ensures { result.now ≡ self.now }
     {
         &self.bytes[..self.len]
@@ -194,16 +196,18 @@ impl Head {
     }
 }
 
-/// An entry's record as it is written: its head, and behind it what is left of its text, where that
-/// lies.
+/// The record of an entry in the two parts in which it is written.
 #[derive(Drop)]
-pub(crate) struct Spelled<'a> {
-    pub(crate) head: Head,
-    pub(crate) rest: &'a [u8],
+pub struct Spelled<'a> {
+    /// The head, with the start of the text.
+    pub head: Head,
+    /// The rest of the text, borrowed from the entry.
+    pub rest: &'a [u8],
 }
 
 impl<'a> Spelled<'a> {
-    pub(crate) fn of(entry: &'a Entry) -> Spelled<'a>
+    /// Splits the record of an entry, which has at most 2,097,152 bytes of data.
+    pub fn of(entry: &'a Entry) -> Spelled<'a>
         requires { HasRecord entry.now }
         ensures is { result.head ++ result.rest.now ≡ record_of entry.now }
         ensures len { (RECORD_HEADER_LEN ≤ length result.head) × (length result.head ≤ MAX_HEAD) }

@@ -2,8 +2,9 @@
 
 ghost use Rattle.adb_capture.specs.Records.{HasRecord};
 
-use adb_capture::{Entry, Owner, RecordError, Recorder, SinkRecorder};
+use adb_capture::{Entry, Owner};
 use adb_outside::MemorySink;
+use adb_recorder::{RecordError, Recorder, SinkRecorder};
 use std::alloc::{AllocError, Global};
 
 /// Keeps an entry, which is dropped then.

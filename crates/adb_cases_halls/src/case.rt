@@ -1,4 +1,4 @@
-//! What is tried, each by itself.
+//! The cases, each of which is tried by itself.
 
 use crate::{locked_hall, one_desk};
 use std::alloc::{AllocError, Global};
@@ -18,20 +18,20 @@ pub const CASES: &[Case] = &[
     Case::ADeskAnswersKeepsAndCounts,
 ];
 
-/// Which row does not hold of a case that has one.
+/// Returns the number of the row that does not hold, of a case with one row.
 fn fault_of(holds: bool) -> Option<usize> {
     if holds { None } else { Some(0) }
 }
 
 impl Case {
-    /// The number of the first of its rows, from 0, that does not hold; `None` where all do.
+    /// Returns the number, from 0, of the first of its rows that does not hold, or None if all hold.
     pub fn first_fault<W: Threads + Wait + Copy + Send + Sync + Drop + 'static>(
         self,
         rt: W,
         alloc: Global,
     ) -> Result<Option<usize>, AllocError> {
         Ok(match self {
-            Case::BellsAreRung => fault_of(locked_hall::rings_by_brand(alloc)?),
+            Case::BellsAreRung => locked_hall::first_wrong_wake(alloc)?,
             Case::AClientIsServedByTwoThreads => {
                 fault_of(locked_hall::serves_by_brand(rt, alloc)?)
             }

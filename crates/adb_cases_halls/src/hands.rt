@@ -1,5 +1,6 @@
-//! What a hall takes from a client, and hands out.
+//! Calls on a hall that several cases make.
 
+use adb_desk::Progress;
 use adb_desk_log::{ClientIn, ClientOut, DeskError, Marks};
 use adb_hall::Hall;
 use adb_hub::{Handed, Life, MAX_HELD};
@@ -9,15 +10,23 @@ use std::sync::ledger::Ledger;
 /// The passes of a client.
 pub(crate) type Client<E, M, K> = (ClientIn<E, M, K>, ClientOut<E, M, K>);
 
-/// Whether a client that asks for the version is still read.
+/// Returns whether the answer of an act says that its client or device lives.
+pub(crate) fn lives(answer: Result<Progress, DeskError>) -> bool {
+    match answer {
+        Ok(progress) => progress.life == Life::Live,
+        Err(_) => false,
+    }
+}
+
+/// Returns whether a client lives after it asked for the version.
 pub(crate) fn asks<E: Ledger, M: Ledger, K: Marks, H: Hall<E, M, K>>(
     hall: &mut H,
     reading: &mut ClientIn<E, M, K>,
 ) -> bool {
-    hall.read(reading, b"000Chost:version") == Ok(Life::Live)
+    lives(hall.read(reading, b"000Chost:version"))
 }
 
-/// Whether the version is handed out.
+/// Returns whether the version is handed out.
 pub(crate) fn is_answered<E: Ledger, M: Ledger, K: Marks, H: Hall<E, M, K>>(
     hall: &mut H,
     writing: &mut ClientOut<E, M, K>,
@@ -25,7 +34,7 @@ pub(crate) fn is_answered<E: Ledger, M: Ledger, K: Marks, H: Hall<E, M, K>>(
     hands_out(hall.put(writing, MAX_HELD), b"OKAY00040029")
 }
 
-/// Whether these bytes were handed out.
+/// Returns whether these bytes were handed out.
 pub(crate) fn hands_out(answer: Result<Handed, DeskError>, bytes: &[u8]) -> bool {
     match answer {
         Ok(Handed::Bytes(given)) => is_made_of(&given, bytes),
@@ -38,7 +47,7 @@ fn is_made_of(given: &HandOut, bytes: &[u8]) -> bool {
     given.len() == bytes.len() && bytes.starts_with(parts.start) && bytes.ends_with(parts.rest)
 }
 
-/// How many bytes were handed out.
+/// Returns how many bytes were handed out.
 pub(crate) fn len_of(answer: Result<Handed, DeskError>) -> usize {
     match answer {
         Ok(Handed::Bytes(given)) => given.len(),

@@ -1,16 +1,17 @@
-//! Who is woken, and two handles in two threads.
+//! A locked hall: which workers are notified, and two handles in two threads.
 
-ghost use Rattle.std.specs.Prelude.{◌≡◌};
+ghost use Rattle.std.specs.Prelude.{◌≡◌, ◌≤◌, length};
 ghost use Rattle.adb_desk_log.specs.declared.marks.TheConstants.{ALL_PARTS};
 
-use crate::hands::{Client, asks, is_answered};
+use crate::hands::{Client, asks, is_answered, lives};
 use adb_bells::{Bells, Locked, Pair, Side};
-use adb_capture::NullRecorder;
-use adb_desk::Desk;
+use adb_desk::{Act, Comer, Desk};
 use adb_desk_log::{ALL_PARTS, ClientIn, ClientOut, Marks};
 use adb_hall::Hall;
-use adb_hub::{Life, Owner};
+use adb_hub::Owner;
 use adb_locked_hall::LockedHall;
+use adb_outside::Kind;
+use adb_recorder::NullRecorder;
 use std::alloc::{AllocError, Global};
 use std::marker::Brand;
 use std::sync::Wait;
@@ -18,24 +19,42 @@ use std::sync::ledger::{Blank, Ledger};
 use std::thread;
 use std::thread::Threads;
 
-/// How many clients wait for what comes due to them.
+/// Number of clients that wait.
 const IDLE: u32 = 64;
 
-/// A pair of bells is put up for a client, whose writer waits.
-fn waits(bells: &mut Bells, owner: Owner, pair: Pair) {
-    bells.put_up(owner, pair);
-    let _ = bells.sleep(owner, Side::Writer);
-}
-
-/// So many clients join, and each waits for what comes due to it.
-fn all_wait<E: Ledger, M: Ledger, K: Marks>(
+/// Joins the clients.
+fn all_join<E: Ledger, M: Ledger, K: Marks>(
     alloc: Global,
     locked: &mut Locked<NullRecorder, E, M, K>,
 ) -> Result<(), AllocError> {
     for _ in 0..IDLE {
-        if let Ok(client) = locked.desk.join() {
-            waits(&mut locked.bells, Owner::Client(client), Pair::new(alloc)?);
+        if let Ok(client) = locked.desk.admit(Comer::Client) {
+            locked
+                .bells
+                .put_up(Owner::Client(client), Pair::new(alloc)?);
         }
+    }
+    Ok(())
+}
+
+/// Has the reader of each client wait for room, and its writer for bytes.
+fn all_wait(bells: &mut Bells) {
+    for before in 0..IDLE {
+        let owner = Owner::Client(before + 1);
+        let _ = bells.sleep(owner, Side::Reader);
+        let _ = bells.sleep(owner, Side::Writer);
+    }
+}
+
+/// Attaches the first device, whose writer waits.
+fn device_waits<E: Ledger, M: Ledger, K: Marks>(
+    alloc: Global,
+    locked: &mut Locked<NullRecorder, E, M, K>,
+) -> Result<(), AllocError> {
+    if let Ok(link) = locked.desk.admit(Comer::Device(Kind::Usb, b"emu1")) {
+        let owner = Owner::Link(link);
+        locked.bells.put_up(owner, Pair::new(alloc)?);
+        let _ = locked.bells.sleep(owner, Side::Writer);
     }
     Ok(())
 }
@@ -44,34 +63,92 @@ fn rung<E: Ledger, M: Ledger, K: Marks>(locked: &mut Locked<NullRecorder, E, M, 
     locked.ring().len()
 }
 
-/// Of many clients that wait, one is answered: its bell alone is rung. A kill rings for all others.
-fn rings_for_whom_it_concerns<E: Ledger, M: Ledger, K: Marks>(
+/// Returns whether a client lives after it sent a piece.
+fn says<E: Ledger, M: Ledger, K: Marks>(
     locked: &mut Locked<NullRecorder, E, M, K>,
-) -> bool {
-    rung(locked) == 0
-        && locked.desk.read(1, b"000Chost:version") == Ok(Life::Live)
-        && rung(locked) == 1
-        && locked.desk.read(2, b"0009host:kill") == Ok(Life::Live)
-        && rung(locked) == IDLE as usize - 1
+    client: u32,
+    piece: &[u8],
+) -> bool
+    requires { length piece.now ≤ 64 }
+{
+    lives(locked.desk.submit(client, Act::Read(piece)))
 }
 
-/// What lies under a lock, once many clients wait.
-trait Bellman: Drop {
-    /// Whether its bells are rung so.
-    fn rings(&mut self, alloc: Global) -> Result<bool, AllocError>;
+/// An event after which workers that wait are notified.
+#[derive(Clone, Copy, Drop)]
+enum Wake {
+    /// A client is answered: both its workers are notified, and no others.
+    Answer,
+    /// A client whose reader has returned is answered: its writer is notified.
+    AnswerWithoutReader,
+    /// A device is attached whose number is that of the first client, which is then answered.
+    SameNumber,
+    /// A kill: all are notified, those that wait for room among them.
+    Kill,
+    /// The hall is halted: all are notified.
+    Halt,
 }
 
-impl<E: Ledger, M: Ledger, K: Marks> Bellman for Locked<NullRecorder, E, M, K> {
-    fn rings(&mut self, alloc: Global) -> Result<bool, AllocError> {
-        all_wait(alloc, self)?;
-        Ok(rings_for_whom_it_concerns(self))
+const WAKES: &[Wake] = &[
+    Wake::Answer,
+    Wake::AnswerWithoutReader,
+    Wake::SameNumber,
+    Wake::Kill,
+    Wake::Halt,
+];
+
+impl Wake {
+    /// Returns whether the right number of workers is notified. The link of a device has one more
+    /// worker that waits.
+    fn holds<E: Ledger, M: Ledger, K: Marks>(
+        self,
+        locked: &mut Locked<NullRecorder, E, M, K>,
+    ) -> bool {
+        match self {
+            Wake::Answer => says(locked, 1, b"000Chost:version") && rung(locked) == 2,
+            Wake::AnswerWithoutReader => {
+                locked.bells.pass_back(Owner::Client(1));
+                says(locked, 1, b"000Chost:version") && rung(locked) == 2
+            }
+            Wake::SameNumber => says(locked, 1, b"000Chost:version") && rung(locked) == 2,
+            Wake::Kill => { says(locked, 2, b"0009host:kill") && rung(locked) == 2 * IDLE as usize }
+            Wake::Halt => {
+                locked.desk.halt();
+                rung(locked) == 2 * IDLE as usize
+            }
+        }
     }
 }
 
-/// Owns it, whatever it is: so its drop is proved over any type.
-fn rings_over<B: Bellman>(alloc: Global, bellman: B) -> Result<bool, AllocError> {
+/// Returns whether a device's writer alone is notified when it is attached, and the event then
+/// notifies the right number of workers.
+fn notifies<E: Ledger, M: Ledger, K: Marks>(
+    locked: &mut Locked<NullRecorder, E, M, K>,
+    wake: Wake,
+) -> bool {
+    rung(locked) == 1 && wake.holds(locked)
+}
+
+/// The state under the lock of a hall.
+trait Bellman: Drop {
+    /// Returns whether the right number of workers is notified after an event.
+    fn rings(&mut self, alloc: Global, wake: Wake) -> Result<bool, AllocError>;
+}
+
+impl<E: Ledger, M: Ledger, K: Marks> Bellman for Locked<NullRecorder, E, M, K> {
+    fn rings(&mut self, alloc: Global, wake: Wake) -> Result<bool, AllocError> {
+        all_join(alloc, self)?;
+        let _ = rung(self);
+        all_wait(&mut self.bells);
+        device_waits(alloc, self)?;
+        Ok(notifies(self, wake))
+    }
+}
+
+/// Owns the state through a type parameter, so that its drop is proved once.
+fn rings_over<B: Bellman>(alloc: Global, bellman: B, wake: Wake) -> Result<bool, AllocError> {
     let mut bellman = bellman;
-    bellman.rings(alloc)
+    bellman.rings(alloc, wake)
 }
 
 fn locked<E: Ledger, M: Ledger, K: Marks>(
@@ -87,6 +164,7 @@ fn locked<E: Ledger, M: Ledger, K: Marks>(
 
 fn rings<E: Ledger, M: Ledger, K: Marks>(
     alloc: Global,
+    wake: Wake,
     entries: Blank,
     moved: Blank,
     marks: Blank,
@@ -105,10 +183,10 @@ fn rings<E: Ledger, M: Ledger, K: Marks>(
         moved,
         marks,
     );
-    rings_over(alloc, locked(alloc, desk))
+    rings_over(alloc, locked(alloc, desk), wake)
 }
 
-/// A writer that waits in one thread is handed what a reader's piece in another made due.
+/// A writer that waits in one thread is handed the answer to a piece that a reader submits in another.
 fn serves_in_two_threads<
     E: Ledger + Send + Sync + 'static,
     M: Ledger + Send + Sync + 'static,
@@ -130,14 +208,14 @@ fn serves_in_two_threads<
     asked && answered
 }
 
-/// Whether what a client moved is counted once its passes are back, and not before.
+/// Returns whether the bytes that a client moved are counted after its passes are back, and not before.
 fn counts_what_it_moved<E: Ledger, M: Ledger, K: Marks, W: Wait + Copy + Drop>(
     hall: &mut LockedHall<NullRecorder, E, M, K, W>,
     client: Client<E, M, K>,
 ) -> bool {
     let out = hall.entries().is_none();
-    hall.retire_client_in(client.0);
-    hall.retire_client_out(client.1);
+    let _ = hall.retire_client_in(client.0);
+    let _ = hall.retire_client_out(client.1);
     out && hall.entries() == Some(3) && hall.moved() == Some(28)
 }
 
@@ -157,7 +235,7 @@ fn serves_a_client<
     counts_what_it_moved(writers, client) && served
 }
 
-/// Whether a client is served by two handles.
+/// Returns whether a client is served by two handles.
 fn serves_who_joins<
     E: Ledger + Send + Sync + 'static,
     M: Ledger + Send + Sync + 'static,
@@ -174,7 +252,7 @@ fn serves_who_joins<
     }
 }
 
-/// Whether a client is served by this handle and one more.
+/// Returns whether a client is served by this handle and one more.
 fn serves_beside<
     E: Ledger + Send + Sync + 'static,
     M: Ledger + Send + Sync + 'static,
@@ -205,15 +283,27 @@ fn serves<
     serves_beside(rt, &mut writers)
 }
 
-pub fn rings_by_brand(alloc: Global) -> Result<bool, AllocError> {
+fn rings_by_brand(alloc: Global, wake: Wake) -> Result<bool, AllocError> {
     rings::<Brand, Brand, Brand>(
         alloc,
+        wake,
         Blank::new(ALL_PARTS),
         Blank::new(ALL_PARTS),
         Blank::new(ALL_PARTS),
     )
 }
 
+/// Returns the number of the first event after which the wrong number of workers is notified.
+pub fn first_wrong_wake(alloc: Global) -> Result<Option<usize>, AllocError> {
+    for (at, &wake) in WAKES.iter().enumerate() {
+        if !rings_by_brand(alloc, wake)? {
+            return Ok(Some(at));
+        }
+    }
+    Ok(None)
+}
+
+/// Returns whether a client is served by two threads.
 pub fn serves_by_brand<W: Threads + Wait + Copy + Send + Sync + Drop + 'static>(
     rt: W,
     alloc: Global,

@@ -1,4 +1,4 @@
-//! Tries halls where no clause says what they do, and tells of each case whether it holds.
+//! Tries halls for what no clause says of them, and reports of each case whether it holds.
 #![tactic(auto)]
 
 mod case;
@@ -10,12 +10,12 @@ use case::{CASES, Case};
 use std::io;
 use std::process::ExitCode;
 
-/// Writes a line for each case. Ends with status 1 where one does not hold.
+/// Writes a line for each case. Ends with status 1 if one does not hold.
 fn main(rt: HostRuntime) -> io::Result<ExitCode> {
     let mut code = ExitCode::SUCCESS;
     for &case in CASES {
         let fault = case.first_fault(rt, rt.alloc())?;
-        tell(&rt, case, fault)?;
+        report(&rt, case, fault)?;
         if fault.is_some() {
             code = ExitCode::FAILURE;
         }
@@ -24,7 +24,7 @@ fn main(rt: HostRuntime) -> io::Result<ExitCode> {
 }
 
 /// Writes that a case holds, or which of its rows is the first that does not.
-fn tell(rt: &HostRuntime, case: Case, fault: Option<usize>) -> io::Result<()> {
+fn report(rt: &HostRuntime, case: Case, fault: Option<usize>) -> io::Result<()> {
     match fault {
         None => println!(rt; "{case:?}: holds"),
         Some(row) => println!(rt; "{case:?}: row {row} does not hold"),

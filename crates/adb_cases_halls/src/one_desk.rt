@@ -1,39 +1,50 @@
-//! A desk for one thread: what it answers, keeps and counts.
+//! A hall of one thread: its answers, the entries that it keeps, and its counts.
 
 ghost use Rattle.std.specs.Prelude.{◌≡◌};
 ghost use Rattle.adb_desk_log.specs.declared.marks.TheConstants.{ALL_PARTS};
 
 use crate::hands::{Client, asks, hands_out, is_answered, len_of};
-use adb_capture::MemoryRecorder;
+use adb_desk::Progress;
 use adb_desk_log::{ALL_PARTS, ClientIn, ClientOut, DeskError, LinkIn, LinkOut, Marks};
 use adb_hall::Hall;
-use adb_hub::{MAX_HELD, Room};
+use adb_hub::{Handed, MAX_HELD, Room};
 use adb_one_desk::OneDesk;
 use adb_outside::{Cause, Kind};
+use adb_recorder::MemoryRecorder;
 use std::alloc::{AllocError, Global};
 use std::marker::Brand;
 use std::sync::ledger::{Blank, Ledger};
 
+/// Returns whether the answer of a read is `Later`.
+fn is_late(answer: Result<Progress, DeskError>) -> bool {
+    matches!(answer, Err(DeskError::Later))
+}
+
+/// Returns whether the answer of a call is `RecordFault`.
+fn is_faulty(answer: Result<Progress, DeskError>) -> bool {
+    matches!(answer, Err(DeskError::RecordFault))
+}
+
 /// The passes of a device.
 type Device<E, M, K> = (LinkIn<E, M, K>, LinkOut<E, M, K>);
 
-/// What is more than may be held is refused for now.
+/// A piece that is longer than what may be held is refused with `Later`.
 fn holds_so_much<E: Ledger, M: Ledger, K: Marks, H: Hall<E, M, K>>(
     hall: &mut H,
     reading: &mut ClientIn<E, M, K>,
     piece: &[u8],
 ) -> bool {
-    hall.read(reading, &piece[..piece.len().min(MAX_HELD + 1)]) == Err(DeskError::Later)
+    is_late(hall.read(reading, &piece[..piece.len().min(MAX_HELD + 1)]))
         && hall.room(reading) == Ok(Room::Bytes(MAX_HELD))
 }
 
-/// A recorder that fails shuts the hall: every later call has that answer.
+/// A recorder that fails shuts the hall: every later call returns that answer.
 fn is_shut_by_its_recorder<E: Ledger, M: Ledger, K: Marks, H: Hall<E, M, K>>(
     hall: &mut H,
     reading: &mut ClientIn<E, M, K>,
 ) -> bool {
-    hall.read(reading, b"x") == Err(DeskError::RecordFault)
-        && hall.end(reading, Cause::Eof) == Err(DeskError::RecordFault)
+    is_faulty(hall.read(reading, b"x"))
+        && is_faulty(hall.end(reading, Cause::Eof))
         && hall.over() == Some(DeskError::RecordFault)
 }
 
@@ -71,7 +82,7 @@ fn frees_what_goes_up<E: Ledger, M: Ledger, K: Marks, H: Hall<E, M, K>>(
     link: &mut LinkIn<E, M, K>,
     reading: &mut ClientIn<E, M, K>,
 ) -> bool {
-    hall.read(reading, b"x") == Err(DeskError::Later)
+    is_late(hall.read(reading, b"x"))
         && hall.room(reading) == Ok(Room::Later)
         && hall.recv(link, OKAY).is_ok()
         && hall.room(reading) == Ok(Room::Bytes(4_096))
@@ -102,7 +113,7 @@ fn puts_a_large_payload_alone<E: Ledger, M: Ledger, K: Marks, H: Hall<E, M, K>>(
         && len_of(hall.put_front(writing, MAX_HELD)) == 0
 }
 
-/// What is tried, by a client and a device.
+/// A sequence of calls of a client and a device.
 #[derive(Clone, Copy, Drop)]
 enum Case {
     Counts,
@@ -110,6 +121,7 @@ enum Case {
     Frees,
     Fronts,
     Shuts,
+    Enters,
 }
 
 impl Case {
@@ -135,14 +147,17 @@ impl Case {
                     && puts_a_large_payload_alone(hall, link, writing, piece)
             }
             Case::Shuts => is_shut_by_its_recorder(hall, reading),
+            Case::Enters => matches!(hall.put(writing, MAX_HELD), Ok(Handed::Done)),
         }
     }
 }
 
-/// A case over a recorder that fails at one call, or at none where that is 0.
+/// A case over a recorder that fails at one call, or at none if that is 0.
 #[derive(Clone, Copy, Drop)]
 struct Row {
     case: Case,
+    /// The port through whose forward the client comes, or 0 if it comes through none.
+    port: u16,
     failing: u64,
     /// How many entries are kept.
     entries: u64,
@@ -153,45 +168,62 @@ struct Row {
 const ROWS: &[Row] = &[
     Row {
         case: Case::Counts,
+        port: 0,
         failing: 0,
         entries: 4,
         moved: 28,
     },
     Row {
         case: Case::Holds,
+        port: 0,
         failing: 0,
         entries: 2,
         moved: 0,
     },
     Row {
         case: Case::Frees,
+        port: 0,
         failing: 0,
         entries: 8,
         moved: 69_751,
     },
     Row {
         case: Case::Fronts,
+        port: 0,
         failing: 0,
         entries: 13,
         moved: 82_163,
     },
     Row {
         case: Case::Shuts,
+        port: 0,
         failing: 3,
+        entries: 2,
+        moved: 0,
+    },
+    Row {
+        case: Case::Enters,
+        port: 80,
+        failing: 0,
         entries: 2,
         moved: 0,
     },
 ];
 
-/// The first client and the first device come.
+/// Admits the first client and the first device.
 fn seats<E: Ledger, M: Ledger, K: Marks, H: Hall<E, M, K>>(
     hall: &mut H,
+    port: u16,
 ) -> Option<(Client<E, M, K>, Device<E, M, K>)> {
-    let client = hall.join().ok();
+    let client = if port == 0 {
+        hall.join().ok()
+    } else {
+        hall.enter(port).ok()
+    };
     client.zip(hall.attach(Kind::Usb, b"emu1").ok())
 }
 
-/// All passes are handed back.
+/// Hands all passes back.
 fn retire<E: Ledger, M: Ledger, K: Marks>(
     hall: &mut OneDesk<MemoryRecorder, E, M, K>,
     client: Client<E, M, K>,
@@ -204,7 +236,7 @@ fn retire<E: Ledger, M: Ledger, K: Marks>(
 }
 
 impl Row {
-    /// Whether so many entries were kept, and so many counted.
+    /// Returns whether the row's number of entries was kept, and counted.
     fn counts<E: Ledger, M: Ledger, K: Marks>(
         self,
         hall: &mut OneDesk<MemoryRecorder, E, M, K>,
@@ -214,7 +246,7 @@ impl Row {
             && hall.moved() == Some(self.moved)
     }
 
-    /// Whether the case holds, and its entries are counted once the passes are back, not before.
+    /// Returns whether the case holds, and its entries are counted after the passes are back, not before.
     fn holds_of<E: Ledger, M: Ledger, K: Marks>(
         self,
         hall: &mut OneDesk<MemoryRecorder, E, M, K>,
@@ -231,22 +263,22 @@ impl Row {
     }
 }
 
-/// A hall at which a row is tried.
+/// A hall on which a row is tried.
 trait Trial: Drop {
-    /// Whether the row holds of the first client and the first device.
+    /// Returns whether the row holds of the first client and the first device.
     fn holds(&mut self, row: Row, piece: &[u8]) -> bool;
 }
 
 impl<E: Ledger, M: Ledger, K: Marks> Trial for OneDesk<MemoryRecorder, E, M, K> {
     fn holds(&mut self, row: Row, piece: &[u8]) -> bool {
-        match seats(self) {
+        match seats(self, row.port) {
             Some((client, device)) => row.holds_of(self, client, device, piece),
             None => false,
         }
     }
 }
 
-/// Owns the hall, whatever it is: so its drop is proved over any type.
+/// Owns the hall through a type parameter, so that its drop is proved once.
 fn holds_over<T: Trial>(hall: T, row: Row, piece: &[u8]) -> bool {
     let mut hall = hall;
     hall.holds(row, piece)
@@ -288,7 +320,7 @@ fn holds(row: Row, alloc: Global) -> Result<bool, AllocError> {
     ))
 }
 
-/// The number of the first row that does not hold.
+/// Returns the number of the first row that does not hold.
 pub fn first_fault(alloc: Global) -> Result<Option<usize>, AllocError> {
     for (at, &row) in ROWS.iter().enumerate() {
         if !holds(row, alloc)? {

@@ -1,6 +1,8 @@
-//! What is tried, each by itself.
+//! The cases, in the order in which they run.
 
-use crate::{binder, connections, pipes, served, spawner, streams, yard};
+use crate::{
+    binder, connections, halting, pipes, ports, recording, served, spawner, streams, yard,
+};
 use std::alloc::{AllocError, Global};
 use std::net::{Net, TcpListener, TcpStream};
 use std::sync::Wait;
@@ -19,9 +21,12 @@ pub enum Case {
     PipesAreLost,
     PipesRefuse,
     AServerEndsAsTold,
+    PortsAreServedInOrder,
+    AHaltEndsAServer,
     ReadsStopShort,
     WritesStopShort,
     AYardGivesWhatItIsAsked,
+    ARecordIsWritten,
 }
 
 pub const CASES: &[Case] = &[
@@ -35,18 +40,22 @@ pub const CASES: &[Case] = &[
     Case::PipesAreLost,
     Case::PipesRefuse,
     Case::AServerEndsAsTold,
+    Case::PortsAreServedInOrder,
+    Case::AHaltEndsAServer,
     Case::ReadsStopShort,
     Case::WritesStopShort,
     Case::AYardGivesWhatItIsAsked,
+    Case::ARecordIsWritten,
 ];
 
-/// Which row does not hold of a case that has one.
+/// Returns the first row that does not hold of a case with one row.
 fn fault_of(holds: bool) -> Option<usize> {
     if holds { None } else { Some(0) }
 }
 
 impl Case {
-    /// The number of the first of its rows, from 0, that does not hold; `None` where all do.
+    /// Returns the number, counted from 0, of the first row that does not hold, or `None` if all
+    /// rows hold.
     pub fn first_fault<
         W: Net<Listener = TcpListener, Stream = TcpStream>
             + Threads
@@ -69,11 +78,14 @@ impl Case {
             Case::PipesAreLost => fault_of(pipes::pipes_are_lost(rt, alloc)?),
             Case::PipesRefuse => fault_of(pipes::pipes_refuse(rt, alloc)?),
             Case::AServerEndsAsTold => served::first_fault(rt, alloc)?,
+            Case::PortsAreServedInOrder => fault_of(ports::ports_are_served_in_order(rt, alloc)?),
+            Case::AHaltEndsAServer => fault_of(halting::a_halt_ends_a_server(rt, alloc)?),
             Case::ReadsStopShort => streams::first_bad_read(alloc)?,
             Case::WritesStopShort => streams::first_bad_write(alloc)?,
             Case::AYardGivesWhatItIsAsked => {
                 fault_of(yard::a_yard_gives_what_it_is_asked(rt, alloc)?)
             }
+            Case::ARecordIsWritten => fault_of(recording::a_record_is_written(rt, alloc)?),
         })
     }
 }

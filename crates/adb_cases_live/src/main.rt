@@ -1,11 +1,14 @@
-//! Tries what a live server stands on, where no clause says it and the built program does not show
-//! it, and tells of each case whether it holds.
+//! Cases of a live server and of the crates below it: behavior that no clause states and that the
+//! built program does not show. Writes for each case whether it holds.
 #![tactic(auto)]
 
 mod binder;
 mod case;
 mod connections;
+mod halting;
 mod pipes;
+mod ports;
+mod recording;
 mod rows;
 mod served;
 mod spawner;
@@ -16,7 +19,7 @@ use case::{CASES, Case};
 use std::io;
 use std::process::ExitCode;
 
-/// Writes a line for each case. Ends with status 1 where one does not hold.
+/// Writes a line for each case. Ends with status 1 if a case does not hold.
 fn main(rt: HostRuntime) -> io::Result<ExitCode> {
     let mut code = ExitCode::SUCCESS;
     for &case in CASES {

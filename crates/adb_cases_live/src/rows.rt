@@ -1,14 +1,14 @@
-//! What fails of a server's outside, and what becomes of that.
+//! The calls of a server's outside that fail, and how the server then ends.
 
 use adb_connections::Plug;
 use adb_server::Served;
 
-/// A server with a device, and with one client that asks for the version where one comes. The
-/// device is unplugged at the end each time.
+/// A row: a server with a device, and with one client, if it comes, that asks for the version. The
+/// device is unplugged and the client's connection closed at the end of each row.
 #[derive(Clone, Copy, Drop)]
 pub(crate) struct Row {
     pub(crate) name: &'static str,
-    /// The call of each kind that fails, counted from 1. None does where it is 0.
+    /// The call of each kind that fails, counted from 1, or 0 if none fails.
     pub(crate) read: u64,
     pub(crate) write: u64,
     pub(crate) accept: u64,
@@ -16,7 +16,7 @@ pub(crate) struct Row {
     pub(crate) keep: u64,
     pub(crate) plug: Plug,
     pub(crate) serial: &'static [u8],
-    /// Whether the client comes.
+    /// Whether a client comes.
     pub(crate) comes: bool,
     pub(crate) told: &'static [u8],
     pub(crate) served: Served,
@@ -77,6 +77,13 @@ pub(crate) const CLIENTS: &[Row] = &[
         name: "second spawn",
         spawn: 2,
         told: b"Join 1\nRead 1 16\nEnd 1 NoThread\n",
+        ..CLIENT
+    },
+    Row {
+        name: "first keep",
+        keep: 1,
+        told: b"",
+        served: Served::RecordFault,
         ..CLIENT
     },
     Row {

@@ -1,4 +1,4 @@
-//! A server over fakes: what becomes of each failure.
+//! A server over fakes: how it ends after each failure of its outside.
 
 use crate::rows::{CLIENTS, DEVICES, Row};
 use adb_connections::{DeviceIn, DeviceOut, MemoryDeviceIn, Plug};
@@ -11,17 +11,17 @@ use std::alloc::{AllocError, Global};
 use std::sync::Wait;
 use std::thread::Threads;
 
-/// The line that says where a server listens.
+/// The line of the note that names the port.
 const LINE: &[u8] = b"adbhub: listening on 127.0.0.1:5037\n";
 
-/// What a device sends: its first packet, and 23 bytes of a header.
+/// The bytes that a device sends: its first packet, and 23 bytes of a header.
 const SENDS: &[u8] = b"CNXN\x01\0\0\x01\0\x10\0\0\x08\0\0\0\0\0\0\0\xbc\xb1\xa7\xb1device::\
     OKAY\x07\0\0\0\x01\0\0\0\0\0\0\0\0\0\0\0\xb0\xb4\xbe";
 
-/// A device of bytes in memory, which shares with the test what it is sent.
+/// A device that sends bytes from memory and shares with the test the bytes that it is sent.
 type TestDevice<W> = Device<MemoryDeviceIn, SharedOut<W>>;
 
-/// How a server ended that is wanted to listen on port 5037, if its note says that it does.
+/// Returns how a server ended that is to listen on port 5037, if its note says that it does.
 fn served<
     W: Threads + Wait + Copy + Send + Sync + Drop + 'static,
     Y: Yard + 'static,
@@ -29,17 +29,17 @@ fn served<
     Z: DeviceOut + Send + 'static,
 >(rt: W, alloc: Global, yard: Y, devices: Vec<Device<X, Z>>) -> Option<Served> {
     let mut note = MemorySink::new(alloc, Vec::new(alloc));
-    let served = serve(rt, alloc, yard, devices, 5037, true, &mut note);
-    (note.bytes() == LINE).then_some(served)
+    let ended = serve(rt, alloc, yard, devices, 5037, true, &mut note);
+    (note.bytes() == LINE).then_some(ended.served)
 }
 
-/// What the device sends, in pieces of ten bytes.
+/// Returns the input of a device, which sends `SENDS` in pieces of ten bytes.
 fn input(alloc: Global, plug: Plug) -> Result<MemoryDeviceIn, AllocError> {
     let sends = Text::from_slice(alloc, SENDS)?;
     Ok(MemoryDeviceIn::new(alloc, plug, sends, 10, Vec::new(alloc)))
 }
 
-/// The device, which shows what it is sent there.
+/// Returns the device of a row. `sent` shows the bytes that it is sent.
 fn device<W: Wait + Copy + Send + Sync + Drop + 'static>(
     alloc: Global,
     row: Row,
@@ -56,7 +56,7 @@ fn device<W: Wait + Copy + Send + Sync + Drop + 'static>(
     })
 }
 
-/// The device alone.
+/// Returns a list of the device of a row.
 fn devices<W: Wait + Copy + Send + Sync + Drop + 'static>(
     alloc: Global,
     row: Row,
@@ -68,39 +68,37 @@ fn devices<W: Wait + Copy + Send + Sync + Drop + 'static>(
     Ok(devices)
 }
 
-/// The list of one call.
+/// Returns a list of one call.
 fn once(alloc: Global, call: u64) -> Result<Vec<u64>, AllocError> {
     Vec::from_slice(alloc, &[call])
 }
 
-/// The yard's calls fail that should, and the client comes, if it does.
+/// Sets up the failing calls of a yard and its client, if one comes. Returns the handle that shows
+/// the bytes that the client is sent.
 fn prepare<W: Wait + Copy + Send + Sync + Drop + 'static>(
     alloc: Global,
     row: Row,
     yard: &mut FakeYard<W>,
-) -> Result<(), AllocError> {
+) -> Result<Option<Sent<W>>, AllocError> {
     yard.fail_accepts(once(alloc, row.accept)?);
     yard.fail_spawns(once(alloc, row.spawn)?);
-    if row.comes {
-        let reads = once(alloc, row.read)?;
-        let writes = once(alloc, row.write)?;
-        yard.call(b"000Chost:version", reads, writes)?;
+    if !row.comes {
+        return Ok(None);
     }
-    Ok(())
+    let reads = once(alloc, row.read)?;
+    let writes = once(alloc, row.write)?;
+    Ok(Some(yard.call(b"000Chost:version", reads, writes)?))
 }
 
-fn yard<W: Wait + Copy + Send + Sync + Drop + 'static>(
-    rt: W,
-    alloc: Global,
-    row: Row,
-    kept: Kept<W>,
-) -> Result<FakeYard<W>, AllocError> {
-    let mut yard = FakeYard::new(rt, alloc, kept)?;
-    prepare(alloc, row, &mut yard)?;
-    Ok(yard)
+/// Returns whether the client's connection is closed, if the hall admitted it.
+fn is_closed<W: Wait + Copy + Drop>(row: Row, client: &Option<Sent<W>>) -> bool {
+    match client {
+        Some(sent) => sent.is_closed() == !row.told.is_empty(),
+        None => true,
+    }
 }
 
-/// Whether the server ends so.
+/// Returns whether the server ends as the row says and closes the connection of its client.
 fn ends<W: Threads + Wait + Copy + Send + Sync + Drop + 'static>(
     rt: W,
     alloc: Global,
@@ -108,15 +106,18 @@ fn ends<W: Threads + Wait + Copy + Send + Sync + Drop + 'static>(
     kept: Kept<W>,
     devices: Vec<TestDevice<W>>,
 ) -> Result<bool, AllocError> {
-    let yard = yard(rt, alloc, row, kept)?;
-    Ok(served(rt, alloc, yard, devices) == Some(row.served))
+    let mut yard = FakeYard::new(rt, alloc, kept)?;
+    let client = prepare(alloc, row, &mut yard)?;
+    let ended = served(rt, alloc, yard, devices);
+    Ok(ended == Some(row.served) && is_closed(row, &client))
 }
 
 fn is_told<W: Wait + Copy + Drop>(kept: &Kept<W>, told: &[u8]) -> Result<bool, AllocError> {
     Ok(kept.lines()?.as_slice() == told)
 }
 
-/// Whether the server ends so, with the device unplugged, and this is told.
+/// Returns whether the server ends as the row says, unplugs the device, and records the entries of
+/// the row.
 fn goes<W: Threads + Wait + Copy + Send + Sync + Drop + 'static>(
     rt: W,
     alloc: Global,
@@ -142,7 +143,7 @@ fn stands<W: Threads + Wait + Copy + Send + Sync + Drop + 'static>(
     goes(rt, alloc, row, &kept, &sent)
 }
 
-/// The number of the first row that does not hold, first of the clients.
+/// Returns the number of the first row that does not hold. The rows of clients come first.
 pub fn first_fault<W: Threads + Wait + Copy + Send + Sync + Drop + 'static>(
     rt: W,
     alloc: Global,

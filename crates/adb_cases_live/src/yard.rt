@@ -1,12 +1,12 @@
 //! A yard over sockets of this machine.
 
 use adb_binder::{Binder, Binding};
-use adb_capture::{Entry, RecordError, Recorder};
 use adb_connections::{Bell, Came, Door, PortIn, PortOut};
-use adb_outside::{Got, NeverSink, Wrote};
+use adb_outside::{Got, Wrote};
 use adb_ports::{Ending, RealYard};
 use adb_yard::{Dialled, Listening, Staff, Yard};
 use std::alloc::{AllocError, Global};
+use std::marker::Brand;
 use std::net::{Net, TcpListener, TcpStream};
 use std::sync::Wait;
 use std::thread::{Threads, sleep};
@@ -93,30 +93,7 @@ fn opens<W: Wait + Clock, Y: Yard>(rt: &W, yard: &mut Y) -> bool {
     }
 }
 
-/// What a yard's recorder answers to an entry.
-fn kept<Y: Yard>(yard: &mut Y, wanted: bool) -> Result<(), RecordError> {
-    let entry = Entry::Join { client: 1 };
-    yard.recorder(wanted).keep(&entry)
-}
-
-/// Whether a yard's recorder does as it was wanted, and a second one fails.
-fn records<
-    W: Net<Listener = TcpListener, Stream = TcpStream>
-        + Threads
-        + Wait
-        + Copy
-        + Send
-        + Sync
-        + Drop
-        + 'static,
->(yard: &mut RealYard<W, NeverSink>) -> Result<bool, AllocError> {
-    let off = kept(yard, false) == Ok(());
-    let on = kept(yard, true) == Ok(());
-    yard.helpers()?.finish();
-    Ok(off && on && kept(yard, true) == Err(RecordError::Failed))
-}
-
-/// Returns whether a yard opens a door, keeps a record, and has its own threads.
+/// Returns whether a yard opens a door, and has its own threads.
 fn gives<
     W: Net<Listener = TcpListener, Stream = TcpStream>
         + Threads
@@ -127,8 +104,8 @@ fn gives<
         + Sync
         + Drop
         + 'static,
->(rt: &W, yard: &mut RealYard<W, NeverSink>) -> Result<bool, AllocError> {
-    Ok(opens(rt, yard) && records(yard)? && matches!(yard.staff(), Staff::Threads))
+>(rt: &W, yard: &mut RealYard<W, Brand>) -> bool {
+    opens(rt, yard) && matches!(yard.staff(), Staff::Threads)
 }
 
 pub fn a_yard_gives_what_it_is_asked<
@@ -142,6 +119,6 @@ pub fn a_yard_gives_what_it_is_asked<
         + Drop
         + 'static,
 >(rt: W, alloc: Global) -> Result<bool, AllocError> {
-    let mut yard = RealYard::new(rt, alloc, Ending::new(alloc)?, NeverSink::new())?;
-    gives(&rt, &mut yard)
+    let mut yard = RealYard::<W, Brand>::new(rt, alloc, Ending::new(alloc)?, None);
+    Ok(gives(&rt, &mut yard))
 }

@@ -1,4 +1,4 @@
--- What admitting a client does to the hall and to the door.
+-- What the admission of a client does to the hall and to the door.
 use Rattle.std.specs.Prelude.{◌≡◌, Bool, true, false, List, Option, ⊤}
 use Rattle.adb_outside.specs.Outside.{TellsOneMore}
 use Rattle.adb_capture.specs.declared.entry.Entry.TheVariants.{Join, Enter}
@@ -20,14 +20,26 @@ Admits came.Closed Closed a b = b ≡ a
 Admits came.Failed Failed a b = b ≡ a
 Admits _ _ a b = ⊥
 
--- The door was asked once, and who it answered was admitted.
+-- what the door's answer makes of the connection: it is a client, or the hall refused it, where one came
+abbrev pub ComesBy : {I O E M K : Type 0} → Arrival → Admitted I O E M K → Type 0
+ComesBy came.Port (Client input output reading writing) = ⊤
+ComesBy came.Port (Refused error) = ⊤
+ComesBy (came.Forward port) (Client input output reading writing) = ⊤
+ComesBy (came.Forward port) (Refused error) = ⊤
+ComesBy came.Closed Closed = ⊤
+ComesBy came.Failed Failed = ⊤
+ComesBy _ _ = ⊥
+
+-- The door was asked once, and the client that it answered was admitted. Over a hall that shows nothing too, each answer of the door has its
+-- result.
 pub record IsAdmission {I O E M K : Type 0} (admitted : Admitted I O E M K) (hall_before hall_after : Option Telling)
     (door_before door_after : Option (List Arrival)) : Type 0 where
   pub arrival : Arrival
   pub asked : TellsOneMore door_before arrival door_after
+  pub comes : ComesBy arrival admitted
   pub told : Where hall_before (Admits arrival admitted) hall_after
 
--- The passes of who was admitted are those of one number.
+-- The two passes of a client have one number.
 abbrev pub HasPair : {I O E M K : Type 0} → Admitted I O E M K → Type 0
 HasPair (Client input output reading writing) = ArePair reading.pass writing.pass
 HasPair _ = ⊤
@@ -39,7 +51,7 @@ marked_by (Refused error) mark = or_marked (is_marked error) mark
 marked_by Closed mark = mark
 marked_by Failed mark = mark
 
--- whether the door answered that nobody more comes
+-- whether the door answered that no more connections come
 abbrev pub is_closed : {I O E M K : Type 0} → Admitted I O E M K → Bool
 is_closed Closed = true
 is_closed _ = false

@@ -1,4 +1,4 @@
-//! One client is admitted.
+//! The admission of one client.
 
 ghost use Rattle.std.specs.Prelude.{◌≡◌, ◌≢◌};
 ghost use Rattle.adb_outside.specs.Outside.{Counts};
@@ -13,7 +13,7 @@ use adb_desk_log::{ClientIn, ClientOut, DeskError, Marks};
 use adb_hall::Hall;
 use std::sync::ledger::Ledger;
 
-/// What became of asking a door once.
+/// The result of asking a door once.
 #[derive(Drop)]
 pub enum Admitted<I: Drop, O: Drop, E: Ledger, M: Ledger, K: Marks> {
     /// A client, by the two halves of its connection, with the passes of its reader and its writer.
@@ -23,17 +23,19 @@ pub enum Admitted<I: Drop, O: Drop, E: Ledger, M: Ledger, K: Marks> {
         reading: ClientIn<E, M, K>,
         writing: ClientOut<E, M, K>,
     },
-    /// The door answered that nobody more comes.
+    /// The door answered that no more connections come.
     Closed,
     /// The door failed.
     Failed,
-    /// The hall refused who came, whose connection is dropped. It is as before, or its recorder
-    /// shut it.
+    /// The hall refused the client, whose connection is dropped. The hall is as before, or its
+    /// recorder shut it.
     Refused(DeskError),
 }
 
-/// Asks the door once. Where a client comes it joins the hall, where one comes to the port of a
-/// forward it enters through that.
+/// Asks the door once. A client that comes joins the hall; a client that comes to the port of a
+/// forward enters through that. Each answer of the door has its result: `Closed` and `Failed` are
+/// the door's, and a client that came is admitted or refused. That holds over a hall that shows
+/// nothing too.
 pub fn admit<E: Ledger, M: Ledger, K: Marks, H: Hall<E, M, K>, D: Door>(
     hall: &mut H,
     door: &mut D,

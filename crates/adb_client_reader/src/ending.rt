@@ -1,8 +1,8 @@
 //! The end of a client's input.
 
 ghost use Rattle.std.specs.Prelude.{◌≡◌, true};
-ghost use Rattle.adb_outside.specs.declared.kinds.Cause.{Cause};
-ghost use Rattle.adb_client_reader.specs.Reading.{Finishes, IsOrStarved, IsStarved};
+ghost use Rattle.adb_hall.specs.Passes.{is_starved};
+ghost use Rattle.adb_client_reader.specs.Reading.{Finishes, GivesUp};
 
 use adb_desk_log::{ClientIn, DeskError, Marks};
 use adb_hall::Hall;
@@ -10,20 +10,14 @@ use adb_hub::HubError;
 use adb_outside::Cause;
 use std::sync::ledger::Ledger;
 
-/// Ends a client's input for want of memory.
-pub(crate) fn starve<E: Ledger, M: Ledger, K: Marks, H: Hall<E, M, K>>(
-    hall: &mut H,
-    pass: &mut ClientIn<E, M, K>,
-)
-    ensures number { pass.new.pass.number ≡ pass.old.pass.number }
-    ensures starved { pass.old.pass.starved ≡ true → pass.new.pass.starved ≡ true }
-    ensures told { Finishes IsStarved pass.old.pass.number pass.new.pass.starved
-        (H.tells hall.old) (H.tells hall.new) }
+/// Returns whether an error is an allocation failure.
+fn is_starved(error: DeskError) -> bool
+    ensures { result ≡ is_starved error }
 {
-    let _ = hall.end(pass, Cause::Starved);
+    matches!(error, DeskError::Hub(HubError::OutOfMemory))
 }
 
-/// Ends a client's input.
+/// Ends a client's input, unless the hall refuses that.
 pub(crate) fn finish<E: Ledger, M: Ledger, K: Marks, H: Hall<E, M, K>>(
     hall: &mut H,
     pass: &mut ClientIn<E, M, K>,
@@ -31,11 +25,24 @@ pub(crate) fn finish<E: Ledger, M: Ledger, K: Marks, H: Hall<E, M, K>>(
 )
     ensures number { pass.new.pass.number ≡ pass.old.pass.number }
     ensures starved { pass.old.pass.starved ≡ true → pass.new.pass.starved ≡ true }
-    ensures told { Finishes (IsOrStarved cause pass.new.pass.starved) pass.old.pass.number
+    ensures told { Finishes cause pass.old.pass.number pass.old.pass.starved
         pass.new.pass.starved (H.tells hall.old) (H.tells hall.new) }
 {
-    match hall.end(pass, cause) {
-        Err(DeskError::Hub(HubError::OutOfMemory)) => starve(hall, pass),
-        Ok(_) | Err(_) => {}
+    let _ = hall.end(pass, cause);
+}
+
+/// Stops after a call that the hall refused. An allocation failure ends the client's input.
+pub(crate) fn give_up<E: Ledger, M: Ledger, K: Marks, H: Hall<E, M, K>>(
+    hall: &mut H,
+    pass: &mut ClientIn<E, M, K>,
+    error: DeskError,
+)
+    ensures number { pass.new.pass.number ≡ pass.old.pass.number }
+    ensures starved { pass.old.pass.starved ≡ true → pass.new.pass.starved ≡ true }
+    ensures told { GivesUp (is_starved error) pass.old.pass.number pass.old.pass.starved
+        pass.new.pass.starved (H.tells hall.old) (H.tells hall.new) }
+{
+    if is_starved(error) {
+        finish(hall, pass, Cause::Starved);
     }
 }

@@ -1,31 +1,33 @@
 //! The desk.
 
-ghost use Rattle.std.specs.Prelude.{◌≡◌, ◌≢◌, [], Some, Err, is_some, is_none};
+ghost use Rattle.std.specs.Prelude.{◌≡◌, ◌≢◌, [], false, Some, Err, is_some, is_none};
 ghost use Rattle.adb_history.specs.Kept.{IsLawful};
 ghost use Rattle.adb_desk_log.specs.declared.error.DeskError.{DeskError};
 ghost use Rattle.adb_desk_log.specs.declared.marks.TheConstants.{ALL_PARTS};
-ghost use Rattle.adb_desk_log.specs.Log.{IsFresh, first_log, or_given, shut_with};
+ghost use Rattle.adb_desk_log.specs.Log.{IsFresh, first_log, is_fault, or_given, shut_with};
 ghost use Rattle.adb_desk_log.specs.Marked.{marks_error};
 ghost use Rattle.adb_desk.specs.Desk.{or_given_by, over_at, rung, summary_of};
 ghost use Rattle.adb_desk.specs.Sound.{IsSound, TellsPromises};
+ghost use Rattle.adb_desk.specs.Left.{IsLeft};
 
-use adb_capture::Recorder;
 use adb_desk_log::{DeskError, Log, Marks, is_marked};
 use adb_headline::{
     every_legal_history_has_causes, every_legal_history_is_answered, every_legal_history_is_fifo,
 };
 use adb_hub::{Hub, HubError, Summary};
 use adb_laws_fifo_down::every_stream_keeps_its_window;
+use adb_recorder::Recorder;
 use std::alloc::Global;
 use std::marker::Model;
 use std::sync::ledger::{Blank, Ledger};
 
-/// The hub of a server with its recorder and its counts. Contracts see what the hub holds, what the
-/// recorder tells, and the counts.
+/// The hub of a server with its recorder and its counts.
 ///
-/// What the recorder tells is always a legal history, and the hub holds what that history leaves,
-/// unless the recorder refused an entry: it is then shut. A shut desk gives the answer that first
-/// shut it to every later call, before every other answer.
+/// The entries that the recorder has kept are always a legal history, and the hub holds what that
+/// history leaves, unless the recorder refused an entry: the desk is then shut. A desk that is shut
+/// returns the answer that first shut it to every later call, before every other answer.
+///
+/// Contracts see what the hub holds, what the recorder tells, and the counts.
 #[derive(Drop)]
 pub struct Desk<R: Recorder, E: Ledger, M: Ledger, K: Marks> {
     pub(crate) alloc: Global,
@@ -33,20 +35,30 @@ pub struct Desk<R: Recorder, E: Ledger, M: Ledger, K: Marks> {
     pub(crate) log: Log<R, E, M, K>,
 }
 
+/// What is left of a desk that is closed.
+#[derive(Drop)]
+pub struct Left<R: Drop> {
+    /// The answer with which the desk is shut.
+    pub shut: Option<DeskError>,
+    /// Its recorder, which has kept a legal history.
+    pub recorder: R,
+}
+
 impl<R: Recorder, E: Ledger, M: Ledger, K: Marks> Model for Desk<R, E, M, K> {
     ghost use Rattle.adb_desk.specs.Desk.{DeskView};
-    ghost use Rattle.adb_desk.specs.Sound.{IsSound};
+    ghost use Rattle.adb_desk.specs.Sound.{IsRecorded};
 
     ghost Value = { DeskView };
 
-    ghost view = { λ d. record { hub = d.hub; log = d.log } };
+    ghost view = { λ d. record { hub = d.hub; log = d.log.is } };
 
-    ghost invariant = { λ d. IsSound (record { hub = d.hub; log = d.log }) };
+    ghost invariant = { λ d. IsRecorded R.stands d.log.recorder
+        (record { hub = d.hub; log = d.log.is }) };
 }
 
 impl<R: Recorder, E: Ledger, M: Ledger, K: Marks> Desk<R, E, M, K> {
-    /// A desk without entries, over a recorder that has kept nothing and has not failed. It takes
-    /// no memory.
+    /// Returns a desk without entries, over a recorder that has kept nothing and has not failed. It
+    /// allocates nothing.
     pub fn new(
         alloc: Global,
         recorder: R,
@@ -61,6 +73,7 @@ impl<R: Recorder, E: Ledger, M: Ledger, K: Marks> Desk<R, E, M, K> {
         requires marks { (marks.name ≡ K.name) × (marks.parts ≡ K.parts)
             × (marks.parts ≡ ALL_PARTS) }
         requires fresh { (R.faults recorder ≡ 0) × IsFresh (R.told recorder) }
+        requires stands { R.stands recorder [] }
         requires steady { K.steady → R.steady recorder }
         ensures lawful { IsLawful result.hub [] }
         ensures log { result.log ≡ first_log (R.told recorder) }
@@ -72,17 +85,31 @@ impl<R: Recorder, E: Ledger, M: Ledger, K: Marks> Desk<R, E, M, K> {
         }
     }
 
-    /// The recorder, for whoever reads what it kept.
+    /// Returns the recorder.
     pub fn recorder(&self) -> &R
         ensures { R.told result.now ≡ self.now.log.told }
     {
         self.log.recorder()
     }
 
-    /// What stands whenever a desk is at hand, so whenever the lock on one is free. What its
-    /// recorder tells is a legal history, so it is fifo, has its causes and is answered; the counts
-    /// are its counts; the hub holds it unless the recorder refused; and no client holds more than
-    /// may be.
+    /// Closes the desk. Returns the answer with which it is shut, and its recorder, which has kept a
+    /// legal history: that history is fifo, has its causes and is answered.
+    pub fn close(self) -> Left<R>
+        ensures left { IsLeft R.stands R.faults result }
+        ensures steady { K.steady → is_fault result.shut ≡ false }
+    {
+        every_legal_history_is_fifo();
+        every_legal_history_has_causes();
+        every_legal_history_is_answered();
+        every_stream_keeps_its_window();
+        let (shut, recorder) = self.log.close();
+        Left { shut, recorder }
+    }
+
+    /// Says what holds of every desk, so also of the desk under a lock whenever the lock is free:
+    /// what its recorder tells is a legal history, so it is fifo, has its causes and is answered;
+    /// the counts are its counts; the hub holds it unless the recorder refused an entry; and the hub
+    /// holds no more of any client than its limit.
     pub fn law(&self)
         ensures sound { IsSound self.now }
         ensures promises { TellsPromises self.now.log.told }
@@ -94,8 +121,8 @@ impl<R: Recorder, E: Ledger, M: Ledger, K: Marks> Desk<R, E, M, K> {
         every_stream_keeps_its_window();
     }
 
-    /// Why nobody comes any more: the answer of a shut desk, or `Hub(Stopped)` after a kill. It
-    /// takes no memory.
+    /// Returns the answer with which the desk is shut, or else `Hub(Stopped)` if a kill was made. It
+    /// allocates nothing.
     pub fn over(&mut self) -> Option<DeskError>
         ensures answer { result ≡ over_at self.old }
         ensures rung { self.new ≡ rung (is_some result) self.old }
@@ -110,7 +137,8 @@ impl<R: Recorder, E: Ledger, M: Ledger, K: Marks> Desk<R, E, M, K> {
         answer
     }
 
-    /// Shuts the desk with `Halted`, where it is not shut.
+    /// Shuts the desk with `Halted`, unless it is shut.
+    #[tactic(auto, using(crate::proofs::Staying::shut_halted))]
     pub fn halt(&mut self)
         ensures { self.new ≡ record {
           hub = self.old.hub;
@@ -122,14 +150,14 @@ impl<R: Recorder, E: Ledger, M: Ledger, K: Marks> Desk<R, E, M, K> {
         self.log.halt();
     }
 
-    /// Whether the desk is not shut.
+    /// Returns whether the desk is not shut.
     pub fn is_open(&self) -> bool
         ensures { result ≡ is_none (shut_with self.now.log) }
     {
         self.log.shut().is_none()
     }
 
-    /// Whether a kill was made.
+    /// Returns whether a kill was made.
     pub fn is_stopped(&self) -> bool
         ensures { result ≡ self.now.hub.stopped }
     {

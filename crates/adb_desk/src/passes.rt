@@ -1,4 +1,4 @@
-//! Passes of a desk: how they are made, what they note, and how they come back.
+//! Passes of a desk: making them, noting the calls made with them, and taking them back.
 
 ghost use Rattle.std.specs.Prelude.{◌≡◌, ◌+◌, ◌-◌, ◌<◌, ◌≤◌};
 ghost use Rattle.std.specs.Prelude.{true, false, None, Some, nat_eq, if◌then◌else◌};
@@ -7,15 +7,16 @@ ghost use Rattle.adb_desk_log.specs.Pass.{first_pass, noted};
 ghost use Rattle.adb_desk.specs.Desk.{IsSameDesk};
 
 use crate::desk::Desk;
-use adb_capture::Recorder;
 use adb_desk_log::{Mark, Marks, Pass};
+use adb_recorder::Recorder;
 use std::sync::ledger::Ledger;
 
 impl<R: Recorder, E: Ledger, M: Ledger, K: Marks> Desk<R, E, M, K> {
-    /// A new pass of the number that was drawn last, which may have two. It has no share yet.
-    pub fn seat(&mut self, number: u32) -> Pass<E, M, K>
+    /// Returns a new pass of the number that was drawn last, without shares. Two passes can be made of
+    /// each number.
+    pub fn seat(&mut self) -> Pass<E, M, K>
         requires { 0 < self.old.log.free }
-        ensures pass { result ≡ first_pass number 0 }
+        ensures pass { result ≡ first_pass self.old.log.drawn 0 }
         ensures out { self.new ≡ record {
           hub = self.old.hub;
           log = record self.old.log {
@@ -24,11 +25,11 @@ impl<R: Recorder, E: Ledger, M: Ledger, K: Marks> Desk<R, E, M, K> {
           };
         } }
     {
-        self.log.seat(number)
+        self.log.seat()
     }
 
-    /// Notes in a pass what became of a call: whether it made an entry, which moved so many bytes,
-    /// whether its answer is marked, and whether it found no memory.
+    /// Notes a call in a pass: whether it made an entry, and how many bytes that moved; whether its
+    /// answer is marked; and whether an allocation failed.
     pub fn note(
         &mut self,
         pass: &mut Pass<E, M, K>,
@@ -50,7 +51,7 @@ impl<R: Recorder, E: Ledger, M: Ledger, K: Marks> Desk<R, E, M, K> {
             self.log.mark_pass(pass);
         }
         if starved {
-            pass.starve();
+            self.log.starve(pass);
         }
     }
 
@@ -63,7 +64,8 @@ impl<R: Recorder, E: Ledger, M: Ledger, K: Marks> Desk<R, E, M, K> {
         self.log.retire(pass);
     }
 
-    /// How many entries were kept, where all passes are back: the sum of the shares of entries.
+    /// Returns how many entries were kept, which is the sum of all shares of entries, or None while a
+    /// pass is out.
     pub fn entries(&mut self) -> Option<u64>
         ensures count { result
             ≡ (if nat_eq self.old.log.out 0 then Some self.old.log.entries else None) }
@@ -74,7 +76,8 @@ impl<R: Recorder, E: Ledger, M: Ledger, K: Marks> Desk<R, E, M, K> {
         self.log.count_entries()
     }
 
-    /// How many bytes were moved, where all passes are back: the sum of the shares of moved bytes.
+    /// Returns how many bytes were moved, which is the sum of all shares of moved bytes, or None while a
+    /// pass is out.
     pub fn moved(&mut self) -> Option<u64>
         ensures count { result
             ≡ (if nat_eq self.old.log.out 0 then Some self.old.log.moved else None) }
@@ -84,7 +87,7 @@ impl<R: Recorder, E: Ledger, M: Ledger, K: Marks> Desk<R, E, M, K> {
         self.log.count_moved()
     }
 
-    /// The mark of the handle that is made with the desk. It can be had once.
+    /// Returns the mark of the handle that is made with the desk. It can be lent once.
     pub fn lend(&mut self) -> Mark<K>
         requires { self.old.log.lent ≡ false }
         ensures mark { result ≡ false }
@@ -98,7 +101,7 @@ impl<R: Recorder, E: Ledger, M: Ledger, K: Marks> Desk<R, E, M, K> {
         self.log.lend()
     }
 
-    /// Sets a mark, where the alarm is set.
+    /// Sets a mark. The alarm has to be set.
     pub fn mark(&mut self, mark: &mut Mark<K>)
         requires { self.old.log.alarm ≡ true }
         ensures mark { mark.new ≡ true }
@@ -107,7 +110,7 @@ impl<R: Recorder, E: Ledger, M: Ledger, K: Marks> Desk<R, E, M, K> {
         self.log.mark(mark);
     }
 
-    /// Nobody holds a mark while the alarm is clear: a mark that is set shows that the alarm is.
+    /// Says that the alarm is set if this mark is.
     pub fn audit_mark(&mut self, mark: &mut Mark<K>)
         ensures alarm { mark.old ≡ true → self.old.log.alarm ≡ true }
         ensures mark { mark.new ≡ mark.old }

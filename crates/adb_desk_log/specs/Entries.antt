@@ -1,9 +1,9 @@
--- Entries of what was handed out.
+-- Entries that hand bytes out.
 use Rattle.std.specs.Prelude.{ℕ, List, [], ⊤}
 use Rattle.adb_capture.specs.declared.entry.Entry.{Entry}
 use Rattle.adb_capture.specs.declared.entry.Entry.TheVariants.{Put, Send}
 
--- an entry that hands bytes out
+-- whether an entry hands bytes out
 abbrev pub IsHandOut : Entry → Type 0
 IsHandOut (Put c bytes) = ⊤
 IsHandOut (Send t bytes) = ⊤

@@ -1,4 +1,5 @@
-//! What a desk has beside its hub: the recorder, the counts with their shares, and the marks.
+//! The log of a desk, which is what a desk has beside its hub: the recorder, the counts of entries and
+//! of moved bytes with their shares, and the marks.
 #![tactic(auto)]
 
 mod error;
@@ -12,6 +13,6 @@ mod shares;
 pub use error::DeskError;
 pub use keeping::{keep_attach, keep_put, keep_sent};
 pub use log::Log;
-pub use marked::{is_marked, marks_error, marks_handed, marks_life, marks_room};
+pub use marked::{is_marked, marks_error, marks_handed, marks_room};
 pub use marks::{ALL_PARTS, Marks, limits_are};
 pub use pass::{ClientIn, ClientOut, LinkIn, LinkOut, Mark, Pass};

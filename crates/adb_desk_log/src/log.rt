@@ -1,26 +1,27 @@
 //! The recorder of a desk with its counts, its alarm, and the answer with which it is shut.
 
-ghost use Rattle.std.specs.Prelude.{◌≡◌, ◌≢◌, ◌<◌, ◌≤◌, ◌||◌, Some, None, Err, length};
+ghost use Rattle.std.specs.Prelude.{◌≡◌, ◌≢◌, ◌<◌, ◌≤◌, ◌||◌, true, false, Some, None, Err, length};
 ghost use Rattle.adb_capture.specs.declared.limits.TheConstants.{MAX_DATA};
-ghost use Rattle.adb_capture.specs.declared.recorder.RecordError.{RecordError};
 ghost use Rattle.adb_capture.specs.Records.{HasRecord, came_from};
 ghost use Rattle.adb_desk_log.specs.declared.error.DeskError.{DeskError};
 ghost use Rattle.adb_desk_log.specs.declared.marks.TheConstants.{ALL_PARTS};
-ghost use Rattle.adb_desk_log.specs.Log.{LogView, first_log, shut_with, or_given, moves, is_draw};
-ghost use Rattle.adb_desk_log.specs.Log.{Keeps, counting, fault_of};
+ghost use Rattle.adb_desk_log.specs.Log.{first_log, shut_with, or_given, moves, draw_of};
+ghost use Rattle.adb_desk_log.specs.Log.{Keeps, HasKept, counting, fault_of, is_fault};
 
 use crate::error::DeskError;
 use crate::marks::Marks;
-use adb_capture::{Entry, Owner, RecordError, Recorder};
+use adb_capture::{Entry, Owner};
 use adb_hub::HubError;
+use adb_recorder::{RecordError, Recorder};
 use std::marker::Model;
 use std::sync::ledger::{Blank, Book, Ledger, Share};
 
-/// Past so many moved bytes no more are counted: the next entry might not fit the count.
+/// The largest count of moved bytes to which an entry is added: a larger count might overflow.
 const MAX_MOVED: u64 = u64::MAX - 4_194_303;
 
-/// The recorder, the counts with their ledgers, and the shares that no pass holds. Contracts see
-/// what it tells and counts.
+/// The recorder, the counts with their ledgers, and the shares that no pass holds.
+///
+/// Contracts see the recorder itself, and what the log counts.
 #[derive(Drop)]
 pub struct Log<R: Recorder, E: Ledger, M: Ledger, K: Marks> {
     pub(crate) recorder: R,
@@ -30,6 +31,8 @@ pub struct Log<R: Recorder, E: Ledger, M: Ledger, K: Marks> {
     pub(crate) out: u64,
     /// How many more passes the number that was drawn last may have.
     pub(crate) free: u64,
+    /// The number that was drawn last.
+    pub(crate) drawn: u32,
     /// Whether the mark of the first handle is lent.
     pub(crate) lent: bool,
     pub(crate) alarm: bool,
@@ -43,25 +46,28 @@ pub struct Log<R: Recorder, E: Ledger, M: Ledger, K: Marks> {
 }
 
 impl<R: Recorder, E: Ledger, M: Ledger, K: Marks> Model for Log<R, E, M, K> {
-    ghost use Rattle.std.specs.Prelude.{◌≡◌, ◌+◌, ◌^◌, ◌<◌, ◌≤◌, false, Some, if◌then◌else◌};
-    ghost use Rattle.adb_desk_log.specs.declared.error.DeskError.TheVariants.{RecordFault};
+    ghost use Rattle.std.specs.Prelude.{◌≡◌, ◌+◌, ◌^◌, ◌<◌, ◌≤◌, true, false, if◌then◌else◌};
     ghost use Rattle.adb_desk_log.specs.declared.marks.TheConstants.{ALL_PARTS};
-    ghost use Rattle.adb_desk_log.specs.Log.{LogView};
+    ghost use Rattle.adb_desk_log.specs.Log.{LogOf, is_fault};
 
-    ghost Value = { LogView };
+    ghost Value = { LogOf R };
 
     ghost view = { λ l. record {
-      told = R.told l.recorder;
-      faults = R.faults l.recorder;
-      shut = l.shut;
-      alarm = l.alarm;
-      entries = l.entries;
-      moved = l.moved;
-      out = l.out;
-      free = l.free;
-      lent = l.lent;
-      home_entries = l.home_entries.amount;
-      home_moved = l.home_moved.amount;
+      recorder = l.recorder;
+      is = record {
+        told = R.told l.recorder;
+        faults = R.faults l.recorder;
+        shut = l.shut;
+        alarm = l.alarm;
+        entries = l.entries;
+        moved = l.moved;
+        out = l.out;
+        free = l.free;
+        drawn = l.drawn;
+        lent = l.lent;
+        home_entries = l.home_entries.amount;
+        home_moved = l.home_moved.amount;
+      };
     } };
 
     ghost invariant = { λ l. (l.entry_book.total ≡ l.entries)
@@ -73,11 +79,12 @@ impl<R: Recorder, E: Ledger, M: Ledger, K: Marks> Model for Log<R, E, M, K> {
         × (l.out ≤ 2 ^ 34)
         × (E.parts ≡ ALL_PARTS) × (M.parts ≡ ALL_PARTS) × (K.parts ≡ ALL_PARTS)
         × (K.steady → R.steady l.recorder × (R.faults l.recorder ≡ 0))
-        × (l.shut ≡ Some RecordFault → 0 < R.faults l.recorder) };
+        × (is_fault l.shut ≡ true → 0 < R.faults l.recorder)
+        × (is_fault l.shut ≡ false → R.faults l.recorder ≡ 0) };
 }
 
 impl<R: Recorder, E: Ledger, M: Ledger, K: Marks> Log<R, E, M, K> {
-    /// A log without entries.
+    /// Returns a log without entries, over a recorder that has not failed.
     pub fn new(recorder: R, entries: Blank, moved: Blank, marks: Blank) -> Log<R, E, M, K>
         requires entries { (entries.name ≡ E.name) × (entries.parts ≡ E.parts)
             × (entries.parts ≡ ALL_PARTS) }
@@ -87,7 +94,7 @@ impl<R: Recorder, E: Ledger, M: Ledger, K: Marks> Log<R, E, M, K> {
             × (marks.parts ≡ ALL_PARTS) }
         requires fresh { R.faults recorder ≡ 0 }
         requires steady { K.steady → R.steady recorder }
-        ensures { result ≡ first_log (R.told recorder) }
+        ensures { result ≡ record { recorder = recorder; is = first_log (R.told recorder) } }
     {
         let (entry_book, home_entries) = entries.open::<E>();
         let (moved_book, home_moved) = moved.open::<M>();
@@ -98,6 +105,7 @@ impl<R: Recorder, E: Ledger, M: Ledger, K: Marks> Log<R, E, M, K> {
             moved: 0,
             out: 0,
             free: 0,
+            drawn: 0,
             lent: false,
             alarm: false,
             shut: None,
@@ -110,17 +118,30 @@ impl<R: Recorder, E: Ledger, M: Ledger, K: Marks> Log<R, E, M, K> {
         }
     }
 
-    /// The recorder, for whoever reads what it kept.
+    /// Returns the recorder.
     pub fn recorder(&self) -> &R
-        ensures { (R.told result.now ≡ self.now.told) × (R.faults result.now ≡ self.now.faults) }
+        ensures is { result.now ≡ self.now.recorder }
+        ensures told { R.told result.now ≡ self.now.is.told }
+        ensures faults { R.faults result.now ≡ self.now.is.faults }
     {
         &self.recorder
     }
 
-    /// The answer of a log that is shut. Over a recorder that never fails it is not that one
-    /// failed.
+    /// Returns the answer with which the log is shut, and its recorder. The recorder has failed
+    /// exactly if that answer is `RecordFault`.
+    pub fn close(self) -> (Option<DeskError>, R)
+        ensures recorder { result.1 ≡ self.recorder }
+        ensures failed { is_fault result.0 ≡ true → 0 < R.faults result.1 }
+        ensures sound { is_fault result.0 ≡ false → R.faults result.1 ≡ 0 }
+        ensures steady { K.steady → is_fault result.0 ≡ false }
+    {
+        (self.shut, self.recorder)
+    }
+
+    /// Returns the answer of a log that is shut, `Halted` if a count is full. If the recorder never
+    /// fails, the answer is not `RecordFault`.
     pub fn shut(&self) -> Option<DeskError>
-        ensures shut { result ≡ shut_with self.now }
+        ensures shut { result ≡ shut_with self.now.is }
         ensures steady { K.steady → result ≢ Some DeskError.RecordFault }
     {
         match self.shut {
@@ -130,12 +151,18 @@ impl<R: Recorder, E: Ledger, M: Ledger, K: Marks> Log<R, E, M, K> {
         }
     }
 
-    /// Keeps an entry, which moves `bytes` bytes, or is shut by the recorder.
+    /// Keeps an entry, which moves `bytes` bytes, and counts it.
+    ///
+    /// `RecordFault`: the recorder failed; the entry is not kept, and the log is shut.
+    /// `Hub(OutOfMemory)`: the recorder could not allocate; the entry is not kept, and the log is
+    /// shut.
+    #[tactic(auto, using(crate::proofs::Open::open_is_sound))]
     pub fn keep(&mut self, entry: &Entry, bytes: usize) -> Result<(), DeskError>
-        requires going { shut_with self.old ≡ None }
+        requires going { shut_with self.old.is ≡ None }
         requires form { HasRecord entry.now }
         requires bytes { (bytes ≡ moves entry.now) × (bytes ≤ MAX_DATA) }
-        ensures keeps { Keeps self.old entry.now result self.new }
+        ensures keeps { Keeps self.old.is entry.now result self.new.is }
+        ensures kept { HasKept R.stands self.old.recorder entry.now result self.new.recorder }
         ensures steady { K.steady → result ≢ Err DeskError.RecordFault }
     {
         match self.recorder.keep(entry) {
@@ -143,77 +170,80 @@ impl<R: Recorder, E: Ledger, M: Ledger, K: Marks> Log<R, E, M, K> {
                 self.count(draws(entry), bytes);
                 Ok(())
             }
-            Err(error) => Err(self.break_off(error)),
+            Err(error) => {
+                let answer = answer_of(error);
+                self.shut = Some(answer);
+                Err(answer)
+            }
         }
     }
 
     /// Keeps an entry that moves no byte, as `keep` does.
     pub fn keep_still(&mut self, entry: Entry) -> Result<(), DeskError>
-        requires going { shut_with self.old ≡ None }
+        requires going { shut_with self.old.is ≡ None }
         requires form { HasRecord entry }
         requires still { moves entry ≡ 0 }
-        ensures keeps { Keeps self.old entry result self.new }
+        ensures keeps { Keeps self.old.is entry result self.new.is }
+        ensures kept { HasKept R.stands self.old.recorder entry result self.new.recorder }
         ensures steady { K.steady → result ≢ Err DeskError.RecordFault }
     {
         self.keep(&entry, 0)
     }
 
-    /// Keeps the entry of a piece that came, as `keep` does.
+    /// Keeps the entry of a piece that came from a client or a device, as `keep` does.
+    #[tactic(auto, using(crate::proofs::Open::open_is_sound))]
     pub fn keep_piece(&mut self, from: Owner, piece: &[u8]) -> Result<(), DeskError>
-        requires going { shut_with self.old ≡ None }
+        requires going { shut_with self.old.is ≡ None }
         requires bytes { length piece.now ≤ MAX_DATA }
-        ensures keeps { Keeps self.old (came_from from piece.now) result self.new }
+        ensures keeps { Keeps self.old.is (came_from from piece.now) result self.new.is }
+        ensures kept { HasKept R.stands self.old.recorder (came_from from piece.now) result
+            self.new.recorder }
         ensures steady { K.steady → result ≢ Err DeskError.RecordFault }
     {
         match self.recorder.keep_piece(from, piece) {
             Ok(()) => {
-                self.count(false, piece.len());
+                self.count(None, piece.len());
                 Ok(())
             }
-            Err(error) => Err(self.break_off(error)),
+            Err(error) => {
+                let answer = answer_of(error);
+                self.shut = Some(answer);
+                Err(answer)
+            }
         }
     }
 
-    /// Counts an entry at home.
-    fn count(&mut self, draws: bool, bytes: usize)
-        requires going { shut_with self.old ≡ None }
+    /// Counts an entry in the shares that no pass holds.
+    fn count(&mut self, draws: Option<u32>, bytes: usize)
+        requires going { shut_with self.old.is ≡ None }
         requires bytes { bytes ≤ MAX_DATA }
-        ensures { self.new ≡ counting self.old draws bytes }
+        ensures { self.new ≡ record self.old { is = counting self.old.is draws bytes } }
     {
         self.entries += 1;
         self.moved += bytes as u64;
-        if draws {
+        if let Some(number) = draws {
             self.free = 2;
+            self.drawn = number;
         }
         self.entry_book.add(&mut self.home_entries, 1);
         self.moved_book.add(&mut self.home_moved, bytes as u64);
     }
 
-    /// Is shut by the recorder.
-    fn break_off(&mut self, error: RecordError) -> DeskError
-        requires { error ≡ RecordError.Failed → 0 < self.old.faults }
-        ensures answer { result ≡ fault_of error }
-        ensures shut { self.new ≡ record self.old { shut = Some (fault_of error) } }
-    {
-        let answer = match error {
-            RecordError::Failed => DeskError::RecordFault,
-            RecordError::OutOfMemory => DeskError::Hub(HubError::OutOfMemory),
-        };
-        self.shut = Some(answer);
-        answer
-    }
-
-    /// Sets the alarm where an answer is marked.
+    /// Sets the alarm if an answer is marked.
     pub fn ring(&mut self, marked: bool)
-        ensures { self.new ≡ record self.old { alarm = self.old.alarm || marked } }
+        ensures { self.new
+            ≡ record self.old { is = record self.old.is { alarm = self.old.is.alarm || marked } } }
     {
         self.alarm = self.alarm || marked;
     }
 
-    /// Is halted, where it is not shut.
+    /// Shuts the log with `Halted`, unless it is shut.
     pub fn halt(&mut self)
-        ensures { self.new
-            ≡ record self.old { shut = Some (or_given self.old.shut DeskError.Halted) } }
+        ensures { self.new ≡ record self.old {
+          is = record self.old.is {
+            shut = Some (or_given self.old.is.shut DeskError.Halted);
+          };
+        } }
     {
         if self.shut.is_none() {
             self.shut = Some(DeskError::Halted);
@@ -221,18 +251,29 @@ impl<R: Recorder, E: Ledger, M: Ledger, K: Marks> Log<R, E, M, K> {
     }
 }
 
-/// Whether an entry draws a number.
-fn draws(entry: &Entry) -> bool
-    ensures { result ≡ is_draw entry.now }
+/// Returns the answer of a log whose recorder refused an entry.
+fn answer_of(error: RecordError) -> DeskError
+    ensures { result ≡ fault_of error }
+{
+    match error {
+        RecordError::Failed => DeskError::RecordFault,
+        RecordError::OutOfMemory => DeskError::Hub(HubError::OutOfMemory),
+    }
+}
+
+/// Returns the number that an entry draws.
+fn draws(entry: &Entry) -> Option<u32>
+    ensures { result ≡ draw_of entry.now }
 {
     match entry {
-        Entry::Join { .. } | Entry::Enter { .. } | Entry::Attach { .. } => true,
+        Entry::Join { client } | Entry::Enter { client, .. } => Some(*client),
+        Entry::Attach { link, .. } => Some(*link),
         Entry::Read { .. }
         | Entry::End { .. }
         | Entry::Bound { .. }
         | Entry::Recv { .. }
         | Entry::Detach { .. }
         | Entry::Put { .. }
-        | Entry::Send { .. } => false,
+        | Entry::Send { .. } => None,
     }
 }

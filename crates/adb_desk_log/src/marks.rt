@@ -5,15 +5,15 @@ ghost use Rattle.std.specs.Prelude.{◌≡◌, ◌^◌};
 use std::marker::Brand;
 use std::sync::ledger::Ledger;
 
-/// How many parts each of a desk's three ledgers has.
+/// Number of parts of each of a desk's three ledgers.
 pub const ALL_PARTS: u64 = 1 << 40;
 
-/// Says that the number that definitions take from the code is that of the specification.
+/// Says that the constant has the value of the specification, which the definitions import.
 pub fn limits_are()
     ensures parts { ALL_PARTS ≡ 2 ^ 40 }
 {}
 
-/// A ledger of marks. It also says whether the recorder of its desk never fails.
+/// A ledger of marks, which also says whether the recorder of its desk never fails.
 pub trait Marks: Ledger {
     /// The desk's recorder never fails.
     ghost steady: { Type 0 };

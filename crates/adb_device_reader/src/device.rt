@@ -1,4 +1,4 @@
-//! One device is plugged in.
+//! The attachment of one device.
 
 ghost use Rattle.std.specs.Prelude.{◌≡◌, ◌≢◌};
 ghost use Rattle.adb_outside.specs.Outside.{Counts, TellsOneMore};
@@ -14,7 +14,7 @@ use adb_hall::Hall;
 use adb_outside::{Kind, Text};
 use std::sync::ledger::Ledger;
 
-/// A device that is handed in: how it is plugged in, its serial, and the two halves of its link.
+/// A device: how it is plugged in, its serial, and the two halves of its link.
 #[derive(Drop)]
 pub struct Device<I: DeviceIn, O: DeviceOut> {
     pub kind: Kind,
@@ -23,25 +23,25 @@ pub struct Device<I: DeviceIn, O: DeviceOut> {
     pub output: O,
 }
 
-/// What became of plugging in a device.
+/// The result of plugging in a device.
 #[derive(Drop)]
 pub enum Plugged<E: Ledger, M: Ledger, K: Marks> {
-    /// It has a link, with a pass for its reader and one for its writer.
+    /// The device has a link, with a pass for its reader and one for its writer.
     Link {
         reading: LinkIn<E, M, K>,
         writing: LinkOut<E, M, K>,
     },
-    /// It will not come. The hall was not asked.
+    /// The device will not come. The hall was not asked.
     Never,
-    /// That could not be found out, and the device's count of faults rose. The hall was not asked.
+    /// The question failed, and the device's count of faults rose. The hall was not asked.
     Failed,
-    /// The hall refused it, by an answer of its `attach`.
+    /// The hall refused the device, by an answer of its `attach`.
     Refused(DeskError),
 }
 
-/// Asks once whether a device is plugged in, by the half that it sends by, which may wait; and where
-/// it is, makes one Attach of its kind and serial. Who has its other half unplugs one that has no
-/// link.
+/// Asks once whether a device is plugged in, which may wait, and if it is, makes one Attach of its
+/// kind and serial. Each answer of the device has its result, over a hall that shows nothing too.
+/// The caller, which has the other half, unplugs a device that has no link.
 pub fn plug_in<E: Ledger, M: Ledger, K: Marks, H: Hall<E, M, K>, I: DeviceIn>(
     hall: &mut H,
     kind: Kind,

@@ -1,4 +1,4 @@
-//! The bytes of a device are handed in by slices.
+//! Slices: the bytes of a device are handed in packet by packet.
 
 ghost use Rattle.std.specs.Prelude.{◌≡◌, ◌<◌, ◌++◌, ℕ, List, true};
 ghost use Rattle.adb_outside.specs.declared.kinds.Cause.{Cause};
@@ -13,8 +13,8 @@ use adb_hall::Hall;
 use adb_outside::Cause;
 use std::sync::ledger::Ledger;
 
-/// Hands in the slice that is held, where one is whole: a packet in memory of its own with no copy.
-/// Answers whether more may follow.
+/// Hands in the slice that is held, if it is whole. A packet in memory of its own is not copied.
+/// Returns whether more may follow.
 fn hand_in_whole<E: Ledger, M: Ledger, K: Marks, H: Hall<E, M, K>, G: Gate>(
     hall: &mut H,
     pass: &mut LinkIn<E, M, K>,
@@ -24,7 +24,8 @@ fn hand_in_whole<E: Ledger, M: Ledger, K: Marks, H: Hall<E, M, K>, G: Gate>(
     ensures number { pass.new.pass.number ≡ pass.old.pass.number }
     ensures open { 0 < need_of packets.new }
     ensures told { (start : Start) (coming : List ℕ)
-        → SoFar pass.old.pass.number start packets.old coming (H.tells hall.old)
+        → SoFar pass.old.pass.number start packets.old coming pass.old.pass.starved
+        (H.tells hall.old)
         → Fed result pass.old.pass.number start packets.new coming pass.new.pass.starved
         (H.tells hall.new) }
     ensures mark { H.marked hall.new ≡ H.marked hall.old }
@@ -40,7 +41,7 @@ fn hand_in_whole<E: Ledger, M: Ledger, K: Marks, H: Hall<E, M, K>, G: Gate>(
     going
 }
 
-/// Hands in each slice that a piece makes whole. Answers whether more may follow.
+/// Hands in each slice that a piece completes. Returns whether more may follow.
 pub fn feed<E: Ledger, M: Ledger, K: Marks, H: Hall<E, M, K>, G: Gate>(
     hall: &mut H,
     pass: &mut LinkIn<E, M, K>,
@@ -52,7 +53,8 @@ pub fn feed<E: Ledger, M: Ledger, K: Marks, H: Hall<E, M, K>, G: Gate>(
     ensures number { pass.new.pass.number ≡ pass.old.pass.number }
     ensures open { 0 < need_of packets.new }
     ensures told { (start : Start) (rest : List ℕ)
-        → SoFar pass.old.pass.number start packets.old (piece.now ++ rest) (H.tells hall.old)
+        → SoFar pass.old.pass.number start packets.old (piece.now ++ rest)
+        pass.old.pass.starved (H.tells hall.old)
         → Fed result pass.old.pass.number start packets.new rest pass.new.pass.starved
         (H.tells hall.new) }
     ensures mark { H.marked hall.new ≡ H.marked hall.old }
@@ -68,7 +70,7 @@ pub fn feed<E: Ledger, M: Ledger, K: Marks, H: Hall<E, M, K>, G: Gate>(
     true
 }
 
-/// Hands in what is held of a device that has ended, and ends its link's input.
+/// Hands in the bytes that are held of a device that has ended, and ends its link's input.
 pub fn end_input<E: Ledger, M: Ledger, K: Marks, H: Hall<E, M, K>, G: Gate>(
     hall: &mut H,
     pass: &mut LinkIn<E, M, K>,
@@ -79,7 +81,8 @@ pub fn end_input<E: Ledger, M: Ledger, K: Marks, H: Hall<E, M, K>, G: Gate>(
     requires { 0 < need_of packets.now }
     ensures number { pass.new.pass.number ≡ pass.old.pass.number }
     ensures told { (start : Start) (rest : List ℕ) (faults : ℕ) → HasEndedBy start rest faults cause
-        → SoFar pass.old.pass.number start packets.now rest (H.tells hall.old)
+        → SoFar pass.old.pass.number start packets.now rest pass.old.pass.starved
+        (H.tells hall.old)
         → Done pass.old.pass.number start rest faults pass.new.pass.starved (H.tells hall.new) }
     ensures mark { H.marked hall.new ≡ H.marked hall.old }
 {

@@ -1,4 +1,4 @@
-//! A device is plugged in, and its bytes are read into the hall.
+//! The attachment of a device, and its reader, which submits its bytes to the hall.
 #![tactic(auto)]
 
 mod device;

@@ -17,7 +17,7 @@ use adb_outside::{Cause, Got};
 use std::sync::Wait;
 use std::sync::ledger::Ledger;
 
-/// One turn: reads, and hands in what became whole. Answers whether more may follow.
+/// Takes one turn: reads, and hands in what is complete. Returns whether more may follow.
 fn turn<E: Ledger, M: Ledger, K: Marks, H: Hall<E, M, K>, I: DeviceIn, G: Gate>(
     hall: &mut H,
     port: &mut I,
@@ -33,8 +33,9 @@ fn turn<E: Ledger, M: Ledger, K: Marks, H: Hall<E, M, K>, I: DeviceIn, G: Gate>(
     ensures count { I.faults port.old ≤ I.faults port.new }
     ensures plugs { I.plugs port.new ≡ I.plugs port.old }
     ensures mark { H.marked hall.new ≡ H.marked hall.old }
-    ensures told { (start : Start) → start.faults ≤ I.faults port.old
-        → IsReading pass.old.pass.number start packets.old (H.tells hall.old) (I.left port.old)
+    ensures told { (start : Start)
+        → IsReading pass.old.pass.number start packets.old (I.faults port.old)
+        pass.old.pass.starved (H.tells hall.old) (I.left port.old)
         → Turned result pass.old.pass.number start packets.new (I.faults port.new)
         pass.new.pass.starved (H.tells hall.new) (I.left port.new) }
 {
@@ -51,15 +52,15 @@ fn turn<E: Ledger, M: Ledger, K: Marks, H: Hall<E, M, K>, I: DeviceIn, G: Gate>(
     }
 }
 
-/// Reads a device and hands in its bytes, each packet whole by one Recv, until the device ends or
-/// fails, its link is gone, or the hall is stopped or shut. A header with a fault is handed in as
-/// its 24 bytes. Where the device ends or fails, the bytes of a packet that is not whole are handed
-/// in, and then the link's input is ended by one Detach, of `Eof` or `Fault`.
+/// Reads a device and submits its bytes, each packet whole by one Recv. Returns the pass when the
+/// device ends or fails, the link is gone, the hall is shut, a kill was made, or an allocation
+/// failed. A header with a fault is handed in as its 24 bytes. If the device ends or fails, the
+/// bytes of an incomplete packet are handed in, and then one Detach ends the link's input, by `Eof`
+/// or `Fault`, unless the hall refuses that. No read follows a failed one.
 ///
-/// Of the packets nothing is held yet. Where the hall finds no memory for a piece, the link's input
-/// is ended by one Detach of `Starved`, and that piece is lost, with what was read behind it. The
-/// gate is passed at the place of a device's reader, before each piece. The pass that comes back
-/// has its shares and its mark.
+/// `packets` holds nothing yet. If the hall has no memory for a piece, one Detach by `Starved` ends
+/// the link's input, and that piece is lost, with what was read after it. The reader passes the
+/// gate at `Place::DeviceReader` before each piece. The returned pass has its shares and its mark.
 pub fn read_device<
     W: Wait + Copy + Drop,
     E: Ledger,
@@ -84,7 +85,12 @@ pub fn read_device<
     ensures told { (a : Telling) (entries : List Entry) (bytes : List ℕ)
         → H.tells hall.old ≡ Some a → Tells a entries → I.left port.old ≡ Some bytes
         → HasRead pass.pass.number
-        (record { entries = entries; bytes = bytes; faults = I.faults port.old })
+        (record {
+          entries = entries;
+          bytes = bytes;
+          faults = I.faults port.old;
+          starved = pass.pass.starved;
+        })
         (I.faults port.new) result.pass.starved (H.tells hall.new) (I.left port.new) }
 {
     let mut pass = pass;

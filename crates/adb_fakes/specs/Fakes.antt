@@ -1,7 +1,17 @@
--- What fakes that others share show of themselves.
-use Rattle.std.specs.Prelude.{ℕ, Bool}
+-- The views of the fakes.
+use Rattle.std.specs.Prelude.{ℕ, ◌==◌, if◌then◌else◌, Bool, List, Option}
+use Rattle.adb_connections.specs.declared.door.Arrival.{Arrival}
 
--- what is sent to, whether it was closed, and how many writes failed
+-- an output whose bytes a test reads: whether it was closed, and how many writes failed
 pub record SharedEnd : Type 0 where
   pub closed : Bool
   pub faults : ℕ
+
+-- a door that never fails: whether it lasts, and the kinds of its answers
+pub record CalmDoorView : Type 0 where
+  pub lasts : Bool
+  pub came : Option (List Arrival)
+
+-- the port on which a yard in memory listens if it is asked for this one
+abbrev pub listening_port : ℕ → ℕ
+listening_port asked = if asked == 0 then 1 else asked

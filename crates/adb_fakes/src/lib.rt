@@ -1,13 +1,18 @@
-//! The outside of a server, made for tests: clients, a door, a recorder and a yard whose contents a
-//! test reads while a server runs and after it, and which fail where the test wants it.
+//! Fakes of the outside of a server: clients, doors, recorders and yards in memory. A test reads their
+//! contents while a server runs and after it. `FakeYard` fails at the calls that a test chooses;
+//! `CalmYard` never fails.
 #![tactic(auto)]
 
+mod calm_door;
+mod calm_yard;
 mod door;
 mod lines;
 mod recorder;
 mod sent;
 mod yard;
 
+pub use calm_door::{CalmBinder, CalmDoor, CalmOut};
+pub use calm_yard::CalmYard;
 pub use door::{FakeDoor, Rings};
 pub use lines::lines_of;
 pub use recorder::{Kept, SharedRecorder};

@@ -2,11 +2,12 @@
 
 ghost use Rattle.std.specs.Prelude.{◌≡◌};
 ghost use Rattle.adb_outside.specs.Outside.{Counts};
-ghost use Rattle.adb_capture.specs.Recording.{is_failed_record};
+ghost use Rattle.adb_recorder.specs.Recording.{is_failed_record};
 
 use crate::lines::lines_of;
-use adb_capture::{Entry, MemoryRecorder, Owner, RecordError, Recorder};
+use adb_capture::{Entry, Owner};
 use adb_outside::Text;
+use adb_recorder::{MemoryRecorder, RecordError, Recorder};
 use std::alloc::{AllocError, Global};
 use std::marker::Model;
 use std::sync::{Arc, Mutex, Wait};
@@ -88,6 +89,8 @@ impl<W: Wait + Copy + Drop> Recorder for SharedRecorder<W> {
     ghost use Rattle.std.specs.Prelude.{None};
 
     ghost told = { λ recorder. None };
+
+    ghost stands = { λ recorder kept. Unit {0} };
 
     ghost faults = { λ recorder. recorder };
 

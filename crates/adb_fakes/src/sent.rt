@@ -50,6 +50,11 @@ impl<W: Wait + Copy + Drop> Sent<W> {
         self.store.lock(&self.rt).closed
     }
 
+    /// Returns whether exactly these bytes were sent.
+    pub fn holds(&self, bytes: &[u8]) -> bool {
+        self.store.lock(&self.rt).bytes.as_slice() == bytes
+    }
+
     /// Sends two parts, one behind the other, if there is memory for both.
     fn push(&self, start: &[u8], rest: &[u8]) -> bool {
         let mut store = self.store.lock(&self.rt);

@@ -1,6 +1,7 @@
-//! A yard.
+//! A yard whose objects fail at the calls that a test chooses.
 
-ghost use Rattle.std.specs.Prelude.{◌≡◌, true};
+ghost use Rattle.std.specs.Prelude.{◌≡◌, ◌≢◌, true};
+ghost use Rattle.adb_fakes.specs.Fakes.{listening_port as port_of};
 ghost use Rattle.adb_outside.specs.Outside.{Counts};
 
 use crate::door::{Coming, FakeDoor, Rings};
@@ -18,15 +19,13 @@ use std::sync::Wait;
 /// The most bytes that a client of a yard sends at once.
 const PIECE: usize = 65_536;
 
-/// The port that the first forward of a client is bound to where it asks for any.
+/// The port to which the first forward of a client is bound if it asks for any.
 const FIRST_PORT: u16 = 40_000;
 
-/// The yard of a test. Clients come at its door in the order of `call`, and the door is closed
-/// behind them. Its server is told to listen on port 1 where it asks for any, and its jobs run
-/// within the calls that give them.
+/// The yard of a test. Its door lets in the clients in the order of `call`, and is closed after them.
+/// A server that asks for any port listens on port 1. Its jobs run within the calls that submit them.
 ///
-/// It tells contracts how often it failed, which it does at `listen` where there is no memory and
-/// at each `dial`, since nobody answers.
+/// It shows how often it failed: at `listen` if an allocation failed, and at each `dial`.
 #[derive(Drop)]
 pub struct FakeYard<W: Wait + Copy + Drop> {
     rt: W,
@@ -48,7 +47,9 @@ impl<W: Wait + Copy + Drop> Model for FakeYard<W> {
 }
 
 impl<W: Wait + Copy + Drop> FakeYard<W> {
-    /// A yard where nobody comes, and whose recorder is the one of `kept`.
+    /// Returns a yard without clients, whose recorder is the one of `kept`.
+    ///
+    /// `Err`: an allocation failed.
     pub fn new(rt: W, alloc: Global, kept: Kept<W>) -> Result<FakeYard<W>, AllocError> {
         Ok(FakeYard {
             rt,
@@ -62,18 +63,20 @@ impl<W: Wait + Copy + Drop> FakeYard<W> {
         })
     }
 
-    /// The door fails at these calls, by their numbers, counted from 1.
+    /// Makes the door fail at these calls, by their numbers, counted from 1.
     pub fn fail_accepts(&mut self, calls: Vec<u64>) {
         self.accepts = calls;
     }
 
-    /// No thread can be had at these calls that give a job, by their numbers, counted from 1.
+    /// Makes these calls that submit a job return it unrun, by their numbers, counted from 1.
     pub fn fail_spawns(&mut self, calls: Vec<u64>) {
         self.spawns = calls;
     }
 
-    /// One more client comes, which sends these bytes. Of its connection the reads and writes fail
-    /// whose numbers, counted from 1, are in the lists. What it is sent is seen in the answer.
+    /// Adds a client that sends these bytes. The reads and writes of its connection whose numbers,
+    /// counted from 1, are in the lists fail. Returns a handle of the bytes that it is sent.
+    ///
+    /// `Err`: an allocation failed, and the client is not added.
     pub fn call(
         &mut self,
         bytes: &[u8],
@@ -89,7 +92,7 @@ impl<W: Wait + Copy + Drop> FakeYard<W> {
         Ok(sent)
     }
 
-    /// The door at which its clients come, which has a bell.
+    /// Returns the door of its clients. `None`: an allocation failed.
     fn open(&mut self) -> Option<FakeDoor<W>>
         ensures { self.new ≡ self.old }
     {
@@ -109,7 +112,18 @@ impl<W: Wait + Copy + Drop> FakeYard<W> {
     }
 }
 
-/// All that was in a list, which is then empty.
+/// Returns the port that a yard in memory shows for the port that it is asked for.
+pub(crate) fn listening_port(asked: u16) -> u16
+    ensures is { result ≡ port_of asked }
+    ensures fits { (result ≢ 0) × (asked ≢ 0 → result ≡ asked) }
+{
+    if asked == 0 {
+        return 1;
+    }
+    asked
+}
+
+/// Empties a list and returns its elements.
 fn moved_out<T: Drop>(alloc: Global, list: &mut Vec<T>) -> Vec<T> {
     let mut all = Vec::new(alloc);
     std::mem::swap(&mut all, list);
@@ -131,7 +145,8 @@ impl<W: Wait + Copy + Send + Sync + Drop + 'static> Yard for FakeYard<W> {
 
     type DialOut = SharedOut<W>;
 
-    ghost use Rattle.std.specs.Prelude.{None};
+    ghost use Rattle.std.specs.Prelude.{Some, None, ⊤};
+    ghost use Rattle.adb_fakes.specs.Fakes.{listening_port};
 
     ghost faults = { λ yard. yard };
 
@@ -141,9 +156,13 @@ impl<W: Wait + Copy + Send + Sync + Drop + 'static> Yard for FakeYard<W> {
 
     ghost answers = { λ yard. None };
 
+    ghost here = { λ yard port. Some (listening_port port) };
+
+    ghost records = { λ yard wanted. ⊤ };
+
     fn listen(&mut self, port: u16) -> Listening<FakeDoor<W>, Rings<W>> {
         if let (Some(door), Ok(bell)) = (self.open(), self.rings.handle()) {
-            return Listening::Here(door, bell, port.max(1));
+            return Listening::Here(door, bell, listening_port(port));
         }
         self.count_fault();
         Listening::Failed

@@ -1,3 +1,5 @@
 pub mod Drawn
 pub mod Made
+pub mod Marked
 pub mod Some
+pub mod Shut

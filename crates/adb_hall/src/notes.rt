@@ -1,25 +1,25 @@
-//! What a pass notes of a call.
+//! Noting the answer of a call in its pass.
 
 ghost use Rattle.std.specs.Prelude.{◌≡◌};
 ghost use Rattle.adb_desk.specs.Desk.{IsSameDesk};
-ghost use Rattle.adb_hall.specs.Passes.{MayNoteError, MayNoteHanded, MayNoteLife, MayNoteRoom};
-ghost use Rattle.adb_hall.specs.Passes.{after_error, after_handed, after_life, after_room};
+ghost use Rattle.adb_hall.specs.Passes.{MayNoteError, MayNoteHanded, MayNoteRoom, MayNoteSubmit};
+ghost use Rattle.adb_hall.specs.Passes.{after_error, after_handed, after_room, after_submit};
 ghost use Rattle.adb_hall.specs.Passes.{is_starved};
 
-use adb_capture::Recorder;
-use adb_desk::Desk;
-use adb_desk_log::{DeskError, Marks, Pass, is_marked, marks_life};
-use adb_hub::{Handed, HubError, Life, Room};
+use adb_desk::{Desk, Progress, marks_progress};
+use adb_desk_log::{DeskError, Marks, Pass, is_marked};
+use adb_hub::{Handed, HubError, Room};
+use adb_recorder::Recorder;
 use std::sync::ledger::Ledger;
 
-/// Whether memory ran out.
+/// Returns whether an error is an allocation failure.
 fn is_starved(error: &DeskError) -> bool
     ensures { result ≡ is_starved error.now }
 {
     matches!(error, DeskError::Hub(HubError::OutOfMemory))
 }
 
-/// Notes in a pass that a call was refused.
+/// Notes in a pass that its call was refused.
 pub(crate) fn note_error<R: Recorder, E: Ledger, M: Ledger, K: Marks>(
     desk: &mut Desk<R, E, M, K>,
     pass: &mut Pass<E, M, K>,
@@ -36,24 +36,24 @@ pub(crate) fn note_error<R: Recorder, E: Ledger, M: Ledger, K: Marks>(
     }
 }
 
-/// Notes in a pass what became of a call that makes an entry of that many bytes.
-pub(crate) fn note_life<R: Recorder, E: Ledger, M: Ledger, K: Marks>(
+/// Notes in a pass the answer to an act of that many bytes.
+pub(crate) fn note_submit<R: Recorder, E: Ledger, M: Ledger, K: Marks>(
     desk: &mut Desk<R, E, M, K>,
     pass: &mut Pass<E, M, K>,
-    answer: &Result<Life, DeskError>,
+    answer: &Result<Progress, DeskError>,
     bytes: usize,
 )
-    requires may { MayNoteLife desk.old.log answer.now bytes }
-    ensures pass { pass.new ≡ after_life pass.old bytes answer.now }
+    requires may { MayNoteSubmit desk.old.log answer.now bytes }
+    ensures pass { pass.new ≡ after_submit pass.old bytes answer.now }
     ensures same { IsSameDesk desk.old desk.new }
 {
     match answer {
-        Ok(_) => desk.note(pass, true, bytes, marks_life(answer), false),
+        Ok(_) => desk.note(pass, true, bytes, marks_progress(answer), false),
         Err(error) => note_error(desk, pass, error),
     }
 }
 
-/// Notes in a pass what became of a hand-out.
+/// Notes in a pass the answer to a hand-out.
 pub(crate) fn note_handed<R: Recorder, E: Ledger, M: Ledger, K: Marks>(
     desk: &mut Desk<R, E, M, K>,
     pass: &mut Pass<E, M, K>,
@@ -71,7 +71,7 @@ pub(crate) fn note_handed<R: Recorder, E: Ledger, M: Ledger, K: Marks>(
     }
 }
 
-/// Notes in a pass what it was told of its client's room.
+/// Notes in a pass the answer to a question about its client's room.
 pub(crate) fn note_room<R: Recorder, E: Ledger, M: Ledger, K: Marks>(
     desk: &mut Desk<R, E, M, K>,
     pass: &mut Pass<E, M, K>,

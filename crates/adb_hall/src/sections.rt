@@ -1,63 +1,116 @@
-//! Sections that belong to no client and no link, and what the others share.
+//! Critical sections of a hall, as values: what a hall runs while it holds its desk.
 
-ghost use Rattle.std.specs.Prelude.{◌≡◌, ◌≢◌, ◌≤◌, ◌||◌, true, Some, is_some};
-ghost use Rattle.adb_desk_log.specs.declared.error.DeskError.{DeskError};
-ghost use Rattle.adb_hall.specs.Telling.{Halts, Overs, telling_of};
-ghost use Rattle.adb_hall.specs.Passes.{ArePair};
-
-use adb_capture::Recorder;
-use adb_desk::Desk;
-use adb_desk_log::{DeskError, Mark, Marks, Pass};
+use adb_capture::Owner;
+use adb_desk::{Desk, Half};
+use adb_desk_log::{DeskError, Marks, Pass};
+use adb_recorder::Recorder;
 use std::sync::ledger::Ledger;
 
-/// The passes of a number that was drawn just now: that of its reader, which counts the entry by
-/// which it came, and that of its writer.
-pub(crate) fn seat_pair<R: Recorder, E: Ledger, M: Ledger, K: Marks>(
-    desk: &mut Desk<R, E, M, K>,
-    number: u32,
-) -> (Pass<E, M, K>, Pass<E, M, K>)
-    requires free { desk.old.log.free ≡ 2 }
-    requires entry { 1 ≤ desk.old.log.home_entries }
-    ensures pair { ArePair result.0 result.1 }
-    ensures number { result.0.number ≡ number }
-    ensures told { telling_of desk.new ≡ telling_of desk.old }
-    ensures alarm { desk.new.log.alarm ≡ desk.old.log.alarm }
-{
-    let mut reading = desk.seat(number);
-    let writing = desk.seat(number);
-    desk.note(&mut reading, true, 0, false, false);
-    (reading, writing)
+/// A section with a pass, which answers `A`.
+pub trait Section<A: Drop> {
+    ghost use Rattle.std.specs.Prelude.{◌≡◌, true, false};
+    ghost use Rattle.adb_desk_log.specs.Pass.{PassView};
+    ghost use Rattle.adb_hall.specs.Telling.{Telling, telling_of};
+
+    /// What it requires of the pass.
+    ghost may: { Self → PassView → Type 0 };
+
+    /// What its answer is, and what the pass is after it.
+    ghost seen: { Self → PassView → A → PassView → Type 0 };
+
+    /// What it does to what the desk tells.
+    ghost does: { Self → PassView → A → Telling → Telling → Type 0 };
+
+    /// What the desk tells after this answer.
+    ghost leaves: { Self → PassView → A → Telling → Type 0 };
+
+    /// The answers after which a hall that waits does so, and then runs the section again.
+    ghost idles: { A → Type 0 };
+
+    /// The answers over a recorder that never fails.
+    ghost sound: { A → Type 0 };
+
+    /// Runs the section on a desk. An answer that idles leaves the pass as it was.
+    fn run<R: Recorder, E: Ledger, M: Ledger, K: Marks>(
+        &self,
+        desk: &mut Desk<R, E, M, K>,
+        pass: &mut Pass<E, M, K>,
+    ) -> A
+        requires { may self.now pass.old }
+        ensures seen { seen self.now pass.old result pass.new }
+        ensures again { idles result → pass.new ≡ pass.old }
+        ensures told { does self.now pass.old result (telling_of desk.old)
+            (telling_of desk.new) }
+        ensures after { leaves self.now pass.old result (telling_of desk.new) }
+        ensures steady { K.steady → sound result };
+
+    /// Returns whether an answer idles.
+    fn is_idle(&self, answer: &A) -> bool
+        ensures yes { result ≡ true → idles answer.now }
+        ensures no { result ≡ false → idles answer.now → ⊥ };
+
+    /// Returns what a hall waits for after an answer that idles: bytes that are due to a client or on a
+    /// link, or, if None, room for the bytes of a client.
+    fn awaits(&self) -> Option<Half>;
 }
 
-/// Marks a handle after a call without a pass, where the answer is marked.
-pub fn mark_handle<R: Recorder, E: Ledger, M: Ledger, K: Marks>(
-    desk: &mut Desk<R, E, M, K>,
-    mark: &mut Mark<K>,
-    marked: bool,
-)
-    requires { marked ≡ true → desk.old.log.alarm ≡ true }
-    ensures mark { mark.new ≡ (mark.old || marked) }
-    ensures same { desk.new ≡ desk.old }
-{
-    if marked {
-        desk.mark(mark);
-    }
+/// A section without a pass, which answers `A`.
+pub trait Call<A: Drop> {
+    ghost use Rattle.std.specs.Prelude.{◌≡◌, Bool, true};
+    ghost use Rattle.adb_hall.specs.Telling.{Telling, telling_of};
+
+    /// What it does to what the desk tells.
+    ghost does: { Self → A → Telling → Telling → Type 0 };
+
+    /// Whether an answer is marked.
+    ghost marks: { A → Bool };
+
+    /// The answers over a recorder that never fails.
+    ghost sound: { A → Type 0 };
+
+    /// Runs the section on a desk.
+    fn run<R: Recorder, E: Ledger, M: Ledger, K: Marks>(&self, desk: &mut Desk<R, E, M, K>) -> A
+        ensures told { does self.now result (telling_of desk.old) (telling_of desk.new) }
+        ensures alarm { marks result ≡ true → desk.new.log.alarm ≡ true }
+        ensures steady { K.steady → sound result };
+
+    /// Returns whether an answer is marked.
+    fn is_marked(&self, answer: &A) -> bool
+        ensures { result ≡ marks answer.now };
 }
 
-/// Why nobody comes any more: the answer of a shut desk, or `Stopped` after a kill.
-pub fn over<R: Recorder, E: Ledger, M: Ledger, K: Marks>(
-    desk: &mut Desk<R, E, M, K>,
-) -> Option<DeskError>
-    ensures told { Overs result (telling_of desk.old) (telling_of desk.new) }
-    ensures steady { K.steady → result ≢ Some DeskError.RecordFault }
-    ensures alarm { is_some result ≡ true → desk.new.log.alarm ≡ true }
-{
-    desk.over()
-}
+/// A section in which a client or a device comes.
+pub trait Arrival {
+    ghost use Rattle.std.specs.Prelude.{◌≡◌, ◌≢◌, ℕ, Err, IfOk, true};
+    ghost use Rattle.adb_capture.specs.declared.entry.Entry.{Entry};
+    ghost use Rattle.adb_hub.specs.declared.error.HubError.{HubError};
+    ghost use Rattle.adb_desk_log.specs.declared.error.DeskError.{DeskError};
+    ghost use Rattle.adb_desk_log.specs.Marked.{marks_error};
+    ghost use Rattle.adb_hall.specs.Passes.{ArePair};
+    ghost use Rattle.adb_hall.specs.Telling.{Draws, telling_of};
 
-/// Shuts the desk with `Halted`, where it is not shut.
-pub fn halt<R: Recorder, E: Ledger, M: Ledger, K: Marks>(desk: &mut Desk<R, E, M, K>)
-    ensures { Halts (telling_of desk.old) (telling_of desk.new) }
-{
-    desk.halt();
+    /// Whether it may come.
+    ghost may: { Self → Type 0 };
+
+    /// Its entry, if it draws this number.
+    ghost entry: { Self → ℕ → Entry };
+
+    /// It is a device whose serial is not valid.
+    ghost bad: { Self → Type 0 };
+
+    /// Runs the section on a desk, and returns the passes of the reader and of the writer.
+    fn run<R: Recorder, E: Ledger, M: Ledger, K: Marks>(
+        &self,
+        desk: &mut Desk<R, E, M, K>,
+    ) -> Result<(Pass<E, M, K>, Pass<E, M, K>), DeskError>
+        requires { may self.now }
+        ensures passes { IfOk result (λ passes. ArePair passes.0 passes.1) }
+        ensures serial { result ≡ Err (DeskError.Hub HubError.BadSerial) → bad self.now }
+        ensures told { Draws (entry self.now) (λ passes. passes.0.number) result
+            (telling_of desk.old) (telling_of desk.new) }
+        ensures steady { K.steady → result ≢ Err DeskError.RecordFault }
+        ensures alarm { marks_error result ≡ true → desk.new.log.alarm ≡ true };
+
+    /// Returns the client or the link that has this number.
+    fn owner(&self, number: u32) -> Owner;
 }

@@ -1,53 +1,90 @@
 //! The door of a server, and its bell.
 
-ghost use Rattle.std.specs.Prelude.{◌≡◌, false, IfSome};
+ghost use Rattle.std.specs.Prelude.{◌≡◌, false, IfOk, IfSome};
 ghost use Rattle.adb_connections.specs.Door.{FitsCame, is_failed_came};
 
-use crate::lobby::{Lobby, is_passing};
+use crate::accept_queue::{AcceptQueue, Next};
+use crate::listeners::{Listeners, OWN};
 use adb_connections::{Bell, Came, Door};
-use adb_sockets::{TcpIn, TcpOut, halves};
+use adb_sockets::{Ending, TcpIn, TcpOut, accepted};
+use mio::Poll;
 use std::alloc::Global;
-use std::net::{Net, SocketAddr, TcpListener, TcpStream};
+use std::io;
+use std::net::{Net, TcpListener, TcpStream};
 use std::sync::{Arc, Wait};
 
-/// The door of a server at a listener, where the connections to the ports of forwards come in too. A
-/// connection that cannot be set up is closed, and the next is waited for. It tells nothing.
+/// The door of a server, at its own listener and those of its forwards. At an allocation failure the
+/// connection is closed, and the door waits for the next. It tells nothing.
 #[derive(Drop)]
 pub struct TcpDoor<W: Wait + Drop> {
     rt: W,
     alloc: Global,
-    listener: TcpListener,
-    lobby: Arc<Lobby, Global>,
+    queue: AcceptQueue,
+    listeners: Arc<Listeners, Global>,
     faults: u64,
 }
 
-impl<W: Wait + Drop> TcpDoor<W> {
-    /// The door at a listener, which is the one that its lobby was made for.
-    pub fn new(rt: W, alloc: Global, listener: TcpListener, lobby: Arc<Lobby, Global>) -> TcpDoor<W>
-        ensures { result.faults ≡ 0 }
+/// The bell of a `TcpDoor`. Once it has rung, writes to peers that do not read fail.
+#[derive(Drop)]
+pub struct TcpBell {
+    listeners: Arc<Listeners, Global>,
+}
+
+/// A door with its bell, and the listeners that they share with the binders of the same server.
+#[derive(Drop)]
+pub struct Entrance<W: Wait + Drop> {
+    pub door: TcpDoor<W>,
+    pub bell: TcpBell,
+    pub listeners: Arc<Listeners, Global>,
+}
+
+impl<W: Net<Listener = TcpListener, Stream = TcpStream> + Wait + Drop> Entrance<W> {
+    /// Makes the door at a listener, and its bell. `ending` is set when the bell rings.
+    ///
+    /// It fails if the system refuses a descriptor, and at an allocation failure. The listener is then
+    /// closed.
+    pub fn new(rt: W, alloc: Global, own: TcpListener, ending: &Ending) -> io::Result<Entrance<W>>
+        ensures { IfOk result (λ made. made.door.faults ≡ 0) }
     {
-        TcpDoor {
+        let poll = Poll::new(&rt)?;
+        let registry = poll.registry().try_clone()?;
+        let listeners = Listeners::new(alloc, registry, own, ending.share()?)?;
+        let listeners = Arc::new(alloc, listeners)?;
+        let queue = AcceptQueue::new(alloc, poll, Arc::try_clone(&listeners)?)?;
+        let door = TcpDoor {
             rt,
             alloc,
-            listener,
-            lobby,
+            queue,
+            listeners: Arc::try_clone(&listeners)?,
             faults: 0,
-        }
+        };
+        let bell = TcpBell {
+            listeners: Arc::try_clone(&listeners)?,
+        };
+        Ok(Entrance {
+            door,
+            bell,
+            listeners,
+        })
+    }
+}
+
+impl<W: Wait + Drop> TcpDoor<W> {
+    /// Returns how many calls of `accept` failed because a descriptor or memory was missing.
+    pub fn shortages(&self) -> u64 {
+        self.queue.shortages()
     }
 
-    /// Lets in who came from this address: a client, or who waits in the lobby behind it.
-    fn let_in(&self, stream: TcpStream, peer: SocketAddr) -> Option<Came<TcpIn, TcpOut>>
+    /// Makes the two halves of a connection that came at a listener. At an allocation failure the
+    /// connection is closed.
+    fn let_in(&self, number: u16, stream: TcpStream) -> Option<Came<TcpIn, TcpOut>>
         ensures { IfSome result (λ came. FitsCame came × (is_failed_came came ≡ false)) }
     {
-        let Some(knock) = self.lobby.answer(&self.rt, peer) else {
-            let (input, output) = halves(self.alloc, stream, self.lobby.ending()).ok()?;
+        let (input, output) = accepted(self.alloc, stream, self.listeners.ending()).ok()?;
+        if number == OWN {
             return Some(Came::Port(input, output));
-        };
-        let (input, output) = halves(self.alloc, knock.stream, self.lobby.ending()).ok()?;
-        if knock.port == 0 {
-            return None;
         }
-        Some(Came::Forward(knock.port, input, output))
+        Some(Came::Forward(number, input, output))
     }
 }
 
@@ -66,18 +103,19 @@ impl<W: Wait + Drop> Door for TcpDoor<W> {
 
     ghost steady = { λ door. ⊥ };
 
-    /// `Closed` comes once the bell rang.
+    /// Returns `Closed` once the bell has rung, and `Failed` if the server's own listener is broken. A
+    /// shortage of descriptors or of memory is no failure: the door goes on.
     fn accept(&mut self) -> Came<TcpIn, TcpOut> {
         for _ in 0..u64::MAX {
-            match self.listener.accept() {
-                Ok(_) if self.lobby.is_over() => return Came::Closed,
-                Ok((stream, peer)) => {
-                    if let Some(came) = self.let_in(stream, peer) {
+            match self.queue.next(&self.rt) {
+                Next::Came(number, stream) => {
+                    if let Some(came) = self.let_in(number, stream) {
                         return came;
                     }
                 }
-                Err(error) if is_passing(error.kind()) => {}
-                Err(_) => break,
+                Next::Nothing => {}
+                Next::Over => return Came::Closed,
+                Next::Broken => break,
             }
         }
         self.faults = self.faults.saturating_add(1);
@@ -85,24 +123,8 @@ impl<W: Wait + Drop> Door for TcpDoor<W> {
     }
 }
 
-/// The bell of a `TcpDoor`. Once it rang, the ports of forwards take no connections either, and who
-/// writes to somebody that does not read gives up.
-#[derive(Drop)]
-pub struct TcpBell<W: Drop> {
-    rt: W,
-    lobby: Arc<Lobby, Global>,
-}
-
-impl<W: Drop> TcpBell<W> {
-    /// The bell of the door of this lobby.
-    pub fn new(rt: W, lobby: Arc<Lobby, Global>) -> TcpBell<W> {
-        TcpBell { rt, lobby }
-    }
-}
-
-impl<W: Net<Listener = TcpListener, Stream = TcpStream> + Wait + Send + Sync + Drop + 'static> Bell
-    for TcpBell<W> {
+impl Bell for TcpBell {
     fn ring(&self) {
-        self.lobby.close(&self.rt);
+        self.listeners.ring();
     }
 }

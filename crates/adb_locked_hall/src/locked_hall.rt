@@ -1,29 +1,34 @@
 //! Handles of a desk under a lock.
 
-ghost use Rattle.std.specs.Prelude.{◌≡◌, IfOk, None, Some, false};
+ghost use Rattle.std.specs.Prelude.{◌≡◌, ◌≢◌, [], IfOk, IfSome, None, Some, false, is_some};
+ghost use Rattle.adb_desk_log.specs.declared.error.DeskError.{DeskError};
 ghost use Rattle.adb_desk_log.specs.declared.marks.TheConstants.{ALL_PARTS};
-ghost use Rattle.adb_desk_log.specs.Log.{IsFresh};
+ghost use Rattle.adb_desk_log.specs.Log.{IsFresh, is_fault};
+ghost use Rattle.adb_desk.specs.Left.{IsLeft};
+ghost use Rattle.adb_hall.specs.Passes.{or_marked};
 
+use crate::calls::mark_own;
 use adb_bells::{Bells, Locked, Side};
-use adb_capture::Recorder;
-use adb_desk::Desk;
-use adb_desk_log::{ClientIn, ClientOut, LinkIn, LinkOut, Mark, Marks, Pass};
+use adb_desk::{Desk, Left};
+use adb_desk_log::{ClientIn, ClientOut, DeskError, LinkIn, LinkOut, Mark, Marks, Pass};
+use adb_hall::{Call, Over};
 use adb_hub::Owner;
+use adb_recorder::Recorder;
 use std::alloc::{AllocError, Global};
 use std::marker::Model;
 use std::sync::ledger::{Blank, Ledger};
 use std::sync::{Arc, Condvar, Mutex, MutexGuard, Wait};
 
-/// What the handles share.
+/// State that all handles share.
 #[derive(Drop)]
 pub(crate) struct Shared<R: Recorder, E: Ledger, M: Ledger, K: Marks> {
     pub(crate) locked: Mutex<Locked<R, E, M, K>>,
-    /// On what they wait who have no bell of their own.
+    /// Shared condition variable for workers whose own could not be allocated.
     pub(crate) common: Condvar,
 }
 
 impl<R: Recorder, E: Ledger, M: Ledger, K: Marks> Shared<R, E, M, K> {
-    /// Ends a section: gives the lock back, and wakes those for whom the section has something.
+    /// Ends a section: releases the lock, and then notifies the workers that the section concerns.
     pub(crate) fn leave(&self, guard: MutexGuard<'_, Locked<R, E, M, K>>) {
         let mut guard = guard;
         let rings = guard.ring();
@@ -31,7 +36,8 @@ impl<R: Recorder, E: Ledger, M: Ledger, K: Marks> Shared<R, E, M, K> {
         rings.ring_rest(&self.common);
     }
 
-    /// Sleeps, without the lock, until somebody rings for one pass of an owner, or for all.
+    /// Releases the lock and sleeps until one pass of an owner is notified, or all are. Returns with
+    /// the lock held.
     pub(crate) fn sleep<'a, W: Wait>(
         &'a self,
         rt: &W,
@@ -47,10 +53,10 @@ impl<R: Recorder, E: Ledger, M: Ledger, K: Marks> Shared<R, E, M, K> {
     }
 }
 
-/// A handle of a desk that lies under a lock. Each worker owns one.
+/// A handle of a desk under a lock. Each worker owns one.
 ///
-/// It waits where a hall that answers at once answers `Later` or `Nothing`, and tells nothing.
-/// Contracts see its mark, which only the handle of `new` has.
+/// It waits where a hall of one thread returns `Later` or `Nothing`, and tells nothing. Contracts see
+/// its mark, which only the handle of `new` has.
 #[derive(Drop)]
 pub struct LockedHall<R: Recorder, E: Ledger, M: Ledger, K: Marks, W: Wait + Copy + Drop> {
     pub(crate) rt: W,
@@ -69,8 +75,8 @@ impl<R: Recorder, E: Ledger, M: Ledger, K: Marks, W: Wait + Copy + Drop> Model
 }
 
 impl<R: Recorder, E: Ledger, M: Ledger, K: Marks, W: Wait + Copy + Drop> LockedHall<R, E, M, K, W> {
-    /// The first handle of a desk without entries, over a recorder that has kept nothing and has not
-    /// failed.
+    /// Returns the first handle of a desk without entries, over a recorder that has kept nothing and
+    /// has not failed.
     pub fn new(
         rt: W,
         alloc: Global,
@@ -86,6 +92,7 @@ impl<R: Recorder, E: Ledger, M: Ledger, K: Marks, W: Wait + Copy + Drop> LockedH
         requires marks { (marks.name ≡ K.name) × (marks.parts ≡ K.parts)
             × (marks.parts ≡ ALL_PARTS) }
         requires fresh { (R.faults recorder ≡ 0) × IsFresh (R.told recorder) }
+        requires stands { R.stands recorder [] }
         requires steady { K.steady → R.steady recorder }
         ensures { IfOk result (λ hall. hall ≡ Some false) }
     {
@@ -108,7 +115,7 @@ impl<R: Recorder, E: Ledger, M: Ledger, K: Marks, W: Wait + Copy + Drop> LockedH
         })
     }
 
-    /// One more handle of the same desk.
+    /// Returns one more handle of the same desk.
     pub fn handle(&self) -> Result<LockedHall<R, E, M, K, W>, AllocError>
         ensures { IfOk result (λ hall. hall ≡ None) }
     {
@@ -120,53 +127,90 @@ impl<R: Recorder, E: Ledger, M: Ledger, K: Marks, W: Wait + Copy + Drop> LockedH
         })
     }
 
-    /// Takes back the pass of a client's reader, with its shares of the counts.
-    pub fn retire_client_in(&mut self, pass: ClientIn<E, M, K>)
-        ensures { self.new ≡ self.old }
+    /// Closes the desk, if this is its last handle. Returns the answer with which the desk is shut, and
+    /// its recorder, which has kept a legal history.
+    ///
+    /// None: there is another handle. Nothing changes but that this one is dropped.
+    pub fn close(self) -> Option<Left<R>>
+        ensures left { IfSome result (λ left. IsLeft R.stands R.faults left) }
+        ensures steady { K.steady → IfSome result (λ left. is_fault left.shut ≡ false) }
     {
-        self.retire(Owner::Client(pass.number()), pass.pass);
+        let LockedHall {
+            rt: _,
+            alloc: _,
+            shared,
+            mark: _,
+        } = self;
+        let Shared { locked, common: _ } = Arc::into_inner(shared)?;
+        let Locked {
+            desk,
+            bells: _,
+            is_over: _,
+        } = locked.into_inner();
+        Some(desk.close())
     }
 
-    /// Takes back the pass of a client's writer, with its shares of the counts.
-    pub fn retire_client_out(&mut self, pass: ClientOut<E, M, K>)
-        ensures { self.new ≡ self.old }
+    /// Takes back the pass of a client's reader, with its shares of the counts. Returns what `over` then
+    /// returns.
+    pub fn retire_client_in(&mut self, pass: ClientIn<E, M, K>) -> Option<DeskError>
+        ensures steady { K.steady → result ≢ Some DeskError.RecordFault }
+        ensures mark { self.new ≡ or_marked (is_some result) self.old }
     {
-        self.retire(Owner::Client(pass.number()), pass.pass);
+        self.retire(Owner::Client(pass.number()), pass.pass)
     }
 
-    /// Takes back the pass of a device's reader, with its shares of the counts.
-    pub fn retire_link_in(&mut self, pass: LinkIn<E, M, K>)
-        ensures { self.new ≡ self.old }
+    /// Takes back the pass of a client's writer, with its shares of the counts. Returns what `over` then
+    /// returns.
+    pub fn retire_client_out(&mut self, pass: ClientOut<E, M, K>) -> Option<DeskError>
+        ensures steady { K.steady → result ≢ Some DeskError.RecordFault }
+        ensures mark { self.new ≡ or_marked (is_some result) self.old }
     {
-        self.retire(Owner::Link(pass.number()), pass.pass);
+        self.retire(Owner::Client(pass.number()), pass.pass)
     }
 
-    /// Takes back the pass of a device's writer, with its shares of the counts.
-    pub fn retire_link_out(&mut self, pass: LinkOut<E, M, K>)
-        ensures { self.new ≡ self.old }
+    /// Takes back the pass of a device's reader, with its shares of the counts. Returns what `over` then
+    /// returns.
+    pub fn retire_link_in(&mut self, pass: LinkIn<E, M, K>) -> Option<DeskError>
+        ensures steady { K.steady → result ≢ Some DeskError.RecordFault }
+        ensures mark { self.new ≡ or_marked (is_some result) self.old }
     {
-        self.retire(Owner::Link(pass.number()), pass.pass);
+        self.retire(Owner::Link(pass.number()), pass.pass)
     }
 
-    /// How many entries were kept, where all passes are back.
+    /// Takes back the pass of a device's writer, with its shares of the counts. Returns what `over` then
+    /// returns.
+    pub fn retire_link_out(&mut self, pass: LinkOut<E, M, K>) -> Option<DeskError>
+        ensures steady { K.steady → result ≢ Some DeskError.RecordFault }
+        ensures mark { self.new ≡ or_marked (is_some result) self.old }
+    {
+        self.retire(Owner::Link(pass.number()), pass.pass)
+    }
+
+    /// Returns how many entries were kept, or None while a pass is out.
     pub fn entries(&mut self) -> Option<u64>
         ensures { self.new ≡ self.old }
     {
         self.shared.locked.lock(&self.rt).desk.entries()
     }
 
-    /// How many bytes those entries moved, where all passes are back.
+    /// Returns how many bytes those entries moved, or None while a pass is out.
     pub fn moved(&mut self) -> Option<u64>
         ensures { self.new ≡ self.old }
     {
         self.shared.locked.lock(&self.rt).desk.moved()
     }
 
-    fn retire(&mut self, owner: Owner, pass: Pass<E, M, K>)
-        ensures { self.new ≡ self.old }
+    /// Takes a pass back, and returns what `over` then returns, in one section.
+    fn retire(&mut self, owner: Owner, pass: Pass<E, M, K>) -> Option<DeskError>
+        ensures steady { K.steady → result ≢ Some DeskError.RecordFault }
+        ensures mark { self.new ≡ or_marked (is_some result) self.old }
     {
         let mut guard = self.shared.locked.lock(&self.rt);
-        guard.desk.retire(pass);
-        guard.bells.pass_back(owner);
+        let locked = &mut *guard;
+        locked.desk.retire(pass);
+        locked.bells.pass_back(owner);
+        let answer = Over {}.run(&mut locked.desk);
+        mark_own(&mut locked.desk, &mut self.mark, answer.is_some());
+        answer
     }
 }

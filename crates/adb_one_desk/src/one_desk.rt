@@ -1,4 +1,4 @@
-//! A desk and its mark.
+//! A hall over a desk of its own.
 
 ghost use Rattle.std.specs.Prelude.{◌≡◌, ◌<◌, [], None, Some, false, nat_eq, if◌then◌else◌};
 ghost use Rattle.adb_history.specs.Kept.{IsLawful};
@@ -8,15 +8,15 @@ ghost use Rattle.adb_desk_log.specs.Pass.{PassView};
 ghost use Rattle.adb_desk.specs.Sound.{IsSound, TellsPromises};
 ghost use Rattle.adb_one_desk.specs.OneDesk.{OneView};
 
-use adb_capture::Recorder;
 use adb_desk::Desk;
 use adb_desk_log::{ClientIn, ClientOut, LinkIn, LinkOut, Mark, Marks, Pass};
+use adb_recorder::Recorder;
 use std::alloc::Global;
 use std::marker::Model;
 use std::sync::ledger::{Blank, Ledger};
 
-/// A hall that answers at once: `Later` and `Nothing` where a locked one waits. Contracts see what
-/// its desk holds, and whether its handle is marked.
+/// A hall that never waits: it returns `Later` and `Nothing` where a locked one waits. Contracts see
+/// the view of its desk, and whether its handle is marked.
 #[derive(Drop)]
 pub struct OneDesk<R: Recorder, E: Ledger, M: Ledger, K: Marks> {
     pub(crate) desk: Desk<R, E, M, K>,
@@ -32,8 +32,8 @@ impl<R: Recorder, E: Ledger, M: Ledger, K: Marks> Model for OneDesk<R, E, M, K> 
 }
 
 impl<R: Recorder, E: Ledger, M: Ledger, K: Marks> OneDesk<R, E, M, K> {
-    /// A hall without entries, over a recorder that has kept nothing and has not failed. It takes no
-    /// memory.
+    /// Returns a hall without entries, over a recorder that has kept nothing and has not failed. It
+    /// allocates nothing.
     pub fn new(
         alloc: Global,
         recorder: R,
@@ -48,6 +48,7 @@ impl<R: Recorder, E: Ledger, M: Ledger, K: Marks> OneDesk<R, E, M, K> {
         requires marks { (marks.name ≡ K.name) × (marks.parts ≡ K.parts)
             × (marks.parts ≡ ALL_PARTS) }
         requires fresh { (R.faults recorder ≡ 0) × IsFresh (R.told recorder) }
+        requires stands { R.stands recorder [] }
         requires steady { K.steady → R.steady recorder }
         ensures lawful { IsLawful result.desk.hub [] }
         ensures told { result.desk.log.told ≡ R.told recorder }
@@ -59,8 +60,9 @@ impl<R: Recorder, E: Ledger, M: Ledger, K: Marks> OneDesk<R, E, M, K> {
         OneDesk { desk, mark }
     }
 
-    /// What its recorder tells is a legal history, so it is fifo, has its causes and is answered; the
-    /// counts are its counts, and the hub holds it unless the recorder refused an entry.
+    /// Says that what its recorder tells is a legal history, so it is fifo, has its causes and is
+    /// answered; that the counts are its counts; and that the hub holds it unless the recorder refused
+    /// an entry.
     pub fn law(&self)
         ensures sound { IsSound self.now.desk }
         ensures promises { TellsPromises self.now.desk.log.told }
@@ -68,7 +70,7 @@ impl<R: Recorder, E: Ledger, M: Ledger, K: Marks> OneDesk<R, E, M, K> {
         self.desk.law();
     }
 
-    /// The recorder, for whoever reads what it kept.
+    /// Returns the recorder.
     pub fn recorder(&self) -> &R
         ensures { R.told result.now ≡ self.now.desk.log.told }
     {
@@ -119,7 +121,7 @@ impl<R: Recorder, E: Ledger, M: Ledger, K: Marks> OneDesk<R, E, M, K> {
         self.retire(pass.pass);
     }
 
-    /// How many entries were kept, where all passes are back.
+    /// Returns how many entries were kept, or None while a pass is out.
     pub fn entries(&mut self) -> Option<u64>
         ensures count { result ≡ (if nat_eq self.old.desk.log.out 0
             then Some self.old.desk.log.entries else None) }
@@ -128,7 +130,7 @@ impl<R: Recorder, E: Ledger, M: Ledger, K: Marks> OneDesk<R, E, M, K> {
         self.desk.entries()
     }
 
-    /// How many bytes those entries moved, where all passes are back.
+    /// Returns how many bytes those entries moved, or None while a pass is out.
     pub fn moved(&mut self) -> Option<u64>
         ensures count { result ≡ (if nat_eq self.old.desk.log.out 0
             then Some self.old.desk.log.moved else None) }
@@ -137,6 +139,7 @@ impl<R: Recorder, E: Ledger, M: Ledger, K: Marks> OneDesk<R, E, M, K> {
         self.desk.moved()
     }
 
+    /// Takes a pass back, with its shares of the counts.
     fn retire(&mut self, pass: Pass<E, M, K>)
         ensures back { self.new ≡ record {
           desk = record { hub = self.old.desk.hub; log = retired self.old.desk.log pass };

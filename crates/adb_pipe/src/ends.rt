@@ -1,20 +1,20 @@
 //! The two ends of a pipe.
 
-ghost use Rattle.std.specs.Prelude.{◌≡◌, ◌<◌, IfOk};
-ghost use Rattle.adb_pipe.specs.Ends.{Begins, Puts, Takes};
+ghost use Rattle.std.specs.Prelude.{◌≡◌, ◌<◌, ◌++◌, ℕ, List, true, IfOk};
+ghost use Rattle.adb_pipe.specs.Ends.{Begins, Puts, Takes, TakesNow};
 ghost use Rattle.adb_pipe.specs.Rule.{IsChunk, bytes_of};
 
-use crate::rule::{Cut, InOrder, Item, Moves, View};
+use crate::rule::{Cut, InOrder, Item, Kept, Moves, View, Whole};
 use adb_outside::Text;
 use crossbeam_channel::{Pass, RuledReceiver, RuledSender, bounded_with};
 use std::alloc::{AllocError, Global};
 use std::marker::Model;
 use std::sync::Wait;
 
-/// The end of a pipe that puts. Contracts see the chunks that it put, and how often a chunk was
-/// refused; that count stays at its last value.
+/// The output end of a pipe. Contracts see the chunks that it put, and how many were refused; that
+/// count stays at its largest value.
 ///
-/// An end that is dropped without `finish` puts no end mark: what was put before can be taken, and
+/// If it is dropped without `finish`, no end mark is put: the chunks that were put can be taken, and
 /// then `take` answers `Lost`.
 #[derive(Drop)]
 pub struct PipeOut<W: Wait + Drop> {
@@ -34,7 +34,10 @@ impl<W: Wait + Drop> Model for PipeOut<W> {
     ghost Value = { OutView };
 
     ghost view = { λ p. record {
-      pipe = (sends_on p.sender).stamps.shared.table_id;
+      pipe = record {
+        table = (sends_on p.sender).stamps.shared.table_id;
+        key = (sends_on p.sender).stamps.shared.key;
+      };
       room = ruled_capacity (sends_on p.sender);
       put = (passed (known p.pass)).chunks;
       refused = p.refused;
@@ -44,8 +47,8 @@ impl<W: Wait + Drop> Model for PipeOut<W> {
         × (known p.pass ≡ open_putter (passed (known p.pass)).chunks) };
 }
 
-/// The end of a pipe that takes. Contracts see the chunks that it took, whether it answered `End`,
-/// and how often it answered `Lost`; that count stays at its last value.
+/// The input end of a pipe. Contracts see the chunks that it took, whether it answered `End`, and how
+/// often it answered `Lost`; that count stays at its largest value.
 #[derive(Drop)]
 pub struct PipeIn<W: Wait + Drop> {
     rt: W,
@@ -65,7 +68,10 @@ impl<W: Wait + Drop> Model for PipeIn<W> {
     ghost Value = { InView };
 
     ghost view = { λ p. record {
-      pipe = (receives_on p.receiver).stamps.shared.table_id;
+      pipe = record {
+        table = (receives_on p.receiver).stamps.shared.table_id;
+        key = (receives_on p.receiver).stamps.shared.key;
+      };
       taken = (passed (known p.pass)).chunks;
       ended = (passed (known p.pass)).ended;
       lost = p.lost;
@@ -75,20 +81,19 @@ impl<W: Wait + Drop> Model for PipeIn<W> {
         × (known p.pass ≡ Taker (passed (known p.pass))) };
 }
 
-/// What is taken next.
+/// The answer of `PipeIn::take`.
 #[derive(Drop)]
 pub enum Taken {
     /// The next chunk.
     Chunk(Text),
-    /// All chunks were taken, and the other end is finished.
+    /// Every chunk was taken, and the output end is finished.
     End,
-    /// The channel gave nothing. It fails so only where it held nothing at some moment of the call;
-    /// why it did, as that the other end was dropped, is not told.
+    /// The channel yielded nothing. It was empty at some moment of the call. The answer does not say
+    /// why, for example that the output end was dropped.
     Lost,
 }
 
-/// The two ends of a pipe that holds at most `chunks` chunks at a time. Nothing was put, taken,
-/// refused or lost.
+/// Returns the two ends of a new pipe that holds at most `chunks` chunks at a time.
 pub fn pipe<W: Wait + Copy + Drop>(
     rt: W,
     alloc: Global,
@@ -115,8 +120,10 @@ pub fn pipe<W: Wait + Copy + Drop>(
 }
 
 impl<W: Wait + Drop> PipeOut<W> {
-    /// Puts a chunk behind the others; it waits while the pipe is full. A chunk that the channel
-    /// refuses comes back, and the pipe is as before but for the count of refusals.
+    /// Puts a chunk after the others. Blocks while the pipe is full.
+    ///
+    /// `Err`: the channel refused the chunk, which is returned. The pipe is unchanged except for the
+    /// count of refusals.
     pub fn put(&mut self, chunk: Text) -> Result<(), Text>
         ensures { Puts self.old chunk result self.new }
     {
@@ -133,9 +140,11 @@ impl<W: Wait + Drop> PipeOut<W> {
         }
     }
 
-    /// Puts the end mark behind the chunks; it waits while the pipe is full. Where the channel
-    /// refuses the mark, the other end finds `Lost` in its place.
-    pub fn finish(self) {
+    /// Puts the end mark after the chunks. Blocks while the pipe is full. If the channel refuses the
+    /// mark, the input end answers `Lost` in its place.
+    pub fn finish(self) -> PipeEnd
+        ensures { result ≡ record { pipe = self.pipe; put = self.put } }
+    {
         let PipeOut {
             rt,
             sender,
@@ -143,6 +152,57 @@ impl<W: Wait + Drop> PipeOut<W> {
             refused: _,
         } = self;
         let _ = sender.send_as::<Moves, W>(&rt, &mut pass, Item::End);
+        PipeEnd { sender, pass }
+    }
+}
+
+/// A finished output end.
+#[derive(Drop)]
+pub struct PipeEnd {
+    sender: RuledSender<Item, View, InOrder>,
+    pass: Pass<Item, View>,
+}
+
+impl Model for PipeEnd {
+    ghost use Rattle.std.specs.Prelude.{◌≡◌};
+    ghost use Rattle.crossbeam_channel.specs.Claims.{IsSeatAt, view as known};
+    ghost use Rattle.crossbeam_channel.specs.Ends.{sends_on};
+    ghost use Rattle.adb_pipe.specs.Ends.{EndView};
+    ghost use Rattle.adb_pipe.specs.Rule.{passed};
+    ghost use Rattle.adb_pipe.specs.declared.rule.View.TheVariants.{Putter};
+
+    ghost Value = { EndView };
+
+    ghost view = { λ p. record {
+      pipe = record {
+        table = (sends_on p.sender).stamps.shared.table_id;
+        key = (sends_on p.sender).stamps.shared.key;
+      };
+      put = (passed (known p.pass)).chunks;
+    } };
+
+    ghost invariant = { λ p. IsSeatAt (sends_on p.sender) p.pass
+        × (known p.pass ≡ Putter (passed (known p.pass))) };
+}
+
+impl PipeEnd {
+    /// Joins the two ends of one pipe. The chunks that were taken are a prefix of those that were put,
+    /// and all of them if the end mark was taken.
+    #[tactic(auto, using(crate::proofs::Rules::merges, crate::proofs::Rules::learns, crate::proofs::Rules::held, crate::proofs::Rules::whole))]
+    pub fn compare<W: Wait + Drop>(self, input: PipeIn<W>)
+        requires { self.pipe ≡ input.pipe }
+        ensures front { (left : List (List ℕ)) × (self.put ≡ input.taken ++ left) }
+        ensures whole { input.ended ≡ true → self.put ≡ input.taken }
+    {
+        let PipeEnd { sender, mut pass } = self;
+        let PipeIn {
+            rt: _,
+            receiver: _,
+            pass: taker,
+            lost: _,
+        } = input;
+        sender.absorb::<Whole>(&mut pass, taker);
+        sender.learn_as::<Kept>(&mut pass);
     }
 }
 
@@ -157,8 +217,8 @@ fn chunk_of(item: Item) -> Text
 }
 
 impl<W: Wait + Drop> PipeIn<W> {
-    /// Takes the next chunk, or the end mark behind the last; it waits while the pipe is empty.
-    /// Behind the end mark nothing comes, and each call answers `Lost`.
+    /// Takes the next chunk, or the end mark after the last one. Blocks while the pipe is empty.
+    /// After the end mark each call answers `Lost`.
     #[tactic(auto, using(crate::proofs::Rules::takes))]
     pub fn take(&mut self) -> Taken
         ensures { Takes self.old result self.new }
@@ -171,6 +231,22 @@ impl<W: Wait + Drop> PipeIn<W> {
                 self.lost = self.lost.saturating_add(1);
                 Taken::Lost
             }
+        }
+    }
+
+    /// Takes the next chunk or the end mark if the pipe holds one now. Does not wait. `None` says
+    /// nothing of the output end; a later `take` answers `Lost` if that was dropped.
+    #[tactic(auto, using(crate::proofs::Rules::takes))]
+    pub fn try_take(&mut self) -> Option<Taken>
+        ensures { TakesNow self.old result self.new }
+    {
+        let received = self
+            .receiver
+            .try_recv_as::<Moves, W>(&self.rt, &mut self.pass);
+        match received {
+            Ok(Item::Chunk(chunk)) => Some(Taken::Chunk(chunk)),
+            Ok(Item::End) => Some(Taken::End),
+            Err(_) => None,
         }
     }
 }

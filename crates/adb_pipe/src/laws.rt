@@ -1,4 +1,4 @@
-//! What follows from the rule of a pipe, whatever the schedule of its two threads.
+//! Consequences of the rule of a pipe, under every schedule of its two threads.
 
 ghost use Rattle.std.specs.Prelude.{◌≡◌, ◌++◌, [], ◌∷◌, List, true};
 ghost use Rattle.adb_pipe.specs.declared.rule.Item.{Item};
@@ -6,7 +6,7 @@ ghost use Rattle.adb_pipe.specs.declared.rule.Passed.{Passed};
 ghost use Rattle.adb_pipe.specs.declared.rule.View.TheVariants.{Putter, Taker};
 ghost use Rattle.adb_pipe.specs.Rule.{IsInOrder, chunks_in};
 
-/// At every step the chunks that were put are those that were taken, and then those that the
+/// At every step the chunks that were put are those that were taken, followed by those that the
 /// channel holds, in order.
 #[tactic(auto, using(crate::proofs::Rules::held))]
 pub fn put_is_taken_and_held()
@@ -15,8 +15,8 @@ pub fn put_is_taken_and_held()
         → put.chunks ≡ taken.chunks ++ chunks_in items }
 {}
 
-/// Once the end that takes has seen the end mark, all that was put was taken, the mark was put
-/// behind it, and the channel holds nothing.
+/// After the input end has taken the end mark, every chunk that was put has been taken, the mark was
+/// put after them, and the channel is empty.
 #[tactic(auto, using(crate::proofs::Rules::whole))]
 pub fn ended_pipe_is_whole()
     ensures { (items : List Item) (put taken : Passed)

@@ -1,13 +1,14 @@
-//! A pipe between two threads: what is taken is, in order, what was put.
+//! A pipe of chunks between two threads. Chunks are taken in the order in which they were put. When
+//! both ends are back in one thread, `PipeEnd::compare` says so of the whole run.
 //!
-//! Not claimed: that a thread runs, that a call which waits returns, that the channel refuses a
-//! chunk or gives nothing only for a reason, and that `finish` puts its mark. Tests show the last two.
+//! Not claimed: that a thread runs, that a call which waits returns, why the channel refuses a chunk
+//! or yields nothing, and that `finish` puts its mark. Tests show the last two.
 #![tactic(auto)]
 
 mod ends;
 mod laws;
 mod rule;
 
-pub use ends::{PipeIn, PipeOut, Taken, pipe};
+pub use ends::{PipeEnd, PipeIn, PipeOut, Taken, pipe};
 pub use laws::{ended_pipe_is_whole, put_is_taken_and_held};
-pub use rule::{InOrder, Item, Passed, View};
+pub use rule::{Compared, InOrder, Item, Passed, View};

@@ -1,10 +1,14 @@
-//! What a live server is given of the outside: sockets, threads, the record, and model devices in
-//! threads of their own.
+//! The outside of a live server: sockets, threads, the record, and model devices in threads of their
+//! own.
 #![tactic(auto)]
 
 mod real_yard;
 
-pub use adb_live::{Errand, Lobby, Porter, Roll, SwitchRecorder, TcpBell, TcpBinder, TcpDoor};
+pub use adb_live::{Entrance, Listeners, TcpBell, TcpBinder, TcpDoor};
 pub use adb_model_device::{DeviceEnd, PipeDeviceIn, PipeDeviceOut, run_device};
+pub use adb_record::{
+    Begun, Failure, LiveRecorder, Named, PipeSink, Settled, WillWrite, Written, begin_record,
+    end_record,
+};
 pub use adb_sockets::{Ending, TcpDeviceIn, TcpDeviceOut, TcpIn, TcpOut, tcp_device};
-pub use real_yard::{Helpers, RealYard};
+pub use real_yard::RealYard;

@@ -1,41 +1,24 @@
 //! The yard of a live server.
 
-ghost use Rattle.std.specs.Prelude.{◌≡◌, false, IfOk, IfSome};
+ghost use Rattle.std.specs.Prelude.{◌≡◌, false, IfSome};
 ghost use Rattle.adb_yard.specs.Yard.{FitsPort, is_deaf};
 
 use adb_connections::OpenGate;
-use adb_live::{
-    Errand, Lobby, Porter, Roll, SwitchRecorder, TcpBell, TcpBinder, TcpDoor, begin_porter,
-};
-use adb_outside::Sink;
+use adb_live::{Entrance, Listeners, TcpBell, TcpBinder, TcpDoor};
+use adb_record::{LiveRecorder, Named, PipeSink};
 use adb_sockets::{Ending, TcpIn, TcpOut, halves};
 use adb_yard::{Dialled, Listening, Staff, Yard};
-use std::alloc::{AllocError, Global};
+use std::alloc::Global;
 use std::io;
 use std::net::{Net, SocketAddr, TcpListener, TcpStream};
 use std::sync::{Arc, Wait};
 use std::thread::Threads;
 
-/// What goes on beside a server: the threads of its forwards, and the one that writes its record.
-#[derive(Drop)]
-pub struct Helpers<W: Wait + Drop, K: Sink + Drop> {
-    rt: W,
-    porter: Arc<Porter<K>, Global>,
-    roll: Arc<Roll, Global>,
-}
-
-impl<W: Wait + Drop, K: Sink + Drop> Helpers<W, K> {
-    /// Waits until the record is written out or a write of it failed; whether all of it was written.
-    /// No more threads are started.
-    pub fn finish(self) -> bool {
-        let written = self.roll.finish(&self.rt);
-        self.porter.close(&self.rt);
-        written
-    }
-}
-
-/// The yard of a live server: sockets of this machine, threads, and a record that goes to a sink. It
-/// tells nothing of what it gives.
+/// The yard of a live server: sockets of this machine, threads, and the pipe of its record. It shows
+/// nothing of the objects that it returns.
+///
+/// A yard with an unused sink has the recorder of one server whose history is to be kept. If `B` names
+/// no pipe, the yard has recorders of servers whose history is not, which are off.
 #[derive(Drop)]
 pub struct RealYard<
     W: Net<Listener = TcpListener, Stream = TcpStream>
@@ -46,15 +29,13 @@ pub struct RealYard<
         + Sync
         + Drop
         + 'static,
-    K: Sink + Send + Drop + 'static,
+    B: Named + Send + 'static,
 > {
     rt: W,
     alloc: Global,
     ending: Ending,
-    lobby: Option<Arc<Lobby, Global>>,
-    porter: Arc<Porter<K>, Global>,
-    roll: Arc<Roll, Global>,
-    sink: Option<K>,
+    listeners: Option<Arc<Listeners, Global>>,
+    sink: Option<PipeSink<W, B>>,
     faults: u64,
 }
 
@@ -67,36 +48,25 @@ impl<
         + Sync
         + Drop
         + 'static,
-    K: Sink + Send + Drop + 'static,
-> RealYard<W, K> {
-    /// A yard whose record goes to this sink. Its bell says that the server ends; devices that share
-    /// that word give up writing then.
-    pub fn new(rt: W, alloc: Global, ending: Ending, sink: K) -> Result<RealYard<W, K>, AllocError>
-        ensures { IfOk result (λ yard. yard.faults ≡ 0) }
+    B: Named + Send + 'static,
+> RealYard<W, B> {
+    /// Returns a yard whose recorder writes to this sink. Its bell sets `ending`; devices that share it
+    /// stop writing then. It allocates nothing.
+    pub fn new(rt: W, alloc: Global, ending: Ending, sink: Option<PipeSink<W, B>>) -> RealYard<W, B>
+        ensures { (result.faults ≡ 0) × (result.sink ≡ sink) }
     {
-        Ok(RealYard {
+        RealYard {
             rt,
             alloc,
             ending,
-            lobby: None,
-            porter: begin_porter(rt, alloc)?,
-            roll: Arc::new(alloc, Roll::new(alloc))?,
-            sink: Some(sink),
+            listeners: None,
+            sink,
             faults: 0,
-        })
-    }
-
-    /// What goes on beside the server, to be finished behind it.
-    pub fn helpers(&self) -> Result<Helpers<W, K>, AllocError> {
-        Ok(Helpers {
-            rt: self.rt,
-            porter: Arc::try_clone(&self.porter)?,
-            roll: Arc::try_clone(&self.roll)?,
-        })
+        }
     }
 }
 
-/// A listener on a port of this machine, any where it is 0, and the address of it.
+/// Returns a listener on a port of this machine, any if it is 0, and its address.
 fn open<W: Net<Listener = TcpListener, Stream = TcpStream>>(
     rt: &W,
     port: u16,
@@ -106,32 +76,13 @@ fn open<W: Net<Listener = TcpListener, Stream = TcpStream>>(
     Ok((listener, address))
 }
 
-/// The lobby of a door at an address, for the door, its bell, and the ports of forwards.
-#[derive(Drop)]
-struct Lobbies {
-    door: Arc<Lobby, Global>,
-    bell: Arc<Lobby, Global>,
-    ports: Arc<Lobby, Global>,
-}
-
-impl Lobbies {
-    fn new(alloc: Global, address: SocketAddr, ending: &Ending) -> Result<Lobbies, AllocError> {
-        let lobby = Arc::new(alloc, Lobby::new(alloc, address, ending.share()?))?;
-        Ok(Lobbies {
-            door: Arc::try_clone(&lobby)?,
-            bell: Arc::try_clone(&lobby)?,
-            ports: lobby,
-        })
-    }
-}
-
-/// A door and its bell at a port of this machine, and the lobby of both.
+/// Returns a door and its bell at a port of this machine, and the listeners of both.
 fn listen<W: Net<Listener = TcpListener, Stream = TcpStream> + Wait + Copy + Drop>(
     rt: W,
     alloc: Global,
     ending: &Ending,
     port: u16,
-) -> Option<(Listening<TcpDoor<W>, TcpBell<W>>, Arc<Lobby, Global>)>
+) -> Option<(Listening<TcpDoor<W>, TcpBell>, Arc<Listeners, Global>)>
     ensures { IfSome result (λ here. FitsPort port here.0 × (is_deaf here.0 ≡ false)) }
 {
     let (listener, address) = open(&rt, port).ok()?;
@@ -139,26 +90,15 @@ fn listen<W: Net<Listener = TcpListener, Stream = TcpStream> + Wait + Copy + Dro
     if bound == 0 || port != 0 && bound != port {
         return None;
     }
-    let lobbies = Lobbies::new(alloc, address, ending).ok()?;
-    let door = TcpDoor::new(rt, alloc, listener, lobbies.door);
-    let bell = TcpBell::new(rt, lobbies.bell);
-    Some((Listening::Here(door, bell, bound), lobbies.ports))
+    let Entrance {
+        door,
+        bell,
+        listeners,
+    } = Entrance::new(rt, alloc, listener, ending).ok()?;
+    Some((Listening::Here(door, bell, bound), listeners))
 }
 
-/// Starts the thread that writes the record; whether it was started.
-fn begin_record<W: Wait, K: Sink + Drop>(
-    rt: &W,
-    porter: &Porter<K>,
-    roll: &Arc<Roll, Global>,
-    sink: Option<K>,
-) -> bool {
-    match (sink, Arc::try_clone(roll)) {
-        (Some(sink), Ok(theirs)) => porter.start(rt, Errand::Record { roll: theirs, sink }),
-        _ => false,
-    }
-}
-
-/// The two halves of a connection to a port of this machine.
+/// Returns the two halves of a connection to a port of this machine.
 fn dial<W: Net<Listener = TcpListener, Stream = TcpStream>>(
     rt: &W,
     alloc: Global,
@@ -177,15 +117,15 @@ impl<
         + Sync
         + Drop
         + 'static,
-    K: Sink + Send + Drop + 'static,
-> Yard for RealYard<W, K> {
+    B: Named + Send + 'static,
+> Yard for RealYard<W, B> {
     type Door = TcpDoor<W>;
 
-    type Bell = TcpBell<W>;
+    type Bell = TcpBell;
 
-    type Keeper = SwitchRecorder<W>;
+    type Keeper = LiveRecorder<W, B>;
 
-    type Ports = TcpBinder<W, K>;
+    type Ports = TcpBinder<W>;
 
     type Gate = OpenGate;
 
@@ -193,7 +133,8 @@ impl<
 
     type DialOut = TcpOut;
 
-    ghost use Rattle.std.specs.Prelude.{None};
+    ghost use Rattle.std.specs.Prelude.{◌≡◌, true, false, None};
+    ghost use Rattle.adb_record.specs.Live.{IsUnused};
 
     ghost faults = { λ yard. yard.faults };
 
@@ -203,11 +144,16 @@ impl<
 
     ghost answers = { λ yard. None };
 
+    ghost here = { λ yard port. None };
+
+    ghost records = { λ yard wanted. (wanted ≡ true → IsUnused yard.sink)
+        × (wanted ≡ false → B.pipe ≡ None) };
+
     /// Listens on this machine alone.
-    fn listen(&mut self, port: u16) -> Listening<TcpDoor<W>, TcpBell<W>> {
+    fn listen(&mut self, port: u16) -> Listening<TcpDoor<W>, TcpBell> {
         match listen(self.rt, self.alloc, &self.ending, port) {
-            Some((listening, lobby)) => {
-                self.lobby = Some(lobby);
+            Some((listening, listeners)) => {
+                self.listeners = Some(listeners);
                 listening
             }
             None => {
@@ -217,34 +163,34 @@ impl<
         }
     }
 
-    /// A second one that is wanted fails at each call, and so does one without a thread.
-    fn recorder(&mut self, wanted: bool) -> SwitchRecorder<W> {
-        let begun = wanted && begin_record(&self.rt, &self.porter, &self.roll, self.sink.take());
-        let roll = if begun {
-            Arc::try_clone(&self.roll).ok()
-        } else {
-            None
+    /// Returns a recorder that is on if `wanted`.
+    fn recorder(&mut self, wanted: bool) -> LiveRecorder<W, B> {
+        if !wanted {
+            return LiveRecorder::off();
+        }
+        let Some(sink) = self.sink.take() else {
+            unreachable!()
         };
-        SwitchRecorder::new(self.rt, roll, wanted)
+        LiveRecorder::on(sink)
     }
 
     fn staff(&mut self) -> Staff {
         Staff::Threads
     }
 
-    fn ports(&mut self) -> TcpBinder<W, K> {
-        let lobby = match &self.lobby {
-            Some(lobby) => Arc::try_clone(lobby).ok(),
+    fn ports(&mut self) -> TcpBinder<W> {
+        let listeners = match &self.listeners {
+            Some(listeners) => Arc::try_clone(listeners).ok(),
             None => None,
         };
-        TcpBinder::new(self.rt, lobby, Arc::try_clone(&self.porter).ok())
+        TcpBinder::new(self.rt, listeners)
     }
 
     fn gate(&mut self) -> OpenGate {
         OpenGate::new()
     }
 
-    /// Connects without a wait for more than the system makes.
+    /// Connects as the system does, without a timeout of its own.
     fn dial(&mut self, port: u16) -> Dialled<TcpIn, TcpOut> {
         match dial(&self.rt, self.alloc, &self.ending, port) {
             Ok((input, output)) => Dialled::Here(input, output),

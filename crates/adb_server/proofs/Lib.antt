@@ -1,1 +1,4 @@
 pub mod Announcing
+pub mod Closing
+pub mod Keeping
+pub mod Rising

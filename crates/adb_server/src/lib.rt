@@ -1,11 +1,12 @@
-//! The server: who comes at its door is admitted, and two workers serve each client and each device.
+//! The server: it accepts clients at a door, and serves each client and each device by two workers.
 #![tactic(auto)]
 
+mod accepting;
 mod arriving;
-mod house;
+mod ending;
 mod listening;
 mod refusals;
 mod server;
 mod workers;
 
-pub use server::{Served, serve};
+pub use server::{Ended, Served, serve, serve_at};

@@ -1,4 +1,4 @@
-//! Where a server listens is told.
+//! The line of the note that says where the server listens.
 
 ghost use Rattle.std.specs.Prelude.{◌≡◌, ◌<◌, IfOk, length};
 ghost use Rattle.adb_outside.specs.Outside.{Counts};

@@ -1,16 +1,19 @@
-//! What becomes of a server whose hall refuses who comes.
+//! Whether the server goes on after its hall refused a client or a device.
 
 ghost use Rattle.std.specs.Prelude.{◌≢◌, Err};
 ghost use Rattle.adb_desk_log.specs.declared.error.DeskError.{DeskError};
 
 use crate::server::Served;
-use adb_desk_log::{DeskError, Marks};
+use adb_desk_log::DeskError;
 use adb_hall::Hall;
 use adb_hub::HubError;
-use std::sync::ledger::Ledger;
+use adb_work::Parts;
 
-/// Whether more may come behind one that the hall refused. Where memory ran out the hall is shut.
-pub(crate) fn go_on<E: Ledger, M: Ledger, K: Marks, H: Hall<E, M, K>>(
+/// Returns `Ok` if the server goes on after this refusal.
+///
+/// - `OutOfMemory`: an allocation failed. The hall is halted.
+/// - `RecordFault`: the recorder failed, which shut the hall.
+pub(crate) fn go_on<P: Parts, H: Hall<P::Entries, P::Moved, P::Marks>>(
     hall: &mut H,
     error: DeskError,
 ) -> Result<(), Served>

@@ -1,21 +1,23 @@
 //! The server.
 
-ghost use Rattle.std.specs.Prelude.{◌≡◌, ◌≢◌, Err};
-ghost use Rattle.adb_outside.specs.Outside.{Counts};
+ghost use Rattle.std.specs.Prelude.{◌≡◌, ◌≢◌, []};
+ghost use Rattle.adb_outside.specs.Outside.{Counts, Rises};
 ghost use Rattle.adb_desk_log.specs.declared.marks.TheConstants.{ALL_PARTS};
 ghost use Rattle.adb_desk_log.specs.Log.{IsFresh};
-ghost use Rattle.adb_server.specs.Served.{Announces, is_write_fault};
+ghost use Rattle.adb_server.specs.Ended.{KeepsHistory};
+ghost use Rattle.adb_server.specs.Served.{Announces, HasClosed, NamesPort, is_write_fault};
 
-use crate::house::serve_all;
+use crate::accepting::{Supplies, serve_all};
+use crate::ending::{end_of, starved};
 use crate::listening::announce;
-use crate::workers::{Workers, crew_of};
+use crate::workers::{Over, Workers, pool_of};
 use adb_binder::Binder;
-use adb_capture::Recorder;
 use adb_connections::{Bell, DeviceIn, DeviceOut, Door, Gate, PortIn, PortOut};
 use adb_desk_log::{ALL_PARTS, Marks};
 use adb_device_reader::Device;
 use adb_locked_hall::LockedHall;
 use adb_outside::Sink;
+use adb_recorder::Recorder;
 use adb_work::BellHandle;
 use adb_yard::{Listening, Yard};
 use std::alloc::Global;
@@ -31,7 +33,7 @@ pub enum Served {
     Done,
     /// The line that says where the server listens could not be written.
     WriteFault,
-    /// Memory ran out.
+    /// An allocation failed.
     OutOfMemory,
     /// The recorder failed.
     RecordFault,
@@ -39,14 +41,30 @@ pub enum Served {
     DoorFault,
 }
 
-/// Listens and serves: the devices that are handed in are plugged in, in their order, and then each
-/// client that comes at the door is taken in, until the door is closed or fails. Each device and
-/// each client has two workers. It first writes to the note where it listens, and it waits for all
-/// workers before it ends.
+/// How a server ended, and its recorder.
+#[derive(Drop)]
+pub struct Ended<R: Drop> {
+    pub served: Served,
+    /// The recorder, if the server began to serve.
+    pub recorder: Option<R>,
+}
+
+/// Listens on a port and serves: attaches the devices in their order, and then accepts clients until
+/// the door is closed or fails. A reader and a writer serve each device and each client. Before it
+/// serves it writes to the note where it listens, and it returns after all workers have returned.
 ///
-/// A device that does not come, and one that the hall refuses, is unplugged; a client that the hall
-/// refuses is dropped; others go on. Want of memory for what comes next ends the server.
-#[tactic(auto, using(crate::proofs::Announcing::served_there, crate::proofs::Announcing::told_less, crate::proofs::Announcing::no_write_fault))]
+/// A device that does not come, or that the hall refuses, is unplugged, and a client that the hall
+/// refuses is dropped; the server goes on. `wanted` says whether the history is recorded.
+///
+/// The server ended by:
+///
+/// - `Done`: the door was closed. The recorder kept the whole history.
+/// - `WriteFault`: the line that says where it listens could not be written. Nothing was served.
+/// - `OutOfMemory`: an allocation failed, and the recorder, if it comes back, kept the history until
+///   then.
+/// - `RecordFault`: the recorder failed, and kept the entries before that.
+/// - `DoorFault`: the port could not be listened on, or the door failed.
+#[tactic(auto, using(crate::proofs::Announcing::served_there, crate::proofs::Announcing::no_write_fault, crate::proofs::Keeping::keeps_none))]
 pub fn serve<
     W: Threads + Wait + Copy + Send + Sync + Drop + 'static,
     Y: Yard + 'static,
@@ -61,21 +79,61 @@ pub fn serve<
     port: u16,
     wanted: bool,
     note: &mut N,
-) -> Served
-    ensures record { Y.steady yard → result ≢ Served.RecordFault }
-    ensures door { Y.steady yard → result ≢ Served.DoorFault }
-    ensures lasting { Y.lasting yard → result ≢ Served.Done }
-    ensures announced { Announces port result (N.written note.old) (N.written note.new) }
-    ensures counts { Counts N.steady N.faults note.old note.new (is_write_fault result) }
+) -> Ended<Y::Keeper>
+    requires records { Y.records yard wanted }
+    ensures kept { KeepsHistory Y.Keeper.stands Y.Keeper.faults result.served result.recorder }
+    ensures record { Y.steady yard → result.served ≢ Served.RecordFault }
+    ensures door { Y.steady yard → result.served ≢ Served.DoorFault }
+    ensures lasting { Y.lasting yard → result.served ≢ Served.Done }
+    ensures announced { Announces port result.served
+        (N.written note.old) (N.written note.new) }
+    ensures here { NamesPort (Y.here yard port) result.served
+        (N.written note.old) (N.written note.new) }
+    ensures counts { Counts N.steady N.faults note.old note.new (is_write_fault result.served) }
 {
     let mut yard = yard;
     let Listening::Here(mut door, bell, here) = yard.listen(port) else {
-        return Served::DoorFault;
+        return Ended {
+            served: Served::DoorFault,
+            recorder: None,
+        };
     };
     if let Err(served) = announce(alloc, note, here) {
-        return served;
+        return Ended {
+            served,
+            recorder: None,
+        };
     }
     let recorder = yard.recorder(wanted);
+    serve_at(rt, alloc, yard, &mut door, bell, recorder, devices)
+}
+
+/// Serves at a door, whose bell is `bell`, as `serve` does after it has listened.
+pub fn serve_at<
+    W: Threads + Wait + Copy + Send + Sync + Drop + 'static,
+    Y: Yard + 'static,
+    X: DeviceIn + Send + 'static,
+    Z: DeviceOut + Send + 'static,
+>(
+    rt: W,
+    alloc: Global,
+    yard: Y,
+    door: &mut Y::Door,
+    bell: Y::Bell,
+    recorder: Y::Keeper,
+    devices: Vec<Device<X, Z>>,
+) -> Ended<Y::Keeper>
+    requires fresh { (Y.Keeper.faults recorder ≡ 0) × IsFresh (Y.Keeper.told recorder) }
+    requires stands { Y.Keeper.stands recorder [] }
+    ensures kept { KeepsHistory Y.Keeper.stands Y.Keeper.faults result.served result.recorder }
+    ensures record { Y.Keeper.steady recorder → result.served ≢ Served.RecordFault }
+    ensures door { Y.Door.steady door.old → result.served ≢ Served.DoorFault }
+    ensures fault { result.served ≡ Served.DoorFault
+        → Rises (Y.Door.faults door.old) (Y.Door.faults door.new) }
+    ensures lasting { Y.Door.lasting door.old → result.served ≢ Served.Done }
+    ensures closed { result.served ≡ Served.Done → HasClosed (Y.Door.came door.new) }
+    ensures note { result.served ≢ Served.WriteFault }
+{
     serve_with::<
         W,
         Y::Keeper,
@@ -94,8 +152,8 @@ pub fn serve<
     >(
         rt,
         alloc,
-        &mut yard,
-        &mut door,
+        yard,
+        door,
         bell,
         recorder,
         devices,
@@ -105,7 +163,8 @@ pub fn serve<
     )
 }
 
-/// Serves at a door, over ledgers of its own.
+/// Serves at a door, over ledgers of its own. It starts the threads of the workers, so it has a type
+/// parameter for each type that goes to them.
 fn serve_with<
     W: Threads + Wait + Copy + Send + Sync + Drop + 'static,
     R: Recorder + Send + 'static,
@@ -124,7 +183,7 @@ fn serve_with<
 >(
     rt: W,
     alloc: Global,
-    yard: &mut Y,
+    yard: Y,
     door: &mut D,
     bell: B,
     recorder: R,
@@ -132,7 +191,7 @@ fn serve_with<
     entries: Blank,
     moved: Blank,
     marks: Blank,
-) -> Served
+) -> Ended<R>
     requires entries { (entries.name ≡ E.name) × (entries.parts ≡ E.parts)
         × (entries.parts ≡ ALL_PARTS) }
     requires moved { (moved.name ≡ M.name) × (moved.parts ≡ M.parts)
@@ -140,24 +199,42 @@ fn serve_with<
     requires marks { (marks.name ≡ K.name) × (marks.parts ≡ K.parts)
         × (marks.parts ≡ ALL_PARTS) }
     requires fresh { (R.faults recorder ≡ 0) × IsFresh (R.told recorder) }
+    requires stands { R.stands recorder [] }
     requires steady { K.steady → R.steady recorder }
-    ensures record { K.steady → result ≢ Served.RecordFault }
-    ensures door { D.steady door.old → result ≢ Served.DoorFault }
-    ensures lasting { D.lasting door.old → result ≢ Served.Done }
-    ensures note { result ≢ Served.WriteFault }
+    ensures kept { KeepsHistory R.stands R.faults result.served result.recorder }
+    ensures record { K.steady → result.served ≢ Served.RecordFault }
+    ensures door { D.steady door.old → result.served ≢ Served.DoorFault }
+    ensures fault { result.served ≡ Served.DoorFault
+        → Rises (D.faults door.old) (D.faults door.new) }
+    ensures lasting { D.lasting door.old → result.served ≢ Served.Done }
+    ensures closed { result.served ≡ Served.Done → HasClosed (D.came door.new) }
+    ensures note { result.served ≢ Served.WriteFault }
 {
+    let mut yard = yard;
     let Ok(bell) = BellHandle::new(alloc, bell) else {
-        return Served::OutOfMemory;
+        return starved();
     };
-    let Ok(mut crew) = crew_of(rt, alloc, yard.staff()) else {
-        return Served::OutOfMemory;
+    let Ok(mut pool) = pool_of(rt, alloc, yard.staff()) else {
+        return starved();
     };
     let hall = LockedHall::<R, E, M, K, W>::new(rt, alloc, recorder, entries, moved, marks);
     let Ok(mut hall) = hall else {
-        return Served::OutOfMemory;
+        return starved();
     };
-    let mut jobs = Workers { rt, bell };
-    serve_all(
-        rt, alloc, &mut jobs, &mut crew, &mut hall, yard, door, devices,
-    )
+    let mut supplies = Supplies {
+        rt,
+        alloc,
+        bell,
+        jobs: Workers {},
+        yard,
+    };
+    let served = serve_all::<W, Over<R, E, M, K, I, O, P, X, Z, G, BellHandle<B>>, D, Y, Workers>(
+        &mut supplies,
+        &mut pool,
+        &mut hall,
+        door,
+        devices,
+    );
+    pool.finish();
+    end_of(served, hall.close())
 }

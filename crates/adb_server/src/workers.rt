@@ -1,59 +1,87 @@
-//! The jobs by which those who come are served.
+//! The jobs of a server's clients and devices, and the threads that run them.
 
 use crate::arriving::{Arrival, Linked};
 use adb_binder::Binder;
-use adb_capture::Recorder;
 use adb_connections::{Bell, DeviceIn, DeviceOut, Gate, PortIn, PortOut};
 use adb_desk_log::Marks;
 use adb_hall::Hall;
 use adb_hub::Owner;
-use adb_locked_hall::LockedHall;
-use adb_spawner::{Crew, Job, NoThread};
-use adb_work::{BellHandle, Kits, Task, Work, make_kits};
+use adb_recorder::Recorder;
+use adb_spawner::{Crew, Job};
+use adb_work::{BellHandle, Contexts, HallOf, Parts, Ringing, Task, Work};
 use adb_yard::Staff;
 use std::alloc::{AllocError, Global};
+use std::marker::PhantomData;
 use std::sync::Wait;
 use std::sync::ledger::Ledger;
 use std::thread::Threads;
 
-/// The jobs of a client's or a device's two workers, and whose they are.
+/// The parts of a server, with a type parameter for each. A function that starts threads names its
+/// parts by this type, since the bounds of its own type parameters say that jobs are `Send`.
 #[derive(Drop)]
-pub(crate) struct Pair<J: Drop> {
-    owner: Owner,
-    reader: J,
-    writer: J,
+pub(crate) struct Over<R, E, M, K, I, O, P, X, Z, G, B> {
+    recorder: PhantomData<R>,
+    entries: PhantomData<E>,
+    moved: PhantomData<M>,
+    marks: PhantomData<K>,
+    client_in: PhantomData<I>,
+    client_out: PhantomData<O>,
+    binder: PhantomData<P>,
+    device_in: PhantomData<X>,
+    device_out: PhantomData<Z>,
+    gate: PhantomData<G>,
+    bell: PhantomData<B>,
 }
 
-/// What makes jobs. Who lets clients and devices in is proved over this, so without what a job is
-/// made of; and it starts none, since in the impl of a trait no thread can be started.
-pub(crate) trait Jobs<H, G: Drop, P: Drop, A: Drop, L: Drop> {
-    /// What two workers own. It is made before who comes is asked for, so that nobody is let in for
-    /// whom there is no memory.
-    type Kits: Drop;
+impl<
+    R: Recorder,
+    E: Ledger,
+    M: Ledger,
+    K: Marks,
+    I: PortIn + Drop + 'static,
+    O: PortOut + Drop + 'static,
+    P: Binder + Drop + 'static,
+    X: DeviceIn,
+    Z: DeviceOut,
+    G: Gate + Drop + 'static,
+    B: Ringing,
+> Parts for Over<R, E, M, K, I, O, P, X, Z, G, B> {
+    type Recorder = R;
 
+    type Entries = E;
+
+    type Moved = M;
+
+    type Marks = K;
+
+    type ClientIn = I;
+
+    type ClientOut = O;
+
+    type Binder = P;
+
+    type DeviceIn = X;
+
+    type DeviceOut = Z;
+
+    type Gate = G;
+
+    type Bell = B;
+}
+
+/// Makes jobs of workers, which are a `Work<W, P>`. A function over `P: Parts` can't show that these
+/// are `Send`; an implementation of this trait shows it.
+pub(crate) trait Jobs<T: Drop>: Drop {
     /// The job of one worker.
     type Job: Job + Send + Drop + 'static;
 
-    /// Makes what two workers own, with a gate for each.
-    fn provide(&mut self, hall: &H, gates: (G, G)) -> Result<Self::Kits, AllocError>;
-
-    /// The jobs of who came.
-    fn pair(&mut self, kits: Self::Kits, guest: Guest<P, A, L>) -> Pair<Self::Job>;
+    /// Makes the job of a worker.
+    fn job(&self, work: T) -> Self::Job;
 }
 
-/// Who came: a client, with what makes its ports, or a device.
+/// Each worker is its own job, which may run in another thread.
 #[derive(Drop)]
-pub(crate) enum Guest<P: Drop, A: Drop, L: Drop> {
-    Client(P, A),
-    Device(L),
-}
-
-/// Jobs over a locked hall, which ring the bell of a door.
-#[derive(Drop)]
-pub(crate) struct Workers<W: Drop, B: Drop> {
-    pub(crate) rt: W,
-    pub(crate) bell: BellHandle<B>,
-}
+pub(crate) struct Workers {}
 
 impl<
     W: Wait + Copy + Send + Sync + Drop + 'static,
@@ -64,74 +92,91 @@ impl<
     I: PortIn + Send + Drop + 'static,
     O: PortOut + Send + Drop + 'static,
     P: Binder + Send + Drop + 'static,
-    G: Gate + Send + Drop + 'static,
-    B: Bell,
     X: DeviceIn + Send + 'static,
     Z: DeviceOut + Send + 'static,
-> Jobs<LockedHall<R, E, M, K, W>, G, P, Arrival<E, M, K, I, O>, Linked<E, M, K, X, Z>>
-    for Workers<W, B> {
-    type Kits = Kits<W, R, E, M, K, G, BellHandle<B>>;
+    G: Gate + Send + Drop + 'static,
+    B: Bell,
+> Jobs<Work<W, Over<R, E, M, K, I, O, P, X, Z, G, BellHandle<B>>>> for Workers {
+    type Job = Work<W, Over<R, E, M, K, I, O, P, X, Z, G, BellHandle<B>>>;
 
-    type Job = Work<W, R, E, M, K, I, O, P, G, BellHandle<B>, X, Z>;
-
-    fn provide(
-        &mut self,
-        hall: &LockedHall<R, E, M, K, W>,
-        gates: (G, G),
-    ) -> Result<Kits<W, R, E, M, K, G, BellHandle<B>>, AllocError> {
-        make_kits(self.rt, gates, hall, &self.bell)
-    }
-
-    fn pair(
-        &mut self,
-        kits: Kits<W, R, E, M, K, G, BellHandle<B>>,
-        guest: Guest<P, Arrival<E, M, K, I, O>, Linked<E, M, K, X, Z>>,
-    ) -> Pair<Work<W, R, E, M, K, I, O, P, G, BellHandle<B>, X, Z>> {
-        match guest {
-            Guest::Client(ports, arrival) => Pair {
-                owner: Owner::Client(arrival.reading.number()),
-                reader: Work::ReadClient(Task {
-                    kit: kits.reader,
-                    pass: arrival.reading,
-                    port: arrival.input,
-                    aid: ports,
-                }),
-                writer: Work::WriteClient(Task {
-                    kit: kits.writer,
-                    pass: arrival.writing,
-                    port: arrival.output,
-                    aid: (),
-                }),
-            },
-            Guest::Device(linked) => {
-                let Linked {
-                    device,
-                    packets,
-                    reading,
-                    writing,
-                } = linked;
-                Pair {
-                    owner: Owner::Link(reading.number()),
-                    reader: Work::ReadDevice(Task {
-                        kit: kits.reader,
-                        pass: reading,
-                        port: device.input,
-                        aid: packets,
-                    }),
-                    writer: Work::WriteDevice(Task {
-                        kit: kits.writer,
-                        pass: writing,
-                        port: device.output,
-                        aid: (),
-                    }),
-                }
-            }
-        }
+    fn job(
+        &self,
+        work: Work<W, Over<R, E, M, K, I, O, P, X, Z, G, BellHandle<B>>>,
+    ) -> Work<W, Over<R, E, M, K, I, O, P, X, Z, G, BellHandle<B>>> {
+        work
     }
 }
 
-/// Who runs the jobs of a server.
-pub(crate) fn crew_of<
+/// The jobs of a client's or a device's two workers, and which client or device it is.
+#[derive(Drop)]
+pub(crate) struct Pair<J: Drop> {
+    owner: Owner,
+    reader: J,
+    writer: J,
+}
+
+/// Makes the jobs of a client. `binder` binds the ports of its forwards.
+pub(crate) fn client_jobs<W: Wait + Copy + Drop, P: Parts, S: Jobs<Work<W, P>>>(
+    jobs: &S,
+    contexts: Contexts<W, P>,
+    binder: P::Binder,
+    arrival: Arrival<P>,
+) -> Pair<S::Job> {
+    let Arrival {
+        input,
+        output,
+        reading,
+        writing,
+    } = arrival;
+    Pair {
+        owner: Owner::Client(reading.number()),
+        reader: jobs.job(Work::ReadClient(Task {
+            context: contexts.reader,
+            pass: reading,
+            port: input,
+            aid: binder,
+        })),
+        writer: jobs.job(Work::WriteClient(Task {
+            context: contexts.writer,
+            pass: writing,
+            port: output,
+            aid: (),
+        })),
+    }
+}
+
+/// Makes the jobs of a device.
+pub(crate) fn device_jobs<W: Wait + Copy + Drop, P: Parts, S: Jobs<Work<W, P>>>(
+    jobs: &S,
+    contexts: Contexts<W, P>,
+    linked: Linked<P>,
+) -> Pair<S::Job> {
+    let Linked {
+        device,
+        packets,
+        reading,
+        writing,
+    } = linked;
+    Pair {
+        owner: Owner::Link(reading.number()),
+        reader: jobs.job(Work::ReadDevice(Task {
+            context: contexts.reader,
+            pass: reading,
+            port: device.input,
+            aid: packets,
+        })),
+        writer: jobs.job(Work::WriteDevice(Task {
+            context: contexts.writer,
+            pass: writing,
+            port: device.output,
+            aid: (),
+        })),
+    }
+}
+
+/// Makes the worker pool that a yard asks for. `AllocError`: an allocation failed, and there is no
+/// pool.
+pub(crate) fn pool_of<
     W: Threads + Wait + Copy + Send + Sync + Drop + 'static,
     J: Job + Send + Drop + 'static,
 >(rt: W, alloc: Global, staff: Staff) -> Result<Crew<W, J>, AllocError> {
@@ -141,53 +186,39 @@ pub(crate) fn crew_of<
     }
 }
 
-/// Starts two workers. Where no thread can be had for one the input of its client or its device is
-/// ended, and where that is so of the writer its connection is closed within this call.
+/// Starts the two workers of a client or of a device.
+///
+/// If no thread can be started for the reader, its job is dropped and the hall records an End or a
+/// Detach by NoThread, so that the writer closes the connection. If none can be started for the
+/// writer, the hall records the same and this call runs the writer's job, which closes the
+/// connection.
 pub(crate) fn start<
     W: Threads + Wait + Copy + Send + Sync + Drop + 'static,
     J: Job + Send + Drop + 'static,
-    R: Recorder,
-    E: Ledger,
-    M: Ledger,
-    K: Marks,
->(crew: &mut Crew<W, J>, hall: &mut LockedHall<R, E, M, K, W>, pair: Pair<J>) {
+    P: Parts,
+>(pool: &mut Crew<W, J>, hall: &mut HallOf<W, P>, pair: Pair<J>) {
     let Pair {
         owner,
         reader,
         writer,
     } = pair;
-    if let Err(job) = crew.spawn(reader) {
-        strand(hall, owner, crew.no_thread());
+    if let Err(job) = pool.spawn(reader) {
+        let _ = hall.strand(owner, pool.no_thread());
         drop(job);
     }
-    if let Err(job) = crew.spawn(writer) {
-        strand(hall, owner, crew.no_thread());
+    if let Err(job) = pool.spawn(writer) {
+        let _ = hall.strand(owner, pool.no_thread());
         job.run();
     }
 }
 
-/// Starts the workers of devices, in their order.
+/// Starts the workers of devices, in the order of the list.
 pub(crate) fn start_all<
     W: Threads + Wait + Copy + Send + Sync + Drop + 'static,
     J: Job + Send + Drop + 'static,
-    R: Recorder,
-    E: Ledger,
-    M: Ledger,
-    K: Marks,
->(crew: &mut Crew<W, J>, hall: &mut LockedHall<R, E, M, K, W>, plugged: Vec<Pair<J>>) {
-    for pair in plugged {
-        start(crew, hall, pair);
+    P: Parts,
+>(pool: &mut Crew<W, J>, hall: &mut HallOf<W, P>, pairs: Vec<Pair<J>>) {
+    for pair in pairs {
+        start::<W, J, P>(pool, hall, pair);
     }
-}
-
-/// Ends the input of a client or a device for whose worker no thread can be had.
-fn strand<E: Ledger, M: Ledger, K: Marks, H: Hall<E, M, K>>(
-    hall: &mut H,
-    owner: Owner,
-    shown: NoThread,
-) {
-    let _ = match owner {
-        Owner::Client(client) => hall.no_thread_client(client, shown),
-        Owner::Link(link) => hall.no_thread_link(link, shown),
-    };
 }

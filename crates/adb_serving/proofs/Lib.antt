@@ -1,1 +1,2 @@
 mod Live
+pub mod Record

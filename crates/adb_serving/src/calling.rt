@@ -10,11 +10,11 @@ ghost use Rattle.adb_words.specs.Tools.{names_tool, tool_of};
 ghost use Rattle.adb_words.specs.Words.{texts};
 
 use crate::devices::LocalDevice;
-use crate::yards::open_yard;
-use adb_outside::{NeverSink, Sink, Source};
-use adb_ports::Ending;
+use adb_outside::{Sink, Source};
+use adb_ports::{Ending, RealYard};
 use adb_top::{Status, run, say_out_of_memory};
 use std::alloc::Global;
+use std::marker::Brand;
 use std::net::{Net, TcpListener, TcpStream};
 use std::sync::Wait;
 use std::thread::Threads;
@@ -47,11 +47,8 @@ pub(crate) fn call_live<
     let Ok(ending) = Ending::new(alloc) else {
         return say_out_of_memory(note);
     };
-    let Ok((yard, helpers)) = open_yard(rt, alloc, ending, NeverSink::new()) else {
-        return say_out_of_memory(note);
-    };
+    let yard = RealYard::<W, Brand>::new(rt, alloc, ending, None);
     let nobody = Vec::<LocalDevice<W>>::new(alloc);
-    let status = run(rt, alloc, words, source, sink, note, yard, nobody);
-    let _ = helpers.finish();
-    status
+    let ran = run(rt, alloc, words, source, sink, note, yard, nobody);
+    ran.status
 }

@@ -7,8 +7,9 @@ mod devices;
 mod either;
 mod running;
 mod serving;
+mod started;
 mod starting;
-mod yards;
 
 pub use adb_streams::Stream;
+pub use started::Started;
 pub use starting::{start, words_of};

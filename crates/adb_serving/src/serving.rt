@@ -1,29 +1,37 @@
 //! A server over the sockets and the threads of this machine.
 
-ghost use Rattle.std.specs.Prelude.{◌≡◌, None, Some, true};
+ghost use Rattle.std.specs.Prelude.{◌≡◌, ◌≢◌, [], IfOk, None, Some, true, false};
 ghost use Rattle.adb_asking.specs.Telling.{seen};
 ghost use Rattle.adb_serving.specs.Live.{Ended, ServesLive};
+ghost use Rattle.adb_serving.specs.History.{GivesRecord, asks_record};
+ghost use Rattle.adb_record.specs.Live.{Keeps, live_faults};
+ghost use Rattle.adb_top.specs.Kept.{KeepsRecord};
 ghost use Rattle.adb_top.specs.Usage.{SaysUsage};
 ghost use Rattle.adb_words.specs.Serve.{Serving, is_serve, serve_of};
 ghost use Rattle.adb_words.specs.Words.{texts};
 
 use crate::devices::{LocalDevice, devices_of};
-use crate::yards::open_yard;
+use crate::started::Started;
 use adb_outside::{Sink, Source};
-use adb_ports::Ending;
-use adb_top::{Status, run, say_out_of_memory, say_record_fault, wanted};
-use adb_words::WordsError;
+use adb_ports::{
+    Begun, Ending, LiveRecorder, Named, PipeSink, RealYard, Settled, WillWrite, Written,
+    begin_record, end_record,
+};
+use adb_top::{Ran, Status, run, say_out_of_memory, say_record_fault, wanted};
+use adb_words::{WordsError, read_serve};
 use std::alloc::{AllocError, Global};
+use std::marker::Brand;
 use std::net::{Net, TcpListener, TcpStream};
 use std::sync::Wait;
-use std::thread::Threads;
+use std::thread::{PromisedHandle, Threads};
 
-/// Serves as the words say, with the devices that they ask for, and writes the record to a sink of
-/// its own. It is `adb_top::run` over a yard of this machine; a record that could not be written out
-/// to its end is a fault of the recorder, too.
+/// Serves as the words say, with the devices that they ask for. If they ask for a record, it goes to
+/// `history` through a pipe and a thread of its own, and the sink is returned when the server has
+/// ended and the record is written. Otherwise `history` is returned as it was.
 ///
-/// Words that are no command serve nobody. Where memory runs out over the devices or the yard, no
-/// port is listened on.
+/// It is `adb_top::run` over a yard of this machine. If a write of the record failed, a status of Done
+/// becomes RecordFault. If an allocation fails before there is a yard, or the system has no thread for
+/// the record, no port is listened on and the status is OutOfMemory.
 pub(crate) fn serve_live<
     W: Net<Listener = TcpListener, Stream = TcpStream>
         + Threads
@@ -45,8 +53,116 @@ pub(crate) fn serve_live<
     sink: &mut K,
     note: &mut N,
     history: R,
+) -> Started<R>
+    requires serve { is_serve (texts words.now) ≡ true }
+    ensures untouched { (source.new ≡ source.old) × (sink.new ≡ sink.old) }
+    ensures usage { serve_of (texts words.now) ≡ None
+        → SaysUsage result.status (seen N.steady N.faults N.written) note.old note.new }
+    ensures command { result.status ≡ Status.Usage → serve_of (texts words.now) ≡ None }
+    ensures serves { (asked : Serving) → serve_of (texts words.now) ≡ Some asked
+        → ServesLive asked.port result.status (seen N.steady N.faults N.written) note.old note.new }
+    ensures unasked { asks_record (texts words.now) ≡ false → result.history ≡ Some history }
+    ensures record { asks_record (texts words.now) ≡ true
+        → GivesRecord R.written history result.status result.history }
+{
+    let Ok(prepared) = prepare(rt, alloc, words) else {
+        return Started {
+            status: say_out_of_memory(note),
+            history: Some(history),
+        };
+    };
+    if !prepared.records {
+        let status = serve_unrecorded(rt, alloc, words, source, sink, note, prepared);
+        return Started {
+            status,
+            history: Some(history),
+        };
+    }
+    let Ok(begun) = begin_record(rt, alloc, history) else {
+        return Started {
+            status: say_out_of_memory(note),
+            history: None,
+        };
+    };
+    serve_recorded::<W, Brand, S, K, N, R>(rt, alloc, words, source, sink, note, prepared, begun)
+}
+
+/// The flag of a server that ends, its devices, and whether its words ask for a record.
+#[derive(Drop)]
+struct Prepared<
+    W: Net<Listener = TcpListener, Stream = TcpStream>
+        + Threads
+        + Wait
+        + Copy
+        + Send
+        + Sync
+        + Drop
+        + 'static,
+> {
+    ending: Ending,
+    devices: Vec<LocalDevice<W>>,
+    records: bool,
+}
+
+/// Makes the devices that the words ask for; none if they are no command.
+fn prepare<
+    W: Net<Listener = TcpListener, Stream = TcpStream>
+        + Threads
+        + Wait
+        + Copy
+        + Send
+        + Sync
+        + Drop
+        + 'static,
+>(rt: W, alloc: Global, words: &[String]) -> Result<Prepared<W>, AllocError>
+    requires serve { is_serve (texts words.now) ≡ true }
+    ensures { IfOk result (λ prepared. prepared.records ≡ asks_record (texts words.now)) }
+{
+    let ending = Ending::new(alloc)?;
+    let devices = devices_for(rt, alloc, words, &ending)?;
+    let records = is_recorded(alloc, words)?;
+    Ok(Prepared {
+        ending,
+        devices,
+        records,
+    })
+}
+
+/// Returns whether the words ask for a record.
+fn is_recorded(alloc: Global, words: &[String]) -> Result<bool, AllocError>
+    ensures { IfOk result (λ records. records ≡ asks_record (texts words.now)) }
+{
+    match read_serve(alloc, words) {
+        Ok(serve) => Ok(serve.records),
+        Err(WordsError::Usage) => Ok(false),
+        Err(WordsError::OutOfMemory) => Err(AllocError),
+    }
+}
+
+/// Serves without a record.
+fn serve_unrecorded<
+    W: Net<Listener = TcpListener, Stream = TcpStream>
+        + Threads
+        + Wait
+        + Copy
+        + Send
+        + Sync
+        + Drop
+        + 'static,
+    S: Source,
+    K: Sink,
+    N: Sink,
+>(
+    rt: W,
+    alloc: Global,
+    words: &[String],
+    source: &mut S,
+    sink: &mut K,
+    note: &mut N,
+    prepared: Prepared<W>,
 ) -> Status
     requires serve { is_serve (texts words.now) ≡ true }
+    requires unasked { asks_record (texts words.now) ≡ false }
     ensures untouched { (source.new ≡ source.old) × (sink.new ≡ sink.old) }
     ensures usage { serve_of (texts words.now) ≡ None
         → SaysUsage result (seen N.steady N.faults N.written) note.old note.new }
@@ -54,24 +170,106 @@ pub(crate) fn serve_live<
     ensures serves { (asked : Serving) → serve_of (texts words.now) ≡ Some asked
         → ServesLive asked.port result (seen N.steady N.faults N.written) note.old note.new }
 {
-    let Ok(ending) = Ending::new(alloc) else {
-        return say_out_of_memory(note);
-    };
-    let Ok(devices) = devices_for(rt, alloc, words, &ending) else {
-        return say_out_of_memory(note);
-    };
-    let Ok((yard, helpers)) = open_yard(rt, alloc, ending, history) else {
-        return say_out_of_memory(note);
-    };
-    let status = run(rt, alloc, words, source, sink, note, yard, devices);
-    let kept = helpers.finish();
-    ended(note, status, kept)
+    let Prepared {
+        ending,
+        devices,
+        records: _,
+    } = prepared;
+    let yard = RealYard::<W, Brand>::new(rt, alloc, ending, None);
+    let ran = run(rt, alloc, words, source, sink, note, yard, devices);
+    ran.status
 }
 
-/// How a server ended, by whether its record was written out.
+/// Serves with the record that was begun, whose pipe is named by `B`.
+fn serve_recorded<
+    W: Net<Listener = TcpListener, Stream = TcpStream>
+        + Threads
+        + Wait
+        + Copy
+        + Send
+        + Sync
+        + Drop
+        + 'static,
+    B: Named + Send + 'static,
+    S: Source,
+    K: Sink,
+    N: Sink,
+    R: Sink + Send + Drop + 'static,
+>(
+    rt: W,
+    alloc: Global,
+    words: &[String],
+    source: &mut S,
+    sink: &mut K,
+    note: &mut N,
+    prepared: Prepared<W>,
+    begun: Begun<W, R>,
+) -> Started<R>
+    requires serve { is_serve (texts words.now) ≡ true }
+    requires asked { asks_record (texts words.now) ≡ true }
+    requires pipe { Some begun.out.pipe ≡ B.pipe }
+    requires begun { (begun.out.put ≡ [])
+        × (begun.writing.promise.input.value.pipe ≡ begun.out.pipe) }
+    ensures untouched { (source.new ≡ source.old) × (sink.new ≡ sink.old) }
+    ensures usage { serve_of (texts words.now) ≡ None
+        → SaysUsage result.status (seen N.steady N.faults N.written) note.old note.new }
+    ensures command { result.status ≡ Status.Usage → serve_of (texts words.now) ≡ None }
+    ensures serves { (asked : Serving) → serve_of (texts words.now) ≡ Some asked
+        → ServesLive asked.port result.status (seen N.steady N.faults N.written) note.old note.new }
+    ensures record { GivesRecord R.written begun.writing.promise.sink.value
+        result.status result.history }
+{
+    let Prepared {
+        ending,
+        devices,
+        records: _,
+    } = prepared;
+    let Begun {
+        out,
+        failure,
+        writing,
+    } = begun;
+    let into = PipeSink::<W, B>::new(alloc, out, failure);
+    let yard = RealYard::<W, B>::new(rt, alloc, ending, Some(into));
+    let Ran { status, recorder } = run(rt, alloc, words, source, sink, note, yard, devices);
+    settle_record::<W, B, N, R>(&rt, note, status, recorder, writing)
+}
+
+/// Ends the record of a server that has ended, and returns its sink. A server that did not serve has
+/// no recorder, and its sink is dropped.
+fn settle_record<W: Threads + Wait + Drop, B: Named, N: Sink, R: Sink + Drop>(
+    rt: &W,
+    note: &mut N,
+    status: Status,
+    recorder: Option<LiveRecorder<W, B>>,
+    writing: PromisedHandle<Written<W, R>, WillWrite<W, R>>,
+) -> Started<R>
+    requires { Some writing.promise.input.value.pipe ≡ B.pipe }
+    ensures ended { Ended status result.status
+        (seen N.steady N.faults N.written) note.old note.new }
+    ensures command { result.status ≡ Status.Usage → status ≡ Status.Usage }
+    ensures record { KeepsRecord Keeps live_faults status recorder
+        → GivesRecord R.written writing.promise.sink.value result.status result.history }
+{
+    let Some(recorder) = recorder else {
+        drop(writing.join(rt));
+        return Started {
+            status,
+            history: None,
+        };
+    };
+    let Settled { sink, whole } = end_record(rt, recorder, writing);
+    Started {
+        status: ended(note, status, whole),
+        history: Some(sink),
+    }
+}
+
+/// Returns how a server ended, by whether its record was written.
 fn ended<N: Sink>(note: &mut N, status: Status, kept: bool) -> Status
     ensures ended { Ended status result (seen N.steady N.faults N.written) note.old note.new }
     ensures command { result ≡ Status.Usage → status ≡ Status.Usage }
+    ensures done { result ≡ Status.Done → (status ≡ Status.Done) × (kept ≡ true) }
 {
     match status {
         Status::Done if !kept => say_record_fault(note),
@@ -79,7 +277,7 @@ fn ended<N: Sink>(note: &mut N, status: Status, kept: bool) -> Status
     }
 }
 
-/// The devices that the words ask for; none, where they are no command.
+/// Makes the devices that the words ask for; none if they are no command.
 fn devices_for<
     W: Net<Listener = TcpListener, Stream = TcpStream>
         + Threads

@@ -8,6 +8,7 @@ ghost use Rattle.adb_top.specs.Notes.{usage_line, out_of_memory_line, IsJust, Wr
 ghost use Rattle.adb_top.specs.Faults.{tells_write_fault};
 ghost use Rattle.adb_outside.specs.Outside.{Counts};
 ghost use Rattle.adb_serving.specs.Live.{ServesLive, live_yard};
+ghost use Rattle.adb_serving.specs.History.{GivesRecord, asks_record};
 ghost use Rattle.adb_top.specs.Tools.{RunsTool};
 ghost use Rattle.adb_top.specs.Usage.{SaysUsage};
 ghost use Rattle.adb_words.specs.Serve.{Serving, is_serve, serve_of};
@@ -15,6 +16,7 @@ ghost use Rattle.adb_words.specs.Tools.{names_tool, tool_of};
 ghost use Rattle.adb_words.specs.Words.{texts};
 
 use crate::running::run_live;
+use crate::started::Started;
 use adb_outside::{Sink, Source};
 use adb_top::{Status, say_out_of_memory, say_usage};
 use std::alloc::Global;
@@ -49,10 +51,10 @@ pub fn start<
     sink: &mut K,
     note: &mut N,
     history: R,
-) -> Status
+) -> Started<R>
     // Words that are there are run: a command that neither serves nor dials,
     ensures alone { IfOk words (λ list. is_serve (texts list.items) ≡ false
-        → names_tool (texts list.items) ≡ false → RunsAlone list.items result
+        → names_tool (texts list.items) ≡ false → RunsAlone list.items result.status
         (record { told = S.left; faults = S.faults; steady = S.steady })
         (record { told = K.written; faults = K.faults; steady = K.steady })
         (record { told = N.written; faults = N.faults; steady = N.steady })
@@ -64,45 +66,60 @@ pub fn start<
         → names_tool (texts list.items) ≡ true → RunsTool list.items
         (seen S.steady S.faults S.left) (seen K.steady K.faults K.written)
         (seen N.steady N.faults N.written) live_yard
-        source.old source.new sink.old sink.new note.old note.new 0 result) }
+        source.old source.new sink.old sink.new note.old note.new 0 result.status) }
     ensures unheard { IfOk words (λ list. is_serve (texts list.items) ≡ false
         → names_tool (texts list.items) ≡ true → tool_of (texts list.items) ≡ None
-        → SaysUsage result (seen N.steady N.faults N.written) note.old note.new
+        → SaysUsage result.status (seen N.steady N.faults N.written) note.old note.new
         × (source.new ≡ source.old) × (sink.new ≡ sink.old)) }
 
     // or a server, which reads nothing, and writes to its history and the note: where it listens,
     // and how it ended.
     ensures serves { IfOk words (λ list. (asked : Serving)
         → serve_of (texts list.items) ≡ Some asked
-        → ServesLive asked.port result (seen N.steady N.faults N.written) note.old note.new) }
+        → ServesLive asked.port result.status (seen N.steady N.faults N.written) note.old note.new) }
     ensures unread { IfOk words (λ list. is_serve (texts list.items) ≡ true
         → (source.new ≡ source.old) × (sink.new ≡ sink.old)) }
     ensures usage { IfOk words (λ list. is_serve (texts list.items) ≡ true
         → serve_of (texts list.items) ≡ None
-        → SaysUsage result (seen N.steady N.faults N.written) note.old note.new) }
+        → SaysUsage result.status (seen N.steady N.faults N.written) note.old note.new) }
     ensures command { IfOk words (λ list. is_serve (texts list.items) ≡ true
-        → result ≡ Status.Usage → serve_of (texts list.items) ≡ None) }
+        → result.status ≡ Status.Usage → serve_of (texts list.items) ≡ None) }
 
     // Where they are not there, nothing is read and nothing goes out, and the note says why: an
     // allocation failure, or that they are no command. WriteFault comes only where its count rose.
     ensures untouched { IfErr words (λ _. (source.new ≡ source.old) × (sink.new ≡ sink.old)) }
     ensures memory { IfErr words (λ error. error_kind error ≡ ErrorKind.OutOfMemory
-        → (result ≡ Status.OutOfMemory) ⊎ (result ≡ Status.WriteFault)) }
+        → (result.status ≡ Status.OutOfMemory) ⊎ (result.status ≡ Status.WriteFault)) }
     ensures memory_note { IfErr words (λ error. error_kind error ≡ ErrorKind.OutOfMemory
-        → WritesNote result (IsJust Status.OutOfMemory out_of_memory_line)
+        → WritesNote result.status (IsJust Status.OutOfMemory out_of_memory_line)
         N.faults N.written note.old note.new) }
     ensures no_text { IfErr words (λ error. error_kind error ≢ ErrorKind.OutOfMemory
-        → (result ≡ Status.Usage) ⊎ (result ≡ Status.WriteFault)) }
+        → (result.status ≡ Status.Usage) ⊎ (result.status ≡ Status.WriteFault)) }
     ensures no_text_note { IfErr words (λ error. error_kind error ≢ ErrorKind.OutOfMemory
-        → WritesNote result (IsJust Status.Usage usage_line)
+        → WritesNote result.status (IsJust Status.Usage usage_line)
         N.faults N.written note.old note.new) }
     ensures counts { IfErr words (λ _. Counts N.steady N.faults note.old note.new
-        (tells_write_fault result)) }
+        (tells_write_fault result.status)) }
+
+    // A server that is asked for a record gives it to the sink of its history: the magic and the
+    // records of a legal history, which is fifo, has its causes and is answered. Every other run
+    // returns the sink as it was.
+    ensures record { IfOk words (λ list. asks_record (texts list.items) ≡ true
+        → GivesRecord R.written history result.status result.history) }
+    ensures unasked { IfOk words (λ list. asks_record (texts list.items) ≡ false
+        → result.history ≡ Some history) }
+    ensures unused { IfErr words (λ _. result.history ≡ Some history) }
 {
     match words {
         Ok(words) => run_live(rt, alloc, words.as_slice(), source, sink, note, history),
-        Err(error) if error.kind() == ErrorKind::OutOfMemory => say_out_of_memory(note),
-        Err(_) => say_usage(note),
+        Err(error) if error.kind() == ErrorKind::OutOfMemory => Started {
+            status: say_out_of_memory(note),
+            history: Some(history),
+        },
+        Err(_) => Started {
+            status: say_usage(note),
+            history: Some(history),
+        },
     }
 }
 

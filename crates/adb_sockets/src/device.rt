@@ -9,8 +9,9 @@ use adb_outside::{Got, Wrote};
 use std::alloc::{AllocError, Global};
 use std::io;
 use std::io::ErrorKind;
-use std::net::{Net, Shutdown, TcpListener, TcpStream};
+use std::net::{Ipv4Addr, Net, Shutdown, SocketAddr, TcpListener, TcpStream};
 use std::sync::{Arc, OnceLock};
+use std::time::Duration;
 
 /// A link to a device: its stream, once it is plugged in.
 #[derive(Drop)]
@@ -19,7 +20,7 @@ struct Line {
     ending: Ending,
 }
 
-/// What a device sends that listens on a port of this machine. It tells nothing.
+/// The half of a link to a device at a port of this machine that is read. It tells nothing.
 #[derive(Drop)]
 pub struct TcpDeviceIn<W: Net<Listener = TcpListener, Stream = TcpStream> + Drop> {
     rt: W,
@@ -28,8 +29,8 @@ pub struct TcpDeviceIn<W: Net<Listener = TcpListener, Stream = TcpStream> + Drop
     faults: u64,
 }
 
-/// What such a device is sent. A write to one that does not read waits until the server ends, and
-/// fails then. It tells nothing.
+/// The half of such a link that is written to. A write to a device that does not read waits until the
+/// server ends, and fails then. It tells nothing.
 #[derive(Drop)]
 pub struct TcpDeviceOut {
     line: Arc<Line, Global>,
@@ -37,7 +38,8 @@ pub struct TcpDeviceOut {
     faults: u64,
 }
 
-/// The two halves of a link to the device at a port, which is not plugged in yet.
+/// The two halves of a link to the device at a port, which is not plugged in yet. It fails at an
+/// allocation failure.
 pub fn tcp_device<W: Net<Listener = TcpListener, Stream = TcpStream> + Drop>(
     rt: W,
     alloc: Global,
@@ -66,12 +68,16 @@ pub fn tcp_device<W: Net<Listener = TcpListener, Stream = TcpStream> + Drop>(
     Ok((input, output))
 }
 
+/// The seconds that a connect waits for a device at which too many connections wait already.
+const PATIENCE: u64 = 1;
+
 /// Connects to a port of this machine.
 fn connect<W: Net<Listener = TcpListener, Stream = TcpStream>>(
     rt: &W,
     port: u16,
 ) -> io::Result<TcpStream> {
-    let stream = TcpStream::connect(rt, ("127.0.0.1", port))?;
+    let address = SocketAddr::from((Ipv4Addr::LOCALHOST, port));
+    let stream = TcpStream::connect_timeout(rt, &address, Duration::from_secs(PATIENCE))?;
     set_up(&stream)?;
     Ok(stream)
 }
@@ -106,7 +112,8 @@ impl<W: Net<Listener = TcpListener, Stream = TcpStream> + Drop> DeviceIn for Tcp
 
     ghost steady = { λ device. ⊥ };
 
-    /// Connects. Where nobody listens on the port the device will not come.
+    /// Connects, and waits a second at most. If the port refuses the connection the device will not
+    /// come.
     fn plug(&mut self) -> Plug {
         let plug = plug(&self.rt, self.port, &self.line);
         if plug == Plug::Failed {
@@ -144,7 +151,7 @@ impl DeviceOut for TcpDeviceOut {
         self.write_both(&[], piece)
     }
 
-    /// Both parts by one call of the system, where that takes them whole.
+    /// Writes both parts by one call of the system, if that takes them whole.
     fn write_both(&mut self, start: &[u8], rest: &[u8]) -> Wrote {
         let wrote = match self.line.stream.get() {
             Some(stream) => send(stream, &self.line.ending, start, rest),
@@ -156,7 +163,7 @@ impl DeviceOut for TcpDeviceOut {
         wrote
     }
 
-    /// Ends both directions, so that the half that reads ends too.
+    /// Shuts both directions down, which ends the reads of the other half too.
     fn unplug(&mut self) {
         if let Some(stream) = self.line.stream.get() {
             let _ = stream.shutdown(Shutdown::Both);

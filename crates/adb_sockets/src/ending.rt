@@ -1,38 +1,38 @@
-//! The word that a server ends.
+//! Whether a server ends.
 
 use std::alloc::{AllocError, Global};
 use std::sync::Arc;
 use std::sync::atomic::{AtomicBool, Ordering};
 
-/// Whether the server ends. It is shared by the bell that says so, the door, and all that write: who
-/// writes to somebody that does not read gives up once it is said.
+/// Whether the server ends. The bell sets it; the door and every connection share it. A write to a
+/// peer that does not read fails once it is set.
 #[derive(Drop)]
 pub struct Ending {
-    said: Arc<AtomicBool, Global>,
+    flag: Arc<AtomicBool, Global>,
 }
 
 impl Ending {
-    /// It is not said yet.
+    /// Makes a flag that is not set. It fails at an allocation failure.
     pub fn new(alloc: Global) -> Result<Ending, AllocError> {
         Ok(Ending {
-            said: Arc::new(alloc, AtomicBool::new(false))?,
+            flag: Arc::new(alloc, AtomicBool::new(false))?,
         })
     }
 
-    /// The same word for one more who listens to it.
+    /// Returns one more owner of the same flag. It fails at an allocation failure.
     pub fn share(&self) -> Result<Ending, AllocError> {
         Ok(Ending {
-            said: Arc::try_clone(&self.said)?,
+            flag: Arc::try_clone(&self.flag)?,
         })
     }
 
-    /// Says it to all. It stays said.
-    pub fn say(&self) {
-        self.said.store(true, Ordering::SeqCst);
+    /// Sets it, and returns whether this call is the first that does. It stays set.
+    pub fn set(&self) -> bool {
+        !self.flag.swap(true, Ordering::SeqCst)
     }
 
-    /// Whether it was said.
-    pub fn is_said(&self) -> bool {
-        self.said.load(Ordering::SeqCst)
+    /// Returns whether it is set.
+    pub fn is_set(&self) -> bool {
+        self.flag.load(Ordering::SeqCst)
     }
 }

@@ -1,4 +1,4 @@
-//! Connections by TCP: the two halves of a client and of a device. Nagle's delay is off.
+//! TCP connections: the two halves of a client's and of a device's. Nagle's delay is off.
 //!
 //! No clause says what a socket carries. A call that is interrupted is made again, and each call
 //! that fails is counted.
@@ -11,4 +11,5 @@ mod socket;
 
 pub use device::{TcpDeviceIn, TcpDeviceOut, tcp_device};
 pub use ending::Ending;
-pub use port::{TcpIn, TcpOut, halves};
+pub use port::{TcpIn, TcpOut, accepted, halves};
+pub use socket::set_up_listener;

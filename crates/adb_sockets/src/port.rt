@@ -6,20 +6,20 @@ use crate::ending::Ending;
 use crate::socket::{receive, send, set_up};
 use adb_connections::{PortIn, PortOut};
 use adb_outside::{Got, Wrote};
-use std::alloc::Global;
+use std::alloc::{AllocError, Global};
 use std::io;
 use std::net::{Shutdown, TcpStream};
 use std::sync::Arc;
 
-/// What a client sends. It tells nothing.
+/// The half of a client's connection that is read. It tells nothing.
 #[derive(Drop)]
 pub struct TcpIn {
     stream: Arc<TcpStream, Global>,
     faults: u64,
 }
 
-/// What a client is sent. A write to one who does not read waits until the server ends, and fails
-/// then. It tells nothing.
+/// The half of a client's connection that is written to. A write to a client that does not read waits
+/// until the server ends, and fails then. It tells nothing.
 #[derive(Drop)]
 pub struct TcpOut {
     stream: Arc<TcpStream, Global>,
@@ -28,13 +28,29 @@ pub struct TcpOut {
     faults: u64,
 }
 
-/// The two halves of a connection. It fails where the system cannot set the stream up, and where
-/// memory is wanting; the stream is then closed.
+/// The two halves of a connection that was dialled.
+///
+/// It fails if the system cannot set the stream up, and at an allocation failure. The stream is then
+/// closed.
 pub fn halves(alloc: Global, stream: TcpStream, ending: &Ending) -> io::Result<(TcpIn, TcpOut)>
     ensures { IfOk result (λ ends. (ends.0.faults ≡ 0) × (ends.1.faults ≡ 0)
         × (ends.1.closed ≡ false)) }
 {
     set_up(&stream)?;
+    Ok(accepted(alloc, stream, ending)?)
+}
+
+/// The two halves of a connection that was accepted at a listener that is set up.
+///
+/// It fails at an allocation failure. The stream is then closed.
+pub fn accepted(
+    alloc: Global,
+    stream: TcpStream,
+    ending: &Ending,
+) -> Result<(TcpIn, TcpOut), AllocError>
+    ensures { IfOk result (λ ends. (ends.0.faults ≡ 0) × (ends.1.faults ≡ 0)
+        × (ends.1.closed ≡ false)) }
+{
     let stream = Arc::new(alloc, stream)?;
     let input = TcpIn {
         stream: Arc::try_clone(&stream)?,
@@ -82,7 +98,7 @@ impl PortOut for TcpOut {
         self.write_both(&[], piece)
     }
 
-    /// Both parts by one call of the system, where that takes them whole.
+    /// Writes both parts by one call of the system, if that takes them whole.
     fn write_both(&mut self, start: &[u8], rest: &[u8]) -> Wrote {
         let wrote = send(&self.stream, &self.ending, start, rest);
         if wrote != Wrote::All {
@@ -91,7 +107,8 @@ impl PortOut for TcpOut {
         wrote
     }
 
-    /// Ends both directions, so that the half that reads ends too. What was written still goes out.
+    /// Shuts both directions down, which ends the reads of the other half too. Bytes that were
+    /// written are still sent.
     fn close(&mut self) {
         let _ = self.stream.shutdown(Shutdown::Both);
         self.closed = true;

@@ -1,4 +1,4 @@
-//! What is done with a stream of the system.
+//! Calls on the sockets of the system.
 
 ghost use Rattle.std.specs.Prelude.{◌≡◌, ◌<◌, ◌≤◌, ◌++◌, length, drop};
 ghost use Rattle.std.specs.Io.Slices.{io_slices_bytes};
@@ -9,12 +9,19 @@ use crate::ending::Ending;
 use adb_outside::{Got, Wrote};
 use std::io;
 use std::io::{ErrorKind, IoSlice, Read};
-use std::net::TcpStream;
+use std::net::{TcpListener, TcpStream};
+use std::os::fd::OwnedFd;
 use std::time::Duration;
 
-/// How many seconds a write waits for one who does not read, before it looks whether the server
+/// The seconds that a write waits for a peer that does not read, before it looks whether the server
 /// ends.
 const PATIENCE: u64 = 1;
+
+/// Sets up a listener, and so what it accepts: the system copies the options of a listener to each
+/// connection. It fails if the system refuses an option or a descriptor.
+pub fn set_up_listener(listener: &TcpListener) -> io::Result<()> {
+    set_up(&TcpStream::from(OwnedFd::from(listener.try_clone()?)))
+}
 
 /// Turns Nagle's delay off, and sets how long a write waits.
 pub fn set_up(stream: &TcpStream) -> io::Result<()> {
@@ -22,7 +29,7 @@ pub fn set_up(stream: &TcpStream) -> io::Result<()> {
     stream.set_write_timeout(Some(Duration::from_secs(PATIENCE)))
 }
 
-/// Waits for bytes.
+/// Waits for bytes. An interrupted read is made again.
 pub fn receive(stream: &TcpStream, into: &mut [u8]) -> Got
     requires { 0 < length into.old }
     ensures { FitsBuffer into.old result }
@@ -39,8 +46,8 @@ pub fn receive(stream: &TcpStream, into: &mut [u8]) -> Got
     Got::Failed
 }
 
-/// Sends a piece that lies in two parts, one behind the other, by one call of the system where that
-/// takes it whole. It waits for one who does not read, until the server ends.
+/// Sends a piece that lies in two parts, one after the other, by one call of the system if that takes
+/// it whole. It waits for a peer that does not read, until the server ends.
 pub fn send(stream: &TcpStream, ending: &Ending, start: &[u8], rest: &[u8]) -> Wrote
     requires { 0 < length (start.now ++ rest.now) }
     ensures { FitsPiece (start.now ++ rest.now) result }
@@ -61,7 +68,7 @@ pub fn send(stream: &TcpStream, ending: &Ending, start: &[u8], rest: &[u8]) -> W
     Wrote::Failed { taken }
 }
 
-/// What is left of two parts, one behind the other, behind so many of their bytes.
+/// Two parts, one after the other, without so many of their first bytes.
 fn left<'a>(start: &'a [u8], rest: &'a [u8], taken: usize) -> [IoSlice<'a>; 2]
     requires { taken ≤ length (start.now ++ rest.now) }
     ensures { io_slices_bytes result ≡ drop taken (start.now ++ rest.now) }
@@ -72,11 +79,11 @@ fn left<'a>(start: &'a [u8], rest: &'a [u8], taken: usize) -> [IoSlice<'a>; 2]
     ]
 }
 
-/// Whether a write that met this is made again.
+/// Whether a write that failed so is made again.
 fn goes_on(kind: ErrorKind, ending: &Ending) -> bool {
     match kind {
         ErrorKind::Interrupted => true,
-        ErrorKind::WouldBlock => !ending.is_said(),
+        ErrorKind::WouldBlock => !ending.is_set(),
         _ => false,
     }
 }

@@ -5,5 +5,6 @@ pub mod ByCommand
 pub mod Statuses
 pub mod Promises
 pub mod Served
+pub mod Kept
 pub mod Calls
 pub mod Usage

@@ -4,6 +4,7 @@ pub mod Commands
 pub mod Run
 pub mod Alone
 pub mod Serve
+pub mod Kept
 pub mod ServedNote
 pub mod Tells
 pub mod Tools

@@ -4,6 +4,7 @@
 mod alone;
 mod alone_note;
 mod note;
+mod ran;
 mod running;
 mod serving;
 mod status;
@@ -13,6 +14,7 @@ mod wanting;
 
 pub use alone::run_alone;
 pub use note::{say_out_of_memory, say_record_fault, say_usage};
+pub use ran::Ran;
 pub use running::run;
 pub use status::Status;
 pub use wanting::wanted;

@@ -6,11 +6,13 @@ ghost use Rattle.adb_words.specs.Tools.{names_tool, tool_of};
 ghost use Rattle.adb_words.specs.Words.{texts};
 ghost use Rattle.adb_asking.specs.Telling.{seen};
 ghost use Rattle.adb_top.specs.Alone.{RunsAlone};
+ghost use Rattle.adb_top.specs.Kept.{KeepsRecord};
 ghost use Rattle.adb_top.specs.Serve.{Serves};
 ghost use Rattle.adb_top.specs.Tools.{RunsTool};
 ghost use Rattle.adb_top.specs.Usage.{SaysUsage};
 
 use crate::alone::run_alone;
+use crate::ran::Ran;
 use crate::serving::run_serve;
 use crate::status::Status;
 use crate::tools::run_call;
@@ -23,19 +25,19 @@ use std::alloc::Global;
 use std::sync::Wait;
 use std::thread::Threads;
 
-/// Does what the words behind the program's name say: `serve`, a client tool, or a command of
+/// Runs the command of the words after the program's name: `serve`, a client tool, or a command of
 /// `run_alone`.
 ///
 /// `serve` listens at a port of the yard, plugs in the devices that it is given, and serves the
 /// clients that come, until one of them kills the server. It reads nothing of the source and writes
-/// nothing to the sink; the history goes to the yard's recorder. It waits as long as its clients and
-/// devices do.
+/// nothing to the sink; the history goes to the yard's recorder, which is returned. It waits as long
+/// as its clients and devices do.
 ///
-/// A client tool asks the server at a port of this machine for one thing, and tells what it answers
+/// A client tool asks the server at a port of this machine for one thing, and prints the answer
 /// (`adb_tools::run_tool`). It waits as long as that server does.
 ///
-/// Each status but Done writes its one line to the note, behind the line that says where a server
-/// listens. Where that write fails the status is WriteFault, whose own line is tried then, once.
+/// Each status other than Done writes its one line to the note, after the line that says where a
+/// server listens. If that write fails, the status is WriteFault, whose own line is tried once.
 pub fn run<
     W: Threads + Wait + Copy + Send + Sync + Drop + 'static,
     S: Source,
@@ -53,10 +55,14 @@ pub fn run<
     note: &mut N,
     yard: Y,
     devices: Vec<Device<X, Z>>,
-) -> Status
+) -> Ran<Y::Keeper>
+    // The yard of a server has the recorder that the words ask for.
+    requires records { is_serve (texts words.now) ≡ true → (asked : Serving)
+        → serve_of (texts words.now) ≡ Some asked → Y.records yard asked.records }
+
     // A command that neither serves nor dials keeps each promise of `run_alone`.
     ensures alone { is_serve (texts words.now) ≡ false → names_tool (texts words.now) ≡ false
-        → RunsAlone words.now result
+        → RunsAlone words.now result.status
         (record { told = S.left; faults = S.faults; steady = S.steady })
         (record { told = K.written; faults = K.faults; steady = K.steady })
         (record { told = N.written; faults = N.faults; steady = N.steady })
@@ -68,19 +74,23 @@ pub fn run<
 
     // Words that begin with `serve` and are no command serve nobody, and the note says so.
     ensures usage { is_serve (texts words.now) ≡ true → serve_of (texts words.now) ≡ None
-        → SaysUsage result (seen N.steady N.faults N.written) note.old note.new }
-    ensures command { is_serve (texts words.now) ≡ true → result ≡ Status.Usage
+        → SaysUsage result.status (seen N.steady N.faults N.written) note.old note.new }
+    ensures command { is_serve (texts words.now) ≡ true → result.status ≡ Status.Usage
         → serve_of (texts words.now) ≡ None }
 
     // How a server ends, what the note has, and what no steady and no lasting yard comes to.
     ensures serves { (asked : Serving) → serve_of (texts words.now) ≡ Some asked
-        → Serves asked result (Y.steady yard) (Y.lasting yard)
+        → Serves asked result.status (Y.steady yard) (Y.lasting yard)
         (seen N.steady N.faults N.written) note.old note.new }
 
-    // Words that begin with a tool's name and are none call nobody, and the note says so.
+    // The recorder of a server comes back with the legal history that it kept, by its status.
+    ensures kept { (asked : Serving) → serve_of (texts words.now) ≡ Some asked
+        → KeepsRecord Y.Keeper.stands Y.Keeper.faults result.status result.recorder }
+
+    // Words that begin with a tool's name and are none dial nothing, and the note says so.
     ensures unheard { is_serve (texts words.now) ≡ false → names_tool (texts words.now) ≡ true
         → tool_of (texts words.now) ≡ None
-        → SaysUsage result (seen N.steady N.faults N.written) note.old note.new
+        → SaysUsage result.status (seen N.steady N.faults N.written) note.old note.new
         × (source.new ≡ source.old) × (sink.new ≡ sink.old) }
 
     // What a client tool asked for, what it told of the answer, and how it ended.
@@ -88,13 +98,13 @@ pub fn run<
         → RunsTool words.now
         (seen S.steady S.faults S.left) (seen K.steady K.faults K.written)
         (seen N.steady N.faults N.written) (seen Y.steady Y.faults Y.answers)
-        source.old source.new sink.old sink.new note.old note.new yard result }
+        source.old source.new sink.old sink.new note.old note.new yard result.status }
 {
     if is_serve(words) {
         run_serve(rt, alloc, words, note, yard, devices)
     } else if names_tool(words) {
-        run_call(rt, alloc, words, source, sink, note, yard)
+        Ran::bare(run_call(rt, alloc, words, source, sink, note, yard))
     } else {
-        run_alone(alloc, words, source, sink, note)
+        Ran::bare(run_alone(alloc, words, source, sink, note))
     }
 }

@@ -4,23 +4,25 @@ ghost use Rattle.std.specs.Prelude.{◌≡◌, None, Some, true};
 ghost use Rattle.adb_asking.specs.Telling.{seen};
 ghost use Rattle.adb_words.specs.Serve.{Serving, is_serve, serve_of};
 ghost use Rattle.adb_words.specs.Words.{texts};
+ghost use Rattle.adb_top.specs.Kept.{KeepsRecord};
 ghost use Rattle.adb_top.specs.Serve.{Serves};
 ghost use Rattle.adb_top.specs.Tells.{Tells};
 ghost use Rattle.adb_top.specs.Usage.{SaysUsage};
 
 use crate::note::{say_door_fault, say_lost_line, say_out_of_memory, say_record_fault, say_usage};
+use crate::ran::Ran;
 use crate::status::Status;
 use adb_connections::{DeviceIn, DeviceOut};
 use adb_device_reader::Device;
 use adb_outside::Sink;
-use adb_server::{Served, serve};
+use adb_server::{Ended, Served, serve};
 use adb_words::{WordsError, read_serve};
 use adb_yard::Yard;
 use std::alloc::Global;
 use std::sync::Wait;
 use std::thread::Threads;
 
-/// Serves as the words say, and tells the note how that ended where it is not done.
+/// Serves as the words say, and writes to the note how that ended unless it is Done.
 pub(crate) fn run_serve<
     W: Threads + Wait + Copy + Send + Sync + Drop + 'static,
     N: Sink,
@@ -34,26 +36,41 @@ pub(crate) fn run_serve<
     note: &mut N,
     yard: Y,
     devices: Vec<Device<X, Z>>,
-) -> Status
+) -> Ran<Y::Keeper>
     requires serve { is_serve (texts words.now) ≡ true }
+    requires records { (asked : Serving) → serve_of (texts words.now) ≡ Some asked
+        → Y.records yard asked.records }
     ensures usage { serve_of (texts words.now) ≡ None
-        → SaysUsage result (seen N.steady N.faults N.written) note.old note.new }
-    ensures command { result ≡ Status.Usage → serve_of (texts words.now) ≡ None }
+        → SaysUsage result.status (seen N.steady N.faults N.written) note.old note.new }
+    ensures command { result.status ≡ Status.Usage → serve_of (texts words.now) ≡ None }
     ensures serves { (asked : Serving) → serve_of (texts words.now) ≡ Some asked
-        → Serves asked result (Y.steady yard) (Y.lasting yard)
+        → Serves asked result.status (Y.steady yard) (Y.lasting yard)
         (seen N.steady N.faults N.written) note.old note.new }
+    ensures kept { (asked : Serving) → serve_of (texts words.now) ≡ Some asked
+        → KeepsRecord Y.Keeper.stands Y.Keeper.faults result.status result.recorder }
 {
     match read_serve(alloc, words) {
         Ok(asked) => {
-            let served = serve(rt, alloc, yard, devices, asked.port, asked.records, note);
-            say_served(note, served)
+            let ended = serve(rt, alloc, yard, devices, asked.port, asked.records, note);
+            say_ended(note, ended)
         }
-        Err(WordsError::Usage) => say_usage(note),
-        Err(WordsError::OutOfMemory) => say_served(note, Served::OutOfMemory),
+        Err(WordsError::Usage) => Ran::bare(say_usage(note)),
+        Err(WordsError::OutOfMemory) => Ran::bare(say_served(note, Served::OutOfMemory)),
     }
 }
 
-/// Tells the note how a server ended, where it is not done.
+/// Writes to the note how a server ended, and gives its recorder on.
+fn say_ended<N: Sink, R: Drop>(note: &mut N, ended: Ended<R>) -> Ran<R>
+    ensures tells { Tells ended.served result.status (seen N.steady N.faults N.written)
+        note.old note.new }
+    ensures recorder { result.recorder ≡ ended.recorder }
+{
+    let Ended { served, recorder } = ended;
+    let status = say_served(note, served);
+    Ran { status, recorder }
+}
+
+/// Writes to the note how a server ended, unless it is Done.
 fn say_served<N: Sink>(note: &mut N, served: Served) -> Status
     ensures { Tells served result (seen N.steady N.faults N.written) note.old note.new }
 {

@@ -1,4 +1,4 @@
--- What a hall refuses to the writers of clients and of links.
+-- The entries that a hall refuses to the writers of clients and of links.
 use Rattle.std.proofs.Common.{ℕ, ◌≡◌, Bool, true, false, [], Option, Some, None, refl, ap, arith, zero, suc, inl, inr}
 use Rattle.std.specs.Prelude.{◌⊎◌}
 use Rattle.std.proofs.lemmas.Bool.Decides.{nat_tests}
@@ -13,13 +13,17 @@ use Rattle.adb_hub.specs.Answers.{offered_to, due_on}
 use Rattle.adb_hub.specs.Refusal.{unless_drawn, unless_stopped}
 use Rattle.adb_desk_log.specs.declared.error.DeskError.{DeskError}
 use Rattle.adb_desk.specs.Desk.{desk_refusal, or_later}
-use Rattle.adb_writers.specs.Writing.{Side, client_side, link_side}
+use Rattle.adb_desk.specs.declared.act.Half.{Half}
+use Rattle.adb_desk.specs.declared.act.Half.TheVariants as half
+use Rattle.adb_desk.specs.Acts.{is_end}
+use Rattle.adb_writers.specs.Writing.{Side, side_of}
 
 -- A hand-out is refused only where the owner is gone, and the end of a connection only there and after a kill.
 pub record IsSide (side : Side) : Type 0 where
   pub unasked : (h : History) (error : DeskError) → IsLegal h → desk_refusal (side.hands []) (state h) ≡ Some error → side.due (state h) ≡ None
   pub unended : (h : History) (cause : Cause) (error : DeskError) → IsLegal h → desk_refusal (side.ends cause) (state h) ≡ Some error
       → (side.due (state h) ≡ None) ⊎ ((state h).stopped ≡ true)
+  pub ends : (cause : Cause) → is_end (side.ends cause) ≡ true
 
 -- nothing is kept under a number that was not drawn
 none_drawn : {A : Type 0} (drawn n : ℕ) (kept : ℕ → Option A) → IsDrawnOnly drawn kept → is_drawn drawn n ≡ false → kept n ≡ None
@@ -36,7 +40,7 @@ unended_by true b why error is = inr refl
 unended_by false true why error is = absurd (let clash : None ≡ Some error = is in cc)
 unended_by false false why error is = inl refl
 
-pub client_is : (c : ℕ) → IsSide (client_side c)
+client_is : (c : ℕ) → IsSide (side_of half.Client c)
 client_is c = record {
   unasked = λ h error legal is. gone h legal (undrawn (is_drawn (state h).joined c) (NoClient c) error is);
   unended = λ h cause error legal is.
@@ -44,12 +48,13 @@ client_is c = record {
         | inl b ↦ inl (gone h legal b)
         | inr stopped ↦ inr stopped
       ];
+  ends = λ cause. refl;
 }
   where
-    gone : (h : History) → IsLegal h → is_drawn (state h).joined c ≡ false → (client_side c).due (state h) ≡ None
+    gone : (h : History) → IsLegal h → is_drawn (state h).joined c ≡ false → (side_of half.Client c).due (state h) ≡ None
     gone h legal b = ap (offered_to (state h).devices) (none_drawn (state h).joined c (state h).clients (orderly h legal).clients b)
 
-pub link_is : (t : ℕ) → IsSide (link_side t)
+link_is : (t : ℕ) → IsSide (side_of half.Link t)
 link_is t = record {
   unasked = λ h error legal is. gone h legal (undrawn (is_drawn (state h).devices.drawn t) (NoLink t) error is);
   unended = λ h cause error legal is.
@@ -57,7 +62,12 @@ link_is t = record {
         | inl b ↦ inl (gone h legal b)
         | inr stopped ↦ inr stopped
       ];
+  ends = λ cause. refl;
 }
   where
-    gone : (h : History) → IsLegal h → is_drawn (state h).devices.drawn t ≡ false → (link_side t).due (state h) ≡ None
+    gone : (h : History) → IsLegal h → is_drawn (state h).devices.drawn t ≡ false → (side_of half.Link t).due (state h) ≡ None
     gone h legal b = ap due_on (none_drawn (state h).devices.drawn t (state h).links (orderly h legal).links b)
+
+pub side_is : (half : Half) (n : ℕ) → IsSide (side_of half n)
+side_is half.Client n = client_is n
+side_is half.Link n = link_is n

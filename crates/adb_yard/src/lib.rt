@@ -1,4 +1,4 @@
-//! What a server, and a client tool, is given of the outside.
+//! Yards: everything of the outside that a server or a client tool is given.
 #![tactic(auto)]
 
 mod no_yard;

@@ -1,15 +1,15 @@
-//! No yard.
+//! The yard of a program that neither serves nor dials.
 
 ghost use Rattle.std.specs.Prelude.{◌≡◌, true};
 ghost use Rattle.adb_outside.specs.Outside.{Counts};
 
 use crate::yard::{Dialled, Listening, Staff, Yard};
 use adb_binder::MemoryBinder;
-use adb_capture::NullRecorder;
 use adb_connections::{Came, Door, MemoryIn, MemoryOut, OpenGate, SilentBell};
+use adb_recorder::NullRecorder;
 use std::alloc::Global;
 
-/// A door at which nobody comes in.
+/// A door that is closed.
 #[derive(Drop)]
 pub struct NoDoor {}
 
@@ -28,13 +28,13 @@ impl Door for NoDoor {
 
     ghost steady = { λ door. ⊤ };
 
-    /// It is closed.
+    /// Answers `Closed`.
     fn accept(&mut self) -> Came<MemoryIn, MemoryOut> {
         Came::Closed
     }
 }
 
-/// The yard of a program that neither serves nor dials: it counts each try as a fault.
+/// The yard of a program that neither serves nor dials. `listen` and `dial` always fail.
 #[derive(Drop)]
 pub struct NoYard {
     alloc: Global,
@@ -42,7 +42,7 @@ pub struct NoYard {
 }
 
 impl NoYard {
-    /// It takes no memory.
+    /// Returns a yard. It allocates nothing.
     pub fn new(alloc: Global) -> NoYard
         ensures { result.faults ≡ 0 }
     {
@@ -80,6 +80,10 @@ impl Yard for NoYard {
     ghost lasting = { λ yard. ⊤ };
 
     ghost answers = { λ yard. None };
+
+    ghost here = { λ yard port. None };
+
+    ghost records = { λ yard wanted. ⊤ };
 
     fn listen(&mut self, _port: u16) -> Listening<Self::Door, Self::Bell> {
         self.count_fault();

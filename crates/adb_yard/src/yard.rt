@@ -1,45 +1,45 @@
-//! What a server is given of the outside.
+//! The trait of yards: what a server is given of the outside.
 
 use adb_binder::Binder;
-use adb_capture::Recorder;
 use adb_connections::{Bell, Door, Gate, PortIn, PortOut};
+use adb_recorder::Recorder;
 
-/// What became of listening.
+/// The answer of `Yard::listen`.
 #[derive(Drop)]
 pub enum Listening<D: Drop, B: Drop> {
-    /// Clients come in at this door, whose bell this is, at this port, which is not 0.
+    /// The door at which clients come in, its bell, and the port of the door, which is not 0.
     Here(D, B, u16),
     /// The port could not be listened on.
     Failed,
 }
 
-/// What became of dialling.
+/// The answer of `Yard::dial`.
 #[derive(Drop)]
 pub enum Dialled<I: Drop, O: Drop> {
-    /// A server answered: these are the two halves of the connection to it.
+    /// The two halves of a connection to a server.
     Here(I, O),
-    /// Nobody answered.
+    /// The connection failed.
     Failed,
 }
 
-/// Who runs the jobs of a server.
+/// How the jobs of a server are run.
 #[derive(Drop)]
 pub enum Staff {
-    /// Threads, one for each job while it runs.
+    /// Each job runs in a thread of its own.
     Threads,
-    /// Nobody else: each job is run within the call that gives it, and those of the calls whose
-    /// numbers, counted from 1, are in the list are handed back.
+    /// Each job runs within the call that submits it. The calls whose numbers, counted from 1, are in
+    /// `failing` return their job unrun.
     Inline { failing: Vec<u64> },
 }
 
-/// What a server is given of the outside, and what a client tool dials.
+/// Everything of the outside that a server is given, and the connections of client tools.
 ///
-/// None of its calls fails but `listen` and `dial`, whose answers say so.
+/// `listen` and `dial` can fail, and their answers say so. No other call fails.
 pub trait Yard: Drop {
-    ghost use Rattle.std.specs.Prelude.{◌≡◌, ◌<◌, ℕ, List, Option, false, ⊤};
+    ghost use Rattle.std.specs.Prelude.{◌≡◌, ◌<◌, ℕ, List, [], Bool, Option, false, ⊤};
     ghost use Rattle.adb_outside.specs.Outside.{Counts};
     ghost use Rattle.adb_desk_log.specs.Log.{IsFresh};
-    ghost use Rattle.adb_yard.specs.Yard.{FitsPort, HasDoor, IsSteadyStaff, is_deaf};
+    ghost use Rattle.adb_yard.specs.Yard.{FitsPort, HasDoor, IsHere, IsSteadyStaff, is_deaf};
     ghost use Rattle.adb_yard.specs.Yard.{HasDialled, is_unreached};
 
     type Door: Door;
@@ -56,49 +56,65 @@ pub trait Yard: Drop {
 
     type DialOut: PortOut + Drop;
 
-    /// How many of its calls failed. A count at its last value counts as having risen.
+    /// How many of its calls failed. A count at its largest value counts as having risen.
     ghost faults: { Self → ℕ };
 
-    /// Neither it nor what it gives ever fails.
+    /// Neither the yard nor any object that it returns ever fails.
     ghost steady: { Self → Type 0 };
 
-    /// No door that it gives ever answers `Closed`.
+    /// No door that it returns ever answers `Closed`.
     ghost lasting: { Self → Type 0 };
 
-    /// The bytes that the next connection that is dialled will give, where it tells them.
+    /// The bytes that the next dialled connection will yield, if the yard shows them.
     ghost answers: { Self → Option (List ℕ) };
 
-    /// Listens on a port of this machine, any that is free where `port` is 0. The count of faults
-    /// rises at `Failed`, and stands elsewhere.
+    /// The port on which it listens if it is asked for this one, if the yard shows it.
+    ghost here: { Self → ℕ → Option ℕ };
+
+    /// It has a recorder for a server whose history is to be kept (`true`), or whose history is not
+    /// (`false`). A yard that was made for one of the two has no recorder for the other.
+    ghost records: { Self → Bool → Type 0 };
+
+    /// Listens on a port of this machine, on any free one if `port` is 0.
+    ///
+    /// `Failed`: the port could not be listened on, and the count of faults rises. No other answer
+    /// changes the count.
     fn listen(&mut self, port: u16) -> Listening<Self::Door, Self::Bell>
         ensures fits { FitsPort port result }
+        ensures here { IsHere (here self.old port) result }
+        ensures records { (wanted : Bool) → records self.old wanted → records self.new wanted }
         ensures counts { Counts steady faults self.old self.new (is_deaf result) }
         ensures steady { steady self.old → HasDoor Self.Door.steady result }
         ensures lasting { lasting self.old → HasDoor Self.Door.lasting result };
 
-    /// What keeps the history, where that is wanted, and else keeps nothing.
+    /// Returns the recorder of a server. It has kept no entry. If `wanted` it keeps the history;
+    /// otherwise it may discard every entry.
     fn recorder(&mut self, wanted: bool) -> Self::Keeper
+        requires { records self.old wanted }
         ensures count { Self.Keeper.faults result ≡ 0 }
         ensures fresh { IsFresh (Self.Keeper.told result) }
+        ensures stands { Self.Keeper.stands result [] }
         ensures counts { Counts steady faults self.old self.new false }
         ensures steady { steady self.old → Self.Keeper.steady result };
 
-    /// Who runs its jobs.
+    /// Returns how the jobs of a server are run.
     fn staff(&mut self) -> Staff
         ensures counts { Counts steady faults self.old self.new false }
         ensures steady { steady self.old → IsSteadyStaff result };
 
-    /// What binds the ports of the forwards of one more client.
+    /// Returns the binder of the forwards of one more client.
     fn ports(&mut self) -> Self::Ports
         ensures counts { Counts steady faults self.old self.new false }
         ensures steady { steady self.old → Self.Ports.steady result };
 
-    /// The gate of one more worker.
+    /// Returns the gate of one more worker.
     fn gate(&mut self) -> Self::Gate
         ensures counts { Counts steady faults self.old self.new false };
 
-    /// Connects to a server on this machine. The count of faults rises at `Failed`, and stands
-    /// elsewhere.
+    /// Connects to a server on this machine.
+    ///
+    /// `Failed`: the connection failed, and the count of faults rises. No other answer changes the
+    /// count.
     fn dial(&mut self, port: u16) -> Dialled<Self::DialIn, Self::DialOut>
         requires { 0 < port }
         ensures counts { Counts steady faults self.old self.new (is_unreached result) }

@@ -13,8 +13,8 @@ fn main(rt: HostRuntime) -> ExitCode {
     let history = Stream::new(rt.stdout());
     let words = words(&rt);
     let alloc = rt.alloc();
-    let status = start(rt, alloc, words, &mut source, &mut sink, &mut note, history);
-    ExitCode::from(status.code())
+    let started = start(rt, alloc, words, &mut source, &mut sink, &mut note, history);
+    ExitCode::from(started.status.code())
 }
 
 /// The words behind the program's name. A word that is not UTF-8 is an error.

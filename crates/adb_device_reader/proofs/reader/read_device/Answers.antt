@@ -12,15 +12,18 @@ loop-init g c = (
   refl,
   same_le _,
   refl,
-  λ a entries bytes is h left. record { rest = bytes; left_now = left; so_far = begins _ entries bytes c.args.packets _ _ a c.requires is h },
+  λ a entries bytes is h left.
+      let start : Start =
+      record { entries = entries; bytes = bytes; faults = g.I.DeviceIn.faults c.args.port.now; starved = c.args.pass.pass.starved } in
+      record { rest = bytes; left_now = left; so_far = begins _ start c.args.packets _ a c.requires is h; unfailed = refl },
 )
 
 pub returns-then-not-turn-clause-told : goal.returns-then-not-turn-clause-told
 returns-then-not-turn-clause-told g c a entries bytes is h left =
     let inv = c.loop.invariant in
-    let faults = g.I.DeviceIn.faults c.args.port.now in
-    let start : Start = record { entries = entries; bytes = bytes; faults = faults } in
-    rw inv.2 at (c.if-not-turn.ensures.told start inv.5 (rw inv.2 (inv.7 a entries bytes is h left)))
+    let start : Start =
+    record { entries = entries; bytes = bytes; faults = g.I.DeviceIn.faults c.args.port.now; starved = c.args.pass.pass.starved } in
+    rw inv.2 at (c.if-not-turn.ensures.told start (rw inv.2 (inv.7 a entries bytes is h left)))
 
 pub loop-preserved : goal.loop-preserved
 loop-preserved g c =
@@ -33,7 +36,7 @@ loop-preserved g c =
       at_most _ _ _ inv.5 c.turn.ensures.count,
       c.turn.ensures.plugs ∙ inv.6,
       λ a entries bytes is h left.
-          let faults = g.I.DeviceIn.faults c.args.port.now in
-          let start : Start = record { entries = entries; bytes = bytes; faults = faults } in
-          rw inv.2 at (c.if-not-turn.ensures.told start inv.5 (rw inv.2 (inv.7 a entries bytes is h left))),
+          let start : Start =
+          record { entries = entries; bytes = bytes; faults = g.I.DeviceIn.faults c.args.port.now; starved = c.args.pass.pass.starved } in
+          rw inv.2 at (c.if-not-turn.ensures.told start (rw inv.2 (inv.7 a entries bytes is h left))),
     )

@@ -11,20 +11,13 @@ returns-in_default-clause-tool g c =
     c.say_out_of_memory.ensures.status c.say_out_of_memory.ensures.told c.say_out_of_memory.ensures.counts c.args.words.now
     (seen g.S.Source.steady g.S.Source.faults g.S.Source.left) (seen g.K.Sink.steady g.K.Sink.faults g.K.Sink.written) c.args.source.now c.args.sink.now
 
-pub returns-in_default-open_yard-clause-tool : goal.returns-in_default-open_yard-clause-tool
-returns-in_default-open_yard-clause-tool g c =
-    tool_starved (seen g.N.Sink.steady g.N.Sink.faults g.N.Sink.written) c.args.note.now c.say_out_of_memory-in_default-open_yard.new.note
-    c.say_out_of_memory-in_default-open_yard.result c.say_out_of_memory-in_default-open_yard.ensures.status
-    c.say_out_of_memory-in_default-open_yard.ensures.told c.say_out_of_memory-in_default-open_yard.ensures.counts c.args.words.now
-    (seen g.S.Source.steady g.S.Source.faults g.S.Source.left) (seen g.K.Sink.steady g.K.Sink.faults g.K.Sink.written) c.args.source.now c.args.sink.now
-
 pub returns-clause-tool : goal.returns-clause-tool
 returns-clause-tool g c =
-    let none : c.in-Ok-open_yard.yard.faults ≡ 0 = search rules in
-    let called = c.run-status.ensures.tools c.requires.serves c.requires.tool in
-    let live = tool_live _ _ _ _ c.args.source.now c.run-status.new.source c.args.sink.now c.run-status.new.sink c.args.note.now
-    c.run-status.new.note c.in-Ok-open_yard.yard c.args.words.now c.run-status.result called in
+    let none : c.new-yard.result.faults ≡ 0 = c.new-yard.ensures.0 in
+    let called = c.run-ran.ensures.tools c.requires.serves c.requires.tool in
+    let live = tool_live _ _ _ _ c.args.source.now c.run-ran.new.source c.args.sink.now c.run-ran.new.sink c.args.note.now
+    c.run-ran.new.note c.new-yard.result c.args.words.now c.run-ran.result.status called in
     subst
     (λ (count : ℕ). RunsTool c.args.words.now (seen g.S.Source.steady g.S.Source.faults g.S.Source.left)
     (seen g.K.Sink.steady g.K.Sink.faults g.K.Sink.written) (seen g.N.Sink.steady g.N.Sink.faults g.N.Sink.written) live_yard c.args.source.now
-    c.run-status.new.source c.args.sink.now c.run-status.new.sink c.args.note.now c.run-status.new.note count c.run-status.result) none live
+    c.run-ran.new.source c.args.sink.now c.run-ran.new.sink c.args.note.now c.run-ran.new.note count c.run-ran.result.status) none live

@@ -20,3 +20,9 @@ returns-in-Ok-clause-usage g c = rw c.in-Ok.is (rw c.as_slice.ensures.value at c
 
 pub returns-in-Ok-clause-command : goal.returns-in-Ok-clause-command
 returns-in-Ok-clause-command g c = rw c.in-Ok.is (rw c.as_slice.ensures.value at c.run_live.ensures.command)
+
+pub returns-in-Ok-clause-record : goal.returns-in-Ok-clause-record
+returns-in-Ok-clause-record g c = rw c.in-Ok.is (rw c.as_slice.ensures.value at c.run_live.ensures.record)
+
+pub returns-in-Ok-clause-unasked : goal.returns-in-Ok-clause-unasked
+returns-in-Ok-clause-unasked g c = rw c.in-Ok.is (rw c.as_slice.ensures.value at c.run_live.ensures.unasked)

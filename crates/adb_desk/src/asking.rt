@@ -1,0 +1,72 @@
+//! Questions about clients. None of them makes an entry or allocates.
+
+ghost use Rattle.std.specs.Prelude.{◌≡◌, ◌≢◌, ◌&&◌, List, Err};
+ghost use Rattle.adb_capture.specs.declared.entry.Entry.{Entry};
+ghost use Rattle.adb_history.specs.Accepted.{is_drawn};
+ghost use Rattle.adb_history.specs.Kept.{IsLawful};
+ghost use Rattle.adb_history.specs.Machine.{state};
+ghost use Rattle.adb_hub.specs.Answers.{room_of, port_of};
+ghost use Rattle.adb_desk_log.specs.declared.error.DeskError.{DeskError};
+ghost use Rattle.adb_desk_log.specs.Log.{shut_with};
+ghost use Rattle.adb_desk_log.specs.Marked.{marks_error, marks_room};
+ghost use Rattle.adb_desk.specs.Desk.{rung, or_given_by, is_later};
+
+use crate::desk::Desk;
+use adb_desk_log::{DeskError, Marks, marks_error, marks_room};
+use adb_hub::Room;
+use adb_recorder::Recorder;
+use std::sync::ledger::Ledger;
+
+impl<R: Recorder, E: Ledger, M: Ledger, K: Marks> Desk<R, E, M, K> {
+    /// Returns how many more bytes a client may send: `Shut` for a number that was never drawn, which
+    /// sets no alarm.
+    ///
+    /// The answer of a shut desk: the desk is shut.
+    pub fn room(&mut self, client: u32) -> Result<Room, DeskError>
+        ensures answer { (h : List Entry) → IsLawful self.old.hub h
+            → result ≡ or_given_by (shut_with self.old.log) (room_of ((state h).clients client)) }
+        ensures rung { self.new
+            ≡ rung (marks_room result && is_drawn self.old.hub.joined client) self.old }
+        ensures steady { K.steady → result ≢ Err DeskError.RecordFault }
+    {
+        let answer = match self.log.shut() {
+            Some(error) => Err(error),
+            None => Ok(self.hub.room(client)),
+        };
+        let drawn = 0 < client && client <= self.hub.joined();
+        self.log.ring(marks_room(&answer) && drawn);
+        answer
+    }
+
+    /// Returns the port at which a client waits for a listener, 0 for any port.
+    ///
+    /// The answer of a shut desk: the desk is shut.
+    pub fn waiting_port(&mut self, client: u32) -> Result<Option<u16>, DeskError>
+        ensures answer { (h : List Entry) → IsLawful self.old.hub h
+            → result ≡ or_given_by (shut_with self.old.log) (port_of ((state h).clients client)) }
+        ensures rung { self.new ≡ rung (marks_error result) self.old }
+        ensures steady { K.steady → result ≢ Err DeskError.RecordFault }
+    {
+        let answer = match self.log.shut() {
+            Some(error) => Err(error),
+            None => Ok(self.hub.waiting_port(client)),
+        };
+        self.log.ring(marks_error(&answer));
+        answer
+    }
+
+    /// Returns whether a client's number was drawn.
+    pub fn is_drawn(&self, client: u32) -> bool
+        ensures { result ≡ is_drawn self.now.hub.joined client }
+    {
+        0 < client && client <= self.hub.joined()
+    }
+
+    /// Returns whether a client has no room now, but may have later. It sets no alarm.
+    pub fn has_no_room_yet(&self, client: u32) -> bool
+        ensures { (h : List Entry) → IsLawful self.now.hub h
+            → result ≡ is_later (room_of ((state h).clients client)) }
+    {
+        matches!(self.hub.room(client), Room::Later)
+    }
+}

@@ -1,0 +1,46 @@
+-- What the sink of a server's record was given.
+use Rattle.std.specs.Prelude.{ℕ, ◌≡◌, ◌≢◌, ◌⊎◌, Bool, true, false, List, [], ◌++◌, Option, Some, None, IfSome, is_some, reverse}
+use Rattle.adb_outside.specs.Bytes.{IsPrefixOf}
+use Rattle.adb_capture.specs.declared.entry.Entry.{Entry}
+use Rattle.adb_history.specs.Machine.{History, IsLegal}
+use Rattle.adb_desk.specs.Sound.{KeepsPromises}
+use Rattle.adb_recorder.specs.Recording.{captured, recorded}
+use Rattle.adb_top.specs.declared.status.Status.{Status}
+use Rattle.adb_top.specs.declared.status.Status.TheVariants.{Done, RecordFault}
+use Rattle.adb_words.specs.Serve.{Serving, serve_of}
+
+-- whether a server is asked to record
+abbrev pub records_of : Option Serving → Bool
+records_of (Some asked) = asked.records
+records_of None = false
+
+-- whether words ask for a record
+abbrev pub asks_record : List (List ℕ) → Bool
+asks_record words = records_of (serve_of words)
+
+-- A sink that had the bytes `had` was given the record of a legal history, which is fifo, has its causes and is answered: the magic and the
+-- records of its entries, oldest first. At Done it was given all of it; it is empty only if there are no entries. At another status it was
+-- given a prefix, after which a prefix of one more record may follow.
+pub record ServesHistory (had : List ℕ) (written : Option (List ℕ)) (status : Status) : Type 0 where
+  pub history : History
+  pub legal : IsLegal history
+  pub promises : KeepsPromises history
+  pub growth : List ℕ
+  pub is : written ≡ Some (had ++ growth)
+  pub opened : Bool
+  pub first : opened ≡ false → reverse history ≡ []
+  pub part : List ℕ
+  pub torn : (part ≡ []) ⊎ ((entry : Entry) × IsPrefixOf part (recorded opened entry))
+  pub front : IsPrefixOf growth (captured opened (reverse history) ++ part)
+  pub all : status ≡ Done → growth ≡ captured opened (reverse history)
+
+-- nothing was written, and the run is not done
+abbrev pub IsUnwritten : List ℕ → Option (List ℕ) → Status → Type 0
+IsUnwritten had written status = (written ≡ Some had) × (status ≢ Done)
+
+-- A server that was asked for a record ended so. At Done and at RecordFault its sink is there, and it was given the record of the history.
+pub record GivesRecord {R : Type 0} (told : R → Option (List ℕ)) (before : R) (status : Status) (after : Option R) : Type 0 where
+  pub done : status ≡ Done → is_some after ≡ true
+  pub fault : status ≡ RecordFault → is_some after ≡ true
+  pub given : IfSome after (λ sink. (had : List ℕ) → told before ≡ Some had
+      → ServesHistory had (told sink) status ⊎ IsUnwritten had (told sink) status)
