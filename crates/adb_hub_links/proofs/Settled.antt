@@ -142,7 +142,8 @@ module _ {link : ℕ} {came : List Came} {incoming : Deframing} {ids : List ℕ}
         → Records (settles link (cut_with incoming came) (state_of old)).told before old after
     settled_told {before} {middle_log} {after} treated all =
         let s = put_state link incoming old middle h.puts in
-        let received = subst (λ (s : State). Reports (then_also (treat_all link (packets_of came) s) (faulty link incoming.fault)).told before middle middle_log new)
+        let received = subst (λ (s : State). Reports (then_also (treat_all link (packets_of came) s) (faulty link incoming.fault)).told
+        before middle middle_log new)
         s treated in
         let goes_up = all new.streams.drawn
         (subst (λ (s : State). CoversUp ids s.drawn s) (sym behind_is) (h.can.leaves.covers ids (are_named h.can.reserved))) in

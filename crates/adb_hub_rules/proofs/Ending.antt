@@ -90,7 +90,8 @@ quiet_at t l ending (Some stream) s none = by_test (eqb stream.link t) none
 quiet_to : (t m : ℕ) (ending : Ending) (s : State) → IsNoneTo t m s → ends_of t m ending s ≡ quietly s
 quiet_to t zero ending s none = refl
 quiet_to t (suc m) ending s none =
-    ap (λ (before : Made). then_also before (λ s. ends_if_of t (suc m) ending (s.streams (suc m)) s)) (quiet_to t m ending s (λ j le. none j (omega (arith, le))))
+    ap (λ (before : Made). then_also before (λ s. ends_if_of t (suc m) ending (s.streams (suc m)) s))
+    (quiet_to t m ending s (λ j le. none j (omega (arith, le))))
     ∙ ap (λ (last : Made). then_also (quietly s) (λ _. last)) (quiet_at t (suc m) ending (s.streams (suc m)) s (none (suc m) (omega arith)))
 
 -- ---- the first stream of a link

@@ -114,7 +114,8 @@ module _ (l : ℕ) (stream : Stream) where
   pub close_then : (ps : List (List ℕ)) (client row : Client) (s middle : State) → s.streams l ≡ Some stream
       → (middle ≡ (all_go_up l stream ps (noted l stream client.held ps s)).state) × (row ≡ record client { held = drop (total ps) client.held })
       → (let after = with_part (with_flow (flow_after ps stream.part.flow) stream.part) stream in
-      then_also (all_go_up l stream ps (noted l stream client.held ps s)) (λ _. closes_if (is_over row.about.ended row.held after.part.flow) l (Some after) middle))
+      then_also (all_go_up l stream ps (noted l stream client.held ps s))
+      (λ _. closes_if (is_over row.about.ended row.held after.part.flow) l (Some after) middle))
       ≡ sends_up l stream client ps s
   close_then ps client row s middle here (is, same) =
       ap (λ (s : State). written_then (closes_if (is_over row.about.ended row.held after.part.flow) l (Some after) s)) is

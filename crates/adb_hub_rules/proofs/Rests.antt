@@ -107,7 +107,8 @@ rests_one l s = at_row (s.streams l)
     at_client stream None = rests_quiet s
     at_client stream (Some client) = by_test (is_streaming l client.about.phase)
       where
-        by_test : (b : Bool) → Rests s (cond b (sends_up l stream client (payloads stream.part.flow (maxdata_of stream.link s.devices) client.held) s) (quietly s))
+        by_test : (b : Bool) → Rests s (cond b (sends_up l stream client
+            (payloads stream.part.flow (maxdata_of stream.link s.devices) client.held) s) (quietly s))
         by_test false = rests_quiet s
         by_test true = rests_up l stream client (payloads stream.part.flow (maxdata_of stream.link s.devices) client.held) s
 

@@ -237,7 +237,8 @@ pub reports_end : (orphan : Bool) (id : ℕ) (ending : Ending) (stream : Stream)
 reports_end true id ending stream s log old new goes = reports_none log old new goes.owned
 reports_end false id ending stream s log old new goes = record {
   log = records_end id ending stream log old goes.here;
-  places = λ places. subst (λ (log : Log). HasPlaceEach log new) (sym (has_place (ended_of id ending stream) log (spare_one id ending stream log old goes.here places)))
+  places = λ places. subst (λ (log : Log). HasPlaceEach log new) (sym (has_place (ended_of id ending stream) log
+      (spare_one id ending stream log old goes.here places)))
       (λ n.
       let fewer = gone_live (λ l. at l old.streams.streams) (λ l. at l new.streams.streams) id goes.owned
       (one_of (at id old.streams.streams) stream goes.here) (none_of (at id new.streams.streams) goes.gone) log.spare places n in

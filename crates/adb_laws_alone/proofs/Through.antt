@@ -167,7 +167,8 @@ are_calls l files (request ∷ more) =
     own : (bytes : List ℕ) → cond (l == l) one.answer [] ++ bytes ≡ one.answer ++ bytes
     own bytes = ap (λ (t : Bool). cond t one.answer [] ++ bytes) (eq-eqb l l refl)
 
-    answer : AreCalls l one.files more → (t : Bool) → one.ended ≡ t → cond (l == l) one.answer [] ++ answers_of l one.files (behind t) ≡ (then_served one later).answer
+    answer : AreCalls l one.files more → (t : Bool) → one.ended ≡ t → cond (l == l) one.answer [] ++ answers_of l one.files (behind t) ≡
+        (then_served one later).answer
     answer rest true is = own [] ∙ (append-nil one.answer ∙ ap (λ (s : Served). s.answer) (sym (over one later is)))
     answer rest false is =
         own (answers_of l one.files (behind false))
@@ -425,7 +426,8 @@ asks_first Syncs came text (more, is) =
     let rest = cond (has_last before) [] (up_to_last (completed_by came more)) in (
       map Serves rest,
       sym (map_both (up_to_last before) rest)
-          ∙ ap (map Serves) (sym (up_both before (completed_by came more)) ∙ (ap up_to_last (sym (whole came more)) ∙ ap (λ (x : List ℕ). up_to_last (requests_in x)) is)),
+          ∙ ap (map Serves) (sym (up_both before (completed_by came more)) ∙
+          (ap up_to_last (sym (whole came more)) ∙ ap (λ (x : List ℕ). up_to_last (requests_in x)) is)),
     )
 
 pub first_of_first : (a b c : List Ask) → AreFirst a b → AreFirst b c → AreFirst a c

@@ -247,7 +247,8 @@ module _ (rows : List Packet → List (ℕ × Row)) (d : ℕ) (first : List Entr
           here : Here d first calls r.place s.drawn next p.arg1 (row_took (came_over p.payload s.files) row) s.ended
           here = record {
             live = λ late. record {
-              ran = subst (λ (fs : List Entry). RanThrough first (r.calls ++ calls_of row.host (asks_fed row.kind row.past p.payload)) row.host row.kind row.first
+              ran = subst (λ (fs : List Entry). RanThrough first (r.calls ++ calls_of row.host (asks_fed row.kind row.past p.payload))
+                  row.host row.kind row.first
                   (came_over p.payload fs ∷ row.past)) (sym r.left)
                   (feeds_through first r.calls row.host row.kind row.first row.past p.payload held.ran);
               here = held.here;
@@ -391,7 +392,8 @@ module _ (rows : List Packet → List (ℕ × Row)) (setting : Setting) (d : ℕ
       on None = same
       on (Some link) = served_runs rows d first done p dev.serving r link p.command refl at_rows of fresh
 
-      treats : (b : Bool) → Runs rows d first (done ++ p ∷ []) (cond b (linked_to (link_of setting.most setting.credit p) dev) (served_on dev.link p dev)).serving
+      treats : (b : Bool) → Runs rows d first (done ++ p ∷ []) (cond b (linked_to (link_of setting.most setting.credit p) dev)
+          (served_on dev.link p dev)).serving
       treats true = linked (link_of setting.most setting.credit p)
       treats false = on dev.link
 

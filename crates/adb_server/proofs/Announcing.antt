@@ -40,7 +40,8 @@ served_at port WriteFault before after line not = absurd (not refl)
 -- A server that served has written the port that its yard shows.
 pub served_here : (shown : Option ℕ) (port : ℕ) (served : Served) (before after : Option (List ℕ)) → ((here : ℕ) → shown ≡ Some here → port ≡ here)
     → HasAnnounced port (Ok tt) before after → served ≢ WriteFault → NamesPort shown served before after
-served_here shown port served before after is line not here eq = subst (λ n. AnnouncesAt n served before after) (is here eq) (served_at port served before after line not)
+served_here shown port served before after is line not here eq = subst (λ n. AnnouncesAt n served before after) (is here eq)
+    (served_at port served before after line not)
 
 told_at : (port : ℕ) (served : Served) (before after : Option (List ℕ)) → HasAnnounced port (Err served) before after
     → AnnouncesAt port served before after

@@ -17,7 +17,8 @@ pub returns-then-hand_in-clause-told : goal.returns-then-hand_in-clause-told
 returns-then-hand_in-clause-told g c start rest faults ended x =
     let filled : (length c.held-held.result.now == 0) ≡ false = sym c.is_empty.ensures ∙ c.if-is_empty.false in
     done_held c.args.pass.now.pass.number c.hand_in.new.pass.pass.number start c.held-held.result.now c.args.packets.now rest faults c.args.cause
-    c.args.pass.now.pass.starved c.hand_in.new.pass.pass.starved c.finish-then-hand_in.new.pass.pass.starved _ _ _ x c.held-held.ensures filled c.requires ended c.hand_in.ensures.number
+    c.args.pass.now.pass.starved c.hand_in.new.pass.pass.starved c.finish-then-hand_in.new.pass.pass.starved _ _ _ x c.held-held.ensures
+    filled c.requires ended c.hand_in.ensures.number
     (c.if-hand_in.ensures.told _ x.hall) c.finish-then-hand_in.ensures.told
 
 pub returns-else-hand_in-clause-told : goal.returns-else-hand_in-clause-told

@@ -9,7 +9,8 @@ returns-in-Some-clause-open g c = rw c.in-Some.ensures.some.empty need_of_nothin
 pub returns-in-Some-clause-told : goal.returns-in-Some-clause-told
 returns-in-Some-clause-told g c start coming x =
     let shares = c.in-Some.ensures.some in
-    fed_piece c.hand_in_packet.result _ start c.in-Some.packet c.args.packets.now c.share.new.self coming c.args.pass.now.pass.starved c.hand_in_packet.new.pass.pass.starved _ _ x
+    fed_piece c.hand_in_packet.result _ start c.in-Some.packet c.args.packets.now c.share.new.self coming c.args.pass.now.pass.starved
+    c.hand_in_packet.new.pass.pass.starved _ _ x
     shares.given shares.slice shares.stands (c.hand_in_packet.ensures.told _ x.hall)
 
 pub returns-clause-open : goal.returns-clause-open
@@ -21,5 +22,6 @@ returns-clause-told g c start coming x =
     let slice = c.in-Some-whole.ensures in
     let whole : need_of c.args.packets.now ≡ 0 = rw left at (slice.whole.0 refl) in
     let stands = rw left at c.clear.ensures.stands in
-    fed_piece c.hand_in-going.result _ start c.in-Some-whole.slice.now c.args.packets.now c.clear.new.self coming c.args.pass.now.pass.starved c.hand_in-going.new.pass.pass.starved _ _ x
+    fed_piece c.hand_in-going.result _ start c.in-Some-whole.slice.now c.args.packets.now c.clear.new.self coming
+    c.args.pass.now.pass.starved c.hand_in-going.new.pass.pass.starved _ _ x
     (slice.bytes ∙ left) slice.slice (λ fed gave. stands fed gave whole) (c.hand_in-going.ensures.told _ x.hall)

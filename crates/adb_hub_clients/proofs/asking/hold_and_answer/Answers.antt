@@ -26,7 +26,8 @@ returns-in-Ok-clause-made c = λ row here.
     let leaves = c.in-Ok.ensures.made more (ap (λ (s : State). s.clients client) taken ∙ holding_row client piece s row here) in
     record {
       state = leaves.state
-          ∙ (ap (answered client more) taken ∙ ap (λ (m : Made). m.state) (asks_anew (asks_with old.devices old.forwards piece (asked_before row)) client piece s));
+          ∙ (ap (answered client more) taken ∙ ap (λ (m : Made). m.state)
+          (asks_anew (asks_with old.devices old.forwards piece (asked_before row)) client piece s));
       fit = leaves.fit;
     }
 

@@ -34,7 +34,8 @@ returns-then-is_stop-clause-told c =
     let old = c.args.tables.now in
     let middle = c.reserve_replies.new.tables in
     let rule = λ (next : Option Next) (s : State). goes_on next c.args.client (hears c.args.heard.now c.args.client s) in
-    subst (λ (next : Option Next). Records (rule next (state_of old)).told c.args.ends.now old c.record_all.new.ends) (sym (stop_is c.args.next (sym c.is_stop.ensures ∙ c.if-is_stop.true)))
+    subst (λ (next : Option Next). Records (rule next (state_of old)).told c.args.ends.now old c.record_all.new.ends)
+    (sym (stop_is c.args.next (sym c.is_stop.ensures ∙ c.if-is_stop.true)))
     (records_from {old = old} (rule (Some Stop)) (state_of old) c.in_ok-reserve_replies.ensures.made.state refl
     (c.record_all.ensures middle refl))
 

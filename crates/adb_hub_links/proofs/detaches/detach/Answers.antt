@@ -32,7 +32,8 @@ returns-then-has_link c =
       made = unplugged old c.end_link.new.tables c.requires.fit c.requires.reached c.end_link.ensures.uses link there c.end_link.ensures.state;
       told = λ cause.
           records_as (rule_tells (Detach link cause) s ((sends_nothing s c.requires.reached).detach link cause))
-          (subst (λ (m : Made). Records m.told c.args.ends.now old c.end_link.new.ends) (ends_there link s (s.links link) there) c.end_link.ensures.reports.log);
+          (subst (λ (m : Made). Records m.told c.args.ends.now old c.end_link.new.ends) (ends_there link s (s.links link) there)
+          c.end_link.ensures.reports.log);
     }
 
 pub returns-else-has_link : goal.returns-else-has_link

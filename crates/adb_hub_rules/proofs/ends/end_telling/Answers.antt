@@ -16,7 +16,8 @@ pub owe_close-requires : goal.owe_close-requires
 owe_close-requires c = c.drop_stream.ensures.place c.requires.counted 0 c.requires.link
 
 -- what the rule leaves
-state_is : (c : goal.After-record_end) → state_of c.client_loses.new.tables ≡ (ends_telling c.args.id c.args.ending c.args.stream.now (state_of c.args.tables.now)).state
+state_is : (c : goal.After-record_end) → state_of c.client_loses.new.tables ≡
+    (ends_telling c.args.id c.args.ending c.args.stream.now (state_of c.args.tables.now)).state
 state_is c =
     let stream = c.args.stream.now in
     let owed = c.owe_close.ensures.state

@@ -20,7 +20,8 @@ pub returns-clause-reports : goal.returns-clause-reports
 returns-clause-reports c =
     let old = c.args.tables.now in
     let forgotten = reports_none c.args.ends.now old c.forget_link.new.tables (c.forget_link.ensures.uses 0 0).owned in
-    let ended = subst (λ (s : State). Reports (all_end c.args.link c.args.ending s).told c.args.ends.now c.forget_link.new.tables c.end_all.new.ends c.end_all.new.tables)
+    let ended = subst (λ (s : State). Reports (all_end c.args.link c.args.ending s).told c.args.ends.now c.forget_link.new.tables
+    c.end_all.new.ends c.end_all.new.tables)
     c.forget_link.ensures.state c.end_all.ensures.reports in
     let marked = reports_none c.end_all.new.ends c.end_all.new.tables c.mark_all.new.self (c.mark_all.ensures.uses 0 0).owned in
     reports_then forgotten (reports_then ended marked)

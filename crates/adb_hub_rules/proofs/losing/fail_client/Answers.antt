@@ -18,7 +18,8 @@ returns-clause-records c =
     let before = c.args.ends.now in
     let after = c.fail_stream.new.ends in
     let none = reports_none before old dropped (c.drop_client.ensures.uses 0 0).owned in
-    let failed = subst (λ (s : State). Records (stream_fails c.phase_of-phase.result c.args.cause (stream_of c.phase_of-phase.result s.streams) s).told before dropped after)
+    let failed = subst (λ (s : State). Records (stream_fails c.phase_of-phase.result c.args.cause
+    (stream_of c.phase_of-phase.result s.streams) s).told before dropped after)
     c.drop_client.ensures.state c.fail_stream.ensures.records in
     subst (λ (phase : Phase). Records (fails_in phase c.args.client c.args.cause (state_of old)).told before old after) c.phase_of-phase.ensures
     (records_then none failed)

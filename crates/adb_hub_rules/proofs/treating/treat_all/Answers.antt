@@ -61,7 +61,8 @@ pub returns-clause-reports : goal.returns-clause-reports
 returns-clause-reports c =
     let now = c.loop-came.tables in
     c.loop-came.invariant.4 c.loop-came.ends now
-    (subst (λ (all : List Came). Reports (treat_all c.args.link (packets_of all) (state_of now)).told c.loop-came.ends now c.loop-came.ends now) (sym c.in_default.ensures)
+    (subst (λ (all : List Came). Reports (treat_all c.args.link (packets_of all) (state_of now)).told c.loop-came.ends now
+    c.loop-came.ends now) (sym c.in_default.ensures)
     (reports_none c.loop-came.ends now now (λ l. stays (at l now.streams.streams))))
 
 pub returns-clause-takes : goal.returns-clause-takes

@@ -29,4 +29,5 @@ returns-clause-reports c h lawful =
     let t = c.self.inside.tables in
     let before = subst (λ (k : Kept). IsLawful k h) (sym c.self.view_is) lawful in
     let places = subst (λ (n : ℕ). n ≤ c.reserve.new.self.spare) c.len.ensures.count c.in_ok-reserve.ensures.ok in
-    reported (End c.args.client c.args.cause) t c.args.ends.now c.reserve.new.self c.end.new.ends c.self.invariant c.reserve.ensures.list places c.end.ensures.told h before
+    reported (End c.args.client c.args.cause) t c.args.ends.now c.reserve.new.self c.end.new.ends c.self.invariant c.reserve.ensures.list
+    places c.end.ensures.told h before

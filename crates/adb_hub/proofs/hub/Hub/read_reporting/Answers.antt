@@ -32,4 +32,5 @@ returns-clause-reports c h lawful =
     let t = c.self.inside.tables in
     let before = subst (λ (k : Kept). IsLawful k h) (sym c.self.view_is) lawful in
     let places = subst (λ (n : ℕ). n ≤ c.reserve.new.self.spare) c.len.ensures.count c.in_ok-reserve.ensures.ok in
-    reported (Read c.args.client c.args.piece.now) t c.args.ends.now c.reserve.new.self c.read.new.ends c.self.invariant c.reserve.ensures.list places c.in_ok-read.ensures.told h before
+    reported (Read c.args.client c.args.piece.now) t c.args.ends.now c.reserve.new.self c.read.new.ends c.self.invariant
+    c.reserve.ensures.list places c.in_ok-read.ensures.told h before
