@@ -37,8 +37,8 @@ const HALF_LEN: usize = 40_000;
 
 const HALF: &[u8] = &[0; HALF_LEN];
 
-/// Whether what is held with pieces that come is cut off at once, as a first slice of that length and
-/// a second.
+/// Whether what is held with pieces that come is cut off at once, as a first slice of that length
+/// and a second.
 fn lie_so(client: &mut Client, pieces: &[&[u8]], first: usize) -> Result<bool, AllocError> {
     for piece in pieces {
         client.take_in(piece)?;

@@ -24,7 +24,8 @@ fn fault_of(holds: bool) -> Option<usize> {
 }
 
 impl Case {
-    /// Returns the number, from 0, of the first of its rows that does not hold, or None if all hold.
+    /// Returns the number, from 0, of the first of its rows that does not hold, or None if all
+    /// hold.
     pub fn first_fault<W: Threads + Wait + Copy + Send + Sync + Drop + 'static>(
         self,
         rt: W,

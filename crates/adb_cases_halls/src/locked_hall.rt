@@ -186,7 +186,8 @@ fn rings<E: Ledger, M: Ledger, K: Marks>(
     rings_over(alloc, locked(alloc, desk), wake)
 }
 
-/// A writer that waits in one thread is handed the answer to a piece that a reader submits in another.
+/// A writer that waits in one thread is handed the answer to a piece that a reader submits in
+/// another.
 fn serves_in_two_threads<
     E: Ledger + Send + Sync + 'static,
     M: Ledger + Send + Sync + 'static,
@@ -208,7 +209,8 @@ fn serves_in_two_threads<
     asked && answered
 }
 
-/// Returns whether the bytes that a client moved are counted after its passes are back, and not before.
+/// Returns whether the bytes that a client moved are counted after its passes are back, and not
+/// before.
 fn counts_what_it_moved<E: Ledger, M: Ledger, K: Marks, W: Wait + Copy + Drop>(
     hall: &mut LockedHall<NullRecorder, E, M, K, W>,
     client: Client<E, M, K>,

@@ -246,7 +246,8 @@ impl Row {
             && hall.moved() == Some(self.moved)
     }
 
-    /// Returns whether the case holds, and its entries are counted after the passes are back, not before.
+    /// Returns whether the case holds, and its entries are counted after the passes are back, not
+    /// before.
     fn holds_of<E: Ledger, M: Ledger, K: Marks>(
         self,
         hall: &mut OneDesk<MemoryRecorder, E, M, K>,

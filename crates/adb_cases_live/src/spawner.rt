@@ -14,9 +14,9 @@ struct Counts {
     done: AtomicU64,
 }
 
-/// Counts itself as begun, and as done once as many jobs have begun as `wanted`. It looks every 50 ms
-/// and gives up after 5 s, so that a crew which runs the job within the call fails the case, and does
-/// not hang.
+/// Counts itself as begun, and as done once as many jobs have begun as `wanted`. It looks every 50
+/// ms and gives up after 5 s, so that a crew which runs the job within the call fails the case, and
+/// does not hang.
 #[derive(Drop)]
 struct Meeting<W: Wait + Clock + Drop> {
     rt: W,

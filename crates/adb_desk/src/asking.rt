@@ -1,4 +1,4 @@
-//! Questions about clients. None of them makes an entry or allocates.
+//! Queries about clients. None of them makes an entry or allocates.
 
 ghost use Rattle.std.specs.Prelude.{◌≡◌, ◌≢◌, ◌&&◌, List, Err};
 ghost use Rattle.adb_capture.specs.declared.entry.Entry.{Entry};
@@ -18,8 +18,8 @@ use adb_recorder::Recorder;
 use std::sync::ledger::Ledger;
 
 impl<R: Recorder, E: Ledger, M: Ledger, K: Marks> Desk<R, E, M, K> {
-    /// Returns how many more bytes a client may send: `Shut` for a number that was never drawn, which
-    /// sets no alarm.
+    /// Returns how many more bytes a client may send: `Shut` for a number that was never drawn,
+    /// which sets no alarm.
     ///
     /// The answer of a shut desk: the desk is shut.
     pub fn room(&mut self, client: u32) -> Result<Room, DeskError>

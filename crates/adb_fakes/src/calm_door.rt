@@ -84,8 +84,8 @@ impl Binder for CalmBinder {
 }
 
 /// A door for a list of clients, in order. After the last one it is closed. A door that lasts has
-/// another client at each further call, which sends nothing. It shows its answers until an allocation
-/// for them fails.
+/// another client at each further call, which sends nothing. It shows its answers until an
+/// allocation for them fails.
 #[derive(Drop)]
 pub struct CalmDoor {
     alloc: Global,

@@ -13,8 +13,8 @@ use std::collections::VecDeque;
 use std::marker::Model;
 
 /// A yard in which nothing ever fails. It is the witness that the premises of a server can hold
-/// together: it and its door are steady, it is lasting if `lasts`, and its recorder shows the entries
-/// that it has kept.
+/// together: it and its door are steady, it is lasting if `lasts`, and its recorder shows the
+/// entries that it has kept.
 #[derive(Drop)]
 pub struct CalmYard {
     alloc: Global,

@@ -22,8 +22,9 @@ const PIECE: usize = 65_536;
 /// The port to which the first forward of a client is bound if it asks for any.
 const FIRST_PORT: u16 = 40_000;
 
-/// The yard of a test. Its door lets in the clients in the order of `call`, and is closed after them.
-/// A server that asks for any port listens on port 1. Its jobs run within the calls that submit them.
+/// The yard of a test. Its door lets in the clients in the order of `call`, and is closed after
+/// them. A server that asks for any port listens on port 1. Its jobs run within the calls that
+/// submit them.
 ///
 /// It shows how often it failed: at `listen` if an allocation failed, and at each `dial`.
 #[derive(Drop)]

@@ -1,5 +1,5 @@
-//! A model device in a thread of its own, and the two halves of its link to a server: between them
-//! are two pipes.
+//! A model device in a thread of its own, and the two halves of its link to a server. Two pipes
+//! connect them.
 #![tactic(auto)]
 
 mod pipe_device;

@@ -15,8 +15,8 @@ pub fn put_is_taken_and_held()
         → put.chunks ≡ taken.chunks ++ chunks_in items }
 {}
 
-/// After the input end has taken the end mark, every chunk that was put has been taken, the mark was
-/// put after them, and the channel is empty.
+/// After the input end has taken the end mark, every chunk that was put has been taken, the mark
+/// was put after them, and the channel is empty.
 #[tactic(auto, using(crate::proofs::Rules::whole))]
 pub fn ended_pipe_is_whole()
     ensures { (items : List Item) (put taken : Passed)

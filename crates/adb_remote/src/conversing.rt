@@ -112,8 +112,8 @@ fn listen<W: Wait + Copy + Drop, I: PortIn, O: PortOut>(
 }
 
 /// How many bytes are read at once behind so many. A read that is filled ends where a chunk of a
-/// file does, if those before it are as long as they may be, so that its parts need not be gathered:
-/// one that was not filled costs the next alone.
+/// file does, if those before it are as long as they may be, so that its parts need not be
+/// gathered: one that was not filled costs the next alone.
 fn size_of_read(count: usize) -> usize
     ensures some { 0 < result }
     ensures most { result ≤ MAX_PIECE }

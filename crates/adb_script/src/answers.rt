@@ -19,8 +19,8 @@ use adb_sync_client::{Entries, PathAsk, PathValue, Push, StatValue, Step};
 use std::alloc::{AllocError, Global};
 
 impl SessionLine<'_> {
-    /// The answer line, with its newline, where the session was handed these bytes behind the replies
-    /// to its requests. Of bytes that are no answer nothing is printed.
+    /// The answer line, with its newline, where the session was handed these bytes behind the
+    /// replies to its requests. Of bytes that are no answer nothing is printed.
     pub fn answer(&self, alloc: Global, got: &[u8]) -> Result<Text, AllocError>
         ensures { IfOk result (λ line. line ≡ printed (asked_of self.now) got.now) }
     {

@@ -79,8 +79,8 @@ pub fn commands_are_run()
         → line_answer files number (Asks (Runs command)) ≡ ran_over files (words_of command) }
 {}
 
-/// Behind a push that printed `ok` a pull of its path is handed the pushed bytes, and prints how many
-/// they are and their sum.
+/// Behind a push that printed `ok` a pull of its path is handed the pushed bytes, and prints how
+/// many they are and their sum.
 pub fn pushed_files_are_pulled()
     ensures { (files : List Entry) (number later size : ℕ) (path : List ℕ)
         → length path ≤ MAX_WORD → number < 2 ^ 32

@@ -24,8 +24,8 @@ const HEADER: usize = 8;
 /// The most bytes of a SEND, of the header of a last chunk, and of a DONE.
 const AROUND: usize = 1_048;
 
-/// What a session writes that pushes a file of these bytes to a path, with its mode and its time. The
-/// bytes are copied once.
+/// What a session writes that pushes a file of these bytes to a path, with its mode and its time.
+/// The bytes are copied once.
 pub fn push_text(
     alloc: Global,
     path: &[u8],

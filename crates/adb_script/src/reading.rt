@@ -10,8 +10,8 @@ use crate::line::{
 use crate::word::Word;
 use adb_outside::read_number;
 
-/// What a line says that has no newline; `None` exactly where it is no line of a script. It takes no
-/// memory.
+/// What a line says that has no newline; `None` exactly where it is no line of a script. It takes
+/// no memory.
 pub fn read_line(text: &[u8]) -> Option<ScriptLine<'_>>
     ensures { option_map seen result ≡ line_of text.now }
 {

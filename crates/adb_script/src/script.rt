@@ -36,7 +36,8 @@ impl From<AllocError> for ScriptError {
     }
 }
 
-/// The lines of a script, none of which is refused. Contracts see them as the list of what they say.
+/// The lines of a script, none of which is refused. Contracts see them as the list of what they
+/// say.
 #[derive(Drop)]
 pub struct Script<'a> {
     lines: Vec<ScriptLine<'a>>,
@@ -55,8 +56,8 @@ impl<'a> Model for Script<'a> {
 }
 
 impl<'a> Script<'a> {
-    /// Reads a script: lines that end with a newline, a last one without it among them. Where it has
-    /// a line that is refused, that is told, or want of memory.
+    /// Reads a script: lines that end with a newline, a last one without it among them. Where it
+    /// has a line that is refused, that is told, or want of memory.
     pub fn read(alloc: Global, script: &'a [u8]) -> Result<Script<'a>, ScriptError>
         ensures lines { IfOk result (λ read. read ≡ lines_in script.now) }
         ensures good { OnOk result (first_bad script.now ≡ None) }

@@ -7,8 +7,9 @@ use adb_sync::WHOLE_CHUNK;
 use adb_sync_client::{PathAsk, PathValue, Step};
 use std::alloc::AllocError;
 
-/// What all the bytes of the answer to a request mean, of which none was fed before. They are fed in
-/// pieces of a whole chunk, so that no more than one stands beside what they tell, which is given away.
+/// What all the bytes of the answer to a request mean, of which none was fed before. They are fed
+/// in pieces of a whole chunk, so that no more than one stands beside what they tell, which is
+/// given away.
 pub fn read_whole<V: PathValue>(ask: &mut PathAsk<V>, answer: &[u8]) -> Result<Step<V>, AllocError>
     ensures { IfOk result (λ step. StandsFor V.kind [] ask.old.read
         → step ≡ V.value answer.now) }

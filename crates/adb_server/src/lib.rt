@@ -1,4 +1,5 @@
-//! The server: it accepts clients at a door, and serves each client and each device by two workers.
+//! The server. It accepts clients at a door, and serves each client and each device with two
+//! workers.
 #![tactic(auto)]
 
 mod accepting;

@@ -23,9 +23,9 @@ use std::sync::Wait;
 /// the line `pushed <n>` there. `shell` writes what the command wrote to the sink, what it wrote as
 /// errors to the note, and behind that the line `exit <status>`. `wait` writes nothing.
 ///
-/// `TooLarge` comes where a push finds more than `MAX_INPUT` bytes in the source; nothing is dialled
-/// then. Nothing is written to the note but what `shell` tells, so the line of each end other than
-/// `Done` is still to be written.
+/// `TooLarge` comes where a push finds more than `MAX_INPUT` bytes in the source; nothing is
+/// dialled then. Nothing is written to the note but what `shell` tells, so the line of each end
+/// other than `Done` is still to be written.
 pub fn run_tool<W: Wait + Copy + Drop, S: Source, K: Sink, N: Sink, Y: Yard>(
     rt: W,
     alloc: Global,

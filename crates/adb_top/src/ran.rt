@@ -9,8 +9,8 @@ use crate::status::Status;
 pub struct Ran<R: Drop> {
     /// The exit status.
     pub status: Status,
-    /// The recorder of the server, if the run was one and it came to serve. A server that ended before
-    /// that, and every other command, has none.
+    /// The recorder of the server, if the run was one and it came to serve. A server that ended
+    /// before that, and every other command, has none.
     pub recorder: Option<R>,
 }
 

@@ -30,8 +30,8 @@ use std::thread::Threads;
 ///
 /// `serve` listens at a port of the yard, plugs in the devices that it is given, and serves the
 /// clients that come, until one of them kills the server. It reads nothing of the source and writes
-/// nothing to the sink; the history goes to the yard's recorder, which is returned. It waits as long
-/// as its clients and devices do.
+/// nothing to the sink; the history goes to the yard's recorder, which is returned. It waits as
+/// long as its clients and devices do.
 ///
 /// A client tool asks the server at a port of this machine for one thing, and prints the answer
 /// (`adb_tools::run_tool`). It waits as long as that server does.

@@ -20,8 +20,8 @@ use byteorder::{ByteOrder, LittleEndian};
 use std::alloc::{AllocError, Global};
 use std::marker::Model;
 
-/// Files whose bytes are i mod 251, of which it keeps how many they are. Contracts see it as the list of
-/// its files, with their bytes, in rising order of the bytes of their paths.
+/// Files whose bytes are i mod 251, of which it keeps how many they are. Contracts see it as the
+/// list of its files, with their bytes, in rising order of the bytes of their paths.
 #[derive(Drop)]
 pub struct NamedTree {
     alloc: Global,
@@ -66,8 +66,8 @@ impl NamedTree {
         self.kept.get(b"");
     }
 
-    /// What a session writes that pushes the file of a path to that path. The bytes of the file are made
-    /// for it.
+    /// What a session writes that pushes the file of a path to that path. The bytes of the file are
+    /// made for it.
     pub fn push_text(&self, alloc: Global, path: &[u8]) -> Result<Text, AllocError>
         requires { is_some (file_at path.now self.now) ≡ true }
         ensures { (file : File) → file_at path.now self.now ≡ Some file
@@ -86,8 +86,8 @@ impl NamedTree {
         self.kept.get(path).is_some()
     }
 
-    /// Puts the file of a line; `false` where it is refused. The tree is as before then, and after want
-    /// of memory.
+    /// Puts the file of a line; `false` where it is refused. The tree is as before then, and after
+    /// want of memory.
     pub(crate) fn put(&mut self, line: &FileLine<'_>) -> Result<bool, AllocError>
         requires room { total self.old + line.now.size ≤ MAX_TREE }
         requires few { length self.old < MAX_LINES }
@@ -104,7 +104,8 @@ impl NamedTree {
     }
 }
 
-/// Puts a file; `false` where it is refused. The files are as before then, and after want of memory.
+/// Puts a file; `false` where it is refused. The files are as before then, and after want of
+/// memory.
 fn put_file(files: &mut Files, path: &[u8], file: File) -> Result<bool, AllocError>
     requires { length path.now < 2 ^ 32 }
     ensures put { IfOk result (λ put. Puts put path.now file files.old files.new) }

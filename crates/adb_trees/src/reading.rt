@@ -8,8 +8,8 @@ use crate::tree::Tree;
 use adb_script::{MAX_LINES, MAX_SCRIPT, ScriptError, split_line};
 use std::alloc::{AllocError, Global};
 
-/// Reads the files that the lines of a script name: lines that end with a newline, a last one without
-/// it among them. Where a line is refused the first such is told, or want of memory.
+/// Reads the files that the lines of a script name: lines that end with a newline, a last one
+/// without it among them. Where a line is refused the first such is told, or want of memory.
 pub fn read_tree(alloc: Global, script: &[u8]) -> Result<NamedTree, ScriptError>
     ensures tree { IfOk result (λ files. tree_of script.now ≡ Some files) }
     ensures named { IfOk result (λ files. AreNamed files) }

@@ -46,8 +46,8 @@ impl Tree {
         }
     }
 
-    /// Takes the file that a line names, without its newline; `false` where the line is refused. The
-    /// tree is as before then.
+    /// Takes the file that a line names, without its newline; `false` where the line is refused.
+    /// The tree is as before then.
     pub fn take(&mut self, text: &[u8]) -> Result<bool, AllocError>
         requires { length self.old.files < MAX_LINES }
         ensures { IfOk result (λ taken.

@@ -1,4 +1,4 @@
-//! The words of a command line: the command that they are.
+//! Parsing of a command line: from its words to the command that they name.
 #![tactic(auto)]
 
 mod command;

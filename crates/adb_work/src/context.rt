@@ -1,4 +1,4 @@
-//! The context of a worker: everything that it owns besides its task.
+//! The context of a worker: everything that it owns except its task.
 
 use crate::parts::{HallOf, Parts};
 use adb_connections::Bell;
@@ -57,8 +57,8 @@ pub struct Context<W: Wait + Copy + Drop, P: Parts> {
 }
 
 impl<W: Wait + Copy + Drop, P: Parts> Context<W, P> {
-    /// Rings the bell of the door if `over`, the answer of the hall's `over`, says that no client can
-    /// come any more: after a kill, and when the hall is shut.
+    /// Rings the bell of the door if `over`, the answer of the hall's `over`, says that no client
+    /// can come any more: after a kill, and when the hall is shut.
     pub(crate) fn ring_if(&self, over: Option<DeskError>) {
         if over.is_some() {
             self.bell.ring();

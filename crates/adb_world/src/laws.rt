@@ -201,8 +201,8 @@ pub(crate) fn sessions_are_asked_in_part()
     streams_run_in_part();
 }
 
-/// If all is settled, a session's client ends, and a step fails before all has settled again, no file
-/// has changed.
+/// If all is settled, a session's client ends, and a step fails before all has settled again, no
+/// file has changed.
 pub(crate) fn sessions_that_end_in_part_change_no_file()
     ensures { (number : ℕ) (old mid new : Parts) → IsDone old
         → HasEndedInPart number old mid new → files_of new.device ≡ files_of old.device }

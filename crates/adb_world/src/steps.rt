@@ -63,8 +63,8 @@ impl Parts {
         Ok(true)
     }
 
-    /// At most `max` bytes that are due to the client of a session are handed to it. Returns whether
-    /// there were any.
+    /// At most `max` bytes that are due to the client of a session are handed to it. Returns
+    /// whether there were any.
     pub(crate) fn hand(&mut self, number: u32, max: usize) -> Result<bool, AllocError>
         requires some { 0 < max }
         requires held { IsHeld self.old }

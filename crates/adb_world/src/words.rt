@@ -6,8 +6,8 @@ use adb_outside::{Parts, Text};
 use std::alloc::{AllocError, Global};
 use std::marker::Model;
 
-/// The requests of a session, and its text behind them, which is not copied. Contracts see all their
-/// bytes as one list.
+/// The requests of a session, and its text behind them, which is not copied. Contracts see all
+/// their bytes as one list.
 #[derive(Drop)]
 pub struct Words {
     alloc: Global,

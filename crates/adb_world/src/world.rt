@@ -29,8 +29,8 @@ use std::marker::Model;
 
 /// One hub, one model device, and the sessions of scripted clients by their numbers. Between two
 /// calls each session has written all its words, or none. After an allocation failure the world is
-/// spent: each later call that can fail returns an error and changes nothing, and the files are those
-/// after whole commands and whole sync requests.
+/// spent: each later call that can fail returns an error and changes nothing, and the files are
+/// those after whole commands and whole sync requests.
 #[derive(Drop)]
 pub struct World {
     alloc: Global,
@@ -162,8 +162,8 @@ impl World {
     }
 
     /// Returns what a new session of the file service is answered to some bytes, alone: what is
-    /// served to their whole requests, in order, over the files. The session is dropped then, and the
-    /// others stay. All that was started has to have settled.
+    /// served to their whole requests, in order, over the files. The session is dropped then, and
+    /// the others stay. All that was started has to have settled.
     ///
     /// - `AllocError`: an allocation failed. The world is spent, and its files are those after a
     ///   prefix of the whole requests.
@@ -279,9 +279,10 @@ fn keep_memory(alloc: Global) {
     drop(block);
 }
 
-/// Moves bytes, in pieces and between sides that the seed picks, until none can move, and returns the
-/// number of steps, each of which is an entry of the hub's history: at most 64 for each byte of the
-/// sessions' services, of their texts and of what they were handed, 1,024 for each session, and 1,024.
+/// Moves bytes, in pieces and between sides that the seed picks, until none can move, and returns
+/// the number of steps, each of which is an entry of the hub's history: at most 64 for each byte of
+/// the sessions' services, of their texts and of what they were handed, 1,024 for each session, and
+/// 1,024.
 ///
 /// - `AllocError`: an allocation failed. The world is spent. Its files are those after whole commands
 ///   and whole sync requests of the sessions that had written nothing, in one order, each session's
