@@ -1,5 +1,4 @@
-//! A client tool at a server's port: what it is to send is read, the server is asked, and what it
-//! answers is told.
+//! A client tool at a server's port: it reads the input, asks the server, and writes the answer.
 #![tactic(auto)]
 
 mod asking;

@@ -1,9 +1,9 @@
-//! Laws that are functions.
+//! Properties that are stated as functions.
 
 use adb_capture::{limits_are, read_is_spelled, records_are_framed, spelled_is_read};
 use adb_reply::{replies_begin_right, texts_carry_their_length};
 
-/// What replies and records are, as laws that any caller may ask for.
+/// States the properties of replies and of records, which any caller may use.
 pub fn are_laws() {
     replies_begin_right();
     texts_carry_their_length();
