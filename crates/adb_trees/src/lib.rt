@@ -1,5 +1,4 @@
-//! Trees of files that the scripts of the command `copy` name, and which of their lines are
-//! refused.
+//! Trees of files that the scripts of the command `copy` name, and the lines that are refused.
 #![tactic(auto)]
 
 mod laws;

@@ -1,5 +1,5 @@
-//! A world: one hub, one model device and scripted clients, with nothing outside. Its bytes move in
-//! pieces and in an order that a seed picks, until none can move.
+//! A world: one hub, one model device and scripted clients, without any environment. Its bytes move
+//! in pieces and in an order that a seed picks, until none can move.
 #![tactic(auto)]
 
 mod answer;
