@@ -43,7 +43,7 @@ pub fn make_job<S: Source>(alloc: Global, tool: Tool, source: &mut S) -> Result<
     Ok(Job { remote, on })
 }
 
-/// Returns the end of a tool whose input failed.
+/// Returns the end of a tool without input.
 pub fn failed_input(error: InputError) -> ToolEnd
     ensures { result ≡ failed_input error }
 {

@@ -41,8 +41,8 @@ pub struct Pair {
 }
 
 impl Pair {
-    /// Makes the pair of a number whose passes are both out, and of which neither sleeps. Fails if
-    /// an allocation fails.
+    /// Makes the pair of a number with both passes out, and neither asleep. Fails if an allocation
+    /// fails.
     pub fn new(alloc: Global) -> Result<Pair, AllocError> {
         Ok(Pair {
             reader: Bell::new(alloc)?,
@@ -59,8 +59,8 @@ impl Pair {
     }
 }
 
-/// The condition variables of all passes that are out. The passes of a number whose own could not
-/// be allocated share one.
+/// The condition variables of all passes that are out. If the allocation for a number failed, its
+/// passes use one that is shared by all such passes.
 #[derive(Drop)]
 pub struct Bells {
     alloc: Global,

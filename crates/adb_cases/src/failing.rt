@@ -1,4 +1,4 @@
-//! Tools whose ports, sinks or notes fail.
+//! Tools with ports, sinks or notes that fail.
 
 ghost use Rattle.std.specs.Prelude.{IfOk};
 ghost use Rattle.adb_remote_words.specs.Words.{HasWords};

@@ -22,8 +22,8 @@ fn read(alloc: Global, source: &mut MemorySource) -> Result<usize, InputError> {
     }
 }
 
-/// Returns whether the result is as expected for a source of `size` bytes whose read `failing`
-/// fails.
+/// Returns whether the result is as expected for a source of `size` bytes, if its read number
+/// `failing` fails.
 fn holds(
     alloc: Global,
     size: usize,

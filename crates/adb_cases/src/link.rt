@@ -55,7 +55,7 @@ fn is_alone(link: &mut Link) -> Result<bool, AllocError> {
 /// A slice that is not copied.
 const SLICE: &[u8] = &[0; MIN_SHARED];
 
-/// Queues a write whose payload is in two large slices.
+/// Queues a write with a payload in two large slices.
 fn owe_split(link: &mut Link) -> Result<(), AllocError> {
     link.reserve(1)?;
     let payload = SplitBytes::new(Bytes::from_static(SLICE), Bytes::from_static(SLICE));

@@ -30,8 +30,8 @@ fn records_all(recorder: &mut SinkRecorder<MemorySink>) -> bool {
 const RECORDED: &[u8] = b"ADBHUB1\nJ\x01\0\0\0\0\0\0\0\
     R\x01\0\0\0\x02\0\0\0abV\x02\0\0\0\x01\0\0\0c";
 
-/// Returns whether a recorder whose fifth write fails, within a record, keeps no other entry from
-/// then on.
+/// Returns whether a recorder keeps no other entry after its fifth write has failed, within a
+/// record.
 pub fn nothing_follows_a_torn_record(alloc: Global) -> Result<bool, AllocError> {
     let failing = Vec::from_slice(alloc, &[5])?;
     let mut recorder = SinkRecorder::new(MemorySink::new(alloc, failing));

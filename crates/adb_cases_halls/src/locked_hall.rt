@@ -46,7 +46,7 @@ fn all_wait(bells: &mut Bells) {
     }
 }
 
-/// Attaches the first device, whose writer waits.
+/// Attaches the first device, and makes its writer wait.
 fn device_waits<E: Ledger, M: Ledger, K: Marks>(
     alloc: Global,
     locked: &mut Locked<NullRecorder, E, M, K>,
@@ -81,7 +81,7 @@ enum Wake {
     Answer,
     /// A client whose reader has returned is answered: its writer is notified.
     AnswerWithoutReader,
-    /// A device is attached whose number is that of the first client; that client is then answered.
+    /// A device is attached with the number of the first client; that client is then answered.
     SameNumber,
     /// A kill: all workers are notified, also those that wait for room.
     Kill,

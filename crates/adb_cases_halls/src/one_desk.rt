@@ -158,7 +158,7 @@ impl Case {
 #[derive(Clone, Copy, Drop)]
 struct Row {
     case: Case,
-    /// The port through whose forward the client comes, 0 for none.
+    /// The port of the forward through which the client comes, 0 for none.
     port: u16,
     failing: u64,
     /// The number of entries that are kept.

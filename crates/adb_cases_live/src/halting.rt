@@ -1,4 +1,4 @@
-//! A server whose door fails while a client is connected that sends nothing.
+//! A server with a door that fails while a client is connected that sends nothing.
 
 ghost use Rattle.std.specs.Prelude.{true};
 ghost use Rattle.adb_outside.specs.Outside.{Counts};

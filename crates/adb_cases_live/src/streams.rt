@@ -1,4 +1,4 @@
-//! System streams whose calls transfer fewer bytes than asked, are interrupted, or fail.
+//! System streams that transfer fewer bytes than asked, are interrupted, or fail.
 
 ghost use Rattle.std.specs.Prelude.{◌≤◌, IfOk};
 
@@ -17,8 +17,8 @@ enum Step {
     Fails(ErrorKind),
 }
 
-/// A stream whose calls perform the steps in turn, and then move nothing. The bytes that are read
-/// count up from 1, and those that are written are kept.
+/// A stream that performs the steps in turn, one a call, and then moves nothing. The bytes that are
+/// read count up from 1, and those that are written are kept.
 #[derive(Drop)]
 struct Fake {
     steps: Vec<Step>,

@@ -27,7 +27,7 @@ pub enum Admitted<I: Drop, O: Drop, E: Ledger, M: Ledger, K: Marks> {
     Closed,
     /// The door failed.
     Failed,
-    /// The hall refused the client, whose connection is dropped. The hall is unchanged, or its
+    /// The hall refused the client, and the connection is dropped. The hall is unchanged, or its
     /// recorder shut it.
     Refused(DeskError),
 }

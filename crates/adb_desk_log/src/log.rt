@@ -252,7 +252,7 @@ impl<R: Recorder, E: Ledger, M: Ledger, K: Marks> Log<R, E, M, K> {
     }
 }
 
-/// Returns the answer of a log whose recorder refused an entry with this error.
+/// Returns the answer of the log for this error of its recorder.
 fn answer_of(error: RecordError) -> DeskError
     ensures { result ≡ fault_of error }
 {

@@ -1,4 +1,4 @@
-//! A recorder whose entries a test reads.
+//! A recorder of entries that a test reads.
 
 ghost use Rattle.std.specs.Prelude.{◌≡◌};
 ghost use Rattle.adb_outside.specs.Outside.{Counts};
@@ -21,8 +21,8 @@ pub struct Kept<W: Wait + Copy + Drop> {
 }
 
 impl<W: Wait + Copy + Drop> Kept<W> {
-    /// Makes an empty store. Its recorder fails at the calls whose numbers, counted from 1, are in
-    /// `failing`.
+    /// Makes an empty store. `failing` lists the calls at which its recorder fails, by their
+    /// numbers, counted from 1.
     pub fn new(rt: W, alloc: Global, failing: Vec<u64>) -> Result<Kept<W>, AllocError> {
         let recorder = MemoryRecorder::new(alloc, failing);
         Ok(Kept {

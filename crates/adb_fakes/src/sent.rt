@@ -89,9 +89,9 @@ impl<W: Wait + Copy + Drop> Model for SharedOut<W> {
 }
 
 impl<W: Wait + Copy + Drop> SharedOut<W> {
-    /// Makes an output whose writes fail at the calls whose numbers, counted from 1, are in
-    /// `failing`, and at an allocation failure. A failing write takes nothing. A write in two parts
-    /// is one call.
+    /// Makes an output. Its writes fail at the calls in `failing`, by their numbers, counted from
+    /// 1, and at an allocation failure. A failing write takes nothing. A write in two parts is one
+    /// call.
     pub fn new(sent: Sent<W>, failing: Vec<u64>) -> SharedOut<W>
         ensures { result ≡ record { closed = false; faults = 0 } }
     {

@@ -48,7 +48,7 @@ impl<W: Wait + Copy + Drop> Model for FakeYard<W> {
 }
 
 impl<W: Wait + Copy + Drop> FakeYard<W> {
-    /// Returns a yard without clients, whose recorder is the one of `kept`.
+    /// Returns a yard without clients, with the recorder of `kept`.
     ///
     /// `Err`: an allocation failed.
     pub fn new(rt: W, alloc: Global, kept: Kept<W>) -> Result<FakeYard<W>, AllocError> {
@@ -75,8 +75,8 @@ impl<W: Wait + Copy + Drop> FakeYard<W> {
         self.spawns = calls;
     }
 
-    /// Adds a client that sends these bytes. The reads and writes of its connection whose numbers,
-    /// counted from 1, are in the lists fail. Returns a handle of the bytes that it is sent.
+    /// Adds a client that sends these bytes. The lists name the reads and writes of its connection
+    /// that fail, by their numbers, counted from 1. Returns a handle of the bytes that it is sent.
     ///
     /// `Err`: an allocation failed, and the client is not added.
     pub fn call(

@@ -47,7 +47,7 @@ pub struct AcceptQueue {
 }
 
 impl AcceptQueue {
-    /// Makes the queue of these listeners, whose registry is that of `poll`.
+    /// Makes the queue of these listeners, which are in the registry of `poll`.
     ///
     /// Fails if an allocation fails.
     pub fn new(

@@ -17,9 +17,8 @@ use std::thread::Threads;
 /// The yard of a live server: sockets of this machine, threads, and the pipe of its record.
 /// Contracts see nothing of the objects that it returns.
 ///
-/// A yard with an unused sink has the recorder of one server whose history is to be kept. If `B`
-/// names no pipe, the yard has recorders for servers whose history is not kept; these recorders are
-/// off.
+/// A yard with an unused sink has the recorder of one server that keeps its history. If `B` names
+/// no pipe, the yard has recorders for servers that keep no history; these recorders are off.
 #[derive(Drop)]
 pub struct RealYard<
     W: Net<Listener = TcpListener, Stream = TcpStream>
@@ -51,8 +50,8 @@ impl<
         + 'static,
     B: Named + Send + 'static,
 > RealYard<W, B> {
-    /// Makes a yard whose recorder writes to this sink. Its bell sets `ending`; devices that share
-    /// the flag then stop writing. It allocates nothing.
+    /// Makes a yard with a recorder that writes to this sink. Its bell sets `ending`; devices that
+    /// share the flag then stop writing. It allocates nothing.
     pub fn new(rt: W, alloc: Global, ending: Ending, sink: Option<PipeSink<W, B>>) -> RealYard<W, B>
         ensures { (result.faults ≡ 0) × (result.sink ≡ sink) }
     {

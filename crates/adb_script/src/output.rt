@@ -30,8 +30,8 @@ pub struct Output {
     status: Option<u8>,
 }
 
-/// Returns the answer line of a command whose service sent these bytes, or nothing if no exit
-/// status came.
+/// Returns the answer line of a command from the bytes of its service, or nothing if no exit status
+/// came.
 pub fn ran_line(alloc: Global, got: &[u8]) -> Result<Text, AllocError>
     ensures { IfOk result (λ line. line ≡ ran_line (output_in (packets_in got.now))) }
 {

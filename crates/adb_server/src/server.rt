@@ -109,7 +109,7 @@ pub fn serve<
     serve_at(rt, alloc, yard, &mut door, bell, recorder, devices)
 }
 
-/// Serves at a door, whose bell is `bell`, as `serve` does after it has listened.
+/// Serves at a door with the bell `bell`, as `serve` does after it has listened.
 pub fn serve_at<
     W: Threads + Wait + Copy + Send + Sync + Drop + 'static,
     Y: Yard + 'static,

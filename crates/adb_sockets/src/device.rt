@@ -68,7 +68,7 @@ pub fn tcp_device<W: Net<Listener = TcpListener, Stream = TcpStream> + Drop>(
     Ok((input, output))
 }
 
-/// The number of seconds that a connect waits for a device whose queue of connections is full.
+/// The number of seconds that a connect waits for a device with a full queue of connections.
 const PATIENCE: u64 = 1;
 
 /// Connects to a port of this machine.

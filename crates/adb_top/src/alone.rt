@@ -15,7 +15,7 @@ use std::alloc::Global;
 /// If the words are no such command, the status is `Usage`, and nothing is read or written.
 ///
 /// Each status except `Done` writes its one line to the note. If that write fails, the status is
-/// `WriteFault`, whose own line is then tried once.
+/// `WriteFault`, and its own line is tried once.
 pub fn run_alone<S: Source, K: Sink, N: Sink>(
     alloc: Global,
     words: &[String],

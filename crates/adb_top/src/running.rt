@@ -37,7 +37,7 @@ use std::thread::Threads;
 /// (`adb_tools::run_tool`). It waits as long as that server does.
 ///
 /// Each status except `Done` writes its one line to the note, after the line that names the port of
-/// a server. If that write fails, the status is `WriteFault`, whose own line is then tried once.
+/// a server. If that write fails, the status is `WriteFault`, and its own line is tried once.
 pub fn run<
     W: Threads + Wait + Copy + Send + Sync + Drop + 'static,
     S: Source,

@@ -21,7 +21,7 @@ pub fn bare_command<'a>(alloc: Global, name: &'a str) -> Command<'a>
     named_command(alloc, name).disable_help_flag(true)
 }
 
-/// Returns a command whose only argument is a port.
+/// Returns a command with a port as its only argument.
 pub fn port_only<'a>(alloc: Global, name: &'a str) -> Result<Command<'a>, AllocError>
     ensures { IfOk result (λ command. app_of command ≡ port_only name.entry.now) }
 {

@@ -89,7 +89,7 @@ fn serial_command<'a>(alloc: Global, name: &'a str) -> Result<Command<'a>, Alloc
     with_operands(alloc, port_and_serial(alloc, name)?, "operand")
 }
 
-/// Returns a command whose arguments are a port and a serial.
+/// Returns a command with a port and a serial as its arguments.
 fn port_and_serial<'a>(alloc: Global, name: &'a str) -> Result<Command<'a>, AllocError>
     ensures { IfOk result (λ command. app_of command ≡ with_serial (port_only name.entry.now)) }
 {

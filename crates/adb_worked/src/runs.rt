@@ -9,8 +9,8 @@ use adb_top::{Status, run_alone};
 use itoa::Buffer;
 use std::alloc::{AllocError, Global};
 
-/// Replays a capture whose source yields at most `piece` bytes a call. Returns the printed end of
-/// the replay, which includes that the written history is not legal if a judge finds that.
+/// Replays a capture from a source that yields at most `piece` bytes a call. Returns the printed
+/// end of the replay, which includes that the written history is not legal if a judge finds that.
 pub fn replay_told(alloc: Global, capture: &[u8], piece: usize) -> Result<Text, AllocError>
     requires { 1 ≤ piece }
 {
@@ -19,8 +19,8 @@ pub fn replay_told(alloc: Global, capture: &[u8], piece: usize) -> Result<Text, 
     run(alloc, words.as_slice(), capture, piece, true)
 }
 
-/// Runs words over a capture whose source yields at most `piece` bytes a call. Returns the printed
-/// status, the note and the written bytes.
+/// Runs words over a capture from a source that yields at most `piece` bytes a call. Returns the
+/// printed status, the note and the written bytes.
 pub fn run_told(
     alloc: Global,
     words: &[String],

@@ -29,8 +29,8 @@ use std::marker::Model;
 
 /// One hub, one model device, and the sessions of scripted clients by their numbers. Between two
 /// calls each session has written all its words, or none. After an allocation failure the world is
-/// spent: each later call that can fail returns an error and changes nothing, and the files are those
-/// after whole commands and whole sync requests.
+/// spent: each later call that can fail returns an error and changes nothing, and the files are
+/// those after whole commands and whole sync requests.
 #[derive(Drop)]
 pub struct World {
     alloc: Global,
@@ -230,7 +230,7 @@ impl World {
         }
     }
 
-    /// Ends the client of each session in order, one after the other, and drops the sessions, whose
+    /// Ends the client of each session in order, one after the other, and drops the sessions. Their
     /// numbers are not given again. The world settles without them. Everything that was started
     /// must have settled.
     ///

@@ -27,8 +27,8 @@ pub enum Dialled<I: Drop, O: Drop> {
 pub enum Staff {
     /// Each job runs in a thread of its own.
     Threads,
-    /// Each job runs within the call that submits it. The submissions whose numbers, counted from
-    /// 1, are in `failing` return their job without running it.
+    /// Each job runs within the call that submits it. `failing` lists submissions by their numbers,
+    /// counted from 1; these return their job without running it.
     Inline { failing: Vec<u64> },
 }
 
@@ -72,8 +72,8 @@ pub trait Yard: Drop {
     /// it to contracts.
     ghost here: { Self → ℕ → Option ℕ };
 
-    /// The yard has a recorder for a server whose history is to be kept (`true`) or is not to be
-    /// kept (`false`). A yard that was made for one of the two has no recorder for the other.
+    /// The yard has a recorder for a server that keeps its history (`true`) or does not keep it
+    /// (`false`). A yard that was made for one of the two has no recorder for the other.
     ghost records: { Self → Bool → Type 0 };
 
     /// Listens on a port of this machine, or on any free port if `port` is 0.
