@@ -1,4 +1,5 @@
-//! A client tool at a server's port: it reads the input, asks the server, and writes the answer.
+//! A client tool at a server's port: `make_job` reads the input, and `ask` asks the server and
+//! writes the answer.
 #![tactic(auto)]
 
 mod asking;

@@ -1,5 +1,5 @@
-//! A client tool's conversation with a server over a port: it writes the requests of a job and
-//! returns the outcome (OVERVIEW.TXT, SERVICES.TXT, SYNC.TXT).
+//! A client tool's conversation with a server over a port: `converse` writes the requests of a job
+//! and returns the outcome (OVERVIEW.TXT, SERVICES.TXT, SYNC.TXT).
 #![tactic(auto)]
 
 mod conversing;

@@ -20,7 +20,7 @@ pub const MAX_SERVED: usize = 16;
 /// The maximum number of bytes of the path or the command that a tool is given.
 pub const MAX_OPERAND: usize = MAX_ASKED;
 
-/// The values of these constants, written out for the definitions that import them.
+/// States the values of these constants for the definitions that import them.
 pub fn limits_are()
     ensures streams { MAX_STREAMS ≡ 10000 }
     ensures digits { MAX_DIGITS ≡ 20 }

@@ -12,7 +12,7 @@ use std::alloc::{AllocError, Global};
 /// The mode of a regular file that its owner may write and everyone may read.
 const MODE: u32 = 33_188;
 
-/// Asks, and prints a line with the result of the answer.
+/// Asks, and appends a line with the result of the answer.
 pub fn tell_answer(
     alloc: Global,
     files: &mut Files,
@@ -80,7 +80,7 @@ fn pull(
     tell_pull(line, &step)
 }
 
-/// Prints the size of a file, and the sum of its bytes.
+/// Appends the size of a file, and the sum of its bytes.
 fn tell_pull(line: &mut Text, step: &Step<Text>) -> Result<(), AllocError> {
     match step {
         Step::Done(bytes) => {
@@ -121,7 +121,7 @@ fn list(
     tell_list(line, &step)
 }
 
-/// Prints the number of entries, and each of them.
+/// Appends the number of entries, and each of them.
 fn tell_list(line: &mut Text, step: &Step<Entries>) -> Result<(), AllocError> {
     match step {
         Step::Done(entries) => tell_entries(line, entries.as_slice()),
@@ -139,7 +139,7 @@ fn tell_entries(line: &mut Text, entries: &[Dirent]) -> Result<(), AllocError> {
     Ok(())
 }
 
-/// Prints an answer that is not done.
+/// Appends an answer that is not done.
 fn tell_other<V: Drop>(line: &mut Text, step: &Step<V>) -> Result<(), AllocError> {
     match step {
         Step::Refused(text) => {

@@ -80,7 +80,7 @@ fn send(daemon: &mut Daemon, packet: &[u8], piece: usize) -> Result<(), DaemonEr
     answer
 }
 
-/// Prints the error of the device if it refuses a packet.
+/// Appends the error of the device if it refuses a packet.
 fn say(alloc: Global, answer: Result<(), DaemonError>, told: &mut Text) -> Result<(), AllocError> {
     match answer {
         Ok(()) => Ok(()),
@@ -100,7 +100,7 @@ fn hear(daemon: &mut Daemon, told: &mut Text) -> Result<(), AllocError> {
     Ok(())
 }
 
-/// Prints the paths of files, in order.
+/// Appends the paths of files, in order.
 fn list(files: &Files, told: &mut Text) -> Result<(), AllocError> {
     let mut path: &[u8] = b"";
     for _ in 0..1_000 {

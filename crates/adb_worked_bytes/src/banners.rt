@@ -6,7 +6,7 @@ use adb_banner::{has_feature, read};
 use adb_outside::{Identity, Text, state_of, state_text};
 use std::alloc::{AllocError, Global};
 
-/// Prints the state of a device that is announced, and its texts: system, serial, product, model,
+/// Appends the state of a device that is announced, and its texts: system, serial, product, model,
 /// device and features.
 pub fn tell(alloc: Global, bytes: &[u8], told: &mut Text) -> Result<(), AllocError> {
     match read(alloc, bytes) {
@@ -26,7 +26,7 @@ fn tell_identity(identity: &Identity, told: &mut Text) -> Result<(), AllocError>
     tell_bytes(told, b" ", identity.features.as_slice())
 }
 
-/// Prints, for a text `NAME of BYTES`, whether the device that announces BYTES has the feature
+/// Appends, for a text `NAME of BYTES`, whether the device that announces BYTES has the feature
 /// NAME.
 pub fn tell_feature(alloc: Global, text: &[u8], told: &mut Text) -> Result<(), AllocError> {
     let (name, bytes) = cut(text, b" of ");

@@ -5,12 +5,12 @@ use adb_outside::{Selector, Text};
 use adb_request::{Request, Which, cut, hex4, read, read_hex4};
 use std::alloc::{AllocError, Global};
 
-/// Prints the number that bytes are in hexadecimal digits, and what they begin with.
+/// Appends the number that bytes are in hexadecimal digits, and the kind of their beginning.
 pub fn tell_cut(alloc: Global, bytes: &[u8], told: &mut Text) -> Result<(), AllocError> {
     tell_value(alloc, told, (read_hex4(bytes), cut(bytes)))
 }
 
-/// Prints the meaning of a request.
+/// Appends the meaning of a request.
 pub fn tell(alloc: Global, text: &[u8], told: &mut Text) -> Result<(), AllocError> {
     let request = read(alloc, text)?;
     tell_request(&request, told)

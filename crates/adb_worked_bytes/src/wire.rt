@@ -24,7 +24,7 @@ impl Reader for Deframer {
     }
 }
 
-/// Prints a packet, and its encoding on a new link, on which only a CNXN has its sum.
+/// Appends a packet, and its encoding on a new link, on which only a CNXN has its sum.
 fn tell(alloc: Global, packet: &Packet, told: &mut Text) -> Result<(), AllocError>
     requires { length packet.now.payload ≤ MAX_PAYLOAD }
 {

@@ -38,7 +38,7 @@ impl Value for Entries {
     }
 }
 
-/// Prints a line with the meaning of an answer that comes in pieces of at most `piece` bytes. The
+/// Appends a line with the meaning of an answer that comes in pieces of at most `piece` bytes. The
 /// answer to a command has no such line.
 pub fn tell_meaning(
     alloc: Global,

@@ -1,5 +1,5 @@
 //! Yards. A yard is the environment of a server or a client tool: sockets, threads, and the
-//! recorder.
+//! recorder. `NoYard` is the yard of a program that neither serves nor dials.
 #![tactic(auto)]
 
 mod no_yard;
