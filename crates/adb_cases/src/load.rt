@@ -62,7 +62,7 @@ fn tally_of(alloc: Global, streams: u16) -> Result<Tally, AllocError> {
 }
 
 /// The number of streams of a load, and its tally, which comes from `examples/count_load 7 1 3 20
-/// 40`, a program without any code of this repository.
+/// 40`. That program is independent of this one.
 const TALLIES: &[(u16, Tally)] = &[
     (
         1,

@@ -15,7 +15,7 @@ use std::sync::Wait;
 /// count stays at its largest value.
 ///
 /// If it is dropped without `finish`, no end mark is put: the chunks that were put can be taken,
-/// and then `take` answers `Lost`.
+/// and then `take` returns `Lost`.
 #[derive(Drop)]
 pub struct PipeOut<W: Wait + Drop> {
     rt: W,
@@ -47,8 +47,8 @@ impl<W: Wait + Drop> Model for PipeOut<W> {
         × (known p.pass ≡ open_putter (passed (known p.pass)).chunks) };
 }
 
-/// The input end of a pipe. Contracts see the chunks that it took, whether it answered `End`, and
-/// how often it answered `Lost`; that count stays at its largest value.
+/// The input end of a pipe. Contracts see the chunks that it took, whether it returned `End`, and
+/// how often it returned `Lost`; that count stays at its largest value.
 #[derive(Drop)]
 pub struct PipeIn<W: Wait + Drop> {
     rt: W,
@@ -141,7 +141,7 @@ impl<W: Wait + Drop> PipeOut<W> {
     }
 
     /// Puts the end mark after the chunks. Blocks while the pipe is full. If the channel refuses
-    /// the mark, the input end answers `Lost` in its place.
+    /// the mark, the input end returns `Lost` in its place.
     pub fn finish(self) -> PipeEnd
         ensures { result ≡ record { pipe = self.pipe; put = self.put } }
     {
@@ -218,7 +218,7 @@ fn chunk_of(item: Item) -> Text
 
 impl<W: Wait + Drop> PipeIn<W> {
     /// Takes the next chunk, or the end mark after the last one. Blocks while the pipe is empty.
-    /// After the end mark each call answers `Lost`.
+    /// After the end mark each call returns `Lost`.
     #[tactic(auto, using(crate::proofs::Rules::takes))]
     pub fn take(&mut self) -> Taken
         ensures { Takes self.old result self.new }
@@ -235,7 +235,7 @@ impl<W: Wait + Drop> PipeIn<W> {
     }
 
     /// Takes the next chunk or the end mark if the pipe holds one now. Does not wait. `None` says
-    /// nothing of the output end; a later `take` answers `Lost` if that was dropped.
+    /// nothing of the output end; a later `take` returns `Lost` if that was dropped.
     #[tactic(auto, using(crate::proofs::Rules::takes))]
     pub fn try_take(&mut self) -> Option<Taken>
         ensures { TakesNow self.old result self.new }

@@ -105,7 +105,7 @@ impl<W: Wait + Drop, B: Named> Recorder for LiveRecorder<W, B> {
 
     /// Writes the record of the entry if the recorder is on.
     ///
-    /// `Failed`: a write into the pipe failed. Every later call answers `Failed`.
+    /// `Failed`: a write into the pipe failed. Every later call returns `Failed`.
     fn keep(&mut self, entry: &Entry) -> Result<(), RecordError> {
         if let Some(recorder) = &mut self.recorder {
             return recorder.keep(entry);

@@ -49,8 +49,8 @@ pub(crate) fn worlds_that_rest_are_settled()
     streams_that_live_heard_no_close();
 }
 
-/// States that, if everything is settled, the numbers of clients and of streams that were drawn are
-/// the number of sessions that were given.
+/// States that, if everything is settled, the numbers of clients and of streams that were drawn
+/// equal the number of sessions that were given.
 pub(crate) fn settled_worlds_are_counted()
     ensures { (parts : Parts) → IsDone parts → IsCounted (view_of parts false true) }
 {

@@ -62,7 +62,7 @@ pub trait Yard: Drop {
     /// Neither the yard nor any object that it returns ever fails.
     ghost steady: { Self → Type 0 };
 
-    /// No door that it returns ever answers `Closed`.
+    /// No door that it returns ever returns `Closed`.
     ghost lasting: { Self → Type 0 };
 
     /// The bytes that the next dialled connection will yield, if the yard shows them to contracts.
