@@ -22,12 +22,14 @@ impl<R: Recorder, E: Ledger, M: Ledger, K: Marks> Desk<R, E, M, K> {
     /// Admits a client or a device and returns its number, which is drawn: one entry. After an
     /// error no number is drawn.
     ///
-    /// - The answer of a shut desk: the desk is shut. It comes before every other error.
+    /// A desk that is shut returns the answer with which it was shut, before every other error.
+    ///
     /// - `Hub(Stopped)`: a kill was made.
     /// - `Hub(Numbers)`: all numbers are drawn.
     /// - `Hub(Full)`: a device came, and as many devices as the registry holds are attached.
     /// - `Hub(BadSerial)`: the device's serial is not valid.
-    /// - `Hub(OutOfMemory)`: an allocation failed. If it was one of the recorder, the desk is shut.
+    /// - `Hub(OutOfMemory)`: an allocation failed. If it was an allocation of the recorder, the
+    ///   desk is shut.
     /// - `RecordFault`: the recorder failed. The desk is shut.
     pub fn admit(&mut self, comer: Comer<'_>) -> Result<u32, DeskError>
         requires { MayCome comer }

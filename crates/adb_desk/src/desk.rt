@@ -167,7 +167,7 @@ impl<R: Recorder, E: Ledger, M: Ledger, K: Marks> Desk<R, E, M, K> {
 
     /// Returns counts of what the hub holds.
     ///
-    /// The answer of a shut desk: the desk is shut.
+    /// A desk that is shut returns the answer with which it was shut.
     pub fn summary(&mut self) -> Result<Summary, DeskError>
         ensures answer { result
             ≡ or_given_by (shut_with self.old.log) (summary_of self.old.hub) }

@@ -25,10 +25,11 @@ impl<R: Recorder, E: Ledger, M: Ledger, K: Marks> Desk<R, E, M, K> {
     /// Hands out the first bytes that are due to a client or on a link, at most `max`: one Put or
     /// Send. `Nothing` and `Done` make no entry.
     ///
-    /// - The answer of a shut desk: the desk is shut. It comes before every other error.
+    /// A desk that is shut returns the answer with which it was shut, before every other error.
+    ///
     /// - `Hub(NoClient)`, `Hub(NoLink)`: the number was never drawn.
-    /// - `Hub(OutOfMemory)`: an allocation failed; the bytes are still due. If it was one of the
-    ///   recorder, the desk is shut.
+    /// - `Hub(OutOfMemory)`: an allocation failed; the bytes are still due. If it was an allocation
+    ///   of the recorder, the desk is shut.
     /// - `RecordFault`: the recorder failed. The desk is shut.
     pub fn hand_out(&mut self, half: Half, number: u32, max: usize) -> Result<Handed, DeskError>
         requires { (0 < max) × (max ≤ MAX_DATA) }

@@ -26,13 +26,14 @@ impl<R: Recorder, E: Ledger, M: Ledger, K: Marks> Desk<R, E, M, K> {
     /// state of that client or device after the act. An `End` and a `Detach` allocate nothing in
     /// the hub.
     ///
-    /// - The answer of a shut desk: the desk is shut. It comes before every other error.
+    /// A desk that is shut returns the answer with which it was shut, before every other error.
+    ///
     /// - `Hub(Stopped)`: a kill was made.
     /// - `Hub(NoClient)`, `Hub(NoLink)`: the number was never drawn.
-    /// - `Later`: a client's bytes do not fit: more would be held of it than 65,540 bytes. Nothing
+    /// - `Later`: a client's bytes do not fit: more than 65,540 bytes would be held of it. Nothing
     ///   changes.
-    /// - `Hub(OutOfMemory)`: an allocation failed; the entry is not made. If it was one of the
-    ///   recorder, the desk is shut.
+    /// - `Hub(OutOfMemory)`: an allocation failed; the entry is not made. If it was an allocation
+    ///   of the recorder, the desk is shut.
     /// - `RecordFault`: the recorder failed. The desk is shut.
     pub fn submit(&mut self, number: u32, act: Act<'_>) -> Result<Progress, DeskError>
         requires { moves (entry_of act number) ≤ MAX_DATA }

@@ -43,8 +43,9 @@ impl Awaited {
         }
     }
 
-    /// Parses the beginning of bytes that are at an offset of the answer: returns the length of a
-    /// whole frame, or the offset of the first byte after which no frame can follow.
+    /// Parses the beginning of bytes that are at an offset of the answer. Returns the length of a
+    /// whole frame, or the offset of the first byte after which no frame can follow, or `More` if
+    /// the frame is incomplete.
     pub fn found(self, offset: u64, bytes: &[u8]) -> Front<u64>
         ensures { result ≡ found self offset bytes.now }
     {

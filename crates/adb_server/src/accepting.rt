@@ -18,7 +18,7 @@ use std::sync::Wait;
 use std::thread::Threads;
 
 /// The supplies from which the server makes workers: its runtime, its allocator, the bell of its
-/// door, its maker of jobs, and its yard, which gives gates and binders.
+/// door, its maker of jobs, and its yard, which provides gates and binders.
 #[derive(Drop)]
 pub(crate) struct Supplies<W: Drop, B: Drop, S: Drop, Y: Drop> {
     pub(crate) rt: W,

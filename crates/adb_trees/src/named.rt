@@ -20,8 +20,8 @@ use byteorder::{ByteOrder, LittleEndian};
 use std::alloc::{AllocError, Global};
 use std::marker::Model;
 
-/// Files with bytes that are their indexes mod 251. Only the number of these bytes is kept.
-/// Contracts see the list of files, with their bytes, in rising order of the bytes of their paths.
+/// Files in which each byte is its index mod 251. Only the length of each file is kept. Contracts
+/// see the list of files, with their bytes, in rising order of the bytes of their paths.
 #[derive(Drop)]
 pub struct NamedTree {
     alloc: Global,

@@ -89,8 +89,8 @@ impl Parts {
         Ok(number)
     }
 
-    /// Ends the client of a session in order, by which it is gone, and returns the session, which
-    /// is kept no longer. It allocates nothing.
+    /// Ends the client of a session in order, by which the client is gone. Removes the session and
+    /// returns it. It allocates nothing.
     pub(crate) fn end(&mut self, number: u32) -> Session
         requires done { IsDone self.old }
         requires there { is_some (at number self.old.sessions.entries) ≡ true }
