@@ -58,7 +58,7 @@ const OKAY: &[u8] = b"OKAY\x07\0\0\0\x01\0\0\0\0\0\0\0\0\0\0\0\xb0\xb4\xbe\xa6";
 const WRTE: &[u8] = b"WRTE\x07\0\0\0\x01\0\0\0\0\x10\0\0\0\0\0\0\xa8\xad\xab\xba";
 
 /// Opens a stream to a device for a client, and sends until a write is out and the maximum number
-/// of bytes is held.
+/// of bytes is held. Returns whether each call succeeds.
 fn fills_a_stream<E: Ledger, M: Ledger, K: Marks, H: Hall<E, M, K>>(
     hall: &mut H,
     link: &mut LinkIn<E, M, K>,
