@@ -1,4 +1,4 @@
-//! A server is asked, and what it answers is told.
+//! A tool's call of a server: its conversation, and the output of the answer.
 
 ghost use Rattle.std.specs.Prelude.{◌≤◌, length, option_map, IfSome};
 ghost use Rattle.adb_remote_words.specs.Words.{HasWords};
@@ -16,14 +16,14 @@ use adb_remote_words::decided_answers_stay;
 use std::alloc::Global;
 use std::sync::Wait;
 
-/// Asks a server for a job, on the device of a serial where there is one, and tells what it
-/// answers: a list, or a file, goes to the sink as it is; of a file that was sent, the line
-/// `pushed <n>`; of a command, its output goes to the sink, and to the note its error output and
-/// then the line `exit <status>`.
+/// Asks a server for a job, on the device with this serial if one is given, and writes the answer.
+/// A list or a file goes to the sink unchanged. After a file was sent, the line `pushed <n>` goes
+/// to the sink. The output of a command goes to the sink; its error output and then the line `exit
+/// <status>` go to the note.
 ///
-/// It is `Done` where there is an outcome. `WriteFault` comes where the sink or the note failed;
-/// then a front of what was to be told went out. Each other end leaves both as they were, and is
-/// what `converse` says.
+/// - `Done`: there is an outcome.
+/// - `WriteFault`: the sink or the note failed. A prefix of the output was written.
+/// - Any other end is that of `converse`. The sink and the note are unchanged.
 pub fn ask<W: Wait + Copy + Drop, I: PortIn, O: PortOut, K: Sink, N: Sink>(
     rt: W,
     alloc: Global,

@@ -1,4 +1,4 @@
-//! How a client tool ends.
+//! The ends of a client tool.
 
 ghost use Rattle.std.specs.Prelude.{◌≡◌};
 ghost use Rattle.adb_asking.specs.Ends.{end_of};
@@ -6,30 +6,30 @@ ghost use Rattle.adb_asking.specs.Ends.{end_of};
 use adb_outside::Text;
 use adb_remote::RemoteError;
 
-/// How a client tool ends.
+/// The way in which a client tool ended.
 #[derive(Drop)]
 pub enum ToolEnd {
-    /// What the server answered is told.
+    /// The server's answer was written.
     Done,
-    /// The words are no tool's.
+    /// The words are no call of a tool.
     Usage,
     /// The source failed.
     ReadFault,
     /// The sink or the note failed.
     WriteFault,
-    /// Memory ran out.
+    /// An allocation failed.
     OutOfMemory,
-    /// The server, or the device, refused with this text.
+    /// The server or the device refused with this text.
     Refused(Text),
-    /// The server's answer is none, from this byte on.
+    /// The server's answer is not valid, from this byte on.
     BadAnswer { offset: u64 },
-    /// Nobody answered at the port, or a read or a write of the connection failed.
+    /// Connecting to the port failed, or a read or a write of the connection failed.
     PortFault,
-    /// There is more to send than a tool sends.
+    /// The input is larger than a tool sends.
     TooLarge,
 }
 
-/// How a tool ends that got no outcome.
+/// Returns the end of a tool without an outcome.
 pub fn end_of(error: RemoteError) -> ToolEnd
     ensures { result ≡ end_of error }
 {

@@ -1,4 +1,4 @@
-//! What a tool is to send.
+//! The input of a tool.
 
 ghost use Rattle.std.specs.Prelude.{◌≡◌, ◌≤◌, length, IfOk};
 ghost use Rattle.adb_outside.specs.Outside.{Counts};
@@ -7,25 +7,25 @@ ghost use Rattle.adb_asking.specs.Input.{ReadsInput, ReadsPiece, is_input_fault,
 use adb_outside::{Got, Source, Text};
 use std::alloc::{AllocError, Global};
 
-/// The most bytes that a tool sends.
+/// The maximum number of bytes that a tool sends.
 pub const MAX_INPUT: usize = 16_777_216;
 
-/// Says that the number that definitions take from the code is that of the specification.
+/// States that the constant has the value of the specification.
 pub fn limits_are()
     ensures input { MAX_INPUT ≡ 16777216 }
 {}
 
-/// The most bytes that are read at once.
+/// The maximum number of bytes of one read.
 const PIECE: usize = 65_536;
 
-/// Why there is nothing to send.
+/// The reason why there is no input.
 #[derive(Clone, Copy, Debug, PartialEq, Eq, Drop)]
 pub enum InputError {
     /// A read failed.
     ReadFault,
     /// There are more than `MAX_INPUT` bytes.
     TooLarge,
-    /// Memory ran out.
+    /// An allocation failed.
     OutOfMemory,
 }
 
@@ -41,6 +41,10 @@ impl From<AllocError> for InputError {
 }
 
 /// Reads a source to its end, at most `MAX_INPUT` bytes.
+///
+/// - `ReadFault`: a read failed.
+/// - `TooLarge`: the source has more than `MAX_INPUT` bytes.
+/// - `OutOfMemory`: an allocation failed.
 pub fn read_input<S: Source>(alloc: Global, source: &mut S) -> Result<Text, InputError>
     ensures size { IfOk result (λ text. length text ≤ MAX_INPUT) }
     ensures told { ReadsInput (S.left source.old) (S.left source.new) result }
@@ -52,7 +56,7 @@ pub fn read_input<S: Source>(alloc: Global, source: &mut S) -> Result<Text, Inpu
     Ok(text)
 }
 
-/// Reads a piece behind a text, if anything is left.
+/// Appends a piece of the source to a text, if any bytes are left.
 fn read_piece<S: Source>(
     source: &mut S,
     text: &mut Text,

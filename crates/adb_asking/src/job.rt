@@ -11,14 +11,14 @@ use adb_remote::Remote;
 use adb_words::Tool;
 use std::alloc::Global;
 
-/// What a server is asked for, and the serial of the device, where one is wanted.
+/// The job for a server, and the serial of the device, if one is selected.
 #[derive(Drop)]
 pub struct Job {
     pub remote: Remote,
     pub on: Option<Text>,
 }
 
-/// The job of a tool. The source is read for a push alone, to its end.
+/// Makes the job of a tool. Reads the source, to its end, only for a push.
 pub fn make_job<S: Source>(alloc: Global, tool: Tool, source: &mut S) -> Result<Job, InputError>
     requires { FitsTool tool }
     ensures { MakesJob (seen S.steady S.faults S.left) tool source.old source.new result }
@@ -43,7 +43,7 @@ pub fn make_job<S: Source>(alloc: Global, tool: Tool, source: &mut S) -> Result<
     Ok(Job { remote, on })
 }
 
-/// How a tool ends that has no job.
+/// Returns the end of a tool without input.
 pub fn failed_input(error: InputError) -> ToolEnd
     ensures { result ≡ failed_input error }
 {

@@ -1,5 +1,5 @@
-//! A client tool at a server's port: what it is to send is read, the server is asked, and what it
-//! answers is told.
+//! A client tool at a server's port: `make_job` reads the input, and `ask` asks the server and
+//! writes the answer.
 #![tactic(auto)]
 
 mod asking;

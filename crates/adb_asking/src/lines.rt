@@ -1,4 +1,4 @@
-//! The lines that a tool writes of its own.
+//! The lines that a tool adds to the server's answer.
 
 ghost use Rattle.std.specs.Prelude.{◌≡◌, ◌++◌, codes, decimal, IfOk};
 ghost use Rattle.adb_asking.specs.Lines.{exit_line, pushed_line};
@@ -7,7 +7,7 @@ use adb_outside::Text;
 use itoa::Buffer;
 use std::alloc::{AllocError, Global};
 
-/// The line that says how many bytes were pushed.
+/// Returns the line with the number of bytes that were pushed.
 #[tactic(auto, unfolding(crate::specs::Lines::pushed_line))]
 pub fn pushed_line(alloc: Global, size: u64) -> Result<Text, AllocError>
     ensures { IfOk result (λ line. line ≡ pushed_line size) }
@@ -15,7 +15,7 @@ pub fn pushed_line(alloc: Global, size: u64) -> Result<Text, AllocError>
     numbered(alloc, b"pushed ", size)
 }
 
-/// The line that says with which status a command ended.
+/// Returns the line with the exit status of a command.
 #[tactic(auto, unfolding(crate::specs::Lines::exit_line))]
 pub fn exit_line(alloc: Global, status: u8) -> Result<Text, AllocError>
     ensures { IfOk result (λ line. line ≡ exit_line status) }
@@ -23,7 +23,7 @@ pub fn exit_line(alloc: Global, status: u8) -> Result<Text, AllocError>
     numbered(alloc, b"exit ", u64::from(status))
 }
 
-/// A name with a number behind it, as a line.
+/// Returns a line of a name and a number.
 fn numbered(alloc: Global, name: &[u8], number: u64) -> Result<Text, AllocError>
     ensures { IfOk result (λ line. line ≡ name.now ++ decimal number ++ codes "\n") }
 {

@@ -1,4 +1,4 @@
-//! What a server answered is told.
+//! Writing of a server's answer.
 
 ghost use Rattle.std.specs.Prelude.{◌≡◌, ◌++◌, []};
 ghost use Rattle.adb_asking.specs.Lines.{exit_line, pushed_line};
@@ -11,7 +11,7 @@ use adb_outside::{Sink, Text};
 use adb_remote::{Outcome, Remote, RemoteError};
 use std::alloc::Global;
 
-/// Tells an outcome, or ends as the server's answer is.
+/// Writes an outcome, or returns the end of an answer without one.
 pub fn tell_answer<K: Sink, N: Sink>(
     alloc: Global,
     job: &Remote,
@@ -28,7 +28,7 @@ pub fn tell_answer<K: Sink, N: Sink>(
     }
 }
 
-/// How many bytes a push sends.
+/// Returns how many bytes a push sends.
 fn sent_size(job: &Remote) -> u64
     ensures { result ≡ size_of job.now }
 {
@@ -38,7 +38,7 @@ fn sent_size(job: &Remote) -> u64
     }
 }
 
-/// Tells an outcome: what is asked for goes to the sink, and the rest to the note.
+/// Writes an outcome: the requested bytes to the sink, and the rest to the note.
 fn tell<K: Sink, N: Sink>(
     alloc: Global,
     size: u64,
@@ -59,7 +59,7 @@ fn tell<K: Sink, N: Sink>(
     }
 }
 
-/// Tells how many bytes were pushed.
+/// Writes how many bytes were pushed.
 fn tell_pushed<K: Sink, N: Sink>(alloc: Global, size: u64, sink: &mut K, note: &mut N) -> ToolEnd
     ensures { Leaves (seen K.steady K.faults K.written) (seen N.steady N.faults N.written)
         (record { out = pushed_line size; note = [] }) sink.old sink.new note.old note.new result }
@@ -70,7 +70,7 @@ fn tell_pushed<K: Sink, N: Sink>(alloc: Global, size: u64, sink: &mut K, note: &
     tell_parts(line.as_slice(), b"", b"", sink, note)
 }
 
-/// Tells what a command wrote, and its status.
+/// Writes the outputs of a command and its exit status.
 fn tell_run<K: Sink, N: Sink>(
     alloc: Global,
     out: &Text,
@@ -89,7 +89,7 @@ fn tell_run<K: Sink, N: Sink>(
     tell_parts(out.as_slice(), err.as_slice(), line.as_slice(), sink, note)
 }
 
-/// Writes bytes to the sink, and then others and a line to the note.
+/// Writes bytes to the sink, and then other bytes and a line to the note.
 fn tell_parts<K: Sink, N: Sink>(
     out: &[u8],
     err: &[u8],

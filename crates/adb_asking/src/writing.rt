@@ -1,11 +1,11 @@
-//! Bytes are written to a sink.
+//! Writing of bytes to a sink.
 
 ghost use Rattle.std.specs.Prelude.{◌++◌};
 ghost use Rattle.adb_asking.specs.Writing.{Puts};
 
 use adb_outside::{Sink, Wrote};
 
-/// Writes bytes, where there are some, and says whether all went out.
+/// Writes bytes, if there are any. Returns whether all were written.
 pub fn put<K: Sink>(sink: &mut K, bytes: &[u8]) -> bool
     ensures { Puts K.steady K.faults K.written bytes.now sink.old sink.new result }
 {
@@ -18,7 +18,7 @@ pub fn put<K: Sink>(sink: &mut K, bytes: &[u8]) -> bool
     }
 }
 
-/// Writes bytes, and others behind them, and says whether all went out.
+/// Writes bytes, then others. Returns whether all were written.
 pub fn put_both<K: Sink>(sink: &mut K, first: &[u8], second: &[u8]) -> bool
     ensures { Puts K.steady K.faults K.written (first.now ++ second.now) sink.old sink.new result }
 {

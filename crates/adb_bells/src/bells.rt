@@ -6,7 +6,7 @@ use std::alloc::{AllocError, Global};
 use std::collections::BTreeMap;
 use std::sync::{Arc, Condvar};
 
-/// Which of the two passes of a number waits.
+/// The pass of a number that waits: its reader's or its writer's.
 #[derive(Clone, Copy, Debug, PartialEq, Eq, Drop)]
 pub enum Side {
     /// The pass of its reader.
@@ -36,13 +36,13 @@ impl Bell {
 pub struct Pair {
     reader: Bell,
     writer: Bell,
-    /// How many of the two passes are out.
+    /// The number of the two passes that are out.
     out: u8,
 }
 
 impl Pair {
-    /// Returns the pair of a number whose passes are both out, and of which neither sleeps. Fails if an
-    /// allocation fails.
+    /// Makes the pair of a number with both passes out, and neither asleep. Fails if an allocation
+    /// fails.
     pub fn new(alloc: Global) -> Result<Pair, AllocError> {
         Ok(Pair {
             reader: Bell::new(alloc)?,
@@ -59,8 +59,8 @@ impl Pair {
     }
 }
 
-/// The condition variables of all passes that are out. The passes of a number whose own could not be
-/// allocated share one.
+/// The condition variables of all passes that are out. If the allocation for a number failed, its
+/// passes use one that is shared by all such passes.
 #[derive(Drop)]
 pub struct Bells {
     alloc: Global,
@@ -71,7 +71,7 @@ pub struct Bells {
 }
 
 impl Bells {
-    /// Returns a table without numbers.
+    /// Makes a table without numbers.
     pub fn new(alloc: Global) -> Bells {
         Bells {
             alloc,
@@ -87,7 +87,7 @@ impl Bells {
         let _ = bells.insert(number_of(owner), pair);
     }
 
-    /// Notes that a pass of this number is back. After the second one the pair is removed.
+    /// Notes that a pass of this number is back. Removes the pair after the second one.
     pub fn pass_back(&mut self, owner: Owner) {
         let bells = self.of(owner);
         let number = number_of(owner);
@@ -103,8 +103,8 @@ impl Bells {
         }
     }
 
-    /// Notes that a worker goes to sleep, and returns the condition variable on which it has to sleep:
-    /// None for the shared one.
+    /// Notes that a worker goes to sleep. Returns the condition variable on which it must sleep, or
+    /// `None` for the shared one.
     pub fn sleep(&mut self, owner: Owner, side: Side) -> Option<Arc<Condvar, Global>> {
         let own = match self.of(owner).get_mut(&number_of(owner)) {
             Some(pair) => {

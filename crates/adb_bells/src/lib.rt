@@ -1,4 +1,5 @@
-//! What a hall for many threads keeps under its lock: a desk, and the condition variables of its workers.
+//! The state that a hall for many threads keeps under its lock: a desk, and the condition variables
+//! of its workers.
 #![tactic(auto)]
 
 mod bells;

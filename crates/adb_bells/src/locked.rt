@@ -20,9 +20,9 @@ pub struct Locked<R: Recorder, E: Ledger, M: Ledger, K: Marks> {
 }
 
 impl<R: Recorder, E: Ledger, M: Ledger, K: Marks> Locked<R, E, M, K> {
-    /// Returns the workers to notify after a section: those of each client and link to which bytes came
-    /// due, for which room was made, or which is gone; and all workers, once, after the desk was shut
-    /// or a kill was made.
+    /// Returns the workers to notify after a section: those of each client and link to which bytes
+    /// came due, for which room was made, or which is gone; and all workers, once, after the desk
+    /// was shut or a kill was made.
     pub fn ring(&mut self) -> Rings {
         let mut rings = self.bells.ring_strays();
         if !self.is_over && (self.desk.is_stopped() || !self.desk.is_open()) {

@@ -5,8 +5,8 @@ ghost use Rattle.std.specs.Prelude.{◌≤◌};
 use std::alloc::Global;
 use std::sync::{Arc, Condvar};
 
-/// Condition variables to notify after the lock is released: a thread that is notified while the lock is
-/// held would only block on it. The first four need no allocation.
+/// Condition variables to notify after the lock is released: a thread that is notified while the
+/// lock is held would only block on it. The first four need no allocation.
 #[derive(Drop)]
 pub struct Rings {
     first: Option<Arc<Condvar, Global>>,
@@ -18,8 +18,8 @@ pub struct Rings {
 }
 
 impl Rings {
-    /// Returns a list without condition variables. `strays` says whether a worker sleeps on the shared
-    /// one.
+    /// Makes a list without condition variables. `strays` says whether a worker sleeps on the
+    /// shared one.
     pub(crate) fn new(alloc: Global, strays: bool) -> Rings {
         Rings {
             first: None,
@@ -65,7 +65,7 @@ impl Rings {
         self.further.len().saturating_add(few + count(&self.fourth))
     }
 
-    /// Notifies them all. The lock has to be released before.
+    /// Notifies all of them. The lock must be released first.
     pub fn ring_rest(self, common: &Condvar) {
         notify(&self.first);
         notify(&self.second);

@@ -1,4 +1,4 @@
-//! What is tried, each by itself.
+//! The cases, each of which is tried by itself.
 
 use crate::{
     client, copying, failing, files, forward, frames, input, link, load, recorders, records,
@@ -50,13 +50,14 @@ pub const CASES: &[Case] = &[
     Case::SessionsSideBySide,
 ];
 
-/// Which row does not hold of a case that has one.
+/// Returns the row that does not hold, for a case with one row.
 fn fault_of(holds: bool) -> Option<usize> {
     if holds { None } else { Some(0) }
 }
 
 impl Case {
-    /// The number of the first of its rows, from 0, that does not hold; `None` where all do.
+    /// Returns the index of the first of its rows, from 0, that does not hold, or `None` if all
+    /// hold.
     pub fn first_fault<W: Wait + Copy + Drop>(
         self,
         rt: W,

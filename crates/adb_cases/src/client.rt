@@ -1,4 +1,4 @@
-//! Bytes of a client that are taken back, and how many that are due to it go out at once.
+//! Bytes of a client that are taken back, and the number of due bytes that are sent at once.
 
 ghost use Rattle.std.specs.Prelude.{◌≤◌, length};
 
@@ -7,7 +7,7 @@ use adb_outside::{MIN_SHARED, SplitBytes};
 use bytes::Bytes;
 use std::alloc::{AllocError, Global};
 
-/// Whether what is held is without the bytes that were taken back.
+/// Returns whether the bytes that are held exclude those that were taken back.
 fn is_without_last(client: &mut Client) -> Result<bool, AllocError> {
     client.take_in(b"abcde")?;
     client.prepare_cuts(client.held(), 1)?;
@@ -16,7 +16,7 @@ fn is_without_last(client: &mut Client) -> Result<bool, AllocError> {
     Ok(rest.parts().start == b"abc".as_slice() && rest.len() == 3 && client.held() == 0)
 }
 
-/// The first `n` bytes that are held, which are so no longer.
+/// Takes the first `n` of the bytes that are held.
 fn cut_off(client: &mut Client, n: usize) -> Result<SplitBytes, AllocError>
     requires { n ≤ length client.old.held }
 {
@@ -32,13 +32,13 @@ pub fn bytes_are_taken_back(alloc: Global) -> Result<bool, AllocError> {
 /// The shortest slice that is not copied.
 const LARGE: &[u8] = &[0; MIN_SHARED];
 
-/// The length of a piece of which two do not lie in one memory.
+/// The length of a piece of which two do not share one memory.
 const HALF_LEN: usize = 40_000;
 
 const HALF: &[u8] = &[0; HALF_LEN];
 
-/// Whether what is held with pieces that come is cut off at once, as a first slice of that length and
-/// a second.
+/// Returns whether the bytes that are held after these pieces are cut off at once, as a first slice
+/// of `first` bytes and a second slice.
 fn lie_so(client: &mut Client, pieces: &[&[u8]], first: usize) -> Result<bool, AllocError> {
     for piece in pieces {
         client.take_in(piece)?;
@@ -54,7 +54,7 @@ pub fn two_memories_are_cut_off_as_they_are(alloc: Global) -> Result<bool, Alloc
     Ok(two && lie_so(&mut client, &[HALF, HALF, HALF], 3 * HALF_LEN)?)
 }
 
-/// Whether pieces that come behind what is left of a slice are cut off with it, uncopied.
+/// Returns whether pieces that come after the rest of a slice are cut off with it, without a copy.
 fn lie_behind(client: &mut Client) -> Result<bool, AllocError> {
     client.take_in(HALF)?;
     let cut = cut_off(client, client.held().min(MIN_SHARED))?;
@@ -70,10 +70,10 @@ pub fn pieces_behind_a_slice_lie_in_one_memory(alloc: Global) -> Result<bool, Al
     lie_behind(&mut client)
 }
 
-/// How many bytes may go out at once.
+/// The maximum number of bytes that are sent at once.
 const MOST: usize = 10_000;
 
-/// Two bytes and two large slices become due.
+/// Queues two bytes and two large slices.
 fn owe_large(client: &mut Client) -> Result<(), AllocError> {
     client.owe(b"ab")?;
     client.reserve_slices(2)?;
@@ -82,14 +82,14 @@ fn owe_large(client: &mut Client) -> Result<(), AllocError> {
     Ok(())
 }
 
-/// Whether so many bytes are to go out at once, of which some do.
+/// Returns whether `at_once` bytes are to be sent at once. Hands `handed` of them out.
 fn goes_out(client: &mut Client, at_once: usize, handed: usize) -> bool {
     let so = client.front_len(MOST) == at_once;
     client.hand(handed.min(client.owed()));
     so
 }
 
-/// Whether a slice goes out by itself while it is large, and what is left of it with others.
+/// Returns whether a slice is sent by itself while it is large, and its rest together with others.
 fn is_alone(client: &mut Client) -> Result<bool, AllocError> {
     owe_large(client)?;
     Ok(

@@ -1,4 +1,4 @@
-//! A tree of which a device refuses a file.
+//! A tree with a file that a device refuses.
 
 ghost use Rattle.std.specs.Prelude.{◌≡◌, ◌≤◌, true};
 ghost use Rattle.adb_trees.specs.Trees.{AreNamed};
@@ -13,15 +13,15 @@ use std::alloc::{AllocError, Global};
 
 /// A tree that is pushed onto a device with a file in the way.
 struct Row {
-    /// What was sent before, with the time 1.
+    /// The bytes that were sent before, with the time 1.
     sent: &'static [u8],
-    /// The path that it has.
+    /// The path of the file that they create.
     there: &'static [u8],
     /// Three files, with the times 2, 3 and 4.
     tree: &'static [u8],
     /// The path of the first of them, which is stored.
     first: &'static [u8],
-    /// The path of the second of them, which is refused, and the text.
+    /// The path of the second of them, which is refused, and the text of the refusal.
     refused: &'static [u8],
     text: &'static [u8],
     /// The path of the third of them, which is not sent.
@@ -49,7 +49,7 @@ const ROWS: &[Row] = &[
     },
 ];
 
-/// Whether there is a file of this time.
+/// Returns whether there is a file with this path and time.
 fn has(files: &Files, path: &[u8], mtime: u32) -> bool {
     match files.get(path) {
         Some(file) => file.mtime == mtime,
@@ -57,7 +57,8 @@ fn has(files: &Files, path: &[u8], mtime: u32) -> bool {
     }
 }
 
-/// Whether what was there stays, the first file is there, and the others are not.
+/// Returns whether the earlier file is kept, the first file of the tree is stored, and the others
+/// are not.
 fn is_kept(files: &Files, row: &Row) -> bool {
     has(files, row.there, 1)
         && has(files, row.first, 2)
@@ -65,7 +66,7 @@ fn is_kept(files: &Files, row: &Row) -> bool {
         && files.get(row.third).is_none()
 }
 
-/// Whether a push tells the file that is refused.
+/// Returns whether a push reports the file that is refused.
 fn is_told(alloc: Global, world: &mut World, tree: &ScriptTree, row: &Row) -> bool
     requires given { world.old.given ≤ 1 }
     requires settled { world.old.settled ≡ true }
@@ -79,7 +80,7 @@ fn is_told(alloc: Global, world: &mut World, tree: &ScriptTree, row: &Row) -> bo
     }
 }
 
-/// Whether the tree of a row is refused in a new world, and what is there then.
+/// Returns whether the tree of a row is refused in a new world, and the files are as expected then.
 fn is_refused(alloc: Global, world: &mut World, row: &Row) -> Result<bool, AllocError>
     requires given { world.old.given ≡ 0 }
     requires settled { world.old.settled ≡ true }
@@ -100,7 +101,7 @@ fn is_refused_in_new(alloc: Global, row: &Row) -> Result<bool, AllocError> {
     is_refused(alloc, &mut world, row)
 }
 
-/// The number of the first row that does not hold.
+/// Returns the index of the first row that does not hold.
 pub fn first_fault(alloc: Global) -> Result<Option<usize>, AllocError> {
     for (at, row) in ROWS.iter().enumerate() {
         if !is_refused_in_new(alloc, row)? {

@@ -1,4 +1,4 @@
-//! Ports, sinks and notes that fail beneath a tool.
+//! Tools with ports, sinks or notes that fail.
 
 ghost use Rattle.std.specs.Prelude.{IfOk};
 ghost use Rattle.adb_remote_words.specs.Words.{HasWords};
@@ -10,15 +10,16 @@ use adb_remote_words::Remote;
 use std::alloc::{AllocError, Global};
 use std::sync::Wait;
 
-/// What is asked for.
+/// The request of a tool.
 #[derive(Clone, Copy, Drop)]
 enum Asks {
     Pull,
     Shell,
 }
 
-/// A tool, which read and which write of its port fail, and which write of its sink and of its
-/// note, or none where it is 0; and whether the port's fault is told, and not that of a write.
+/// A tool; the numbers of the read and the write of its port that fail, and of the writes of its
+/// sink and its note that fail, 0 for none; and whether the fault of the port is reported, and not
+/// that of a write.
 #[derive(Clone, Copy, Drop)]
 struct Row {
     asks: Asks,
@@ -29,7 +30,7 @@ struct Row {
     is_port: bool,
 }
 
-/// A pull, of which nothing fails yet.
+/// A pull in which nothing fails yet.
 const PULL: Row = Row {
     asks: Asks::Pull,
     read: 0,
@@ -71,7 +72,7 @@ impl Asks {
         }
     }
 
-    /// What it is answered.
+    /// Returns the server's answer.
     fn answer(self) -> &'static [u8] {
         match self {
             Asks::Pull => b"OKAYOKAYDONE\0\0\0\0",
@@ -85,13 +86,13 @@ fn failing(alloc: Global, call: u64) -> Result<Vec<u64>, AllocError> {
 }
 
 impl Row {
-    /// The port, which answers a byte a read.
+    /// Returns the port, which yields one byte a read.
     fn input(&self, alloc: Global) -> Result<MemoryIn, AllocError> {
         let answer = Text::from_slice(alloc, self.asks.answer())?;
         Ok(MemoryIn::new(answer, 1, failing(alloc, self.read)?))
     }
 
-    /// Whether it ends so over a port.
+    /// Returns whether the tool ends as expected over a port.
     fn ends<W: Wait + Copy + Drop>(
         &self,
         rt: W,
@@ -112,7 +113,7 @@ impl Row {
         })
     }
 
-    /// Whether it ends so.
+    /// Returns whether the tool ends as expected.
     fn holds<W: Wait + Copy + Drop>(&self, rt: W, alloc: Global) -> Result<bool, AllocError> {
         let job = self.asks.job(alloc)?;
         let mut input = self.input(alloc)?;
@@ -121,7 +122,7 @@ impl Row {
     }
 }
 
-/// The number of the first row that does not hold.
+/// Returns the index of the first row that does not hold.
 pub fn first_fault<W: Wait + Copy + Drop>(
     rt: W,
     alloc: Global,

@@ -1,4 +1,4 @@
-//! How many bytes all files may have.
+//! The maximum number of bytes in all files.
 
 ghost use Rattle.std.specs.Prelude.{◌<◌, ◌^◌, length};
 
@@ -6,7 +6,7 @@ use adb_files::{File, FileError, Files};
 use adb_outside::Text;
 use std::alloc::Global;
 
-/// Puts a file of so many bytes.
+/// Puts a file of `size` bytes.
 fn put(alloc: Global, files: &mut Files, path: &[u8], size: usize) -> Result<(), FileError>
     requires { length path.now < 2 ^ 32 }
 {
@@ -18,7 +18,7 @@ fn put(alloc: Global, files: &mut Files, path: &[u8], size: usize) -> Result<(),
     files.put(path, file)
 }
 
-/// Whether files take 268,435,456 bytes, and not one more.
+/// Returns whether files take 268,435,456 bytes, and not one more.
 fn are_filled(alloc: Global, files: &mut Files) -> bool {
     let most = put(alloc, files, b"/a", 268_435_456);
     let more = put(alloc, files, b"/b", 1);

@@ -1,12 +1,12 @@
-//! Forwards that a full table does not take. No server puts them, so no history comes to them.
+//! Forwards that a full table refuses. No server puts them, so no history contains them.
 
 use adb_forward::{ForwardError, Forwards};
 use std::alloc::Global;
 
-/// A port, where its row leads to, whether it has to be free, and what comes of it.
+/// A port, the target of its row, whether the port must be free, and the result.
 type Put = (u16, &'static [u8], bool, Result<(), ForwardError>);
 
-/// What is put, one after the other, where ports 1 to 64 have rows.
+/// The forwards that are put in this order, in a table that has rows for ports 1 to 64.
 const PUTS: &[Put] = &[
     (0, b"tcp:80", false, Err(ForwardError::BadSpec)),
     (1, b"", false, Err(ForwardError::BadSpec)),
@@ -21,7 +21,7 @@ const PUTS: &[Put] = &[
     (64, &[b'r'; 512], false, Ok(())),
 ];
 
-/// Whether as many rows are put as there may be.
+/// Returns whether the table takes the maximum number of rows.
 fn is_filled(forwards: &mut Forwards) -> bool {
     for local in 1..65 {
         if forwards.put(local, 1, b"emu1", b"tcp:80", true) != Ok(()) {
@@ -31,7 +31,7 @@ fn is_filled(forwards: &mut Forwards) -> bool {
     true
 }
 
-/// Whether each of the rows is answered so by the full table.
+/// Returns whether the full table answers each of the rows as expected.
 fn are_refused(forwards: &mut Forwards) -> bool {
     for put in PUTS {
         if forwards.put(put.0, 2, &[b'r'; 64], put.1, put.2) != put.3 {

@@ -1,9 +1,9 @@
-//! Fronts against values that were worked out by hand.
+//! Results of the frame parser against values that were worked out by hand.
 
 use adb_outside::{Format, Front};
 use adb_remote_frames::{Awaited, Place};
 
-/// What bytes at offset 8 begin with.
+/// The expected results for bytes at offset 8.
 const FRONTS: &[(Awaited, &[u8], Front<u64>)] = &[
     (Awaited::Status, b"", Front::More),
     (Awaited::Status, b"OKA", Front::More),
@@ -23,7 +23,7 @@ const FRONTS: &[(Awaited, &[u8], Front<u64>)] = &[
     (Awaited::Packet, b"\x03\x01\0\0\0\x07", Front::Whole(6)),
 ];
 
-/// The number of the first row that does not hold.
+/// Returns the index of the first row that does not hold.
 pub fn first_fault() -> Option<usize> {
     for (at, &(awaited, bytes, want)) in FRONTS.iter().enumerate() {
         let place = Place { awaited, offset: 8 };

@@ -1,10 +1,11 @@
-//! What a tool reads before it dials.
+//! The input that a tool reads before it dials.
 
 use adb_asking::{InputError, MAX_INPUT, read_input};
 use adb_outside::{MemorySource, Text};
 use std::alloc::{AllocError, Global};
 
-/// How many bytes there are, which read of them fails, or none where it is 0, and what is read.
+/// The number of bytes of the source, the number of the read that fails, 0 for none, and the
+/// result.
 const INPUTS: &[(usize, u64, Result<usize, InputError>)] = &[
     (0, 0, Ok(0)),
     (100_000, 0, Ok(100_000)),
@@ -13,7 +14,7 @@ const INPUTS: &[(usize, u64, Result<usize, InputError>)] = &[
     (MAX_INPUT + 1, 0, Err(InputError::TooLarge)),
 ];
 
-/// How many bytes are read of a source.
+/// Returns how many bytes are read from a source.
 fn read(alloc: Global, source: &mut MemorySource) -> Result<usize, InputError> {
     match read_input(alloc, source) {
         Ok(text) => Ok(text.len()),
@@ -21,7 +22,8 @@ fn read(alloc: Global, source: &mut MemorySource) -> Result<usize, InputError> {
     }
 }
 
-/// Whether so much is read of so many bytes, of which this read fails.
+/// Returns whether the result is as expected for a source of `size` bytes, if its read number
+/// `failing` fails.
 fn holds(
     alloc: Global,
     size: usize,
@@ -34,7 +36,7 @@ fn holds(
     Ok(read(alloc, &mut source) == want)
 }
 
-/// The number of the first row that does not hold.
+/// Returns the index of the first row that does not hold.
 pub fn first_fault(alloc: Global) -> Result<Option<usize>, AllocError> {
     for (at, &(size, failing, want)) in INPUTS.iter().enumerate() {
         if !holds(alloc, size, failing, want)? {

@@ -1,4 +1,4 @@
-//! How many bytes that are due to a link go out at once.
+//! The number of due bytes of a link that are sent at once.
 
 ghost use Rattle.std.specs.Prelude.{◌≡◌};
 
@@ -11,10 +11,10 @@ use std::alloc::{AllocError, Global};
 /// The payload of the shortest packet that is not copied.
 const LARGE: &[u8] = &[0; MIN_SHARED - HEADER_LEN];
 
-/// How many bytes may go out at once.
+/// The maximum number of bytes that are sent at once.
 const MOST: usize = 10_000;
 
-/// The header of a write.
+/// Returns the header of a write.
 fn head(length: u32) -> Head
     ensures { result.length ≡ length }
 {
@@ -27,21 +27,21 @@ fn head(length: u32) -> Head
     }
 }
 
-/// A short write and two large ones become due.
+/// Queues a short write and two large ones.
 fn owe_large(link: &mut Link) -> Result<(), AllocError> {
     link.owe_slice(&head(3), Bytes::from_static(b"hi\n"))?;
     link.owe_slice(&head(LARGE.len() as u32), Bytes::from_static(LARGE))?;
     link.owe_slice(&head(LARGE.len() as u32), Bytes::from_static(LARGE))
 }
 
-/// Whether so many bytes are to go out at once, of which some do.
+/// Returns whether `at_once` bytes are to be sent at once. Hands `handed` of them out.
 fn goes_out(link: &mut Link, at_once: usize, handed: usize) -> bool {
     let so = link.front_len(MOST) == at_once;
     link.hand(handed.min(link.owed()));
     so
 }
 
-/// Whether a packet goes out by itself while it is large, and what is left of it with others.
+/// Returns whether a packet is sent by itself while it is large, and its rest together with others.
 fn is_alone(link: &mut Link) -> Result<bool, AllocError> {
     owe_large(link)?;
     Ok(
@@ -55,7 +55,7 @@ fn is_alone(link: &mut Link) -> Result<bool, AllocError> {
 /// A slice that is not copied.
 const SLICE: &[u8] = &[0; MIN_SHARED];
 
-/// A write becomes due whose payload lies in two large slices.
+/// Queues a write with a payload in two large slices.
 fn owe_split(link: &mut Link) -> Result<(), AllocError> {
     link.reserve(1)?;
     let payload = SplitBytes::new(Bytes::from_static(SLICE), Bytes::from_static(SLICE));
@@ -63,7 +63,7 @@ fn owe_split(link: &mut Link) -> Result<(), AllocError> {
     Ok(())
 }
 
-/// Whether each of the two slices goes out by itself, the first with the header.
+/// Returns whether each of the two slices is sent by itself, the first with the header.
 fn is_split(link: &mut Link) -> Result<bool, AllocError> {
     owe_split(link)?;
     let first = HEADER_LEN + MIN_SHARED;

@@ -1,4 +1,4 @@
-//! Whole loads, counted and weighed.
+//! Checksums of whole loads.
 
 ghost use Rattle.adb_capture.specs.Records.{HasRecord};
 
@@ -8,8 +8,8 @@ use adb_outside::ByteQueue;
 use adb_wire::byte_sum;
 use std::alloc::{AllocError, Global};
 
-/// What is told of a load: how many entries it has, how many bytes their records have, and the sum
-/// of the records' byte sums, each as often as its place from 1.
+/// The tally of a load: the number of entries, the number of bytes of their records, and the sum of
+/// the byte sums of the records, each multiplied by its position, counted from 1.
 #[derive(Clone, Copy, PartialEq, Eq, Drop)]
 struct Tally {
     entries: u64,
@@ -26,7 +26,7 @@ impl Tally {
     }
 }
 
-/// Adds the record of an entry, which is dropped then.
+/// Adds the record of an entry, and drops the entry.
 fn add_record(alloc: Global, entry: Entry, tally: &mut Tally) -> Result<(), AllocError>
     requires { HasRecord entry }
 {
@@ -36,7 +36,7 @@ fn add_record(alloc: Global, entry: Entry, tally: &mut Tally) -> Result<(), Allo
     Ok(())
 }
 
-/// Adds the next entry, where one is left.
+/// Adds the next entry, if one is left.
 fn add_next(alloc: Global, load: &mut Load, tally: &mut Tally) -> Result<(), AllocError> {
     match load.next()? {
         Some(entry) => add_record(alloc, entry, tally),
@@ -61,8 +61,8 @@ fn tally_of(alloc: Global, streams: u16) -> Result<Tally, AllocError> {
     weigh(alloc, &mut load)
 }
 
-/// How many streams a load has, and its tally: that comes from `examples/count_load 7 1 3 20 40`,
-/// which knows nothing of this program.
+/// The number of streams of a load, and its tally, which comes from `examples/count_load 7 1 3 20
+/// 40`. That program is independent of this one.
 const TALLIES: &[(u16, Tally)] = &[
     (
         1,

@@ -1,4 +1,5 @@
-//! Tries what no clause says and no worked text comes to, and tells of each case whether it holds.
+//! Tries the properties that neither a clause nor a worked text covers, and prints for each case
+//! whether it holds.
 #![tactic(auto)]
 
 mod case;
@@ -21,7 +22,7 @@ use case::{CASES, Case};
 use std::io;
 use std::process::ExitCode;
 
-/// Writes a line for each case. Ends with status 1 where one does not hold.
+/// Prints a line for each case. Exits with status 1 if one does not hold.
 fn main(rt: HostRuntime) -> io::Result<ExitCode> {
     laws::are_laws();
     let mut code = ExitCode::SUCCESS;
@@ -35,7 +36,7 @@ fn main(rt: HostRuntime) -> io::Result<ExitCode> {
     Ok(code)
 }
 
-/// Writes that a case holds, or which of its rows is the first that does not.
+/// Prints that a case holds, or the first of its rows that does not.
 fn tell(rt: &HostRuntime, case: Case, fault: Option<usize>) -> io::Result<()> {
     match fault {
         None => println!(rt; "{case:?}: holds"),

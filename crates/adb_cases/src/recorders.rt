@@ -1,4 +1,4 @@
-//! Recorders that write what they keep.
+//! Recorders that write the entries that they keep.
 
 ghost use Rattle.adb_capture.specs.Records.{HasRecord};
 
@@ -7,14 +7,14 @@ use adb_outside::MemorySink;
 use adb_recorder::{RecordError, Recorder, SinkRecorder};
 use std::alloc::{AllocError, Global};
 
-/// Keeps an entry, which is dropped then.
+/// Keeps an entry, and drops it.
 fn keep(recorder: &mut SinkRecorder<MemorySink>, entry: Entry) -> Result<(), RecordError>
     requires { HasRecord entry }
 {
     recorder.keep(&entry)
 }
 
-/// Whether an entry, a piece of a client and one of a device go out behind the magic.
+/// Returns whether an entry, a piece of a client and one of a device are written after the magic.
 pub fn all_is_recorded(alloc: Global) -> bool {
     let mut recorder = SinkRecorder::new(MemorySink::new(alloc, Vec::new(alloc)));
     records_all(&mut recorder)
@@ -30,7 +30,8 @@ fn records_all(recorder: &mut SinkRecorder<MemorySink>) -> bool {
 const RECORDED: &[u8] = b"ADBHUB1\nJ\x01\0\0\0\0\0\0\0\
     R\x01\0\0\0\x02\0\0\0abV\x02\0\0\0\x01\0\0\0c";
 
-/// Whether a recorder whose fifth write fails, within a record, keeps no other from then on.
+/// Returns whether a recorder keeps no other entry after its fifth write has failed, within a
+/// record.
 pub fn nothing_follows_a_torn_record(alloc: Global) -> Result<bool, AllocError> {
     let failing = Vec::from_slice(alloc, &[5])?;
     let mut recorder = SinkRecorder::new(MemorySink::new(alloc, failing));

@@ -16,7 +16,7 @@ enum Plain {
     Detach,
 }
 
-/// Whether an entry of that kind has the record that stands beside it.
+/// Returns whether an entry of that kind has the expected record.
 fn is_plain_spelled(alloc: Global, kind: Plain) -> Result<bool, AllocError> {
     match kind {
         Plain::Join => {
@@ -63,7 +63,7 @@ enum WithText {
     Send,
 }
 
-/// Whether an entry of that kind has the record that stands beside it.
+/// Returns whether an entry of that kind has the expected record.
 fn is_text_spelled(alloc: Global, kind: WithText) -> Result<bool, AllocError> {
     match kind {
         WithText::Read => {
@@ -114,7 +114,7 @@ const WITH_TEXT: &[WithText] = &[
     WithText::Send,
 ];
 
-/// The number of the first row that does not hold, first of those without a text.
+/// Returns the index of the first row that does not hold, with the rows without a text first.
 pub fn first_fault(alloc: Global) -> Result<Option<usize>, AllocError> {
     for (at, &kind) in PLAIN.iter().enumerate() {
         if !is_plain_spelled(alloc, kind)? {
@@ -129,7 +129,7 @@ pub fn first_fault(alloc: Global) -> Result<Option<usize>, AllocError> {
     Ok(None)
 }
 
-/// Whether this is the record of an entry, written and added.
+/// Returns whether this is the record of an entry, both written and appended.
 fn is_spelled(alloc: Global, entry: Entry, record: &[u8]) -> Result<bool, AllocError>
     requires { HasRecord entry }
 {

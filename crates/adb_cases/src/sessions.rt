@@ -1,4 +1,4 @@
-//! Sessions side by side.
+//! Two sessions at the same time.
 
 ghost use Rattle.std.specs.Prelude.{◌≡◌, ◌+◌, ◌≤◌, IfOk, OnOk};
 
@@ -6,7 +6,7 @@ use adb_device_streams::read_service;
 use adb_world::{World, settle};
 use std::alloc::{AllocError, Global};
 
-/// A service, what its client writes, and all that the client is handed.
+/// A service, the bytes that its client writes, and all bytes that the client is handed.
 struct Row {
     service: &'static [u8],
     text: &'static [u8],
@@ -25,7 +25,7 @@ const ECHO: Row = Row {
     got: b"OKAYOKAYabc",
 };
 
-/// The seeds 1 to this one are tried.
+/// The last seed: seeds 1 to this one are tried.
 const SEEDS: u64 = 20;
 
 /// Starts the session of a row.
@@ -40,7 +40,7 @@ fn start(world: &mut World, row: &Row) -> Result<u32, AllocError>
     Ok(number)
 }
 
-/// Returns whether both sessions, side by side in a new world, are handed their answers.
+/// Returns whether both sessions, at the same time in a new world, are handed their answers.
 fn are_answered(alloc: Global, seed: u64) -> Result<bool, AllocError> {
     let mut world = World::new(alloc)?;
     let shell = start(&mut world, &SHELL)?;
@@ -49,7 +49,7 @@ fn are_answered(alloc: Global, seed: u64) -> Result<bool, AllocError> {
     Ok(has(&world, shell, &SHELL) && has(&world, echo, &ECHO))
 }
 
-/// Returns whether a session was handed what its row says.
+/// Returns whether a session was handed the bytes of its row.
 fn has(world: &World, number: u32, row: &Row) -> bool {
     match world.got(number) {
         Some(got) => got == row.got,
@@ -57,7 +57,7 @@ fn has(world: &World, number: u32, row: &Row) -> bool {
     }
 }
 
-/// The number of the first seed, less one, by which a session is not answered.
+/// Returns the index of the first seed, counted from 0, with which a session is not answered.
 pub fn first_fault(alloc: Global) -> Result<Option<usize>, AllocError> {
     for seed in 1..=SEEDS {
         if !are_answered(alloc, seed)? {

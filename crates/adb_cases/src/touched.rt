@@ -1,4 +1,4 @@
-//! Who is named, as rows come, are lent and go.
+//! The numbers that a touched map names, as rows come, are lent and go.
 
 use adb_hub_tables::{Owes, TouchedMap};
 use std::alloc::{AllocError, Global};
@@ -17,20 +17,20 @@ impl Owes for Row {
     }
 }
 
-/// What is done with the row of a number.
+/// An operation on the row of a number.
 #[derive(Clone, Copy, Drop)]
 enum Act {
-    /// One comes.
+    /// Insert a row.
     Insert,
-    /// It is lent, where there is one.
+    /// Lend the row, if there is one.
     Lend,
-    /// It goes.
+    /// Remove the row.
     Remove,
-    /// All others go.
+    /// Remove all other rows.
     KeepOnly,
 }
 
-/// What is done before anybody asks for names.
+/// The operations before the first request for a name.
 const BEFORE: &[(Act, u32)] = &[
     (Act::Insert, 5),
     (Act::Insert, 70),
@@ -38,7 +38,7 @@ const BEFORE: &[(Act, u32)] = &[
     (Act::Remove, 5),
 ];
 
-/// What is done with a number, and who is named then, or 0.
+/// An operation on a number, and the number that is named then, or 0.
 const NAMES: &[(Act, u32, u32)] = &[
     (Act::Lend, 70, 3),
     (Act::Lend, 3, 3),
@@ -68,7 +68,7 @@ fn take_step(rows: &mut TouchedMap<Row>, act: Act, number: u32) -> Result<(), Al
     Ok(())
 }
 
-/// The number of the first row of `NAMES` that does not hold.
+/// Returns the index of the first row of `NAMES` that does not hold.
 fn first_fault(rows: &mut TouchedMap<Row>) -> Result<Option<usize>, AllocError> {
     for &(act, number) in BEFORE {
         take_step(rows, act, number)?;

@@ -18,13 +18,14 @@ pub const CASES: &[Case] = &[
     Case::ADeskAnswersKeepsAndCounts,
 ];
 
-/// Returns the number of the row that does not hold, of a case with one row.
+/// Returns the index of the row that does not hold, for a case with one row.
 fn fault_of(holds: bool) -> Option<usize> {
     if holds { None } else { Some(0) }
 }
 
 impl Case {
-    /// Returns the number, from 0, of the first of its rows that does not hold, or None if all hold.
+    /// Returns the index, from 0, of the first of its rows that does not hold, or `None` if all
+    /// hold.
     pub fn first_fault<W: Threads + Wait + Copy + Send + Sync + Drop + 'static>(
         self,
         rt: W,

@@ -10,7 +10,7 @@ use std::sync::ledger::Ledger;
 /// The passes of a client.
 pub(crate) type Client<E, M, K> = (ClientIn<E, M, K>, ClientOut<E, M, K>);
 
-/// Returns whether the answer of an act says that its client or device lives.
+/// Returns whether the answer of an act says that its client or device is alive.
 pub(crate) fn lives(answer: Result<Progress, DeskError>) -> bool {
     match answer {
         Ok(progress) => progress.life == Life::Live,
@@ -18,7 +18,7 @@ pub(crate) fn lives(answer: Result<Progress, DeskError>) -> bool {
     }
 }
 
-/// Returns whether a client lives after it asked for the version.
+/// Returns whether a client is alive after it asked for the version.
 pub(crate) fn asks<E: Ledger, M: Ledger, K: Marks, H: Hall<E, M, K>>(
     hall: &mut H,
     reading: &mut ClientIn<E, M, K>,

@@ -19,7 +19,7 @@ use std::sync::ledger::{Blank, Ledger};
 use std::thread;
 use std::thread::Threads;
 
-/// Number of clients that wait.
+/// The number of clients that wait.
 const IDLE: u32 = 64;
 
 /// Joins the clients.
@@ -37,7 +37,7 @@ fn all_join<E: Ledger, M: Ledger, K: Marks>(
     Ok(())
 }
 
-/// Has the reader of each client wait for room, and its writer for bytes.
+/// Makes the reader of each client wait for room, and its writer for bytes.
 fn all_wait(bells: &mut Bells) {
     for before in 0..IDLE {
         let owner = Owner::Client(before + 1);
@@ -46,7 +46,7 @@ fn all_wait(bells: &mut Bells) {
     }
 }
 
-/// Attaches the first device, whose writer waits.
+/// Attaches the first device, and makes its writer wait.
 fn device_waits<E: Ledger, M: Ledger, K: Marks>(
     alloc: Global,
     locked: &mut Locked<NullRecorder, E, M, K>,
@@ -63,7 +63,7 @@ fn rung<E: Ledger, M: Ledger, K: Marks>(locked: &mut Locked<NullRecorder, E, M, 
     locked.ring().len()
 }
 
-/// Returns whether a client lives after it sent a piece.
+/// Returns whether a client is alive after it sent a piece.
 fn says<E: Ledger, M: Ledger, K: Marks>(
     locked: &mut Locked<NullRecorder, E, M, K>,
     client: u32,
@@ -77,15 +77,15 @@ fn says<E: Ledger, M: Ledger, K: Marks>(
 /// An event after which workers that wait are notified.
 #[derive(Clone, Copy, Drop)]
 enum Wake {
-    /// A client is answered: both its workers are notified, and no others.
+    /// A client is answered: both of its workers are notified, and no others.
     Answer,
     /// A client whose reader has returned is answered: its writer is notified.
     AnswerWithoutReader,
-    /// A device is attached whose number is that of the first client, which is then answered.
+    /// A device is attached with the number of the first client; that client is then answered.
     SameNumber,
-    /// A kill: all are notified, those that wait for room among them.
+    /// A kill: all workers are notified, also those that wait for room.
     Kill,
-    /// The hall is halted: all are notified.
+    /// The hall is halted: all workers are notified.
     Halt,
 }
 
@@ -120,8 +120,8 @@ impl Wake {
     }
 }
 
-/// Returns whether a device's writer alone is notified when it is attached, and the event then
-/// notifies the right number of workers.
+/// Returns whether only a device's writer is notified when the device is attached, and the event
+/// then notifies the right number of workers.
 fn notifies<E: Ledger, M: Ledger, K: Marks>(
     locked: &mut Locked<NullRecorder, E, M, K>,
     wake: Wake,
@@ -186,7 +186,8 @@ fn rings<E: Ledger, M: Ledger, K: Marks>(
     rings_over(alloc, locked(alloc, desk), wake)
 }
 
-/// A writer that waits in one thread is handed the answer to a piece that a reader submits in another.
+/// Returns whether a writer that waits in one thread is handed the answer to a piece that a reader
+/// submits in another.
 fn serves_in_two_threads<
     E: Ledger + Send + Sync + 'static,
     M: Ledger + Send + Sync + 'static,
@@ -208,7 +209,8 @@ fn serves_in_two_threads<
     asked && answered
 }
 
-/// Returns whether the bytes that a client moved are counted after its passes are back, and not before.
+/// Returns whether the bytes that a client moved are counted after its passes are back, but not
+/// earlier.
 fn counts_what_it_moved<E: Ledger, M: Ledger, K: Marks, W: Wait + Copy + Drop>(
     hall: &mut LockedHall<NullRecorder, E, M, K, W>,
     client: Client<E, M, K>,
@@ -293,7 +295,7 @@ fn rings_by_brand(alloc: Global, wake: Wake) -> Result<bool, AllocError> {
     )
 }
 
-/// Returns the number of the first event after which the wrong number of workers is notified.
+/// Returns the index of the first event after which the wrong number of workers is notified.
 pub fn first_wrong_wake(alloc: Global) -> Result<Option<usize>, AllocError> {
     for (at, &wake) in WAKES.iter().enumerate() {
         if !rings_by_brand(alloc, wake)? {

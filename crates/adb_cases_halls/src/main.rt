@@ -1,4 +1,4 @@
-//! Tries halls for what no clause says of them, and reports of each case whether it holds.
+//! Tries the properties of halls that no clause states, and prints for each case whether it holds.
 #![tactic(auto)]
 
 mod case;
@@ -10,7 +10,7 @@ use case::{CASES, Case};
 use std::io;
 use std::process::ExitCode;
 
-/// Writes a line for each case. Ends with status 1 if one does not hold.
+/// Prints a line for each case. Exits with status 1 if one does not hold.
 fn main(rt: HostRuntime) -> io::Result<ExitCode> {
     let mut code = ExitCode::SUCCESS;
     for &case in CASES {
@@ -23,7 +23,7 @@ fn main(rt: HostRuntime) -> io::Result<ExitCode> {
     Ok(code)
 }
 
-/// Writes that a case holds, or which of its rows is the first that does not.
+/// Prints that a case holds, or the first of its rows that does not.
 fn report(rt: &HostRuntime, case: Case, fault: Option<usize>) -> io::Result<()> {
     match fault {
         None => println!(rt; "{case:?}: holds"),

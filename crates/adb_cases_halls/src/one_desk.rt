@@ -28,7 +28,7 @@ fn is_faulty(answer: Result<Progress, DeskError>) -> bool {
 /// The passes of a device.
 type Device<E, M, K> = (LinkIn<E, M, K>, LinkOut<E, M, K>);
 
-/// A piece that is longer than what may be held is refused with `Later`.
+/// Returns whether a piece that exceeds the limit of held bytes is refused with `Later`.
 fn holds_so_much<E: Ledger, M: Ledger, K: Marks, H: Hall<E, M, K>>(
     hall: &mut H,
     reading: &mut ClientIn<E, M, K>,
@@ -38,7 +38,7 @@ fn holds_so_much<E: Ledger, M: Ledger, K: Marks, H: Hall<E, M, K>>(
         && hall.room(reading) == Ok(Room::Bytes(MAX_HELD))
 }
 
-/// A recorder that fails shuts the hall: every later call returns that answer.
+/// Returns whether a recorder that fails shuts the hall: every later call returns that answer.
 fn is_shut_by_its_recorder<E: Ledger, M: Ledger, K: Marks, H: Hall<E, M, K>>(
     hall: &mut H,
     reading: &mut ClientIn<E, M, K>,
@@ -48,17 +48,17 @@ fn is_shut_by_its_recorder<E: Ledger, M: Ledger, K: Marks, H: Hall<E, M, K>>(
         && hall.over() == Some(DeskError::RecordFault)
 }
 
-/// The first packet of a device that takes 4,096 bytes at once.
+/// The first packet of a device that takes at most 4,096 bytes at once.
 const CNXN: &[u8] = b"CNXN\x01\0\0\x01\0\x10\0\0\x08\0\0\0\0\0\0\0\xbc\xb1\xa7\xb1device::";
 
-/// What it answers a stream that is asked for first, and a write of that.
+/// The device's answer to the first stream that is opened, and to a write on it.
 const OKAY: &[u8] = b"OKAY\x07\0\0\0\x01\0\0\0\0\0\0\0\0\0\0\0\xb0\xb4\xbe\xa6";
 
-/// The header of what the device writes to that stream: 4,096 bytes.
+/// The header of the device's write on that stream: 4,096 bytes.
 const WRTE: &[u8] = b"WRTE\x07\0\0\0\x01\0\0\0\0\x10\0\0\0\0\0\0\xa8\xad\xab\xba";
 
-/// A client opens a stream to a device, and sends until a write is out and as much is held as may
-/// be.
+/// Opens a stream to a device for a client, and sends until a write is out and the maximum number
+/// of bytes is held. Returns whether each call succeeds.
 fn fills_a_stream<E: Ledger, M: Ledger, K: Marks, H: Hall<E, M, K>>(
     hall: &mut H,
     link: &mut LinkIn<E, M, K>,
@@ -76,7 +76,8 @@ fn fills_a_stream<E: Ledger, M: Ledger, K: Marks, H: Hall<E, M, K>>(
             .is_ok()
 }
 
-/// While that write is out nothing more is taken; its answer makes room for the next write.
+/// Returns whether nothing more is taken while that write is out, and its answer makes room for the
+/// next write.
 fn frees_what_goes_up<E: Ledger, M: Ledger, K: Marks, H: Hall<E, M, K>>(
     hall: &mut H,
     link: &mut LinkIn<E, M, K>,
@@ -88,8 +89,8 @@ fn frees_what_goes_up<E: Ledger, M: Ledger, K: Marks, H: Hall<E, M, K>>(
         && hall.room(reading) == Ok(Room::Bytes(4_096))
 }
 
-/// What is due before a large packet goes out to a device first, a packet of 58 and one of 34
-/// bytes, and then the large packet alone.
+/// Returns whether the bytes that are due before a large packet, a packet of 58 and one of 34
+/// bytes, are handed out to the device first, and then the large packet alone.
 fn sends_a_large_packet_alone<E: Ledger, M: Ledger, K: Marks, H: Hall<E, M, K>>(
     hall: &mut H,
     sender: &mut LinkOut<E, M, K>,
@@ -99,7 +100,8 @@ fn sends_a_large_packet_alone<E: Ledger, M: Ledger, K: Marks, H: Hall<E, M, K>>(
         && len_of(hall.send_front(sender, MAX_HELD)) == 0
 }
 
-/// What is due before a large payload goes out to a client first, and then the payload alone.
+/// Returns whether the bytes that are due before a large payload are handed out to the client
+/// first, and then the payload alone.
 fn puts_a_large_payload_alone<E: Ledger, M: Ledger, K: Marks, H: Hall<E, M, K>>(
     hall: &mut H,
     link: &mut LinkIn<E, M, K>,
@@ -152,16 +154,16 @@ impl Case {
     }
 }
 
-/// A case over a recorder that fails at one call, or at none if that is 0.
+/// A case, and the call at which its recorder fails, 0 for none.
 #[derive(Clone, Copy, Drop)]
 struct Row {
     case: Case,
-    /// The port through whose forward the client comes, or 0 if it comes through none.
+    /// The port of the forward through which the client comes, 0 for none.
     port: u16,
     failing: u64,
-    /// How many entries are kept.
+    /// The number of entries that are kept.
     entries: u64,
-    /// How many bytes they move.
+    /// The number of bytes that they move.
     moved: u64,
 }
 
@@ -246,7 +248,8 @@ impl Row {
             && hall.moved() == Some(self.moved)
     }
 
-    /// Returns whether the case holds, and its entries are counted after the passes are back, not before.
+    /// Returns whether the case holds, and its entries are counted after the passes are back, but
+    /// not earlier.
     fn holds_of<E: Ledger, M: Ledger, K: Marks>(
         self,
         hall: &mut OneDesk<MemoryRecorder, E, M, K>,
@@ -320,7 +323,7 @@ fn holds(row: Row, alloc: Global) -> Result<bool, AllocError> {
     ))
 }
 
-/// Returns the number of the first row that does not hold.
+/// Returns the index of the first row that does not hold.
 pub fn first_fault(alloc: Global) -> Result<Option<usize>, AllocError> {
     for (at, &row) in ROWS.iter().enumerate() {
         if !holds(row, alloc)? {

@@ -3,7 +3,7 @@
 use adb_binder::*;
 use std::alloc::{AllocError, Global};
 
-/// Ports that are asked for, of which the second call fails, and the answers.
+/// The ports that are asked for, and the answers. The second call fails.
 const BOUND: &[(u16, u16)] = &[
     (40_000, 40_000),
     (5037, 0),

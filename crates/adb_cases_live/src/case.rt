@@ -48,14 +48,13 @@ pub const CASES: &[Case] = &[
     Case::ARecordIsWritten,
 ];
 
-/// Returns the first row that does not hold of a case with one row.
+/// Returns the index of the row that does not hold, for a case with one row.
 fn fault_of(holds: bool) -> Option<usize> {
     if holds { None } else { Some(0) }
 }
 
 impl Case {
-    /// Returns the number, counted from 0, of the first row that does not hold, or `None` if all
-    /// rows hold.
+    /// Returns the index, from 0, of the first row that does not hold, or `None` if all rows hold.
     pub fn first_fault<
         W: Net<Listener = TcpListener, Stream = TcpStream>
             + Threads

@@ -4,7 +4,7 @@ use adb_connections::*;
 use adb_outside::{Text, Wrote};
 use std::alloc::Global;
 
-/// Whether a device that is written to and unplugged tells so.
+/// Returns whether a device that is written to and unplugged shows both.
 fn is_unplugged(output: &mut MemoryDeviceOut) -> bool {
     let took = output.write_both(b"OP", b"EN") == Wrote::All;
     output.unplug();
@@ -16,7 +16,7 @@ pub fn devices_are_unplugged(alloc: Global) -> bool {
     is_unplugged(&mut output)
 }
 
-/// Whether a device tells its answers.
+/// Returns whether a device shows its answers.
 fn answers(device: &mut MemoryDeviceIn) -> bool {
     let _ = device.plug();
     let _ = device.plug();

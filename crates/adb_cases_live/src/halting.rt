@@ -1,4 +1,4 @@
-//! A server whose door fails while a client is connected that sends nothing.
+//! A server with a door that fails while a client is connected that sends nothing.
 
 ghost use Rattle.std.specs.Prelude.{true};
 ghost use Rattle.adb_outside.specs.Outside.{Counts};
@@ -19,14 +19,14 @@ use std::sync::{Arc, Condvar, Mutex, Wait};
 use std::thread::{Threads, sleep};
 use std::time::{Clock, Duration};
 
-/// A connection over which nothing comes.
+/// A connection that carries no bytes.
 #[derive(Drop)]
 struct Line {
     closed: Mutex<bool>,
     changed: Condvar,
 }
 
-/// The half of a silent connection that is read: a read waits until the other half is closed.
+/// The read half of a silent connection. A read blocks until the other half is closed.
 #[derive(Drop)]
 struct SilentIn<W: Wait + Copy + Drop> {
     rt: W,
@@ -52,7 +52,7 @@ impl<W: Wait + Copy + Drop> PortIn for SilentIn<W> {
     }
 }
 
-/// The half of a silent connection that is written.
+/// The write half of a silent connection.
 #[derive(Drop)]
 struct SilentOut<W: Wait + Copy + Drop> {
     rt: W,
@@ -86,8 +86,8 @@ impl<W: Wait + Copy + Drop> PortOut for SilentOut<W> {
     }
 }
 
-/// A door that lets one silent client in, and fails at its second call, after 200 ms in which the
-/// client's workers come to wait.
+/// A door that accepts one silent client and fails at its second call, after 200 ms in which the
+/// client's workers begin to wait.
 #[derive(Drop)]
 struct FailingDoor<W: Wait + Clock + Copy + Drop> {
     rt: W,
@@ -130,7 +130,7 @@ impl<W: Wait + Clock + Copy + Send + Sync + Drop + 'static> Door for FailingDoor
     }
 }
 
-/// A yard with such a door, whose server runs its workers in threads and records nothing.
+/// A yard with such a door. Its server runs its workers in threads and records nothing.
 #[derive(Drop)]
 struct FailingYard<W: Wait + Clock + Copy + Drop> {
     alloc: Global,
@@ -236,8 +236,8 @@ fn door<W: Wait + Clock + Copy + Drop>(
     })
 }
 
-/// Returns whether a server ends, by a fault of its door, while a client is connected that sends
-/// nothing, and has closed that connection.
+/// Returns whether a fault of its door ends a server while a client is connected that sends
+/// nothing, and the server has closed that connection.
 pub fn a_halt_ends_a_server<W: Threads + Wait + Clock + Copy + Send + Sync + Drop + 'static>(
     rt: W,
     alloc: Global,

@@ -1,5 +1,5 @@
 //! Cases of a live server and of the crates below it: behavior that no clause states and that the
-//! built program does not show. Writes for each case whether it holds.
+//! built program does not show. Prints for each case whether it holds.
 #![tactic(auto)]
 
 mod binder;
@@ -19,7 +19,7 @@ use case::{CASES, Case};
 use std::io;
 use std::process::ExitCode;
 
-/// Writes a line for each case. Ends with status 1 if a case does not hold.
+/// Prints a line for each case. Exits with status 1 if a case does not hold.
 fn main(rt: HostRuntime) -> io::Result<ExitCode> {
     let mut code = ExitCode::SUCCESS;
     for &case in CASES {
@@ -32,7 +32,7 @@ fn main(rt: HostRuntime) -> io::Result<ExitCode> {
     Ok(code)
 }
 
-/// Writes that a case holds, or which of its rows is the first that does not.
+/// Prints that a case holds, or the first of its rows that does not.
 fn tell(rt: &HostRuntime, case: Case, fault: Option<usize>) -> io::Result<()> {
     match fault {
         None => println!(rt; "{case:?}: holds"),

@@ -1,4 +1,4 @@
-//! The two halves of a device's link, each at an end of one pipe: how that ends.
+//! The two halves of a device's link, each at an end of one pipe: the end of the link.
 
 use adb_connections::{DeviceIn, DeviceOut};
 use adb_model_device::{PipeDeviceIn, PipeDeviceOut};
@@ -7,7 +7,7 @@ use adb_pipe::pipe;
 use std::alloc::{AllocError, Global};
 use std::sync::Wait;
 
-/// Whether a piece in two parts is one chunk, and the end comes behind it.
+/// Returns whether a piece in two parts arrives as one chunk, and the end comes after it.
 fn end(output: &mut impl DeviceOut, input: &mut impl DeviceIn) -> bool {
     let mut into = [0u8; 8];
     let all = output.write_both(b"CN", b"XN") == Wrote::All;
@@ -25,13 +25,14 @@ pub fn pipes_end<W: Wait + Copy + Drop>(rt: W, alloc: Global) -> Result<bool, Al
     Ok(end(&mut output, &mut input))
 }
 
-/// Whether a byte comes and no end behind it.
+/// Returns whether one byte comes, and then a fault in place of the end.
 fn is_lost(input: &mut impl DeviceIn) -> bool {
     let mut into = [0u8; 8];
     input.read(&mut into) == Got::Bytes(1) && input.read(&mut into) == Got::Failed
 }
 
-/// Whether what was put comes from one who is gone, and is lost behind that.
+/// Returns whether bytes that were put arrive after the output half was dropped, and the next read
+/// fails.
 pub fn pipes_are_lost<W: Wait + Copy + Drop>(rt: W, alloc: Global) -> Result<bool, AllocError> {
     let (to, from) = pipe(rt, alloc, 2)?;
     let mut output = PipeDeviceOut::new(alloc, to);
@@ -41,7 +42,7 @@ pub fn pipes_are_lost<W: Wait + Copy + Drop>(rt: W, alloc: Global) -> Result<boo
     Ok(all && is_lost(&mut input))
 }
 
-/// Whether a write to one who is gone fails.
+/// Returns whether a write fails after the input half was dropped.
 pub fn pipes_refuse<W: Wait + Copy + Drop>(rt: W, alloc: Global) -> Result<bool, AllocError> {
     let (to, from) = pipe(rt, alloc, 2)?;
     drop(from);

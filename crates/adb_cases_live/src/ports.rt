@@ -16,8 +16,8 @@ const PORTS: &[(&[u8], &[u8])] = &[
     (b"0009host:kill", b"OKAY"),
 ];
 
-/// Returns whether a server answers its clients in order and ends after the kill, and each port then
-/// holds its client's answer and is closed.
+/// Returns whether a server answers its clients in order and ends after the kill, and each port
+/// then holds its client's answer and is closed.
 pub fn ports_are_served_in_order<W: Threads + Wait + Copy + Send + Sync + Drop + 'static>(
     rt: W,
     alloc: Global,

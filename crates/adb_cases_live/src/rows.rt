@@ -1,14 +1,14 @@
-//! The calls of a server's outside that fail, and how the server then ends.
+//! The calls of a server's environment that fail, and the end of the server after each.
 
 use adb_connections::Plug;
 use adb_server::Served;
 
-/// A row: a server with a device, and with one client, if it comes, that asks for the version. The
-/// device is unplugged and the client's connection closed at the end of each row.
+/// A row: a server with a device, and with one client, if `comes`, that asks for the version. At
+/// the end of each row the device is unplugged and the client's connection is closed.
 #[derive(Clone, Copy, Drop)]
 pub(crate) struct Row {
     pub(crate) name: &'static str,
-    /// The call of each kind that fails, counted from 1, or 0 if none fails.
+    /// The call of each kind that fails, counted from 1, 0 for none.
     pub(crate) read: u64,
     pub(crate) write: u64,
     pub(crate) accept: u64,

@@ -1,4 +1,4 @@
-//! A server over fakes: how it ends after each failure of its outside.
+//! A server over fakes: its end after each failure of its environment.
 
 use crate::rows::{CLIENTS, DEVICES, Row};
 use adb_connections::{DeviceIn, DeviceOut, MemoryDeviceIn, Plug};
@@ -21,7 +21,7 @@ const SENDS: &[u8] = b"CNXN\x01\0\0\x01\0\x10\0\0\x08\0\0\0\0\0\0\0\xbc\xb1\xa7\
 /// A device that sends bytes from memory and shares with the test the bytes that it is sent.
 type TestDevice<W> = Device<MemoryDeviceIn, SharedOut<W>>;
 
-/// Returns how a server ended that is to listen on port 5037, if its note says that it does.
+/// Returns the end of a server on port 5037, if its note has the line for that port.
 fn served<
     W: Threads + Wait + Copy + Send + Sync + Drop + 'static,
     Y: Yard + 'static,
@@ -143,7 +143,7 @@ fn stands<W: Threads + Wait + Copy + Send + Sync + Drop + 'static>(
     goes(rt, alloc, row, &kept, &sent)
 }
 
-/// Returns the number of the first row that does not hold. The rows of clients come first.
+/// Returns the index of the first row that does not hold. The rows of clients come first.
 pub fn first_fault<W: Threads + Wait + Copy + Send + Sync + Drop + 'static>(
     rt: W,
     alloc: Global,

@@ -7,16 +7,16 @@ use std::sync::{Arc, Wait};
 use std::thread::{Threads, sleep};
 use std::time::{Clock, Duration};
 
-/// How many jobs have begun, and how many of them are done.
+/// The number of jobs that have begun, and the number of those that are done.
 #[derive(Drop)]
 struct Counts {
     begun: AtomicU64,
     done: AtomicU64,
 }
 
-/// Counts itself as begun, and as done once as many jobs have begun as `wanted`. It looks every 50 ms
-/// and gives up after 5 s, so that a crew which runs the job within the call fails the case, and does
-/// not hang.
+/// A job that counts itself as begun, and as done after `wanted` jobs have begun. It checks every
+/// 50 ms and gives up after 5 s, so that a worker pool that runs the job within the call fails the
+/// case, and does not hang.
 #[derive(Drop)]
 struct Meeting<W: Wait + Clock + Drop> {
     rt: W,
@@ -39,7 +39,7 @@ impl<W: Wait + Clock + Drop> Job for Meeting<W> {
     }
 }
 
-/// Returns whether a crew takes a job that waits until `wanted` jobs have begun.
+/// Returns whether a worker pool takes a job that waits until `wanted` jobs have begun.
 fn takes<W: Threads + Wait + Clock + Copy + Send + Sync + Drop + 'static>(
     rt: W,
     crew: &mut Crew<W, Meeting<W>>,
@@ -51,8 +51,8 @@ fn takes<W: Threads + Wait + Clock + Copy + Send + Sync + Drop + 'static>(
     Ok(crew.spawn(job).is_ok())
 }
 
-/// Returns whether a crew takes two jobs that wait for each other, and both are done when it has
-/// finished; and then two more, after its first threads have ended.
+/// Returns whether a worker pool takes two jobs that wait for each other, and both are done when it
+/// has finished; and then two more, after its first threads have ended.
 fn works<W: Threads + Wait + Clock + Copy + Send + Sync + Drop + 'static>(
     rt: W,
     crew: &mut Crew<W, Meeting<W>>,
@@ -78,8 +78,8 @@ fn crew_works<W: Threads + Wait + Clock + Copy + Send + Sync + Drop + 'static>(
     works(rt, &mut crew, counts)
 }
 
-/// Returns whether a crew of threads runs jobs side by side and waits for them, also after its
-/// threads have ended once.
+/// Returns whether a worker pool of threads runs jobs at the same time and waits for them, also
+/// after its threads have ended once.
 pub fn crews_run_jobs<W: Threads + Wait + Clock + Copy + Send + Sync + Drop + 'static>(
     rt: W,
     alloc: Global,

@@ -1,4 +1,4 @@
-//! Streams of the system that stop short, are interrupted and fail.
+//! System streams that transfer fewer bytes than asked, are interrupted, or fail.
 
 ghost use Rattle.std.specs.Prelude.{◌≤◌, IfOk};
 
@@ -8,17 +8,17 @@ use std::alloc::{AllocError, Global};
 use std::io;
 use std::io::{ErrorKind, Read, Write};
 
-/// What a call of a fake stream does.
+/// The effect of a call of a fake stream.
 #[derive(Clone, Copy, Drop)]
 enum Step {
-    /// It moves at most so many bytes.
+    /// The call moves at most this many bytes.
     Moves(usize),
-    /// It fails so.
+    /// The call fails with this error.
     Fails(ErrorKind),
 }
 
-/// A stream whose calls do the steps in turn, and then move nothing. The bytes that are read count
-/// up from 1, and those that are written are kept.
+/// A stream that performs the steps in turn, one a call, and then moves nothing. The bytes that are
+/// read count up from 1, and those that are written are kept.
 #[derive(Drop)]
 struct Fake {
     steps: Vec<Step>,
@@ -37,7 +37,7 @@ impl Fake {
         })
     }
 
-    /// How many of so many bytes the next call moves.
+    /// Returns how many of `len` bytes the next call moves.
     fn step(&mut self, len: usize) -> io::Result<usize>
         ensures { IfOk result (λ count. count ≤ len) }
     {
@@ -81,7 +81,7 @@ const READS: &[Step] = &[
     Step::Moves(1),
 ];
 
-/// What the reads into two bytes answer, and what these are then.
+/// The results of reads into two bytes, and the contents of the buffer after each.
 const GOT: &[(Got, [u8; 2])] = &[
     (Got::Bytes(2), [1, 2]),
     (Got::Failed, [1, 2]),
@@ -89,7 +89,7 @@ const GOT: &[(Got, [u8; 2])] = &[
     (Got::End, [3, 2]),
 ];
 
-/// The number of the first of the reads that answers otherwise.
+/// Returns the index of the first read with another result.
 pub fn first_bad_read(alloc: Global) -> Result<Option<usize>, AllocError> {
     let mut source = Stream::new(Fake::new(alloc, READS)?);
     Ok(bad_read(&mut source))
@@ -113,7 +113,7 @@ const WRITES: &[Step] = &[
     Step::Fails(ErrorKind::BrokenPipe),
 ];
 
-/// Pieces, and what their writes answer.
+/// The pieces that are written, and the results of their writes.
 const WROTE: &[(&[u8; 3], Wrote)] = &[
     (b"abc", Wrote::All),
     (b"def", Wrote::Failed { taken: 1 }),
@@ -129,8 +129,8 @@ fn bad_write(sink: &mut impl Sink) -> Option<usize> {
     None
 }
 
-/// The number of the first of the writes that answers otherwise, or behind them all, where they
-/// did not write what they took.
+/// Returns the index of the first write with another result, or the number of writes if the stream
+/// does not keep the bytes that the writes took.
 pub fn first_bad_write(alloc: Global) -> Result<Option<usize>, AllocError> {
     let mut written = Fake::new(alloc, WRITES)?;
     Ok(match bad_write(&mut Stream::new(&mut written)) {

@@ -12,14 +12,14 @@ use std::sync::Wait;
 use std::thread::{Threads, sleep};
 use std::time::{Clock, Duration};
 
-/// Whether two bytes that are written at one end are read at the other.
+/// Returns whether two bytes that are written at one end are read at the other.
 fn carries(output: &mut impl PortOut, input: &mut impl PortIn) -> bool {
     let mut into = [0u8; 2];
     output.write(b"ok") == Wrote::All && input.read(&mut into) == Got::Bytes(2) && into == *b"ok"
 }
 
-/// Dials a door's own port, and takes the next connection there. The one that was dialled is closed
-/// then, and its place in the queue is why `accept` does not wait.
+/// Dials a door's own port, and accepts the next connection there. The dialled connection is closed
+/// afterwards. Because it waits in the queue, `accept` does not wait.
 fn next<Y: Yard>(
     yard: &mut Y,
     door: &mut Y::Door,
@@ -34,9 +34,10 @@ fn next<Y: Yard>(
     }
 }
 
-/// Returns whether a client that dials a port comes in at a door and what it writes is read there;
-/// by the port of a forward, if that is not 0. The connection of a forward takes a while, and is
-/// closed if an allocation fails, so it is waited for 5 s at most.
+/// Returns whether a client that dials a port comes in at a door and the bytes that it writes are
+/// read there. If `port` is not 0, the client dials the port of a forward. The connection of a
+/// forward takes a while, and is closed if an allocation fails, so the call waits at most 5 s for
+/// it.
 fn meets<W: Wait + Clock, Y: Yard>(
     rt: &W,
     yard: &mut Y,
@@ -64,8 +65,8 @@ fn meets<W: Wait + Clock, Y: Yard>(
     false
 }
 
-/// Returns whether a yard's door at a port lets in the clients that dial it and a forward, and
-/// whether the port cannot be listened on twice.
+/// Returns whether a yard's door at a port accepts the clients that dial it and a forward, and
+/// listening on the port a second time fails.
 fn lets_in<W: Wait + Clock, Y: Yard>(rt: &W, yard: &mut Y, door: &mut Y::Door, port: u16) -> bool {
     let Binding::Bound(forward) = yard.ports().bind(0) else {
         return false;
@@ -76,13 +77,13 @@ fn lets_in<W: Wait + Clock, Y: Yard>(rt: &W, yard: &mut Y, door: &mut Y::Door, p
         && matches!(yard.listen(port), Listening::Failed)
 }
 
-/// Whether a door closes when its bell rings.
+/// Returns whether a door closes when its bell rings.
 fn closes(door: &mut impl Door, bell: &impl Bell) -> bool {
     bell.ring();
     matches!(door.accept(), Came::Closed)
 }
 
-/// Returns whether a yard's door lets in the clients that it should, and closes.
+/// Returns whether a yard's door accepts the clients that it should, and closes.
 fn opens<W: Wait + Clock, Y: Yard>(rt: &W, yard: &mut Y) -> bool {
     match yard.listen(0) {
         Listening::Here(mut door, bell, port) => {

@@ -13,29 +13,30 @@ use adb_desk_log::{ClientIn, ClientOut, DeskError, Marks};
 use adb_hall::Hall;
 use std::sync::ledger::Ledger;
 
-/// The result of asking a door once.
+/// The result of `admit`.
 #[derive(Drop)]
 pub enum Admitted<I: Drop, O: Drop, E: Ledger, M: Ledger, K: Marks> {
-    /// A client, by the two halves of its connection, with the passes of its reader and its writer.
+    /// A client: the two halves of its connection, and the passes of its reader and its writer.
     Client {
         input: I,
         output: O,
         reading: ClientIn<E, M, K>,
         writing: ClientOut<E, M, K>,
     },
-    /// The door answered that no more connections come.
+    /// The door reported that no more connections come.
     Closed,
     /// The door failed.
     Failed,
-    /// The hall refused the client, whose connection is dropped. The hall is as before, or its
+    /// The hall refused the client, and the connection is dropped. The hall is unchanged, or its
     /// recorder shut it.
     Refused(DeskError),
 }
 
-/// Asks the door once. A client that comes joins the hall; a client that comes to the port of a
-/// forward enters through that. Each answer of the door has its result: `Closed` and `Failed` are
-/// the door's, and a client that came is admitted or refused. That holds over a hall that shows
-/// nothing too.
+/// Accepts one connection at the door and admits its client. A client that comes to the port of a
+/// forward enters through that forward; any other client joins the hall.
+///
+/// Each answer of the door has its result: `Closed` and `Failed` are the door's, and a client that
+/// came is admitted or refused. That also holds over a hall that shows nothing to contracts.
 pub fn admit<E: Ledger, M: Ledger, K: Marks, H: Hall<E, M, K>, D: Door>(
     hall: &mut H,
     door: &mut D,

@@ -31,7 +31,8 @@ pub(crate) fn finish<E: Ledger, M: Ledger, K: Marks, H: Hall<E, M, K>>(
     let _ = hall.end(pass, cause);
 }
 
-/// Stops after a call that the hall refused. An allocation failure ends the client's input.
+/// Stops after a call that the hall refused. Ends the client's input if the refusal is an
+/// allocation failure.
 pub(crate) fn give_up<E: Ledger, M: Ledger, K: Marks, H: Hall<E, M, K>>(
     hall: &mut H,
     pass: &mut ClientIn<E, M, K>,

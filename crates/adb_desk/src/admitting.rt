@@ -1,4 +1,4 @@
-//! Clients and devices that come.
+//! Admission of clients and devices.
 
 ghost use Rattle.std.specs.Prelude.{◌≡◌, ◌≢◌, ◌<◌, Err};
 ghost use Rattle.adb_outside.specs.declared.kinds.Kind.{Kind};
@@ -19,16 +19,18 @@ use adb_recorder::Recorder;
 use std::sync::ledger::Ledger;
 
 impl<R: Recorder, E: Ledger, M: Ledger, K: Marks> Desk<R, E, M, K> {
-    /// Admits a client or a device and returns its number, which is drawn: one entry. After an error
-    /// no number is drawn.
+    /// Admits a client or a device and returns its number, which is drawn: one entry. After an
+    /// error no number is drawn.
     ///
-    /// The answer of a shut desk: the desk is shut. It comes before every other error.
-    /// `Hub(Stopped)`: a kill was made.
-    /// `Hub(Numbers)`: all numbers are drawn.
-    /// `Hub(Full)`: a device came, and as many devices as the registry holds are attached.
-    /// `Hub(BadSerial)`: the device's serial is not valid.
-    /// `Hub(OutOfMemory)`: an allocation failed. If it was one of the recorder, the desk is shut.
-    /// `RecordFault`: the recorder failed. The desk is shut.
+    /// A desk that is shut returns the answer with which it was shut, before every other error.
+    ///
+    /// - `Hub(Stopped)`: a kill was made.
+    /// - `Hub(Numbers)`: all numbers are drawn.
+    /// - `Hub(Full)`: a device came, and as many devices as the registry holds are attached.
+    /// - `Hub(BadSerial)`: the device's serial is not valid.
+    /// - `Hub(OutOfMemory)`: an allocation failed. If it was an allocation of the recorder, the
+    ///   desk is shut.
+    /// - `RecordFault`: the recorder failed. The desk is shut.
     pub fn admit(&mut self, comer: Comer<'_>) -> Result<u32, DeskError>
         requires { MayCome comer }
         ensures admitted { Rung (marks_error result)
@@ -43,7 +45,7 @@ impl<R: Recorder, E: Ledger, M: Ledger, K: Marks> Desk<R, E, M, K> {
         answer
     }
 
-    /// Does what `admit` does, but sets no alarm.
+    /// Admits as `admit` does, but sets no alarm.
     fn draw(&mut self, comer: Comer<'_>) -> Result<u32, DeskError>
         requires { MayCome comer }
         ensures drawn { Draws self.old (entry_by comer.entry) result self.new }

@@ -1,4 +1,4 @@
-//! Questions about clients. None of them makes an entry or allocates.
+//! Queries about clients. None of them makes an entry or allocates.
 
 ghost use Rattle.std.specs.Prelude.{◌≡◌, ◌≢◌, ◌&&◌, List, Err};
 ghost use Rattle.adb_capture.specs.declared.entry.Entry.{Entry};
@@ -18,10 +18,10 @@ use adb_recorder::Recorder;
 use std::sync::ledger::Ledger;
 
 impl<R: Recorder, E: Ledger, M: Ledger, K: Marks> Desk<R, E, M, K> {
-    /// Returns how many more bytes a client may send: `Shut` for a number that was never drawn, which
-    /// sets no alarm.
+    /// Returns how many more bytes a client may send: `Shut` for a number that was never drawn,
+    /// which sets no alarm.
     ///
-    /// The answer of a shut desk: the desk is shut.
+    /// A desk that is shut returns the answer with which it was shut.
     pub fn room(&mut self, client: u32) -> Result<Room, DeskError>
         ensures answer { (h : List Entry) → IsLawful self.old.hub h
             → result ≡ or_given_by (shut_with self.old.log) (room_of ((state h).clients client)) }
@@ -40,7 +40,7 @@ impl<R: Recorder, E: Ledger, M: Ledger, K: Marks> Desk<R, E, M, K> {
 
     /// Returns the port at which a client waits for a listener, 0 for any port.
     ///
-    /// The answer of a shut desk: the desk is shut.
+    /// A desk that is shut returns the answer with which it was shut.
     pub fn waiting_port(&mut self, client: u32) -> Result<Option<u16>, DeskError>
         ensures answer { (h : List Entry) → IsLawful self.old.hub h
             → result ≡ or_given_by (shut_with self.old.log) (port_of ((state h).clients client)) }

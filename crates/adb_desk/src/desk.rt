@@ -23,11 +23,11 @@ use std::sync::ledger::{Blank, Ledger};
 
 /// The hub of a server with its recorder and its counts.
 ///
-/// The entries that the recorder has kept are always a legal history, and the hub holds what that
-/// history leaves, unless the recorder refused an entry: the desk is then shut. A desk that is shut
-/// returns the answer that first shut it to every later call, before every other answer.
+/// The entries that the recorder has kept are always a legal history, and the hub holds the state
+/// after that history, unless the recorder refused an entry: the desk is then shut. A desk that is
+/// shut returns the answer that first shut it to every later call, before every other answer.
 ///
-/// Contracts see what the hub holds, what the recorder tells, and the counts.
+/// Contracts see the state of the hub, the entries of the recorder, and the counts.
 #[derive(Drop)]
 pub struct Desk<R: Recorder, E: Ledger, M: Ledger, K: Marks> {
     pub(crate) alloc: Global,
@@ -35,7 +35,7 @@ pub struct Desk<R: Recorder, E: Ledger, M: Ledger, K: Marks> {
     pub(crate) log: Log<R, E, M, K>,
 }
 
-/// What is left of a desk that is closed.
+/// The parts of a closed desk.
 #[derive(Drop)]
 pub struct Left<R: Drop> {
     /// The answer with which the desk is shut.
@@ -57,7 +57,7 @@ impl<R: Recorder, E: Ledger, M: Ledger, K: Marks> Model for Desk<R, E, M, K> {
 }
 
 impl<R: Recorder, E: Ledger, M: Ledger, K: Marks> Desk<R, E, M, K> {
-    /// Returns a desk without entries, over a recorder that has kept nothing and has not failed. It
+    /// Makes a desk without entries, over a recorder that has kept nothing and has not failed. It
     /// allocates nothing.
     pub fn new(
         alloc: Global,
@@ -85,15 +85,15 @@ impl<R: Recorder, E: Ledger, M: Ledger, K: Marks> Desk<R, E, M, K> {
         }
     }
 
-    /// Returns the recorder.
+    /// Returns the recorder of the desk.
     pub fn recorder(&self) -> &R
         ensures { R.told result.now ≡ self.now.log.told }
     {
         self.log.recorder()
     }
 
-    /// Closes the desk. Returns the answer with which it is shut, and its recorder, which has kept a
-    /// legal history: that history is fifo, has its causes and is answered.
+    /// Closes the desk. Returns the answer with which it is shut, and its recorder, which has kept
+    /// a legal history: that history is fifo, has its causes and is answered.
     pub fn close(self) -> Left<R>
         ensures left { IsLeft R.stands R.faults result }
         ensures steady { K.steady → is_fault result.shut ≡ false }
@@ -106,10 +106,11 @@ impl<R: Recorder, E: Ledger, M: Ledger, K: Marks> Desk<R, E, M, K> {
         Left { shut, recorder }
     }
 
-    /// Says what holds of every desk, so also of the desk under a lock whenever the lock is free:
-    /// what its recorder tells is a legal history, so it is fifo, has its causes and is answered;
-    /// the counts are its counts; the hub holds it unless the recorder refused an entry; and the hub
-    /// holds no more of any client than its limit.
+    /// Proves the properties of every desk, which the desk under a lock has whenever the lock is
+    /// free: the entries of its recorder are a legal history, so they are fifo, have their causes
+    /// and are answered; the counts are its counts; the hub holds the state after that history
+    /// unless the recorder refused an entry; and the hub holds no more bytes of any client than its
+    /// limit.
     pub fn law(&self)
         ensures sound { IsSound self.now }
         ensures promises { TellsPromises self.now.log.told }
@@ -121,8 +122,8 @@ impl<R: Recorder, E: Ledger, M: Ledger, K: Marks> Desk<R, E, M, K> {
         every_stream_keeps_its_window();
     }
 
-    /// Returns the answer with which the desk is shut, or else `Hub(Stopped)` if a kill was made. It
-    /// allocates nothing.
+    /// Returns the answer with which the desk is shut, or else `Hub(Stopped)` if a kill was made.
+    /// It allocates nothing.
     pub fn over(&mut self) -> Option<DeskError>
         ensures answer { result ≡ over_at self.old }
         ensures rung { self.new ≡ rung (is_some result) self.old }
@@ -164,7 +165,9 @@ impl<R: Recorder, E: Ledger, M: Ledger, K: Marks> Desk<R, E, M, K> {
         self.hub.is_stopped()
     }
 
-    /// What the hub holds, in numbers.
+    /// Returns counts of what the hub holds.
+    ///
+    /// A desk that is shut returns the answer with which it was shut.
     pub fn summary(&mut self) -> Result<Summary, DeskError>
         ensures answer { result
             ≡ or_given_by (shut_with self.old.log) (summary_of self.old.hub) }

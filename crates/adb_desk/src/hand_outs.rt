@@ -1,4 +1,4 @@
-//! Handing out the bytes that are due, and which clients and links to notify.
+//! Hand-outs of the bytes that are due, and the clients and links to notify.
 
 ghost use Rattle.std.specs.Prelude.{◌≡◌, ◌≢◌, ◌<◌, ◌≤◌, All, List, Err, IfOk, None, OnErr, length};
 ghost use Rattle.adb_capture.specs.declared.entry.Entry.{Entry};
@@ -25,11 +25,12 @@ impl<R: Recorder, E: Ledger, M: Ledger, K: Marks> Desk<R, E, M, K> {
     /// Hands out the first bytes that are due to a client or on a link, at most `max`: one Put or
     /// Send. `Nothing` and `Done` make no entry.
     ///
-    /// The answer of a shut desk: the desk is shut. It comes before every other error.
-    /// `Hub(NoClient)`, `Hub(NoLink)`: the number was never drawn.
-    /// `Hub(OutOfMemory)`: an allocation failed; the bytes are still due. If it was one of the
-    /// recorder, the desk is shut.
-    /// `RecordFault`: the recorder failed. The desk is shut.
+    /// A desk that is shut returns the answer with which it was shut, before every other error.
+    ///
+    /// - `Hub(NoClient)`, `Hub(NoLink)`: the number was never drawn.
+    /// - `Hub(OutOfMemory)`: an allocation failed; the bytes are still due. If it was an allocation
+    ///   of the recorder, the desk is shut.
+    /// - `RecordFault`: the recorder failed. The desk is shut.
     pub fn hand_out(&mut self, half: Half, number: u32, max: usize) -> Result<Handed, DeskError>
         requires { (0 < max) × (max ≤ MAX_DATA) }
         ensures handed { Rung (marks_handed result)
@@ -41,7 +42,7 @@ impl<R: Recorder, E: Ledger, M: Ledger, K: Marks> Desk<R, E, M, K> {
         answer
     }
 
-    /// Does what `hand_out` does, but sets no alarm.
+    /// Hands out as `hand_out` does, but sets no alarm.
     fn hand(&mut self, half: Half, number: u32, max: usize) -> Result<Handed, DeskError>
         requires { (0 < max) × (max ≤ MAX_DATA) }
         ensures handed { Hands self.old (out_entry half number) max (due_of half number)
@@ -59,8 +60,8 @@ impl<R: Recorder, E: Ledger, M: Ledger, K: Marks> Desk<R, E, M, K> {
         }
     }
 
-    /// Returns how many bytes, at most `max`, to hand out to a client or on a link at once so that no
-    /// payload of 4 KiB or more is copied. See `Hub::front_len`.
+    /// Returns how many bytes, at most `max`, to hand out to a client or on a link at once so that
+    /// no payload of 4 KiB or more is copied. See `Hub::front_len`.
     pub fn front_len(&self, owner: Owner, max: usize) -> usize
         requires { 0 < max }
         ensures { (0 < result) × (result ≤ max) }
@@ -69,8 +70,8 @@ impl<R: Recorder, E: Ledger, M: Ledger, K: Marks> Desk<R, E, M, K> {
     }
 
     /// Returns the next client or link whose state changed since it was last returned: bytes may be
-    /// due to it, its room may have grown, or it may be gone. After a kill all are gone, but not all
-    /// are returned.
+    /// due to it, its room may have grown, or it may be gone. After a kill all are gone, but not
+    /// all are returned.
     pub fn next_touched(&mut self) -> Option<Owner>
         ensures same { self.new ≡ self.old }
     {

@@ -12,7 +12,7 @@ use adb_recorder::Recorder;
 use std::sync::ledger::Ledger;
 
 impl<R: Recorder, E: Ledger, M: Ledger, K: Marks> Desk<R, E, M, K> {
-    /// Returns a new pass of the number that was drawn last, without shares. Two passes can be made of
+    /// Makes a pass of the number that was drawn last, without shares. Two passes can be made of
     /// each number.
     pub fn seat(&mut self) -> Pass<E, M, K>
         requires { 0 < self.old.log.free }
@@ -28,8 +28,8 @@ impl<R: Recorder, E: Ledger, M: Ledger, K: Marks> Desk<R, E, M, K> {
         self.log.seat()
     }
 
-    /// Notes a call in a pass: whether it made an entry, and how many bytes that moved; whether its
-    /// answer is marked; and whether an allocation failed.
+    /// Notes a call in a pass: whether it made an entry, and how many bytes the entry moved;
+    /// whether its answer is marked; and whether an allocation failed.
     pub fn note(
         &mut self,
         pass: &mut Pass<E, M, K>,
@@ -64,8 +64,8 @@ impl<R: Recorder, E: Ledger, M: Ledger, K: Marks> Desk<R, E, M, K> {
         self.log.retire(pass);
     }
 
-    /// Returns how many entries were kept, which is the sum of all shares of entries, or None while a
-    /// pass is out.
+    /// Returns how many entries were kept, which is the sum of all shares of entries, or `None`
+    /// while a pass is out.
     pub fn entries(&mut self) -> Option<u64>
         ensures count { result
             ≡ (if nat_eq self.old.log.out 0 then Some self.old.log.entries else None) }
@@ -76,8 +76,8 @@ impl<R: Recorder, E: Ledger, M: Ledger, K: Marks> Desk<R, E, M, K> {
         self.log.count_entries()
     }
 
-    /// Returns how many bytes were moved, which is the sum of all shares of moved bytes, or None while a
-    /// pass is out.
+    /// Returns how many bytes were moved, which is the sum of all shares of moved bytes, or `None`
+    /// while a pass is out.
     pub fn moved(&mut self) -> Option<u64>
         ensures count { result
             ≡ (if nat_eq self.old.log.out 0 then Some self.old.log.moved else None) }
@@ -101,7 +101,7 @@ impl<R: Recorder, E: Ledger, M: Ledger, K: Marks> Desk<R, E, M, K> {
         self.log.lend()
     }
 
-    /// Sets a mark. The alarm has to be set.
+    /// Sets a mark. The alarm must be set.
     pub fn mark(&mut self, mark: &mut Mark<K>)
         requires { self.old.log.alarm ≡ true }
         ensures mark { mark.new ≡ true }
@@ -110,7 +110,7 @@ impl<R: Recorder, E: Ledger, M: Ledger, K: Marks> Desk<R, E, M, K> {
         self.log.mark(mark);
     }
 
-    /// Says that the alarm is set if this mark is.
+    /// Proves that the alarm is set if this mark is.
     pub fn audit_mark(&mut self, mark: &mut Mark<K>)
         ensures alarm { mark.old ≡ true → self.old.log.alarm ≡ true }
         ensures mark { mark.new ≡ mark.old }

@@ -23,17 +23,18 @@ use std::sync::ledger::Ledger;
 
 impl<R: Recorder, E: Ledger, M: Ledger, K: Marks> Desk<R, E, M, K> {
     /// Submits an act of a client or a device, of at most 2,097,152 bytes: one entry. Returns the
-    /// state of that client or device after the act. An `End` and a `Detach` allocate nothing in the
-    /// hub.
+    /// state of that client or device after the act. An `End` and a `Detach` allocate nothing in
+    /// the hub.
     ///
-    /// The answer of a shut desk: the desk is shut. It comes before every other error.
-    /// `Hub(Stopped)`: a kill was made.
-    /// `Hub(NoClient)`, `Hub(NoLink)`: the number was never drawn.
-    /// `Later`: a client's bytes do not fit: more would be held of it than 65,540 bytes. Nothing
-    /// changes.
-    /// `Hub(OutOfMemory)`: an allocation failed; the entry is not made. If it was one of the
-    /// recorder, the desk is shut.
-    /// `RecordFault`: the recorder failed. The desk is shut.
+    /// A desk that is shut returns the answer with which it was shut, before every other error.
+    ///
+    /// - `Hub(Stopped)`: a kill was made.
+    /// - `Hub(NoClient)`, `Hub(NoLink)`: the number was never drawn.
+    /// - `Later`: a client's bytes do not fit: more than 65,540 bytes would be held of it. Nothing
+    ///   changes.
+    /// - `Hub(OutOfMemory)`: an allocation failed; the entry is not made. If it was an allocation
+    ///   of the recorder, the desk is shut.
+    /// - `RecordFault`: the recorder failed. The desk is shut.
     pub fn submit(&mut self, number: u32, act: Act<'_>) -> Result<Progress, DeskError>
         requires { moves (entry_of act number) ≤ MAX_DATA }
         ensures submitted { Rung (marks_progress result)
@@ -48,7 +49,7 @@ impl<R: Recorder, E: Ledger, M: Ledger, K: Marks> Desk<R, E, M, K> {
         answer
     }
 
-    /// Does what `submit` does, but sets no alarm.
+    /// Submits as `submit` does, but sets no alarm.
     fn try_submit(&mut self, number: u32, act: Act<'_>) -> Result<Progress, DeskError>
         requires { moves (entry_of act number) ≤ MAX_DATA }
         ensures submitted { Submits self.old (entry_of act.entry number) result self.new }
@@ -73,7 +74,8 @@ impl<R: Recorder, E: Ledger, M: Ledger, K: Marks> Desk<R, E, M, K> {
     }
 }
 
-/// Returns whether the answer of an act is marked: no more bytes may come, or a refusal that is marked.
+/// Returns whether the answer of an act is marked: the answer allows no more bytes, or it is a
+/// marked refusal.
 pub fn marks_progress(answer: &Result<Progress, DeskError>) -> bool
     ensures { result ≡ marks_progress answer.now }
 {
@@ -83,7 +85,8 @@ pub fn marks_progress(answer: &Result<Progress, DeskError>) -> bool
     }
 }
 
-/// Returns why an act is not handed to the hub: a client's bytes do not fit.
+/// Returns the error of an act that is not passed to the hub because the bytes of the client do not
+/// fit.
 fn late(hub: &Hub, number: u32, act: Act<'_>) -> Option<DeskError>
     ensures { (h : List Entry) → IsLawful hub.now h
         → IsLateBy (entry_of act.entry number) (state h) result }
@@ -94,7 +97,8 @@ fn late(hub: &Hub, number: u32, act: Act<'_>) -> Option<DeskError>
     }
 }
 
-/// Returns why bytes of a client are refused, apart from a shut desk and an allocation failure.
+/// Returns the error with which bytes of a client are refused, apart from those of a shut desk and
+/// of an allocation failure.
 fn refuses_read(hub: &Hub, client: u32, piece: &[u8]) -> Option<DeskError>
     ensures { (h : List Entry) → IsLawful hub.now h
         → result ≡ desk_refusal (Entry.Read client piece.now) (state h) }
@@ -144,7 +148,7 @@ fn step(hub: &mut Hub, number: u32, act: Act<'_>) -> Result<Life, HubError>
     }
 }
 
-/// Returns the state of a client or a device, of which it is known whether it lives.
+/// Returns the state of a client or a device. `life` says whether it is alive.
 fn progress(hub: &Hub, number: u32, act: Act<'_>, life: Life) -> Progress
     ensures { (h : List Entry) → IsLawful hub.now h
         → let e = entry_of act.entry number in life ≡ life_at e (state h)
@@ -164,7 +168,7 @@ fn progress(hub: &Hub, number: u32, act: Act<'_>, life: Life) -> Progress
     }
 }
 
-/// Returns the room of a device: it may send as long as it is attached.
+/// Returns the room of a device, which may send as long as it is attached.
 fn link_room(life: Life) -> Room
     ensures { result ≡ link_room life }
 {

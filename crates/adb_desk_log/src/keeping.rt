@@ -1,4 +1,4 @@
-//! Keeping the entries that own bytes.
+//! Functions that keep the entries that own bytes.
 
 ghost use Rattle.std.specs.Prelude.{◌≡◌, ◌≢◌, Err};
 ghost use Rattle.adb_capture.specs.declared.entry.Entry.{Entry};

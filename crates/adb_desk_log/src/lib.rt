@@ -1,5 +1,5 @@
-//! The log of a desk, which is what a desk has beside its hub: the recorder, the counts of entries and
-//! of moved bytes with their shares, and the marks.
+//! The log of a desk, which is everything in it except the hub: the recorder, the counts of entries
+//! and of moved bytes with their shares, and the marks.
 #![tactic(auto)]
 
 mod error;

@@ -1,4 +1,4 @@
-//! The recorder of a desk with its counts, its alarm, and the answer with which it is shut.
+//! The recorder of a desk, with its counts, its alarm, and the answer with which it is shut.
 
 ghost use Rattle.std.specs.Prelude.{◌≡◌, ◌≢◌, ◌<◌, ◌≤◌, ◌||◌, true, false, Some, None, Err, length};
 ghost use Rattle.adb_capture.specs.declared.limits.TheConstants.{MAX_DATA};
@@ -16,20 +16,21 @@ use adb_recorder::{RecordError, Recorder};
 use std::marker::Model;
 use std::sync::ledger::{Blank, Book, Ledger, Share};
 
-/// The largest count of moved bytes to which an entry is added: a larger count might overflow.
+/// The largest count of moved bytes to which an entry is added. With a larger count the sum might
+/// overflow.
 const MAX_MOVED: u64 = u64::MAX - 4_194_303;
 
 /// The recorder, the counts with their ledgers, and the shares that no pass holds.
 ///
-/// Contracts see the recorder itself, and what the log counts.
+/// Contracts see the recorder itself and the values that the log counts.
 #[derive(Drop)]
 pub struct Log<R: Recorder, E: Ledger, M: Ledger, K: Marks> {
     pub(crate) recorder: R,
     pub(crate) entries: u64,
     pub(crate) moved: u64,
-    /// How many passes are out.
+    /// The number of passes that are out.
     pub(crate) out: u64,
-    /// How many more passes the number that was drawn last may have.
+    /// The number of passes that can still be made of the number that was drawn last.
     pub(crate) free: u64,
     /// The number that was drawn last.
     pub(crate) drawn: u32,
@@ -118,7 +119,7 @@ impl<R: Recorder, E: Ledger, M: Ledger, K: Marks> Log<R, E, M, K> {
         }
     }
 
-    /// Returns the recorder.
+    /// Returns the recorder of the log.
     pub fn recorder(&self) -> &R
         ensures is { result.now ≡ self.now.recorder }
         ensures told { R.told result.now ≡ self.now.is.told }
@@ -138,8 +139,8 @@ impl<R: Recorder, E: Ledger, M: Ledger, K: Marks> Log<R, E, M, K> {
         (self.shut, self.recorder)
     }
 
-    /// Returns the answer of a log that is shut, `Halted` if a count is full. If the recorder never
-    /// fails, the answer is not `RecordFault`.
+    /// Returns the answer with which the log is shut, `Halted` if a count is full, and `None`
+    /// otherwise. If the recorder never fails, the answer is not `RecordFault`.
     pub fn shut(&self) -> Option<DeskError>
         ensures shut { result ≡ shut_with self.now.is }
         ensures steady { K.steady → result ≢ Some DeskError.RecordFault }
@@ -153,9 +154,9 @@ impl<R: Recorder, E: Ledger, M: Ledger, K: Marks> Log<R, E, M, K> {
 
     /// Keeps an entry, which moves `bytes` bytes, and counts it.
     ///
-    /// `RecordFault`: the recorder failed; the entry is not kept, and the log is shut.
-    /// `Hub(OutOfMemory)`: the recorder could not allocate; the entry is not kept, and the log is
-    /// shut.
+    /// - `RecordFault`: the recorder failed; the entry is not kept, and the log is shut.
+    /// - `Hub(OutOfMemory)`: an allocation of the recorder failed; the entry is not kept, and the
+    ///   log is shut.
     #[tactic(auto, using(crate::proofs::Open::open_is_sound))]
     pub fn keep(&mut self, entry: &Entry, bytes: usize) -> Result<(), DeskError>
         requires going { shut_with self.old.is ≡ None }
@@ -251,7 +252,7 @@ impl<R: Recorder, E: Ledger, M: Ledger, K: Marks> Log<R, E, M, K> {
     }
 }
 
-/// Returns the answer of a log whose recorder refused an entry.
+/// Returns the answer of the log for this error of its recorder.
 fn answer_of(error: RecordError) -> DeskError
     ensures { result ≡ fault_of error }
 {

@@ -5,10 +5,10 @@ ghost use Rattle.std.specs.Prelude.{◌≡◌, ◌^◌};
 use std::marker::Brand;
 use std::sync::ledger::Ledger;
 
-/// Number of parts of each of a desk's three ledgers.
+/// The number of parts of each of a desk's three ledgers.
 pub const ALL_PARTS: u64 = 1 << 40;
 
-/// Says that the constant has the value of the specification, which the definitions import.
+/// States that the constant has the value of the specification, which the definitions import.
 pub fn limits_are()
     ensures parts { ALL_PARTS ≡ 2 ^ 40 }
 {}

@@ -1,4 +1,4 @@
-//! The shares of a log's counts, and its marks: what is lent to passes, and what comes back.
+//! The shares of a log's counts, and its marks: lending them to passes, and taking them back.
 
 ghost use Rattle.std.specs.Prelude.{◌≡◌, ◌+◌, ◌-◌, ◌<◌, ◌≤◌, ◌^◌};
 ghost use Rattle.std.specs.Prelude.{true, false, None, Some, nat_eq, if◌then◌else◌};
@@ -31,7 +31,7 @@ impl<R: Recorder, E: Ledger, M: Ledger, K: Marks> Log<R, E, M, K> {
         self.home_moved.transfer(&mut pass.moved, bytes as u64);
     }
 
-    /// Sets a mark. The alarm has to be set.
+    /// Sets a mark. The alarm must be set.
     pub fn mark(&mut self, mark: &mut Mark<K>)
         requires { self.old.is.alarm ≡ true }
         ensures mark { mark.new ≡ true }
@@ -43,7 +43,7 @@ impl<R: Recorder, E: Ledger, M: Ledger, K: Marks> Log<R, E, M, K> {
         }
     }
 
-    /// Sets the mark of a pass. The alarm has to be set.
+    /// Sets the mark of a pass. The alarm must be set.
     pub fn mark_pass(&mut self, pass: &mut Pass<E, M, K>)
         requires { self.old.is.alarm ≡ true }
         ensures pass { pass.new ≡ record pass.old { marked = true } }
@@ -52,8 +52,8 @@ impl<R: Recorder, E: Ledger, M: Ledger, K: Marks> Log<R, E, M, K> {
         self.mark(&mut pass.mark);
     }
 
-    /// Notes in a pass that an allocation failed in a call with it. No worker has the log of its own
-    /// pass, so no worker can call this.
+    /// Notes in a pass that an allocation failed in a call with it. No worker has the log of its
+    /// own pass, so no worker can call this.
     pub fn starve(&mut self, pass: &mut Pass<E, M, K>)
         ensures pass { pass.new ≡ record pass.old { starved = true } }
         ensures same { self.new ≡ self.old }
@@ -61,7 +61,7 @@ impl<R: Recorder, E: Ledger, M: Ledger, K: Marks> Log<R, E, M, K> {
         pass.starved = true;
     }
 
-    /// Says that the alarm is set if this mark is.
+    /// Proves that the alarm is set if this mark is.
     pub fn audit_mark(&mut self, mark: &mut Mark<K>)
         ensures alarm { mark.old ≡ true → self.old.is.alarm ≡ true }
         ensures mark { mark.new ≡ mark.old }
@@ -70,8 +70,8 @@ impl<R: Recorder, E: Ledger, M: Ledger, K: Marks> Log<R, E, M, K> {
         self.mark_book.audit(&mut mark.share);
     }
 
-    /// Returns how many entries were kept, or None while a pass is out. If all passes are back, the
-    /// shares that they gave back add up to that number.
+    /// Returns how many entries were kept, or `None` while a pass is out. If all passes are back,
+    /// the shares that they gave back add up to that number.
     pub fn count_entries(&mut self) -> Option<u64>
         ensures count { result
             ≡ (if nat_eq self.old.is.out 0 then Some self.old.is.entries else None) }
@@ -86,7 +86,7 @@ impl<R: Recorder, E: Ledger, M: Ledger, K: Marks> Log<R, E, M, K> {
         }
     }
 
-    /// Returns how many bytes were moved, or None while a pass is out.
+    /// Returns how many bytes were moved, or `None` while a pass is out.
     pub fn count_moved(&mut self) -> Option<u64>
         ensures count { result ≡ (if nat_eq self.old.is.out 0 then Some self.old.is.moved else None) }
         ensures all { self.old.is.out ≡ 0 → self.old.is.home_moved ≡ self.old.is.moved }
@@ -111,7 +111,7 @@ impl<R: Recorder, E: Ledger, M: Ledger, K: Marks> Log<R, E, M, K> {
         Mark { share, set: false }
     }
 
-    /// Returns a new pass of the number that was drawn last, without shares. Two passes can be made of
+    /// Makes a pass of the number that was drawn last, without shares. Two passes can be made of
     /// each number.
     pub fn seat(&mut self) -> Pass<E, M, K>
         requires free { 0 < self.old.is.free }

@@ -14,7 +14,7 @@ use adb_hall::Hall;
 use adb_outside::{Kind, Text};
 use std::sync::ledger::Ledger;
 
-/// A device: how it is plugged in, its serial, and the two halves of its link.
+/// A device: its kind, its serial, and the two halves of its link.
 #[derive(Drop)]
 pub struct Device<I: DeviceIn, O: DeviceOut> {
     pub kind: Kind,
@@ -31,17 +31,19 @@ pub enum Plugged<E: Ledger, M: Ledger, K: Marks> {
         reading: LinkIn<E, M, K>,
         writing: LinkOut<E, M, K>,
     },
-    /// The device will not come. The hall was not asked.
+    /// The device will never come. The hall was not asked.
     Never,
-    /// The question failed, and the device's count of faults rose. The hall was not asked.
+    /// The device failed to plug in, and its count of faults rose. The hall was not asked.
     Failed,
-    /// The hall refused the device, by an answer of its `attach`.
+    /// The hall refused the device with this error of `attach`.
     Refused(DeskError),
 }
 
-/// Asks once whether a device is plugged in, which may wait, and if it is, makes one Attach of its
-/// kind and serial. Each answer of the device has its result, over a hall that shows nothing too.
-/// The caller, which has the other half, unplugs a device that has no link.
+/// Asks the device once whether it is plugged in, which may wait. If it is, makes one Attach with
+/// its kind and serial.
+///
+/// Each answer of the device has its result, also over a hall that shows nothing to contracts. The
+/// caller, which holds the other half, unplugs a device that has no link.
 pub fn plug_in<E: Ledger, M: Ledger, K: Marks, H: Hall<E, M, K>, I: DeviceIn>(
     hall: &mut H,
     kind: Kind,

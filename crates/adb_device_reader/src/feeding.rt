@@ -1,4 +1,4 @@
-//! Slices: the bytes of a device are handed in packet by packet.
+//! Submission of a device's bytes in slices, packet by packet.
 
 ghost use Rattle.std.specs.Prelude.{◌≡◌, ◌<◌, ◌++◌, ℕ, List, true};
 ghost use Rattle.adb_outside.specs.declared.kinds.Cause.{Cause};
@@ -13,8 +13,8 @@ use adb_hall::Hall;
 use adb_outside::Cause;
 use std::sync::ledger::Ledger;
 
-/// Hands in the slice that is held, if it is whole. A packet in memory of its own is not copied.
-/// Returns whether more may follow.
+/// Submits the slice that is held, if it is whole. A packet in memory of its own is not copied.
+/// Returns whether more bytes may follow.
 fn hand_in_whole<E: Ledger, M: Ledger, K: Marks, H: Hall<E, M, K>, G: Gate>(
     hall: &mut H,
     pass: &mut LinkIn<E, M, K>,
@@ -41,7 +41,7 @@ fn hand_in_whole<E: Ledger, M: Ledger, K: Marks, H: Hall<E, M, K>, G: Gate>(
     going
 }
 
-/// Hands in each slice that a piece completes. Returns whether more may follow.
+/// Submits each slice that a piece completes. Returns whether more bytes may follow.
 pub fn feed<E: Ledger, M: Ledger, K: Marks, H: Hall<E, M, K>, G: Gate>(
     hall: &mut H,
     pass: &mut LinkIn<E, M, K>,
@@ -70,7 +70,7 @@ pub fn feed<E: Ledger, M: Ledger, K: Marks, H: Hall<E, M, K>, G: Gate>(
     true
 }
 
-/// Hands in the bytes that are held of a device that has ended, and ends its link's input.
+/// Submits the bytes that are held of a device that has ended, and ends its link's input.
 pub fn end_input<E: Ledger, M: Ledger, K: Marks, H: Hall<E, M, K>, G: Gate>(
     hall: &mut H,
     pass: &mut LinkIn<E, M, K>,

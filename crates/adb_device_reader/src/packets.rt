@@ -10,7 +10,8 @@ use bytes::BytesMut;
 use std::alloc::{AllocError, AllocFailed, Global};
 use std::marker::Model;
 
-/// A front of a packet, at least its header, in memory for all of it. Contracts see its bytes.
+/// A prefix of a packet, at least its header, in a buffer with room for the whole packet. Contracts
+/// see its bytes.
 #[derive(Drop)]
 struct Front {
     head: Head,
@@ -31,8 +32,8 @@ impl Model for Front {
 impl Front {
     ghost use Rattle.adb_wire.specs.Slicing.{slice_len};
 
-    /// A packet of which only the header came, where that has no fault and there is memory for the
-    /// packet.
+    /// Makes the buffer of a packet of which only the header came. Returns `None` if the header has
+    /// a fault or the allocation fails.
     fn begin(alloc: Global, held: &[u8]) -> Option<Front>
         ensures held { IfSome result (λ front. front ≡ held.now) }
         ensures within { IfSome result (λ front. length front ≤ slice_len front) }
@@ -49,14 +50,14 @@ impl Front {
         Some(Front { head, bytes })
     }
 
-    /// How many bytes are missing.
+    /// Returns how many bytes are missing.
     fn missing(&self) -> usize
         ensures { result ≡ need_of self.now }
     {
         HEADER_LEN + self.head.length as usize - self.bytes.len()
     }
 
-    /// Takes bytes off the front of a piece, and says how many.
+    /// Takes bytes from the beginning of a piece, and returns how many.
     fn take(&mut self, piece: &[u8]) -> usize
         ensures taken { result ≡ min (length piece.now) (need_of self.old) }
         ensures held { self.new ≡ self.old ++ take result piece.now }
@@ -66,7 +67,7 @@ impl Front {
         n
     }
 
-    /// The packet, where it is whole.
+    /// Returns the packet if it is whole.
     fn whole(&self) -> Option<&[u8]>
         ensures whole { IsSome result ↔ (need_of self.now ≡ 0) }
         ensures bytes { IfSome result (λ bytes. bytes.now ≡ self.now) }
@@ -79,7 +80,9 @@ impl Front {
         }
     }
 
-    /// The packet, which is whole; where there was no memory to share it, all is as before.
+    /// Returns the whole packet in shared memory.
+    ///
+    /// `Err`: an allocation failed. The buffer is returned unchanged.
     fn share(self) -> Result<Whole, Front>
         requires { need_of self ≡ 0 }
         ensures { MatchResult result (λ whole. whole ≡ self) (λ front. front ≡ self) }
@@ -92,9 +95,9 @@ impl Front {
     }
 }
 
-/// Cuts what a device sends into packets, as a `Slicer` does, but for those for which there is
-/// memory: they are gathered in memory of their own, which is given with them. Contracts see it as
-/// the bytes that it holds.
+/// Cuts the bytes of a device into packets, as a `Slicer` does. A packet for which an allocation
+/// succeeds is gathered in memory of its own and is given out with that memory. Contracts see the
+/// bytes that it holds.
 #[derive(Drop)]
 pub struct Packets {
     alloc: Global,
@@ -114,7 +117,7 @@ impl Model for Packets {
 }
 
 impl Packets {
-    /// Nothing was fed yet. It takes the memory of the longest packet.
+    /// Makes a value that was fed nothing. It allocates the memory of the longest packet.
     pub fn new(alloc: Global) -> Result<Packets, AllocError>
         ensures { IfOk result (λ packets. packets ≡ []) }
     {
@@ -125,8 +128,8 @@ impl Packets {
         })
     }
 
-    /// Takes bytes off the front of a piece, as many as are missing to 24 bytes, and then to the
-    /// packet that the header tells, and says how many.
+    /// Takes bytes from the beginning of a piece, and returns how many: as many as are missing to
+    /// the 24 bytes of a header, and then to the packet that the header announces.
     pub(crate) fn take(&mut self, piece: &[u8]) -> usize
         ensures taken { result ≡ min (length piece.now) (need_of self.old) }
         ensures held { self.new ≡ self.old ++ take result piece.now }
@@ -141,7 +144,7 @@ impl Packets {
         n
     }
 
-    /// A packet of which the header came gets memory of its own, where there is some.
+    /// Allocates memory for a packet of which the header came, if the allocation succeeds.
     fn begin(&mut self)
         ensures { self.new ≡ self.old }
     {
@@ -154,8 +157,8 @@ impl Packets {
         }
     }
 
-    /// The packet that is held, where it is whole and has memory of its own that can be shared;
-    /// then nothing is held, and else all is as before.
+    /// Takes the packet that is held, if it is whole and has memory of its own that can be shared.
+    /// Nothing is held then. If it returns `None`, nothing changes.
     pub(crate) fn share(&mut self) -> Option<Whole>
         ensures some { IfSome result (Shares self.old self.new) }
         ensures none { IfNone result (self.new ≡ self.old) }
@@ -174,7 +177,7 @@ impl Packets {
         }
     }
 
-    /// The slice that is held; `None` exactly where bytes are missing to it.
+    /// Returns the slice that is held. `None` exactly if bytes of it are missing.
     pub(crate) fn whole(&self) -> Option<&[u8]>
         ensures whole { IsSome result ↔ (need_of self.now ≡ 0) }
         ensures bytes { IfSome result (λ bytes. bytes.now ≡ self.now) }
@@ -186,7 +189,7 @@ impl Packets {
         }
     }
 
-    /// The bytes that are held: a slice, or a front of it.
+    /// Returns the bytes that are held: a slice, or a prefix of one.
     pub(crate) fn held(&self) -> &[u8]
         ensures { result.now ≡ self.now }
     {
@@ -196,7 +199,7 @@ impl Packets {
         }
     }
 
-    /// All that is held goes; where it was whole, it was the next slice.
+    /// Discards all bytes that are held. If they were whole, they were the next slice.
     pub fn clear(&mut self)
         ensures value { self.new ≡ [] }
         ensures stands { (fed : List ℕ) (gave : List (List ℕ)) → need_of self.old ≡ 0

@@ -17,7 +17,7 @@ use adb_outside::{Cause, Got};
 use std::sync::Wait;
 use std::sync::ledger::Ledger;
 
-/// Takes one turn: reads, and hands in what is complete. Returns whether more may follow.
+/// Takes one turn: reads, and submits each complete packet. Returns whether more bytes may follow.
 fn turn<E: Ledger, M: Ledger, K: Marks, H: Hall<E, M, K>, I: DeviceIn, G: Gate>(
     hall: &mut H,
     port: &mut I,
@@ -52,15 +52,18 @@ fn turn<E: Ledger, M: Ledger, K: Marks, H: Hall<E, M, K>, I: DeviceIn, G: Gate>(
     }
 }
 
-/// Reads a device and submits its bytes, each packet whole by one Recv. Returns the pass when the
+/// Reads a device and submits its bytes, each whole packet by one Recv. Returns the pass when the
 /// device ends or fails, the link is gone, the hall is shut, a kill was made, or an allocation
-/// failed. A header with a fault is handed in as its 24 bytes. If the device ends or fails, the
-/// bytes of an incomplete packet are handed in, and then one Detach ends the link's input, by `Eof`
-/// or `Fault`, unless the hall refuses that. No read follows a failed one.
+/// failed.
 ///
-/// `packets` holds nothing yet. If the hall has no memory for a piece, one Detach by `Starved` ends
-/// the link's input, and that piece is lost, with what was read after it. The reader passes the
-/// gate at `Place::DeviceReader` before each piece. The returned pass has its shares and its mark.
+/// A header with a fault is submitted as its 24 bytes. If the device ends or fails, the bytes of an
+/// incomplete packet are submitted, and then one Detach ends the link's input, by `Eof` or `Fault`,
+/// unless the hall refuses that. No read follows a failed one.
+///
+/// `packets` must hold nothing. If an allocation fails in the hall, one Detach by `Starved` ends
+/// the link's input, and the piece is lost, with the bytes that were read after it. The reader
+/// passes the gate at `Place::DeviceReader` before each piece. The returned pass has its shares and
+/// its mark.
 pub fn read_device<
     W: Wait + Copy + Drop,
     E: Ledger,

@@ -9,7 +9,7 @@ use std::alloc::Global;
 use std::collections::VecDeque;
 use std::marker::Model;
 
-/// An output of a client that discards the bytes it is sent.
+/// An output of a client that discards the bytes that it is sent.
 #[derive(Drop)]
 pub struct CalmOut {
     closed: bool,
@@ -54,7 +54,7 @@ impl PortOut for CalmOut {
     }
 }
 
-/// A binder that opens no port. It answers the port that it is asked for, and 40,000 if it is asked
+/// A binder that opens no port. It returns the port that it is asked for, or 40,000 if it is asked
 /// for any.
 #[derive(Drop)]
 pub struct CalmBinder {}
@@ -84,8 +84,8 @@ impl Binder for CalmBinder {
 }
 
 /// A door for a list of clients, in order. After the last one it is closed. A door that lasts has
-/// another client at each further call, which sends nothing. It shows its answers until an allocation
-/// for them fails.
+/// another client at each further call, which sends nothing. Contracts see its answers until an
+/// allocation for them fails.
 #[derive(Drop)]
 pub struct CalmDoor {
     alloc: Global,

@@ -12,9 +12,9 @@ use std::alloc::{AllocError, Global};
 use std::collections::VecDeque;
 use std::marker::Model;
 
-/// A yard in which nothing ever fails. It is the witness that the premises of a server can hold
-/// together: it and its door are steady, it is lasting if `lasts`, and its recorder shows the entries
-/// that it has kept.
+/// A yard in which nothing ever fails. It proves that the premises of a server can hold together:
+/// the yard and its door are steady, the yard is lasting if `lasts`, and contracts see the entries
+/// that its recorder has kept.
 #[derive(Drop)]
 pub struct CalmYard {
     alloc: Global,

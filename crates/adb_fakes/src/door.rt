@@ -16,7 +16,7 @@ pub struct Rings<W: Wait + Copy + Drop> {
 }
 
 impl<W: Wait + Copy + Drop> Rings<W> {
-    /// It was not rung.
+    /// Makes a bell that was not rung.
     pub(crate) fn new(rt: W, alloc: Global) -> Result<Rings<W>, AllocError> {
         Ok(Rings {
             rt,
@@ -24,7 +24,7 @@ impl<W: Wait + Copy + Drop> Rings<W> {
         })
     }
 
-    /// One more handle of the same.
+    /// Returns one more handle of the same bell.
     pub(crate) fn handle(&self) -> Result<Rings<W>, AllocError> {
         Ok(Rings {
             rt: self.rt,
@@ -32,7 +32,7 @@ impl<W: Wait + Copy + Drop> Rings<W> {
         })
     }
 
-    /// How often it was rung.
+    /// Returns how often the bell was rung.
     fn count(&self) -> u64 {
         *self.count.lock(&self.rt)
     }
@@ -45,15 +45,15 @@ impl<W: Wait + Copy + Send + Sync + Drop + 'static> Bell for Rings<W> {
     }
 }
 
-/// A client that comes, by the two halves of its connection.
+/// A client that comes: the two halves of its connection.
 #[derive(Drop)]
 pub(crate) struct Coming<W: Wait + Copy + Drop> {
     pub(crate) input: MemoryIn,
     pub(crate) output: SharedOut<W>,
 }
 
-/// A door at which these come in, in order. It is closed where nobody comes any more, and where its
-/// bell was rung. It tells nothing to contracts but how often it failed.
+/// A door that accepts these clients in order. It is closed after the last one, and after its bell
+/// was rung. Contracts see only how often it failed.
 #[derive(Drop)]
 pub struct FakeDoor<W: Wait + Copy + Drop> {
     pub(crate) coming: VecDeque<Coming<W>>,

@@ -1,6 +1,6 @@
-//! Fakes of the outside of a server: clients, doors, recorders and yards in memory. A test reads their
-//! contents while a server runs and after it. `FakeYard` fails at the calls that a test chooses;
-//! `CalmYard` never fails.
+//! Fakes of the environment of a server: clients, doors, recorders and yards in memory. A test
+//! reads their contents while a server runs and after it. `FakeYard` fails at the calls that a test
+//! chooses; `CalmYard` never fails.
 #![tactic(auto)]
 
 mod calm_door;

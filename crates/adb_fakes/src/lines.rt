@@ -5,8 +5,9 @@ use adb_outside::{Cause, Text};
 use itoa::Buffer;
 use std::alloc::{AllocError, Global};
 
-/// A line for each entry: its kind, the number of its client or link, and how many bytes it moved,
-/// the port that it names, or the cause by which it ended. As `Read 1 16` and `End 1 Fault`.
+/// Returns a line for each entry: its kind, the number of its client or link, and the number of
+/// bytes that it moved, the port that it names, or the cause of the end. Examples: `Read 1 16` and
+/// `End 1 Fault`.
 pub fn lines_of(alloc: Global, entries: &[Entry]) -> Result<Text, AllocError> {
     let mut lines = Text::new(alloc);
     for entry in entries {
@@ -42,7 +43,7 @@ fn push_number(lines: &mut Text, number: u64) -> Result<(), AllocError> {
     lines.push_slice(digits.format(number).as_bytes())
 }
 
-/// The kind of an entry.
+/// Returns the kind of an entry.
 fn kind_of(entry: &Entry) -> &'static [u8] {
     match entry {
         Entry::Join { .. } => b"Join",

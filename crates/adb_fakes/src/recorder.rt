@@ -1,4 +1,4 @@
-//! What a server keeps, as a test reads it.
+//! A recorder of entries that a test reads.
 
 ghost use Rattle.std.specs.Prelude.{◌≡◌};
 ghost use Rattle.adb_outside.specs.Outside.{Counts};
@@ -12,7 +12,7 @@ use std::alloc::{AllocError, Global};
 use std::marker::Model;
 use std::sync::{Arc, Mutex, Wait};
 
-/// A handle of what a recorder keeps. Any thread may look at it.
+/// A handle of the entries that a recorder keeps. Any thread may read them.
 #[derive(Drop)]
 pub struct Kept<W: Wait + Copy + Drop> {
     rt: W,
@@ -21,8 +21,8 @@ pub struct Kept<W: Wait + Copy + Drop> {
 }
 
 impl<W: Wait + Copy + Drop> Kept<W> {
-    /// Nothing is kept, and the recorder fails at the calls whose numbers, counted from 1, are in
-    /// `failing`.
+    /// Makes an empty store. `failing` lists the calls at which its recorder fails, by their
+    /// numbers, counted from 1.
     pub fn new(rt: W, alloc: Global, failing: Vec<u64>) -> Result<Kept<W>, AllocError> {
         let recorder = MemoryRecorder::new(alloc, failing);
         Ok(Kept {
@@ -32,7 +32,7 @@ impl<W: Wait + Copy + Drop> Kept<W> {
         })
     }
 
-    /// One more handle of the same.
+    /// Returns one more handle of the same store.
     pub fn handle(&self) -> Result<Kept<W>, AllocError> {
         Ok(Kept {
             rt: self.rt,
@@ -41,14 +41,14 @@ impl<W: Wait + Copy + Drop> Kept<W> {
         })
     }
 
-    /// The entries that are kept, as `lines_of` writes them.
+    /// Returns the entries that are kept, as `lines_of` writes them.
     pub fn lines(&self) -> Result<Text, AllocError> {
         lines_of(self.alloc, self.recorder.lock(&self.rt).entries())
     }
 }
 
-/// A recorder that keeps its entries where a test reads them. It tells nothing to contracts; `Kept`
-/// shows it.
+/// A recorder that keeps its entries in a store that a test reads. Contracts do not see the
+/// entries; `Kept` shows them.
 #[derive(Drop)]
 pub struct SharedRecorder<W: Wait + Copy + Drop> {
     kept: Option<Kept<W>>,
@@ -64,15 +64,15 @@ impl<W: Wait + Copy + Drop> Model for SharedRecorder<W> {
 }
 
 impl<W: Wait + Copy + Drop> SharedRecorder<W> {
-    /// The recorder that keeps where this handle shows it. Without one there is no memory for any
-    /// entry.
+    /// Makes the recorder that keeps its entries in this store. Without a store each entry is an
+    /// allocation failure.
     pub(crate) fn new(kept: Option<Kept<W>>) -> SharedRecorder<W>
         ensures { result ≡ 0 }
     {
         SharedRecorder { kept, faults: 0 }
     }
 
-    /// Counts a fault, where there was one.
+    /// Counts a fault, if the answer is one.
     fn count(&mut self, answer: Result<(), RecordError>) -> Result<(), RecordError>
         ensures same { result ≡ answer }
         ensures counts { Counts (λ faults. ⊥) (λ faults. faults)

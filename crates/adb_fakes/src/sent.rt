@@ -1,4 +1,4 @@
-//! What a client or a device is sent, as a test reads it.
+//! The bytes that a client or a device is sent, for a test to read.
 
 ghost use Rattle.std.specs.Prelude.{◌≡◌, ◌++◌, false, true};
 ghost use Rattle.adb_outside.specs.Outside.{Counts};
@@ -10,14 +10,14 @@ use std::alloc::{AllocError, Global};
 use std::marker::Model;
 use std::sync::{Arc, Mutex, Wait};
 
-/// What was sent so far, and whether that was all.
+/// The bytes that were sent so far, and whether those are all.
 #[derive(Drop)]
 struct Store {
     bytes: Text,
     closed: bool,
 }
 
-/// A handle of what a client or a device is sent. Any thread may look at it.
+/// A handle of the bytes that a client or a device is sent. Any thread may read them.
 #[derive(Drop)]
 pub struct Sent<W: Wait + Copy + Drop> {
     rt: W,
@@ -25,7 +25,7 @@ pub struct Sent<W: Wait + Copy + Drop> {
 }
 
 impl<W: Wait + Copy + Drop> Sent<W> {
-    /// Nothing was sent.
+    /// Makes an empty store.
     pub fn new(rt: W, alloc: Global) -> Result<Sent<W>, AllocError> {
         let store = Store {
             bytes: Text::new(alloc),
@@ -37,7 +37,7 @@ impl<W: Wait + Copy + Drop> Sent<W> {
         })
     }
 
-    /// One more handle of the same.
+    /// Returns one more handle of the same store.
     pub fn handle(&self) -> Result<Sent<W>, AllocError> {
         Ok(Sent {
             rt: self.rt,
@@ -45,7 +45,7 @@ impl<W: Wait + Copy + Drop> Sent<W> {
         })
     }
 
-    /// Whether it was closed, or unplugged.
+    /// Returns whether the output was closed or unplugged.
     pub fn is_closed(&self) -> bool {
         self.store.lock(&self.rt).closed
     }
@@ -55,7 +55,8 @@ impl<W: Wait + Copy + Drop> Sent<W> {
         self.store.lock(&self.rt).bytes.as_slice() == bytes
     }
 
-    /// Sends two parts, one behind the other, if there is memory for both.
+    /// Sends two parts, the first before the second. Returns whether the allocation for both
+    /// succeeded.
     fn push(&self, start: &[u8], rest: &[u8]) -> bool {
         let mut store = self.store.lock(&self.rt);
         let len = store.bytes.len();
@@ -71,7 +72,7 @@ impl<W: Wait + Copy + Drop> Sent<W> {
     }
 }
 
-/// A client, or a device, that is sent bytes. It tells nothing to contracts; `Sent` shows it.
+/// The output of a client or a device. Contracts do not see its bytes; `Sent` shows them.
 #[derive(Drop)]
 pub struct SharedOut<W: Wait + Copy + Drop> {
     sent: Sent<W>,
@@ -88,8 +89,9 @@ impl<W: Wait + Copy + Drop> Model for SharedOut<W> {
 }
 
 impl<W: Wait + Copy + Drop> SharedOut<W> {
-    /// One to which writes fail at the calls whose numbers, counted from 1, are in `failing`, and
-    /// where there is no memory. A failing write takes nothing. A write in two parts is one call.
+    /// Makes an output. Its writes fail at the calls in `failing`, by their numbers, counted from
+    /// 1, and at an allocation failure. A failing write takes nothing. A write in two parts is one
+    /// call.
     pub fn new(sent: Sent<W>, failing: Vec<u64>) -> SharedOut<W>
         ensures { result ≡ record { closed = false; faults = 0 } }
     {

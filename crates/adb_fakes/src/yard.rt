@@ -16,16 +16,17 @@ use std::collections::VecDeque;
 use std::marker::Model;
 use std::sync::Wait;
 
-/// The most bytes that a client of a yard sends at once.
+/// The maximum number of bytes that a client of a yard sends at once.
 const PIECE: usize = 65_536;
 
 /// The port to which the first forward of a client is bound if it asks for any.
 const FIRST_PORT: u16 = 40_000;
 
-/// The yard of a test. Its door lets in the clients in the order of `call`, and is closed after them.
-/// A server that asks for any port listens on port 1. Its jobs run within the calls that submit them.
+/// The yard of a test. Its door accepts the clients in the order of `call`, and is closed after
+/// them. A server that asks for any port listens on port 1. Its jobs run within the calls that
+/// submit them.
 ///
-/// It shows how often it failed: at `listen` if an allocation failed, and at each `dial`.
+/// Contracts see how often it failed: at `listen` if an allocation failed, and at each `dial`.
 #[derive(Drop)]
 pub struct FakeYard<W: Wait + Copy + Drop> {
     rt: W,
@@ -47,7 +48,7 @@ impl<W: Wait + Copy + Drop> Model for FakeYard<W> {
 }
 
 impl<W: Wait + Copy + Drop> FakeYard<W> {
-    /// Returns a yard without clients, whose recorder is the one of `kept`.
+    /// Returns a yard without clients, with the recorder of `kept`.
     ///
     /// `Err`: an allocation failed.
     pub fn new(rt: W, alloc: Global, kept: Kept<W>) -> Result<FakeYard<W>, AllocError> {
@@ -63,18 +64,19 @@ impl<W: Wait + Copy + Drop> FakeYard<W> {
         })
     }
 
-    /// Makes the door fail at these calls, by their numbers, counted from 1.
+    /// Makes the door fail at the calls with these numbers, counted from 1.
     pub fn fail_accepts(&mut self, calls: Vec<u64>) {
         self.accepts = calls;
     }
 
-    /// Makes these calls that submit a job return it unrun, by their numbers, counted from 1.
+    /// Makes the submissions with these numbers, counted from 1, return their job without running
+    /// it.
     pub fn fail_spawns(&mut self, calls: Vec<u64>) {
         self.spawns = calls;
     }
 
-    /// Adds a client that sends these bytes. The reads and writes of its connection whose numbers,
-    /// counted from 1, are in the lists fail. Returns a handle of the bytes that it is sent.
+    /// Adds a client that sends these bytes. The lists name the reads and writes of its connection
+    /// that fail, by their numbers, counted from 1. Returns a handle of the bytes that it is sent.
     ///
     /// `Err`: an allocation failed, and the client is not added.
     pub fn call(
@@ -92,7 +94,7 @@ impl<W: Wait + Copy + Drop> FakeYard<W> {
         Ok(sent)
     }
 
-    /// Returns the door of its clients. `None`: an allocation failed.
+    /// Returns the door of its clients, or `None` if an allocation failed.
     fn open(&mut self) -> Option<FakeDoor<W>>
         ensures { self.new ≡ self.old }
     {
@@ -112,7 +114,7 @@ impl<W: Wait + Copy + Drop> FakeYard<W> {
     }
 }
 
-/// Returns the port that a yard in memory shows for the port that it is asked for.
+/// Returns the port on which a yard in memory listens for a requested port.
 pub(crate) fn listening_port(asked: u16) -> u16
     ensures is { result ≡ port_of asked }
     ensures fits { (result ≢ 0) × (asked ≢ 0 → result ≡ asked) }

@@ -1,5 +1,5 @@
-//! Sections without a pass: a client or a device comes, is ended because no thread started for it, and
-//! the questions about a whole hall.
+//! Sections without a pass: admitting a client or a device, ending one for which no thread started,
+//! and the queries about a whole hall.
 
 ghost use Rattle.std.specs.Prelude.{◌≡◌, ◌≢◌, ◌≤◌, ◌||◌, true, Err, IfOk};
 ghost use Rattle.adb_outside.specs.declared.kinds.Cause.{Cause};
@@ -42,7 +42,7 @@ impl Arrival for Comer<'_> {
     }
 }
 
-/// Ends a client or a link for which no thread started.
+/// The section that ends a client or a link for which no thread started.
 #[derive(Drop)]
 pub struct Strand {
     pub owner: Owner,
@@ -73,7 +73,7 @@ impl Call<Result<Progress, DeskError>> for Strand {
     }
 }
 
-/// Asks whether the hall is over.
+/// The section that returns whether the hall is over.
 #[derive(Drop)]
 pub struct Over {}
 
@@ -100,7 +100,7 @@ impl Call<Option<DeskError>> for Over {
     }
 }
 
-/// Shuts the hall.
+/// The section that shuts the hall.
 #[derive(Drop)]
 pub struct Halt {}
 
@@ -142,8 +142,8 @@ fn draw_pair<R: Recorder, E: Ledger, M: Ledger, K: Marks>(
     }
 }
 
-/// Returns the passes of the number that was drawn last: that of the reader, which counts the entry by
-/// which it came, and that of the writer.
+/// Returns the passes of the number that was drawn last: first that of the reader, which counts the
+/// entry by which the client or device came, then that of the writer.
 fn seat_pair<R: Recorder, E: Ledger, M: Ledger, K: Marks>(
     desk: &mut Desk<R, E, M, K>,
 ) -> (Pass<E, M, K>, Pass<E, M, K>)

@@ -1,4 +1,4 @@
-//! Noting the answer of a call in its pass.
+//! Functions that note the answer of a call in its pass.
 
 ghost use Rattle.std.specs.Prelude.{◌≡◌};
 ghost use Rattle.adb_desk.specs.Desk.{IsSameDesk};
@@ -19,7 +19,7 @@ fn is_starved(error: &DeskError) -> bool
     matches!(error, DeskError::Hub(HubError::OutOfMemory))
 }
 
-/// Notes in a pass that its call was refused.
+/// Notes in a pass that its call was refused with this error.
 pub(crate) fn note_error<R: Recorder, E: Ledger, M: Ledger, K: Marks>(
     desk: &mut Desk<R, E, M, K>,
     pass: &mut Pass<E, M, K>,
@@ -36,7 +36,7 @@ pub(crate) fn note_error<R: Recorder, E: Ledger, M: Ledger, K: Marks>(
     }
 }
 
-/// Notes in a pass the answer to an act of that many bytes.
+/// Notes in a pass the answer to an act that carried this many bytes.
 pub(crate) fn note_submit<R: Recorder, E: Ledger, M: Ledger, K: Marks>(
     desk: &mut Desk<R, E, M, K>,
     pass: &mut Pass<E, M, K>,
@@ -71,7 +71,7 @@ pub(crate) fn note_handed<R: Recorder, E: Ledger, M: Ledger, K: Marks>(
     }
 }
 
-/// Notes in a pass the answer to a question about its client's room.
+/// Notes in a pass the answer to a query of its client's room.
 pub(crate) fn note_room<R: Recorder, E: Ledger, M: Ledger, K: Marks>(
     desk: &mut Desk<R, E, M, K>,
     pass: &mut Pass<E, M, K>,

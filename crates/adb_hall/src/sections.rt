@@ -1,4 +1,4 @@
-//! Critical sections of a hall, as values: what a hall runs while it holds its desk.
+//! Critical sections of a hall, as values. A hall runs a section while it holds its desk.
 
 use adb_capture::Owner;
 use adb_desk::{Desk, Half};
@@ -6,31 +6,31 @@ use adb_desk_log::{DeskError, Marks, Pass};
 use adb_recorder::Recorder;
 use std::sync::ledger::Ledger;
 
-/// A section with a pass, which answers `A`.
+/// A section with a pass. Its answer has the type `A`.
 pub trait Section<A: Drop> {
     ghost use Rattle.std.specs.Prelude.{◌≡◌, true, false};
     ghost use Rattle.adb_desk_log.specs.Pass.{PassView};
     ghost use Rattle.adb_hall.specs.Telling.{Telling, telling_of};
 
-    /// What it requires of the pass.
+    /// The requirement on the pass.
     ghost may: { Self → PassView → Type 0 };
 
-    /// What its answer is, and what the pass is after it.
+    /// The relation between the pass, the answer, and the pass after it.
     ghost seen: { Self → PassView → A → PassView → Type 0 };
 
-    /// What it does to what the desk tells.
+    /// The effect of this answer on the state that the desk shows to contracts.
     ghost does: { Self → PassView → A → Telling → Telling → Type 0 };
 
-    /// What the desk tells after this answer.
+    /// The property of the desk's state that holds after this answer.
     ghost leaves: { Self → PassView → A → Telling → Type 0 };
 
-    /// The answers after which a hall that waits does so, and then runs the section again.
+    /// The answers that idle: a hall that waits sleeps after one, and then runs the section again.
     ghost idles: { A → Type 0 };
 
-    /// The answers over a recorder that never fails.
+    /// The answers that are possible over a recorder that never fails.
     ghost sound: { A → Type 0 };
 
-    /// Runs the section on a desk. An answer that idles leaves the pass as it was.
+    /// Runs the section on a desk. An answer that idles leaves the pass unchanged.
     fn run<R: Recorder, E: Ledger, M: Ledger, K: Marks>(
         &self,
         desk: &mut Desk<R, E, M, K>,
@@ -49,23 +49,23 @@ pub trait Section<A: Drop> {
         ensures yes { result ≡ true → idles answer.now }
         ensures no { result ≡ false → idles answer.now → ⊥ };
 
-    /// Returns what a hall waits for after an answer that idles: bytes that are due to a client or on a
-    /// link, or, if None, room for the bytes of a client.
+    /// Returns the event that a hall waits for after an answer that idles: bytes that come due to a
+    /// client or on a link, or, if `None`, room for the bytes of a client.
     fn awaits(&self) -> Option<Half>;
 }
 
-/// A section without a pass, which answers `A`.
+/// A section without a pass. Its answer has the type `A`.
 pub trait Call<A: Drop> {
     ghost use Rattle.std.specs.Prelude.{◌≡◌, Bool, true};
     ghost use Rattle.adb_hall.specs.Telling.{Telling, telling_of};
 
-    /// What it does to what the desk tells.
+    /// The effect of this answer on the state that the desk shows to contracts.
     ghost does: { Self → A → Telling → Telling → Type 0 };
 
     /// Whether an answer is marked.
     ghost marks: { A → Bool };
 
-    /// The answers over a recorder that never fails.
+    /// The answers that are possible over a recorder that never fails.
     ghost sound: { A → Type 0 };
 
     /// Runs the section on a desk.
@@ -89,16 +89,16 @@ pub trait Arrival {
     ghost use Rattle.adb_hall.specs.Passes.{ArePair};
     ghost use Rattle.adb_hall.specs.Telling.{Draws, telling_of};
 
-    /// Whether it may come.
+    /// The condition under which the client or the device may come.
     ghost may: { Self → Type 0 };
 
-    /// Its entry, if it draws this number.
+    /// The entry of the arrival, if it draws this number.
     ghost entry: { Self → ℕ → Entry };
 
-    /// It is a device whose serial is not valid.
+    /// It is a device, and its serial is not valid.
     ghost bad: { Self → Type 0 };
 
-    /// Runs the section on a desk, and returns the passes of the reader and of the writer.
+    /// Runs the section on a desk. Returns the passes of the reader and of the writer.
     fn run<R: Recorder, E: Ledger, M: Ledger, K: Marks>(
         &self,
         desk: &mut Desk<R, E, M, K>,

@@ -1,4 +1,4 @@
-//! Sections with a pass: submitting an act, handing bytes out, and asking for room.
+//! Sections with a pass: submitting an act, handing bytes out, and querying a client's room.
 
 ghost use Rattle.std.specs.Prelude.{◌≡◌, ◌≢◌, ◌<◌, ◌≤◌, true, Some, Err};
 ghost use Rattle.adb_capture.specs.declared.limits.TheConstants.{MAX_DATA};
@@ -20,7 +20,7 @@ use adb_hub::{Handed, HubError, Room};
 use adb_recorder::Recorder;
 use std::sync::ledger::Ledger;
 
-/// Submits an act.
+/// The section that submits an act.
 #[derive(Drop)]
 pub struct Submit<'a> {
     pub act: Act<'a>,
@@ -67,7 +67,7 @@ impl Section<Result<Progress, DeskError>> for Submit<'_> {
     }
 }
 
-/// Hands bytes out.
+/// The section that hands bytes out.
 #[derive(Drop)]
 pub struct HandOut {
     pub half: Half,
@@ -115,7 +115,7 @@ impl Section<Result<Handed, DeskError>> for HandOut {
     }
 }
 
-/// Asks how many more bytes a client may send.
+/// The section that returns how many more bytes a client may send.
 #[derive(Drop)]
 pub struct AskRoom {}
 
@@ -202,7 +202,7 @@ fn hand_out_with<R: Recorder, E: Ledger, M: Ledger, K: Marks>(
     }
 }
 
-/// Hands out at most so many bytes.
+/// Hands out at most `max` bytes.
 fn hand<R: Recorder, E: Ledger, M: Ledger, K: Marks>(
     desk: &mut Desk<R, E, M, K>,
     pass: &mut Pass<E, M, K>,
@@ -245,7 +245,7 @@ fn room_with<R: Recorder, E: Ledger, M: Ledger, K: Marks>(
     answer
 }
 
-/// Returns the room of a client. A number that was never drawn is refused.
+/// Returns the room of a client. Refuses a number that was never drawn.
 fn room_of_drawn<R: Recorder, E: Ledger, M: Ledger, K: Marks>(
     desk: &mut Desk<R, E, M, K>,
     client: u32,

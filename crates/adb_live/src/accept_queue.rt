@@ -1,4 +1,4 @@
-//! Connections that wait at the listeners of a server.
+//! Accepted connections from all listeners of a server.
 
 use crate::listeners::{Listeners, OWN};
 use crate::troubles::{Trouble, trouble_of};
@@ -9,47 +9,47 @@ use std::net::{TcpListener, TcpStream};
 use std::sync::{Arc, Wait};
 use std::time::Duration;
 
-/// The first wait, in milliseconds, if a connection cannot be accepted.
+/// The first wait in milliseconds after a failed accept.
 const FIRST_DELAY: u64 = 10;
 
-/// The longest of these waits, in milliseconds.
+/// The longest of these waits in milliseconds.
 const MOST_DELAY: u64 = 1_000;
 
 /// The next event at the listeners.
 #[derive(Drop)]
 pub enum Next {
-    /// A connection, at the listener of this number.
+    /// A connection that came to the listener with this number.
     Came(u16, TcpStream),
     /// No connection yet.
     Nothing,
     /// The server ends.
     Over,
-    /// The server's own listener accepts nothing any more.
+    /// The server's own listener accepts no more connections.
     Broken,
 }
 
 /// The connections that wait at the listeners of a server, taken from one listener after the other.
 ///
-/// If no descriptor is left for a connection, the queue accepts it with the one that it keeps in
-/// reserve, closes it, and takes the reserve again. If that fails too it waits, twice as long each
-/// time.
+/// If no descriptor is left for a connection, the queue accepts the connection with the descriptor
+/// that it keeps in reserve, closes it, and takes the reserve again. If that fails too, it waits,
+/// twice as long each time.
 #[derive(Drop)]
 pub struct AcceptQueue {
     listeners: Arc<Listeners, Global>,
     poll: Poll,
     events: Events,
     reserve: Option<TcpListener>,
-    /// The listener that was found ready. It is found ready again only if it is watched again, or if a
-    /// connection comes after an accept that found none.
+    /// The listener that was found ready. It is found ready again only if it is watched again, or
+    /// if a connection comes after an accept that found none.
     ready: Option<u16>,
     delay: u64,
     shortages: u64,
 }
 
 impl AcceptQueue {
-    /// Makes the queue of these listeners, whose registry is that of `poll`.
+    /// Makes the queue of these listeners, which are in the registry of `poll`.
     ///
-    /// It fails at an allocation failure.
+    /// Fails if an allocation fails.
     pub fn new(
         alloc: Global,
         poll: Poll,
@@ -67,7 +67,7 @@ impl AcceptQueue {
         })
     }
 
-    /// Returns how many calls of `accept` failed because a descriptor or memory was missing.
+    /// Returns how many calls of `accept` failed for lack of a descriptor or of memory.
     pub fn shortages(&self) -> u64 {
         self.shortages
     }
@@ -101,7 +101,7 @@ impl AcceptQueue {
         Next::Nothing
     }
 
-    /// Notes that a connection came. The listener is watched again, which takes less time than an
+    /// Notes that a connection came. Watches the listener again, which takes less time than an
     /// accept that finds none, and gives the other listeners their turn.
     fn took<W: Wait>(&mut self, rt: &W, number: u16, stream: TcpStream) -> Next {
         self.delay = FIRST_DELAY;
@@ -132,7 +132,7 @@ impl AcceptQueue {
         }
     }
 
-    /// Accepts a connection with the descriptor in reserve and closes it. If that fails too it waits.
+    /// Accepts a connection with the descriptor in reserve and closes it. Waits if that fails too.
     fn refuse<W: Wait>(&mut self, rt: &W, number: u16) -> Next {
         self.reserve = None;
         let refused = self.listeners.accept(rt, number);

@@ -9,8 +9,9 @@ use std::alloc::Global;
 use std::net::{Net, TcpListener, TcpStream};
 use std::sync::{Arc, Wait};
 
-/// Binds ports of this machine. A connection to one comes in at the door of the same listeners, until
-/// the server ends. Without listeners each call fails. It tells nothing.
+/// Binds ports of this machine. The door of the same listeners accepts the connections to such a
+/// port, until the server ends. Without listeners each call fails. Contracts do not see its
+/// answers.
 #[derive(Drop)]
 pub struct TcpBinder<W: Drop> {
     rt: W,
@@ -31,7 +32,7 @@ impl<W: Drop> TcpBinder<W> {
     }
 }
 
-/// Binds a port, any if it is 0, unless it is bound already.
+/// Binds a port, or any free one if `port` is 0, unless it is bound already.
 fn bind<W: Net<Listener = TcpListener, Stream = TcpStream> + Wait>(
     rt: &W,
     listeners: &Listeners,

@@ -13,8 +13,9 @@ use std::io;
 use std::net::{Net, TcpListener, TcpStream};
 use std::sync::{Arc, Wait};
 
-/// The door of a server, at its own listener and those of its forwards. At an allocation failure the
-/// connection is closed, and the door waits for the next. It tells nothing.
+/// The door of a server, at its own listener and those of its forwards. If an allocation fails, the
+/// connection is closed, and the door waits for the next. Contracts do not see which connections
+/// come.
 #[derive(Drop)]
 pub struct TcpDoor<W: Wait + Drop> {
     rt: W,
@@ -24,7 +25,7 @@ pub struct TcpDoor<W: Wait + Drop> {
     faults: u64,
 }
 
-/// The bell of a `TcpDoor`. Once it has rung, writes to peers that do not read fail.
+/// The bell of a `TcpDoor`. After it has rung, writes to peers that do not read fail.
 #[derive(Drop)]
 pub struct TcpBell {
     listeners: Arc<Listeners, Global>,
@@ -39,9 +40,9 @@ pub struct Entrance<W: Wait + Drop> {
 }
 
 impl<W: Net<Listener = TcpListener, Stream = TcpStream> + Wait + Drop> Entrance<W> {
-    /// Makes the door at a listener, and its bell. `ending` is set when the bell rings.
+    /// Makes the door at a listener, and its bell. The bell sets `ending` when it rings.
     ///
-    /// It fails if the system refuses a descriptor, and at an allocation failure. The listener is then
+    /// Fails if the system refuses a descriptor, or if an allocation fails. The listener is then
     /// closed.
     pub fn new(rt: W, alloc: Global, own: TcpListener, ending: &Ending) -> io::Result<Entrance<W>>
         ensures { IfOk result (λ made. made.door.faults ≡ 0) }
@@ -70,12 +71,12 @@ impl<W: Net<Listener = TcpListener, Stream = TcpStream> + Wait + Drop> Entrance<
 }
 
 impl<W: Wait + Drop> TcpDoor<W> {
-    /// Returns how many calls of `accept` failed because a descriptor or memory was missing.
+    /// Returns how many calls of `accept` failed for lack of a descriptor or of memory.
     pub fn shortages(&self) -> u64 {
         self.queue.shortages()
     }
 
-    /// Makes the two halves of a connection that came at a listener. At an allocation failure the
+    /// Makes the two halves of a connection that came to a listener. If an allocation fails, the
     /// connection is closed.
     fn let_in(&self, number: u16, stream: TcpStream) -> Option<Came<TcpIn, TcpOut>>
         ensures { IfSome result (λ came. FitsCame came × (is_failed_came came ≡ false)) }
@@ -103,8 +104,8 @@ impl<W: Wait + Drop> Door for TcpDoor<W> {
 
     ghost steady = { λ door. ⊥ };
 
-    /// Returns `Closed` once the bell has rung, and `Failed` if the server's own listener is broken. A
-    /// shortage of descriptors or of memory is no failure: the door goes on.
+    /// Returns `Closed` after the bell has rung, and `Failed` if the server's own listener is
+    /// broken. A shortage of descriptors or of memory is no failure: the door continues.
     fn accept(&mut self) -> Came<TcpIn, TcpOut> {
         for _ in 0..u64::MAX {
             match self.queue.next(&self.rt) {

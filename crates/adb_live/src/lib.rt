@@ -1,7 +1,7 @@
-//! The parts of a live server: the door where clients and the connections to forwards come in, its
+//! The parts of a live server: the door that accepts clients and the connections to forwards, its
 //! bell, and the listeners of forwards.
 //!
-//! No clause says which connections come, or that a thread gets on: tests show these.
+//! No clause says which connections come, or that a thread makes progress. Tests show these.
 #![tactic(auto)]
 
 mod accept_queue;

@@ -1,5 +1,4 @@
-//! The listening sockets of a server, as its door, its bell and the binders of its clients share
-//! them.
+//! The listening sockets of a server, shared by its door, its bell and the binders of its clients.
 
 use adb_sockets::{Ending, set_up_listener};
 use mio::unix::SourceFd;
@@ -12,11 +11,11 @@ use std::sync::{Mutex, Wait};
 use std::thread::Parker;
 use std::time::Duration;
 
-/// The number of the server's own listener. A forward's listener has the number of its port, which is
-/// not 0.
+/// The number of the server's own listener. A forward's listener has the number of its port, which
+/// is not 0.
 pub const OWN: u16 = 0;
 
-/// The token of the bell, which is no port.
+/// The token of the bell, which is no port number.
 const BELL: usize = 65_536;
 
 /// The listener of a forward.
@@ -26,8 +25,8 @@ struct Forward {
     listener: TcpListener,
 }
 
-/// The listening sockets of a server, as its door, its bell and the binders of its clients share
-/// them. None of them blocks: the door waits for all at once. A connection waits in the queue of its
+/// The listening sockets of a server, shared by its door, its bell and the binders of its clients.
+/// None of them blocks: the door waits for all at once. A connection waits in the queue of its
 /// listener, which takes no thread.
 #[derive(Drop)]
 pub struct Listeners {
@@ -40,10 +39,10 @@ pub struct Listeners {
 }
 
 impl Listeners {
-    /// Makes the listeners of a server that listens at `own`, for the door that waits for what is in
-    /// the registry. No forward has a listener yet. `ending` is set when the bell rings.
+    /// Makes the listeners of a server that listens at `own`, for the door that polls the registry.
+    /// No forward has a listener yet. The bell sets `ending` when it rings.
     ///
-    /// It fails if the system refuses a descriptor of the bell's, or to watch the listener.
+    /// Fails if the system refuses a descriptor for the bell, or refuses to watch the listener.
     pub fn new(
         alloc: Global,
         registry: Registry,
@@ -74,16 +73,16 @@ impl Listeners {
         &self.ending
     }
 
-    /// Returns another descriptor of the server's own listener. It fails if there is none.
+    /// Returns another descriptor of the server's own listener. Fails if none is left.
     pub fn spare(&self) -> io::Result<TcpListener> {
         self.own.try_clone()
     }
 
-    /// Listens on a port of this machine, on any that is free if it is 0, and returns the port. A port
-    /// that is listened on already is returned again.
+    /// Listens on a port of this machine, or on any free port if `port` is 0, and returns the port.
+    /// A port with a listener is returned again.
     ///
-    /// It fails if the system refuses the port or a descriptor, and at an allocation failure. No
-    /// listener is then added.
+    /// Fails if the system refuses the port or a descriptor, or if an allocation fails. No listener
+    /// is then added.
     pub fn bind<W: Net<Listener = TcpListener, Stream = TcpStream> + Wait>(
         &self,
         rt: &W,
@@ -105,7 +104,7 @@ impl Listeners {
         Ok(bound)
     }
 
-    /// Accepts a connection at a listener. It fails with `WouldBlock` if none waits there, and if there
+    /// Accepts a connection at a listener. Fails with `WouldBlock` if none waits there, or if there
     /// is no such listener.
     pub fn accept<W: Wait>(&self, rt: &W, number: u16) -> io::Result<TcpStream> {
         if number == OWN {
@@ -137,7 +136,7 @@ impl Listeners {
             .retain(|forward| forward.port != port);
     }
 
-    /// Waits for a time, or until the bell rings. Only the door waits so.
+    /// Waits for a time, or until the bell rings. Only the door waits this way.
     pub fn pause<W: Wait>(&self, rt: &W, time: Duration) {
         if !self.is_over() {
             self.pause.park_timeout(rt, time);

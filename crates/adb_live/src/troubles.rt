@@ -1,17 +1,17 @@
-//! Errors of `accept`, by what is done about them.
+//! Errors of `accept`, classified by their handling.
 
 use std::io;
 
-/// What an error of `accept` means for the listener.
+/// The meaning of an error of `accept` for the listener.
 #[derive(Clone, Copy, Debug, PartialEq, Eq, Drop)]
 pub enum Trouble {
     /// No connection waits.
     Empty,
     /// The call was interrupted, or the connection is gone.
     Passing,
-    /// A descriptor or memory is missing, or another cause that can pass.
+    /// A descriptor or memory is missing, or there is another cause that can pass.
     Shortage,
-    /// The listener accepts nothing any more.
+    /// The listener accepts no more connections.
     Lasting,
 }
 
@@ -25,8 +25,8 @@ const ENOTSOCK: i32 = 88;
 
 const EOPNOTSUPP: i32 = 95;
 
-/// Classifies an error of `accept`. An error that is not known to last is a shortage: EMFILE, ENFILE,
-/// ENOBUFS and ENOMEM, and the errors of the network that accept(2) passes on.
+/// Classifies an error of `accept`. An error that is not known to last is a shortage: EMFILE,
+/// ENFILE, ENOBUFS and ENOMEM, and the errors of the network that accept(2) passes on.
 pub fn trouble_of(error: &io::Error) -> Trouble {
     match error.kind() {
         io::ErrorKind::WouldBlock => Trouble::Empty,

@@ -65,7 +65,7 @@ impl<R: Recorder, E: Ledger, M: Ledger, K: Marks, W: Wait + Copy + Drop> Hall<E,
     }
 }
 
-/// Returns which pass of which owner waits: for bytes that are due, or for room.
+/// Returns the owner and the side of the pass that waits: for bytes that are due, or for room.
 fn sleeper(awaits: Option<Half>, number: u32) -> (Owner, Side) {
     match awaits {
         Some(Half::Client) => (Owner::Client(number), Side::Writer),
@@ -89,7 +89,7 @@ pub(crate) fn mark_own<R: Recorder, E: Ledger, M: Ledger, K: Marks>(
     }
 }
 
-/// Puts up the bells of the client or the device that came. If none came, drops them.
+/// Adds the condition variables of the client or the device that came, or drops them if none came.
 fn put_up(bells: &mut Bells, came: Option<Owner>, pair: Pair) {
     match came {
         Some(owner) => bells.put_up(owner, pair),

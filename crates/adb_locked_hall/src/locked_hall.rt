@@ -19,7 +19,7 @@ use std::marker::Model;
 use std::sync::ledger::{Blank, Ledger};
 use std::sync::{Arc, Condvar, Mutex, MutexGuard, Wait};
 
-/// State that all handles share.
+/// The state that all handles share.
 #[derive(Drop)]
 pub(crate) struct Shared<R: Recorder, E: Ledger, M: Ledger, K: Marks> {
     pub(crate) locked: Mutex<Locked<R, E, M, K>>,
@@ -36,8 +36,8 @@ impl<R: Recorder, E: Ledger, M: Ledger, K: Marks> Shared<R, E, M, K> {
         rings.ring_rest(&self.common);
     }
 
-    /// Releases the lock and sleeps until one pass of an owner is notified, or all are. Returns with
-    /// the lock held.
+    /// Releases the lock and sleeps until one pass of an owner is notified, or all are. Returns
+    /// with the lock held.
     pub(crate) fn sleep<'a, W: Wait>(
         &'a self,
         rt: &W,
@@ -55,8 +55,8 @@ impl<R: Recorder, E: Ledger, M: Ledger, K: Marks> Shared<R, E, M, K> {
 
 /// A handle of a desk under a lock. Each worker owns one.
 ///
-/// It waits where a hall of one thread returns `Later` or `Nothing`, and tells nothing. Contracts see
-/// its mark, which only the handle of `new` has.
+/// A call waits in place of returning `Later` or `Nothing`. Contracts see only the mark of the
+/// handle, which only the handle of `new` has.
 #[derive(Drop)]
 pub struct LockedHall<R: Recorder, E: Ledger, M: Ledger, K: Marks, W: Wait + Copy + Drop> {
     pub(crate) rt: W,
@@ -75,7 +75,7 @@ impl<R: Recorder, E: Ledger, M: Ledger, K: Marks, W: Wait + Copy + Drop> Model
 }
 
 impl<R: Recorder, E: Ledger, M: Ledger, K: Marks, W: Wait + Copy + Drop> LockedHall<R, E, M, K, W> {
-    /// Returns the first handle of a desk without entries, over a recorder that has kept nothing and
+    /// Makes the first handle of a desk without entries, over a recorder that has kept nothing and
     /// has not failed.
     pub fn new(
         rt: W,
@@ -115,7 +115,7 @@ impl<R: Recorder, E: Ledger, M: Ledger, K: Marks, W: Wait + Copy + Drop> LockedH
         })
     }
 
-    /// Returns one more handle of the same desk.
+    /// Makes one more handle of the same desk.
     pub fn handle(&self) -> Result<LockedHall<R, E, M, K, W>, AllocError>
         ensures { IfOk result (λ hall. hall ≡ None) }
     {
@@ -127,10 +127,10 @@ impl<R: Recorder, E: Ledger, M: Ledger, K: Marks, W: Wait + Copy + Drop> LockedH
         })
     }
 
-    /// Closes the desk, if this is its last handle. Returns the answer with which the desk is shut, and
-    /// its recorder, which has kept a legal history.
+    /// Closes the desk if this is its last handle. Returns the answer with which the desk is shut,
+    /// and its recorder, which has kept a legal history.
     ///
-    /// None: there is another handle. Nothing changes but that this one is dropped.
+    /// `None`: there is another handle. Only this handle is dropped.
     pub fn close(self) -> Option<Left<R>>
         ensures left { IfSome result (λ left. IsLeft R.stands R.faults left) }
         ensures steady { K.steady → IfSome result (λ left. is_fault left.shut ≡ false) }
@@ -150,8 +150,8 @@ impl<R: Recorder, E: Ledger, M: Ledger, K: Marks, W: Wait + Copy + Drop> LockedH
         Some(desk.close())
     }
 
-    /// Takes back the pass of a client's reader, with its shares of the counts. Returns what `over` then
-    /// returns.
+    /// Takes back the pass of a client's reader, with its shares of the counts. Returns what `over`
+    /// then returns.
     pub fn retire_client_in(&mut self, pass: ClientIn<E, M, K>) -> Option<DeskError>
         ensures steady { K.steady → result ≢ Some DeskError.RecordFault }
         ensures mark { self.new ≡ or_marked (is_some result) self.old }
@@ -159,8 +159,8 @@ impl<R: Recorder, E: Ledger, M: Ledger, K: Marks, W: Wait + Copy + Drop> LockedH
         self.retire(Owner::Client(pass.number()), pass.pass)
     }
 
-    /// Takes back the pass of a client's writer, with its shares of the counts. Returns what `over` then
-    /// returns.
+    /// Takes back the pass of a client's writer, with its shares of the counts. Returns what `over`
+    /// then returns.
     pub fn retire_client_out(&mut self, pass: ClientOut<E, M, K>) -> Option<DeskError>
         ensures steady { K.steady → result ≢ Some DeskError.RecordFault }
         ensures mark { self.new ≡ or_marked (is_some result) self.old }
@@ -168,8 +168,8 @@ impl<R: Recorder, E: Ledger, M: Ledger, K: Marks, W: Wait + Copy + Drop> LockedH
         self.retire(Owner::Client(pass.number()), pass.pass)
     }
 
-    /// Takes back the pass of a device's reader, with its shares of the counts. Returns what `over` then
-    /// returns.
+    /// Takes back the pass of a device's reader, with its shares of the counts. Returns what `over`
+    /// then returns.
     pub fn retire_link_in(&mut self, pass: LinkIn<E, M, K>) -> Option<DeskError>
         ensures steady { K.steady → result ≢ Some DeskError.RecordFault }
         ensures mark { self.new ≡ or_marked (is_some result) self.old }
@@ -177,8 +177,8 @@ impl<R: Recorder, E: Ledger, M: Ledger, K: Marks, W: Wait + Copy + Drop> LockedH
         self.retire(Owner::Link(pass.number()), pass.pass)
     }
 
-    /// Takes back the pass of a device's writer, with its shares of the counts. Returns what `over` then
-    /// returns.
+    /// Takes back the pass of a device's writer, with its shares of the counts. Returns what `over`
+    /// then returns.
     pub fn retire_link_out(&mut self, pass: LinkOut<E, M, K>) -> Option<DeskError>
         ensures steady { K.steady → result ≢ Some DeskError.RecordFault }
         ensures mark { self.new ≡ or_marked (is_some result) self.old }
@@ -186,14 +186,14 @@ impl<R: Recorder, E: Ledger, M: Ledger, K: Marks, W: Wait + Copy + Drop> LockedH
         self.retire(Owner::Link(pass.number()), pass.pass)
     }
 
-    /// Returns how many entries were kept, or None while a pass is out.
+    /// Returns how many entries were kept, or `None` while a pass is out.
     pub fn entries(&mut self) -> Option<u64>
         ensures { self.new ≡ self.old }
     {
         self.shared.locked.lock(&self.rt).desk.entries()
     }
 
-    /// Returns how many bytes those entries moved, or None while a pass is out.
+    /// Returns how many bytes those entries moved, or `None` while a pass is out.
     pub fn moved(&mut self) -> Option<u64>
         ensures { self.new ≡ self.old }
     {

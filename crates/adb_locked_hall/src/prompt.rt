@@ -7,11 +7,11 @@ use adb_recorder::Recorder;
 use std::sync::Wait;
 use std::sync::ledger::Ledger;
 
-/// A handle of a desk under a lock that never waits: it returns `Later` and `Nothing` where the handle
-/// that it is made of waits.
+/// A handle of a desk under a lock that never waits: it returns `Later` or `Nothing` in place of a
+/// wait.
 #[derive(Drop)]
 pub struct Prompt<R: Recorder, E: Ledger, M: Ledger, K: Marks, W: Wait + Copy + Drop> {
-    /// The handle that it is made of.
+    /// The handle that would wait.
     pub hall: LockedHall<R, E, M, K, W>,
 }
 

@@ -1,5 +1,8 @@
-//! A model device in a thread of its own, and the two halves of its link to a server: between them
-//! are two pipes.
+//! A model device in a thread of its own, and the two halves of its link to a server. Two pipes
+//! connect them.
+//!
+//! `run_device` runs the device between its ends of the pipes. `PipeDeviceIn` and `PipeDeviceOut`
+//! are the halves at the other ends.
 #![tactic(auto)]
 
 mod pipe_device;

@@ -8,7 +8,7 @@ use adb_pipe::{PipeIn, PipeOut, Taken};
 use std::alloc::{AllocError, Global};
 use std::sync::Wait;
 
-/// A chunk, of which the first bytes were read.
+/// A chunk of which a prefix was read.
 #[derive(Drop)]
 struct Reading {
     chunk: Text,
@@ -16,7 +16,7 @@ struct Reading {
 }
 
 impl Reading {
-    /// Reads as many of the bytes that are left as find place, and says how many.
+    /// Reads as many of the remaining bytes as fit, and returns how many.
     fn read(&mut self, into: &mut [u8]) -> usize
         ensures { result ≤ length into.old }
     {
@@ -28,8 +28,8 @@ impl Reading {
     }
 }
 
-/// What a device in a thread of its own sends: the chunks that it put into a pipe. It is plugged in
-/// from the start. A pipe that is lost is a fault. It tells nothing.
+/// The output of a device in a thread of its own: the chunks that it put into a pipe. It is plugged
+/// in from the start. A lost pipe is a fault. Contracts do not see its bytes.
 #[derive(Drop)]
 pub struct PipeDeviceIn<W: Wait + Drop> {
     input: PipeIn<W>,
@@ -39,7 +39,7 @@ pub struct PipeDeviceIn<W: Wait + Drop> {
 }
 
 impl<W: Wait + Drop> PipeDeviceIn<W> {
-    /// The device that puts into this pipe. It takes no memory.
+    /// Makes the input half of the device that puts into this pipe. It allocates nothing.
     pub fn new(alloc: Global, input: PipeIn<W>) -> PipeDeviceIn<W>
         ensures { result.faults ≡ 0 }
     {
@@ -66,12 +66,13 @@ impl<W: Wait + Drop> DeviceIn for PipeDeviceIn<W> {
 
     ghost steady = { λ device. ⊥ };
 
-    /// It is plugged in.
+    /// Reports that the device is plugged in.
     fn plug(&mut self) -> Plug {
         Plug::Here
     }
 
-    /// Waits for a chunk where none is left. Behind the end each call answers `End`.
+    /// Returns bytes of the current chunk, or waits for the next one if none is left. After the end
+    /// each call returns `End`.
     fn read(&mut self, into: &mut [u8]) -> Got {
         for _ in 0..u64::MAX {
             let count = self.reading.read(into);
@@ -92,8 +93,8 @@ impl<W: Wait + Drop> DeviceIn for PipeDeviceIn<W> {
     }
 }
 
-/// What a device in a thread of its own is sent: each piece is a chunk of a pipe. A write that finds
-/// no memory fails, and so does one after `unplug`. It tells nothing.
+/// The input of a device in a thread of its own: each piece is a chunk of a pipe. A write fails if
+/// an allocation fails, and after `unplug`. Contracts do not see its bytes.
 #[derive(Drop)]
 pub struct PipeDeviceOut<W: Wait + Drop> {
     alloc: Global,
@@ -103,7 +104,7 @@ pub struct PipeDeviceOut<W: Wait + Drop> {
 }
 
 impl<W: Wait + Drop> PipeDeviceOut<W> {
-    /// The device that takes from this pipe. It takes no memory.
+    /// Makes the output half of the device that takes from this pipe. It allocates nothing.
     pub fn new(alloc: Global, output: PipeOut<W>) -> PipeDeviceOut<W>
         ensures { (result.faults ≡ 0) × (result.closed ≡ false) }
     {
@@ -115,7 +116,8 @@ impl<W: Wait + Drop> PipeDeviceOut<W> {
         }
     }
 
-    /// Puts a piece in two parts, if there is memory for it and the pipe takes it.
+    /// Puts a piece in two parts as one chunk. Returns whether the allocation succeeded and the
+    /// pipe took the chunk.
     fn put(&mut self, start: &[u8], rest: &[u8]) -> bool
         ensures { (self.new.faults ≡ self.old.faults) × (self.new.closed ≡ self.old.closed) }
     {
@@ -129,7 +131,7 @@ impl<W: Wait + Drop> PipeDeviceOut<W> {
     }
 }
 
-/// A chunk of two parts, one behind the other.
+/// Returns a chunk of two parts, the first before the second.
 fn joined(alloc: Global, start: &[u8], rest: &[u8]) -> Result<Text, AllocError>
     ensures { IfOk result (λ chunk. chunk ≡ start.now ++ rest.now) }
 {
@@ -150,12 +152,12 @@ impl<W: Wait + Drop> DeviceOut for PipeDeviceOut<W> {
 
     ghost steady = { λ device. ⊥ };
 
-    /// Waits while the pipe is full. A write that fails takes nothing.
+    /// Writes a piece. Blocks while the pipe is full. A write that fails takes nothing.
     fn write(&mut self, piece: &[u8]) -> Wrote {
         self.write_both(&[], piece)
     }
 
-    /// Both parts are one chunk.
+    /// Writes both parts as one chunk.
     fn write_both(&mut self, start: &[u8], rest: &[u8]) -> Wrote {
         if self.put(start, rest) {
             return Wrote::All;

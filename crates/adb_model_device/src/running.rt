@@ -11,24 +11,25 @@ use adb_pipe::{PipeIn, PipeOut, Taken};
 use std::alloc::Global;
 use std::sync::Wait;
 
-/// Why a model device took no more.
+/// The reason why a model device stopped.
 #[derive(Drop)]
 pub enum DeviceEnd {
-    /// The host finished its pipe, and all that the device owed was put.
+    /// The host finished its pipe, and everything that the device owed was put.
     End,
-    /// The pipe of the host gave nothing.
+    /// The pipe from the host yielded nothing.
     Lost,
-    /// The pipe to the host refused this chunk, which is all that the device owes.
+    /// The pipe to the host refused this chunk, which is everything that the device owes.
     Refused(Text),
-    /// The device refused what the host sent, or memory ran out.
+    /// The device refused the bytes of the host, or an allocation failed.
     Error(DaemonError),
 }
 
-/// Runs a model device: feeds it each chunk of the one pipe, and puts into the other what it owes,
-/// before the first chunk too. It goes on until the first pipe ends or is lost, the other refuses a
-/// chunk, or the device has an error; the caller then finishes the output.
+/// Runs a model device: feeds it each chunk of the input pipe, and puts the bytes that it owes into
+/// the output pipe, also before the first chunk. It continues until the input ends or is lost, the
+/// output refuses a chunk, or the device has an error. The caller then finishes the output.
 ///
-/// The device comes back as it is then. After an error it may still owe what it was asked before.
+/// Returns the device in its state at the end. After an error it may still owe answers to earlier
+/// requests.
 pub fn run_device<W: Wait + Drop>(
     rt: W,
     alloc: Global,
@@ -47,7 +48,7 @@ pub fn run_device<W: Wait + Drop>(
     unreachable!()
 }
 
-/// One turn: puts what is owed, and feeds the next chunk.
+/// Takes one turn: puts the bytes that are owed, and feeds the next chunk.
 fn turn<W: Wait + Drop>(
     alloc: Global,
     daemon: &mut Daemon,
@@ -62,7 +63,7 @@ fn turn<W: Wait + Drop>(
     feed_next(daemon, input)
 }
 
-/// Puts all that the device owes as one chunk, where it owes something.
+/// Puts all bytes that the device owes as one chunk, if it owes any.
 fn put_owed<W: Wait + Drop>(
     alloc: Global,
     daemon: &mut Daemon,

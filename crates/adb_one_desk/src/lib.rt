@@ -1,4 +1,4 @@
-//! A hall over a desk of its own, for one thread. It tells its history.
+//! A hall over a desk of its own, for one thread. Contracts see its history.
 #![tactic(auto)]
 
 mod calls;

@@ -15,8 +15,8 @@ use std::alloc::Global;
 use std::marker::Model;
 use std::sync::ledger::{Blank, Ledger};
 
-/// A hall that never waits: it returns `Later` and `Nothing` where a locked one waits. Contracts see
-/// the view of its desk, and whether its handle is marked.
+/// A hall that never waits: it returns `Later` or `Nothing` in place of a wait. Contracts see the
+/// view of its desk, and whether its handle is marked.
 #[derive(Drop)]
 pub struct OneDesk<R: Recorder, E: Ledger, M: Ledger, K: Marks> {
     pub(crate) desk: Desk<R, E, M, K>,
@@ -32,7 +32,7 @@ impl<R: Recorder, E: Ledger, M: Ledger, K: Marks> Model for OneDesk<R, E, M, K> 
 }
 
 impl<R: Recorder, E: Ledger, M: Ledger, K: Marks> OneDesk<R, E, M, K> {
-    /// Returns a hall without entries, over a recorder that has kept nothing and has not failed. It
+    /// Makes a hall without entries, over a recorder that has kept nothing and has not failed. It
     /// allocates nothing.
     pub fn new(
         alloc: Global,
@@ -60,9 +60,9 @@ impl<R: Recorder, E: Ledger, M: Ledger, K: Marks> OneDesk<R, E, M, K> {
         OneDesk { desk, mark }
     }
 
-    /// Says that what its recorder tells is a legal history, so it is fifo, has its causes and is
-    /// answered; that the counts are its counts; and that the hub holds it unless the recorder refused
-    /// an entry.
+    /// Proves that the entries of its recorder are a legal history, so they are fifo, have their
+    /// causes and are answered; that the counts are its counts; and that the hub holds the state
+    /// after that history unless the recorder refused an entry.
     pub fn law(&self)
         ensures sound { IsSound self.now.desk }
         ensures promises { TellsPromises self.now.desk.log.told }
@@ -70,7 +70,7 @@ impl<R: Recorder, E: Ledger, M: Ledger, K: Marks> OneDesk<R, E, M, K> {
         self.desk.law();
     }
 
-    /// Returns the recorder.
+    /// Returns the recorder of the hall.
     pub fn recorder(&self) -> &R
         ensures { R.told result.now ≡ self.now.desk.log.told }
     {
@@ -121,7 +121,7 @@ impl<R: Recorder, E: Ledger, M: Ledger, K: Marks> OneDesk<R, E, M, K> {
         self.retire(pass.pass);
     }
 
-    /// Returns how many entries were kept, or None while a pass is out.
+    /// Returns how many entries were kept, or `None` while a pass is out.
     pub fn entries(&mut self) -> Option<u64>
         ensures count { result ≡ (if nat_eq self.old.desk.log.out 0
             then Some self.old.desk.log.entries else None) }
@@ -130,7 +130,7 @@ impl<R: Recorder, E: Ledger, M: Ledger, K: Marks> OneDesk<R, E, M, K> {
         self.desk.entries()
     }
 
-    /// Returns how many bytes those entries moved, or None while a pass is out.
+    /// Returns how many bytes those entries moved, or `None` while a pass is out.
     pub fn moved(&mut self) -> Option<u64>
         ensures count { result ≡ (if nat_eq self.old.desk.log.out 0
             then Some self.old.desk.log.moved else None) }

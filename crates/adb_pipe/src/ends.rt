@@ -14,8 +14,8 @@ use std::sync::Wait;
 /// The output end of a pipe. Contracts see the chunks that it put, and how many were refused; that
 /// count stays at its largest value.
 ///
-/// If it is dropped without `finish`, no end mark is put: the chunks that were put can be taken, and
-/// then `take` answers `Lost`.
+/// If it is dropped without `finish`, no end mark is put: the chunks that were put can be taken,
+/// and then `take` returns `Lost`.
 #[derive(Drop)]
 pub struct PipeOut<W: Wait + Drop> {
     rt: W,
@@ -47,8 +47,8 @@ impl<W: Wait + Drop> Model for PipeOut<W> {
         × (known p.pass ≡ open_putter (passed (known p.pass)).chunks) };
 }
 
-/// The input end of a pipe. Contracts see the chunks that it took, whether it answered `End`, and how
-/// often it answered `Lost`; that count stays at its largest value.
+/// The input end of a pipe. Contracts see the chunks that it took, whether it returned `End`, and
+/// how often it returned `Lost`; that count stays at its largest value.
 #[derive(Drop)]
 pub struct PipeIn<W: Wait + Drop> {
     rt: W,
@@ -88,8 +88,8 @@ pub enum Taken {
     Chunk(Text),
     /// Every chunk was taken, and the output end is finished.
     End,
-    /// The channel yielded nothing. It was empty at some moment of the call. The answer does not say
-    /// why, for example that the output end was dropped.
+    /// The channel yielded nothing. It was empty at some moment of the call. The answer does not
+    /// say why, for example that the output end was dropped.
     Lost,
 }
 
@@ -122,8 +122,8 @@ pub fn pipe<W: Wait + Copy + Drop>(
 impl<W: Wait + Drop> PipeOut<W> {
     /// Puts a chunk after the others. Blocks while the pipe is full.
     ///
-    /// `Err`: the channel refused the chunk, which is returned. The pipe is unchanged except for the
-    /// count of refusals.
+    /// `Err`: the channel refused the chunk, which is returned. The pipe is unchanged except for
+    /// the count of refusals.
     pub fn put(&mut self, chunk: Text) -> Result<(), Text>
         ensures { Puts self.old chunk result self.new }
     {
@@ -140,8 +140,8 @@ impl<W: Wait + Drop> PipeOut<W> {
         }
     }
 
-    /// Puts the end mark after the chunks. Blocks while the pipe is full. If the channel refuses the
-    /// mark, the input end answers `Lost` in its place.
+    /// Puts the end mark after the chunks. Blocks while the pipe is full. If the channel refuses
+    /// the mark, the input end returns `Lost` in its place.
     pub fn finish(self) -> PipeEnd
         ensures { result ≡ record { pipe = self.pipe; put = self.put } }
     {
@@ -186,8 +186,8 @@ impl Model for PipeEnd {
 }
 
 impl PipeEnd {
-    /// Joins the two ends of one pipe. The chunks that were taken are a prefix of those that were put,
-    /// and all of them if the end mark was taken.
+    /// Joins the two ends of one pipe. The chunks that were taken are a prefix of those that were
+    /// put, and all of them if the end mark was taken.
     #[tactic(auto, using(crate::proofs::Rules::merges, crate::proofs::Rules::learns, crate::proofs::Rules::held, crate::proofs::Rules::whole))]
     pub fn compare<W: Wait + Drop>(self, input: PipeIn<W>)
         requires { self.pipe ≡ input.pipe }
@@ -218,7 +218,7 @@ fn chunk_of(item: Item) -> Text
 
 impl<W: Wait + Drop> PipeIn<W> {
     /// Takes the next chunk, or the end mark after the last one. Blocks while the pipe is empty.
-    /// After the end mark each call answers `Lost`.
+    /// After the end mark each call returns `Lost`.
     #[tactic(auto, using(crate::proofs::Rules::takes))]
     pub fn take(&mut self) -> Taken
         ensures { Takes self.old result self.new }
@@ -235,7 +235,7 @@ impl<W: Wait + Drop> PipeIn<W> {
     }
 
     /// Takes the next chunk or the end mark if the pipe holds one now. Does not wait. `None` says
-    /// nothing of the output end; a later `take` answers `Lost` if that was dropped.
+    /// nothing of the output end; a later `take` returns `Lost` if that was dropped.
     #[tactic(auto, using(crate::proofs::Rules::takes))]
     pub fn try_take(&mut self) -> Option<Taken>
         ensures { TakesNow self.old result self.new }

@@ -6,8 +6,8 @@ ghost use Rattle.adb_pipe.specs.declared.rule.Passed.{Passed};
 ghost use Rattle.adb_pipe.specs.declared.rule.View.TheVariants.{Putter, Taker};
 ghost use Rattle.adb_pipe.specs.Rule.{IsInOrder, chunks_in};
 
-/// At every step the chunks that were put are those that were taken, followed by those that the
-/// channel holds, in order.
+/// States that at every step the chunks that were put are those that were taken, followed by those
+/// that the channel holds, in order.
 #[tactic(auto, using(crate::proofs::Rules::held))]
 pub fn put_is_taken_and_held()
     ensures { (items : List Item) (put taken : Passed)
@@ -15,8 +15,8 @@ pub fn put_is_taken_and_held()
         → put.chunks ≡ taken.chunks ++ chunks_in items }
 {}
 
-/// After the input end has taken the end mark, every chunk that was put has been taken, the mark was
-/// put after them, and the channel is empty.
+/// States that, after the input end has taken the end mark, every chunk that was put has been
+/// taken, the mark was put after them, and the channel is empty.
 #[tactic(auto, using(crate::proofs::Rules::whole))]
 pub fn ended_pipe_is_whole()
     ensures { (items : List Item) (put taken : Passed)

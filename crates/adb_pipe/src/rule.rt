@@ -1,5 +1,5 @@
-//! The rule of a pipe's channel: the items that were put are those that were taken, followed by those
-//! that the channel holds.
+//! The rule of a pipe's channel: the items that were put are those that were taken, followed by
+//! those that the channel holds.
 
 use adb_outside::Text;
 use crossbeam_channel::protocol::{Join, Lesson, Outcome, Protocol, Split};
@@ -90,8 +90,8 @@ impl Join<View> for Whole {
     ghost spent = { Spent };
 }
 
-/// The fact that both ends together give: the items that were put are those that were taken, followed
-/// by those that the channel holds.
+/// The fact that both ends together give: the items that were put are those that were taken,
+/// followed by those that the channel holds.
 pub struct Kept;
 
 impl Lesson<Item, View> for Kept {

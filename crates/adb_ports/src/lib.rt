@@ -1,5 +1,5 @@
-//! The outside of a live server: sockets, threads, the record, and model devices in threads of their
-//! own.
+//! The environment of a live server: sockets, threads, the record, and model devices in threads of
+//! their own.
 #![tactic(auto)]
 
 mod real_yard;

@@ -14,11 +14,11 @@ use std::net::{Net, SocketAddr, TcpListener, TcpStream};
 use std::sync::{Arc, Wait};
 use std::thread::Threads;
 
-/// The yard of a live server: sockets of this machine, threads, and the pipe of its record. It shows
-/// nothing of the objects that it returns.
+/// The yard of a live server: sockets of this machine, threads, and the pipe of its record.
+/// Contracts see nothing of the objects that it returns.
 ///
-/// A yard with an unused sink has the recorder of one server whose history is to be kept. If `B` names
-/// no pipe, the yard has recorders of servers whose history is not, which are off.
+/// A yard with an unused sink has the recorder of one server that keeps its history. If `B` names
+/// no pipe, the yard has recorders for servers that keep no history; these recorders are off.
 #[derive(Drop)]
 pub struct RealYard<
     W: Net<Listener = TcpListener, Stream = TcpStream>
@@ -50,8 +50,8 @@ impl<
         + 'static,
     B: Named + Send + 'static,
 > RealYard<W, B> {
-    /// Returns a yard whose recorder writes to this sink. Its bell sets `ending`; devices that share it
-    /// stop writing then. It allocates nothing.
+    /// Makes a yard with a recorder that writes to this sink. Its bell sets `ending`; devices that
+    /// share the flag then stop writing. It allocates nothing.
     pub fn new(rt: W, alloc: Global, ending: Ending, sink: Option<PipeSink<W, B>>) -> RealYard<W, B>
         ensures { (result.faults ≡ 0) × (result.sink ≡ sink) }
     {
@@ -66,7 +66,8 @@ impl<
     }
 }
 
-/// Returns a listener on a port of this machine, any if it is 0, and its address.
+/// Returns a listener on a port of this machine, or on any free port if `port` is 0, and its
+/// address.
 fn open<W: Net<Listener = TcpListener, Stream = TcpStream>>(
     rt: &W,
     port: u16,
@@ -76,7 +77,7 @@ fn open<W: Net<Listener = TcpListener, Stream = TcpStream>>(
     Ok((listener, address))
 }
 
-/// Returns a door and its bell at a port of this machine, and the listeners of both.
+/// Returns a door and its bell at a port of this machine, and the listeners that they share.
 fn listen<W: Net<Listener = TcpListener, Stream = TcpStream> + Wait + Copy + Drop>(
     rt: W,
     alloc: Global,
@@ -98,7 +99,7 @@ fn listen<W: Net<Listener = TcpListener, Stream = TcpStream> + Wait + Copy + Dro
     Some((Listening::Here(door, bell, bound), listeners))
 }
 
-/// Returns the two halves of a connection to a port of this machine.
+/// Connects to a port of this machine and returns the two halves of the connection.
 fn dial<W: Net<Listener = TcpListener, Stream = TcpStream>>(
     rt: &W,
     alloc: Global,
@@ -149,7 +150,7 @@ impl<
     ghost records = { λ yard wanted. (wanted ≡ true → IsUnused yard.sink)
         × (wanted ≡ false → B.pipe ≡ None) };
 
-    /// Listens on this machine alone.
+    /// Listens on the loopback interface only.
     fn listen(&mut self, port: u16) -> Listening<TcpDoor<W>, TcpBell> {
         match listen(self.rt, self.alloc, &self.ending, port) {
             Some((listening, listeners)) => {

@@ -1,11 +1,11 @@
-//! The flag that a write of the record failed.
+//! A flag that reports a failed write of the record.
 
 use std::alloc::{AllocError, Global};
 use std::sync::Arc;
 use std::sync::atomic::{AtomicBool, Ordering};
 
-/// A flag that the writing thread sets when a write fails, and that the recorder reads before each
-/// write, so that the server ends at its next entry. No clause speaks of it.
+/// A flag that the writing thread sets when a write fails. The recorder reads it before each write,
+/// so that the server ends at its next entry. No clause constrains it.
 #[derive(Drop)]
 pub struct Failure {
     reported: Arc<AtomicBool, Global>,

@@ -15,8 +15,8 @@ use std::marker::Model;
 use std::sync::Wait;
 use std::thread::{PromisedHandle, Threads};
 
-/// The recorder of a live server. It is on and writes a capture into the pipe named by `B`, or it is
-/// off and discards every entry. It is off only if `B` names no pipe.
+/// The recorder of a live server. It is on and writes a capture into the pipe named by `B`, or it
+/// is off and discards every entry. It is off only if `B` names no pipe.
 #[derive(Drop)]
 pub struct LiveRecorder<W: Wait + Drop, B: Named> {
     recorder: Option<SinkRecorder<PipeSink<W, B>>>,
@@ -46,7 +46,7 @@ impl<W: Wait + Drop, B: Named> LiveRecorder<W, B> {
         }
     }
 
-    /// Returns a recorder that is off.
+    /// Returns a recorder that is off. `B` must name no pipe.
     pub fn off() -> LiveRecorder<W, B>
         requires { B.pipe ≡ None }
         ensures stands { Keeps result [] }
@@ -55,7 +55,8 @@ impl<W: Wait + Drop, B: Named> LiveRecorder<W, B> {
         LiveRecorder { recorder: None }
     }
 
-    /// Puts the end mark after the capture. `None`: the recorder was off.
+    /// Puts the end mark after the capture and returns the finished output end. Returns `None` if
+    /// the recorder was off.
     pub fn finish(self) -> Option<PipeEnd>
         ensures none { result ≡ None → B.pipe ≡ None }
         ensures named { IfSome result (λ end. Some end.pipe ≡ B.pipe) }
@@ -72,8 +73,8 @@ impl<W: Wait + Drop, B: Named> LiveRecorder<W, B> {
 /// Ends the record of a server that has returned its recorder. Waits until the thread has written
 /// every chunk or a write has failed, and returns its sink.
 ///
-/// The sink was given the magic and the records of the entries that the recorder has kept. If a write
-/// failed it was given a prefix of them, after which a prefix of one more record may follow.
+/// The sink was given the magic and the records of the entries that the recorder has kept. If a
+/// write failed it was given a prefix of them, after which a prefix of one more record may follow.
 pub fn end_record<W: Threads + Wait + Drop, K: Sink + Drop, B: Named>(
     rt: &W,
     recorder: LiveRecorder<W, B>,
@@ -104,7 +105,7 @@ impl<W: Wait + Drop, B: Named> Recorder for LiveRecorder<W, B> {
 
     /// Writes the record of the entry if the recorder is on.
     ///
-    /// `Failed`: a write into the pipe failed. Every later call answers `Failed`.
+    /// `Failed`: a write into the pipe failed. Every later call returns `Failed`.
     fn keep(&mut self, entry: &Entry) -> Result<(), RecordError> {
         if let Some(recorder) = &mut self.recorder {
             return recorder.keep(entry);

@@ -9,8 +9,8 @@ use std::alloc::Global;
 use std::marker::{Brand, Model, PhantomData};
 use std::sync::Wait;
 
-/// The name of the pipe of a record, chosen at the call that opens the pipe. `None` is the name for a
-/// server without a record.
+/// The name of the pipe of a record, chosen at the call that opens the pipe. `None` is the name for
+/// a server without a record.
 pub trait Named {
     ghost use Rattle.std.specs.Prelude.{Option};
     ghost use Rattle.adb_pipe.specs.Ends.{PipeId};
@@ -24,9 +24,9 @@ impl Named for Brand {
     ghost pipe = { None };
 }
 
-/// A sink that puts each piece into the pipe named by `B`, as a chunk of its own. A write blocks while
-/// the pipe is full. It fails if an allocation fails, if the pipe refuses the chunk, and after the
-/// writing thread has reported a failure.
+/// A sink that puts each piece into the pipe named by `B`, as a chunk of its own. A write blocks
+/// while the pipe is full. It fails if an allocation fails, if the pipe refuses the chunk, and
+/// after the writing thread has reported a failure.
 #[derive(Drop)]
 pub struct PipeSink<W: Wait + Drop, B: Named> {
     alloc: Global,
@@ -83,7 +83,7 @@ impl<W: Wait + Drop, B: Named> Sink for PipeSink<W, B> {
 
     /// Puts the piece into the pipe.
     ///
-    /// `Failed`: nothing was put, and the count of faults rises.
+    /// `Failed`: the write failed, nothing was put, and the count of faults rises.
     #[tactic(auto, using(crate::proofs::GoingOut::put_more, crate::proofs::GoingOut::nothing_more))]
     fn write(&mut self, piece: &[u8]) -> Wrote {
         if !self.failure.is_reported() {

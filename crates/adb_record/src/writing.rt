@@ -14,16 +14,17 @@ use std::sync::Wait;
 use std::thread;
 use std::thread::{Promise, PromisedHandle, Threads};
 
-/// The most chunks that wait in the pipe of a record. A recorder blocks while there are as many.
+/// The maximum number of chunks in the pipe of a record. A recorder blocks while the pipe holds
+/// this many.
 pub const MAX_CHUNKS: usize = 256;
 
-/// Chunks are gathered into one write until they have this many bytes.
+/// The number of bytes at which gathered chunks are written.
 const BATCH: usize = 65_536;
 
 /// A chunk of at least this many bytes is written by itself, so that it is not copied.
 const LARGE: usize = 16_384;
 
-/// The state of a thread that has written.
+/// The state of a writing thread that has returned.
 #[derive(Drop)]
 pub struct Written<W: Wait + Drop, K: Drop> {
     pub input: PipeIn<W>,
@@ -34,10 +35,10 @@ pub struct Written<W: Wait + Drop, K: Drop> {
     pub torn: bool,
 }
 
-/// What follows a batch.
+/// The item that ended a batch.
 #[derive(Drop)]
 pub enum Next {
-    /// Nothing that was taken.
+    /// No item: the pipe held no more.
     More,
     /// A chunk that was taken and is not in the batch: it is large, or an allocation failed.
     Chunk(Text),
@@ -100,7 +101,8 @@ fn write_chunk<K: Sink>(sink: &mut K, chunk: &[u8]) -> Wrote
     sink.write(chunk)
 }
 
-/// Writes one more piece of the text, unless a write has failed. Returns whether a write has failed.
+/// Writes one more piece of the text, unless a write has failed. Returns whether a write has
+/// failed.
 #[tactic(auto, using(crate::proofs::GoingOut::one_whole, crate::proofs::GoingOut::one_torn, crate::proofs::GoingOut::one_dropped))]
 fn go_on<K: Sink>(sink: &mut K, torn: bool, chunk: &[u8]) -> bool
     ensures { (had : List ℕ) (first : ℕ) (text : List ℕ)
@@ -116,8 +118,8 @@ fn go_on<K: Sink>(sink: &mut K, torn: bool, chunk: &[u8]) -> bool
     }
 }
 
-/// Writes a chunk that was taken, and with it the chunks that the pipe holds now. Returns `Some(true)`
-/// if the end mark was taken, and whether a write has failed.
+/// Writes a chunk that was taken, and with it the chunks that the pipe holds now. Returns
+/// `Some(true)` if the end mark was taken, and whether a write has failed.
 fn write_batch<W: Wait + Drop, K: Sink>(
     input: &mut PipeIn<W>,
     sink: &mut K,
@@ -142,8 +144,8 @@ fn write_batch<W: Wait + Drop, K: Sink>(
     }
 }
 
-/// Waits for a chunk, and writes it with those that follow. Returns whether the end mark was taken if
-/// the pipe yields no more, and whether a write has failed.
+/// Waits for a chunk, and writes it with those that follow. Returns whether the end mark was taken
+/// if the pipe yields no more, and whether a write has failed.
 fn turn<W: Wait + Drop, K: Sink>(
     input: &mut PipeIn<W>,
     sink: &mut K,
@@ -193,9 +195,9 @@ fn take_all<W: Wait + Drop, K: Sink>(
     unreachable!()
 }
 
-/// Writes the chunks of a pipe to a sink, until the output end is finished or dropped. After a failed
-/// write it reports the failure, writes nothing more and discards the chunks, so that no recorder
-/// blocks on a full pipe.
+/// Writes the chunks of a pipe to a sink, until the output end is finished or dropped. After a
+/// failed write it reports the failure, writes nothing more and discards the chunks, so that no
+/// recorder blocks on a full pipe.
 pub fn write_out<W: Wait + Drop, K: Sink + Drop>(
     rt: W,
     input: PipeIn<W>,
@@ -219,7 +221,8 @@ pub fn write_out<W: Wait + Drop, K: Sink + Drop>(
     }
 }
 
-/// What a writing thread promises: `write_out` of this input and this sink.
+/// The promise of a writing thread: its result is that of `write_out` with this input and this
+/// sink.
 #[derive(Drop)]
 pub struct WillWrite<W: Wait + Drop, K: Drop> {
     input: Snapshot<PipeIn<W>>,
@@ -237,7 +240,8 @@ impl<W: Wait + Drop, K: Sink + Drop> Promise<Written<W, K>> for WillWrite<W, K> 
         (joined r.input.taken)) };
 }
 
-/// Starts the thread that writes the chunks of a pipe to a sink. `None`: the system has no thread.
+/// Starts the thread that writes the chunks of a pipe to a sink. Returns `None` if the system
+/// cannot start a thread.
 fn start<W: Threads + Wait + Copy + Send + Sync + Drop + 'static, K: Sink + Send + Drop + 'static>(
     rt: W,
     input: PipeIn<W>,
@@ -277,8 +281,8 @@ pub struct Begun<W: Wait + Drop, K: Sink + Drop> {
 
 /// Opens the pipe of a record and starts the thread that writes it to a sink.
 ///
-/// `Err`: an allocation failed, or the system has no thread. The sink is dropped, and nothing was
-/// written to it.
+/// `Err`: an allocation failed, or the system cannot start a thread. The sink is dropped, and
+/// nothing was written to it.
 pub fn begin_record<
     W: Threads + Wait + Copy + Send + Sync + Drop + 'static,
     K: Sink + Send + Drop + 'static,

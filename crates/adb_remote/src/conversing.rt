@@ -1,4 +1,4 @@
-//! A conversation.
+//! The conversation of a client tool with a server.
 
 ghost use Rattle.std.specs.Prelude.{◌≡◌, ◌≢◌, ◌<◌, ◌≤◌, ◌⊎◌, [], Err, Some, false, length, option_map, IfSome};
 ghost use Rattle.adb_outside.specs.Outside.{Rises};
@@ -21,19 +21,21 @@ use adb_sync_client::Step;
 use std::alloc::Global;
 use std::sync::Wait;
 
-/// The most bytes that are read at once: two whole chunks of a file, with their headers.
+/// The maximum number of bytes of one read: two whole chunks of a file, with their headers.
 pub const MAX_PIECE: usize = 2 * WHOLE_CHUNK;
 
-/// The bytes before the chunks of a file: two OKAYs.
+/// The number of bytes before the chunks of a file: two OKAYs.
 const OKAYS: usize = 8;
 
-/// Asks a server for a job, on the device of a serial where there is one, and tells what it was
-/// answered. It sleeps in the reads and writes of the port; each byte is looked at once, and lists
-/// that don't have what is waited for are dropped.
+/// Asks a server for a job, on the device with this serial if one is given, and returns the
+/// outcome. Blocks in the reads and writes of the port. Each byte is parsed once, and lists without
+/// the line that a job waits for are dropped.
 ///
-/// `Refused` and `BadAnswer` are what the answer means. `PortFault` comes where a read or a write
-/// failed, `OutOfMemory` where memory ran out; then a front of the words went out, and nothing more
-/// is read.
+/// - `Refused`, `BadAnswer`: the meaning of the server's answer.
+/// - `PortFault`: a read or a write failed. A prefix of the words was written, and nothing more is
+///   read.
+/// - `OutOfMemory`: an allocation failed. A prefix of the words was written, and nothing more is
+///   read.
 pub fn converse<W: Wait + Copy + Drop, I: PortIn, O: PortOut>(
     rt: W,
     alloc: Global,
@@ -57,7 +59,7 @@ pub fn converse<W: Wait + Copy + Drop, I: PortIn, O: PortOut>(
     }
 }
 
-/// Reads the answer behind the first request, from its first byte on.
+/// Reads the answer after the first request was written, from its first byte.
 fn hear<W: Wait + Copy + Drop, I: PortIn, O: PortOut>(
     rt: W,
     alloc: Global,
@@ -78,7 +80,7 @@ fn hear<W: Wait + Copy + Drop, I: PortIn, O: PortOut>(
     listen(rt, alloc, job, on, input, output, reading)
 }
 
-/// Reads the answer, and writes what is due behind each piece.
+/// Reads the answer, and writes the words that are due after each piece.
 fn listen<W: Wait + Copy + Drop, I: PortIn, O: PortOut>(
     rt: W,
     alloc: Global,
@@ -111,9 +113,10 @@ fn listen<W: Wait + Copy + Drop, I: PortIn, O: PortOut>(
     unreachable!()
 }
 
-/// How many bytes are read at once behind so many. A read that is filled ends where a chunk of a
-/// file does, if those before it are as long as they may be, so that its parts need not be gathered:
-/// one that was not filled costs the next alone.
+/// Returns how many bytes to read at once after `count` bytes. A read that fills its buffer ends at
+/// the end of a chunk of a file, if all earlier chunks have the maximum length, so that the parts
+/// of a chunk need not be gathered. A read that does not fill its buffer affects only the next
+/// read.
 fn size_of_read(count: usize) -> usize
     ensures some { 0 < result }
     ensures most { result ≤ MAX_PIECE }
@@ -121,7 +124,7 @@ fn size_of_read(count: usize) -> usize
     MAX_PIECE - count.saturating_sub(OKAYS) % WHOLE_CHUNK
 }
 
-/// What a step is that decides.
+/// Returns the outcome of a step that decides.
 fn outcome(step: Step<Outcome>) -> Result<Outcome, RemoteError>
     requires { step ≢ More }
     ensures { decided step 0 false ≡ Some result }

@@ -1,5 +1,5 @@
-//! A client tool's conversation with a server over a port: it writes what it asks, and tells what
-//! it was answered (OVERVIEW.TXT, SERVICES.TXT, SYNC.TXT).
+//! A client tool's conversation with a server over a port: `converse` writes the requests of a job
+//! and returns the outcome (OVERVIEW.TXT, SERVICES.TXT, SYNC.TXT).
 #![tactic(auto)]
 
 mod conversing;

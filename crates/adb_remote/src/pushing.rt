@@ -1,4 +1,4 @@
-//! A push is written: the request for a file, its bytes in chunks, and its end.
+//! Writing of a push: the request for a file, its bytes in chunks, and its end.
 
 ghost use Rattle.std.specs.Prelude.{◌≡◌, ◌≢◌, ◌≤◌, ◌<◌, ◌++◌, [], decimal, drop, length, IfOk, OnOk};
 ghost use Rattle.adb_sync.specs.Asks.{IsAsk, ask_bytes};
@@ -14,10 +14,10 @@ use adb_sync::{Chunk, SyncAsk, write_ask};
 use itoa::Buffer;
 use std::alloc::{AllocError, Global};
 
-/// How many bytes are gathered before they are written: four chunks, but for their headers.
+/// The number of gathered bytes at which they are written: four chunks without their headers.
 const GATHERED: usize = 262_144;
 
-/// Writes all the bytes of a push. Those of the file are gathered a few chunks at a time.
+/// Writes all the bytes of a push. The bytes of the file are gathered a few chunks at a time.
 pub fn send_push<O: PortOut>(
     alloc: Global,
     path: &[u8],
@@ -34,7 +34,7 @@ pub fn send_push<O: PortOut>(
     send_around(bytes, held, end.as_slice(), output)
 }
 
-/// The request for a file at a path.
+/// Returns the request for a file at a path.
 fn begun(alloc: Global, path: &[u8]) -> Result<Text, AllocError>
     requires { length path.now ≤ MAX_WORD }
     ensures { IfOk result (λ text. text ≡ ask_bytes (SyncAsk.Send path.now (decimal FILE_MODE))) }
@@ -44,7 +44,7 @@ fn begun(alloc: Global, path: &[u8]) -> Result<Text, AllocError>
     spelled(alloc, &SyncAsk::Send { path, mode })
 }
 
-/// The decimal digits of the mode of a file.
+/// Returns the decimal digits of the mode of a file.
 fn decimal_mode(alloc: Global) -> Result<Text, AllocError>
     ensures { IfOk result (λ text. text ≡ decimal FILE_MODE) }
 {
@@ -52,14 +52,14 @@ fn decimal_mode(alloc: Global) -> Result<Text, AllocError>
     Text::from_slice(alloc, digits.format(FILE_MODE).as_bytes())
 }
 
-/// The end of a file that has a time.
+/// Returns the end of a file that has this time.
 fn ended(alloc: Global, mtime: u32) -> Result<Text, AllocError>
     ensures { IfOk result (λ text. text ≡ ask_bytes (SyncAsk.Finish mtime)) }
 {
     spelled(alloc, &SyncAsk::Finish { mtime })
 }
 
-/// The bytes of a request.
+/// Returns the bytes of a request.
 fn spelled(alloc: Global, ask: &SyncAsk) -> Result<Text, AllocError>
     requires { IsAsk ask.now }
     ensures { IfOk result (λ text. text ≡ ask_bytes ask.now) }
@@ -69,7 +69,7 @@ fn spelled(alloc: Global, ask: &SyncAsk) -> Result<Text, AllocError>
     Ok(text)
 }
 
-/// Writes what is held, bytes in chunks, and what stands behind them.
+/// Writes the bytes that are held, then bytes in chunks, then the end.
 fn send_around<O: PortOut>(
     bytes: &[u8],
     held: Text,
@@ -86,7 +86,7 @@ fn send_around<O: PortOut>(
     send_both(held, end, output)
 }
 
-/// Writes what is held, and what stands behind it, at once.
+/// Writes the bytes that are held and the end with one write.
 fn send_both<O: PortOut>(held: Text, end: &[u8], output: &mut O) -> Result<(), SendError>
     ensures { Sends O.steady (seen O.faults O.written O.closed) (held ++ end.now) output.old
         output.new result }
@@ -96,7 +96,8 @@ fn send_both<O: PortOut>(held: Text, end: &[u8], output: &mut O) -> Result<(), S
     send(output, held.as_slice())
 }
 
-/// Writes what is held, and bytes in chunks: the last of them may be held still.
+/// Writes the bytes that are held, then bytes in chunks. The last chunks may still be held
+/// afterwards.
 fn send_chunks<O: PortOut>(bytes: &[u8], held: &mut Text, output: &mut O) -> Result<(), SendError>
     ensures { SendsSome O.steady (seen O.faults O.written O.closed)
         (held.old ++ chunk_bytes bytes.now) held.new output.old output.new result }
@@ -110,7 +111,7 @@ fn send_chunks<O: PortOut>(bytes: &[u8], held: &mut Text, output: &mut O) -> Res
     Ok(())
 }
 
-/// Writes what is held, where that is much, and gathers the front of what is left of bytes in
+/// Writes the bytes that are held if they are at least `GATHERED`, and gathers the next bytes in
 /// chunks.
 fn send_front<O: PortOut>(
     chunk: &mut Chunk,
@@ -135,7 +136,7 @@ fn send_front<O: PortOut>(
     Ok(())
 }
 
-/// Writes what is held, where that is much.
+/// Writes the bytes that are held if they are at least `GATHERED`.
 fn send_full<O: PortOut>(held: &mut Text, output: &mut O) -> Result<(), SendError>
     ensures { SendsSome O.steady (seen O.faults O.written O.closed) held.old held.new output.old
         output.new result }
@@ -152,7 +153,7 @@ fn send_full<O: PortOut>(held: &mut Text, output: &mut O) -> Result<(), SendErro
     }
 }
 
-/// Gathers the front of what is left of bytes in chunks.
+/// Gathers the next bytes in chunks.
 fn gather(chunk: &mut Chunk, bytes: &[u8], held: &mut Text) -> Result<(), AllocError>
     requires within { IsWithin chunk.old bytes.now }
     requires front { HasFront chunk.old bytes.now }
@@ -170,7 +171,7 @@ fn gather(chunk: &mut Chunk, bytes: &[u8], held: &mut Text) -> Result<(), AllocE
     Ok(())
 }
 
-/// Takes the first `n` bytes that are left of bytes in chunks.
+/// Advances by `n` bytes of the remaining bytes in chunks.
 fn pass(chunk: &mut Chunk, bytes: &[u8], n: usize)
     requires within { IsWithin chunk.old bytes.now }
     requires front { HasFront chunk.old bytes.now }

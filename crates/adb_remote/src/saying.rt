@@ -1,4 +1,4 @@
-//! The words of a job are written.
+//! Writing of the words of a job.
 
 ghost use Rattle.std.specs.Prelude.{◌≡◌, ◌≤◌, ◌<◌, ◌++◌, option_map, length, IfSome};
 ghost use Rattle.adb_remote_words.specs.Words.{HasWords, second_word, third_word, word};
@@ -16,7 +16,7 @@ use std::alloc::Global;
 /// The id of the packet that ends a command's input.
 const CLOSE_STDIN: u8 = 4;
 
-/// Writes the words of a job behind one number, up to another.
+/// Writes the words of a job with the numbers after `from`, up to `to`.
 pub fn say_up_to<O: PortOut>(
     alloc: Global,
     job: &Remote,
@@ -40,7 +40,7 @@ pub fn say_up_to<O: PortOut>(
     Ok(())
 }
 
-/// Writes a word of a job.
+/// Writes the word of a job with this number.
 pub fn say<O: PortOut>(
     alloc: Global,
     job: &Remote,
@@ -86,7 +86,7 @@ fn say_second<O: PortOut>(alloc: Global, job: &Remote, output: &mut O) -> Result
     send(output, text.as_slice())
 }
 
-/// Writes what the service is told.
+/// Writes the input of the service.
 fn say_third<O: PortOut>(alloc: Global, job: &Remote, output: &mut O) -> Result<(), SendError>
     requires { HasWords job.now }
     ensures { Sends O.steady (seen O.faults O.written O.closed) (third_word job.now) output.old

@@ -1,4 +1,4 @@
-//! Bytes are written to a port.
+//! Writing of bytes to a port.
 
 ghost use Rattle.std.specs.Prelude.{◌≡◌, Ok, Err};
 ghost use Rattle.adb_remote.specs.Sending.{Sends, remote_error, seen};
@@ -8,12 +8,12 @@ use adb_outside::Wrote;
 use adb_remote_words::RemoteError;
 use std::alloc::AllocError;
 
-/// Why not all was written.
+/// The reason why not all bytes were written.
 #[derive(Clone, Copy, Debug, PartialEq, Eq, Drop)]
 pub enum SendError {
     /// A write failed.
     PortFault,
-    /// Memory ran out.
+    /// An allocation failed.
     OutOfMemory,
 }
 
@@ -28,7 +28,7 @@ impl From<AllocError> for SendError {
     }
 }
 
-/// The same as what a conversation answers.
+/// Converts the error to that of a conversation.
 pub fn remote_error(error: SendError) -> RemoteError
     ensures { result ≡ remote_error error }
 {
@@ -38,7 +38,7 @@ pub fn remote_error(error: SendError) -> RemoteError
     }
 }
 
-/// Writes bytes, where there are some.
+/// Writes bytes, if there are any.
 pub fn send<O: PortOut>(output: &mut O, bytes: &[u8]) -> Result<(), SendError>
     ensures { Sends O.steady (seen O.faults O.written O.closed) bytes.now output.old output.new
         result }

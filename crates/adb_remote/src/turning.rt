@@ -1,4 +1,5 @@
-//! One turn of a conversation: a piece of the answer is read, and what is due behind it is written.
+//! One turn of a conversation: reads a piece of the answer, and writes the words that are due after
+//! it.
 
 ghost use Rattle.std.specs.Prelude.{◌≡◌, ◌≤◌, ◌<◌, option_map, length, IfSome};
 ghost use Rattle.adb_remote_words.specs.Words.{HasWords};
@@ -13,7 +14,7 @@ use adb_remote_words::{MAX_WORD, Outcome, Reading, Remote};
 use adb_sync_client::Step;
 use std::alloc::Global;
 
-/// Reads a piece of the answer, and writes the words that are due behind it.
+/// Reads a piece of the answer, and writes the words that are due after it.
 pub fn turn<I: PortIn, O: PortOut>(
     alloc: Global,
     job: &Remote,
@@ -39,7 +40,7 @@ pub fn turn<I: PortIn, O: PortOut>(
     }
 }
 
-/// Takes a piece of the answer, and writes the words that are due behind it.
+/// Takes a piece of the answer, and writes the words that are due after it.
 fn take_piece<O: PortOut>(
     alloc: Global,
     job: &Remote,

@@ -8,31 +8,31 @@ use crate::packets::packet_head;
 use adb_outside::Front;
 use adb_request::read_hex4;
 
-/// What a server answers next.
+/// The kind of the next frame of a server.
 #[derive(Clone, Copy, Debug, PartialEq, Eq, Drop)]
 pub enum Awaited {
-    /// In place of an OKAY, which is looked for first: `FAIL`, and a string that says why.
+    /// A status that is not `OKAY`, which is looked for first: `FAIL` and a string with the reason.
     Status,
-    /// A string: four lower-case hexadecimal digits of its length, and that many bytes.
+    /// A string: its length in four lower-case hexadecimal digits, and that many bytes.
     List,
-    /// A packet of a command's output, or of its status: its id, its length in four bytes, the
-    /// lowest first, and that many bytes.
+    /// A packet of a command's output or of its exit status: its id, its length in four bytes,
+    /// least significant first, and that many bytes.
     Packet,
 }
 
-/// What some first bytes of a frame are.
+/// The meaning of the first bytes of a frame.
 #[derive(Clone, Copy, Debug, PartialEq, Eq, Drop)]
 pub enum Head {
-    /// The length is not all there.
+    /// The length is incomplete.
     Short,
-    /// No frame begins so: the last of them is the first such byte.
+    /// No frame begins with these bytes. The last of them is the first such byte.
     Stray,
-    /// The whole frame has so many bytes.
+    /// The whole frame has this many bytes.
     Says(usize),
 }
 
 impl Awaited {
-    /// What first bytes are, of which all but the last are short.
+    /// Parses the first bytes of a frame, of which every shorter prefix is `Short`.
     pub fn head(self, front: &[u8]) -> Head
         ensures { result ≡ head self front.now }
     {
@@ -43,8 +43,9 @@ impl Awaited {
         }
     }
 
-    /// What bytes begin with that stand at an offset: a whole frame, or the offset of the first byte
-    /// after which none can follow those before it.
+    /// Parses the beginning of bytes that are at an offset of the answer. Returns the length of a
+    /// whole frame, or the offset of the first byte after which no frame can follow, or `More` if
+    /// the frame is incomplete.
     pub fn found(self, offset: u64, bytes: &[u8]) -> Front<u64>
         ensures { result ≡ found self offset bytes.now }
     {
@@ -59,7 +60,7 @@ impl Awaited {
     }
 }
 
-/// A frame of so many bytes, where they are there.
+/// Returns a frame of `len` bytes if at least that many are there.
 fn whole(have: usize, len: usize) -> Front<u64>
     ensures { result ≡ whole_of have len }
 {
@@ -70,7 +71,7 @@ fn whole(have: usize, len: usize) -> Front<u64>
     }
 }
 
-/// The first bytes of a status that is not OKAY.
+/// Parses the first bytes of a status that is not `OKAY`.
 fn status_head(front: &[u8]) -> Head
     ensures { result ≡ status_head front.now }
 {
@@ -83,14 +84,15 @@ fn status_head(front: &[u8]) -> Head
     counted(8, &front[4..])
 }
 
-/// Whether bytes are the first of a word.
+/// Returns whether bytes are a prefix of a word.
 pub(crate) fn is_front(front: &[u8], word: &[u8; 4]) -> bool
     ensures { result ≡ is_front front.now word.now }
 {
     word.starts_with(front)
 }
 
-/// The digits of the length of a string, in a frame that has so many bytes beside the string.
+/// Parses the digits of the length of a string, in a frame that has `before` bytes besides the
+/// string.
 fn counted(before: usize, digits: &[u8]) -> Head
     requires { before ≤ 8 }
     ensures { result ≡ counted before digits.now }
@@ -104,7 +106,7 @@ fn counted(before: usize, digits: &[u8]) -> Head
     says_behind(before, read_hex4(digits))
 }
 
-/// A frame that has so many bytes beside a string of this length.
+/// Returns the length of a frame that has `before` bytes besides a string of this length.
 fn says_behind(before: usize, len: Option<u16>) -> Head
     requires { before ≤ 8 }
     ensures { result ≡ says_behind before len }
@@ -115,14 +117,14 @@ fn says_behind(before: usize, len: Option<u16>) -> Head
     }
 }
 
-/// Whether bytes are digits that strings are counted with.
+/// Returns whether bytes are lower-case hexadecimal digits.
 fn are_lower_hex(digits: &[u8]) -> bool
     ensures { result ≡ list_all is_lower_hex digits.now }
 {
     digits.iter().all(|digit| is_lower_hex(*digit))
 }
 
-/// Whether a byte is a digit that strings are counted with.
+/// Returns whether a byte is a lower-case hexadecimal digit.
 fn is_lower_hex(byte: u8) -> bool
     ensures { result ≡ is_lower_hex byte }
 {

@@ -1,10 +1,10 @@
-//! What holds of all frames.
+//! The values of the constants of frames.
 
 ghost use Rattle.std.specs.Prelude.{◌≡◌};
 ghost use Rattle.adb_remote_frames.specs.declared.frame.TheConstants.{EXIT, STDERR, STDOUT};
 ghost use Rattle.adb_remote_frames.specs.declared.packets.TheConstants.{MAX_OUTPUT_PACKET};
 
-/// The ids of packets, and how much one holds.
+/// States the ids of packets, and the maximum number of bytes of a packet.
 pub fn limits_are()
     ensures stdout { STDOUT ≡ 1 }
     ensures stderr { STDERR ≡ 2 }

@@ -1,5 +1,5 @@
-//! The frames of what a server answers its clients (OVERVIEW.TXT, SERVICES.TXT): refusals, lists,
-//! and the packets of a command's output, byte by byte.
+//! The frames of a server's answers to its clients (OVERVIEW.TXT, SERVICES.TXT), byte by byte:
+//! refusals, lists, and the packets of a command's output.
 #![tactic(auto)]
 
 mod frame;

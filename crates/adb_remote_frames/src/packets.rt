@@ -1,4 +1,4 @@
-//! The first bytes of a packet of a command.
+//! Parsing of the first bytes of a packet of a command.
 
 ghost use Rattle.std.specs.Prelude.{◌≡◌};
 ghost use Rattle.adb_remote_frames.specs.Heads.{exit_head, output_head, packet_head};
@@ -7,13 +7,13 @@ use crate::frame::{EXIT, STDERR, STDOUT};
 use crate::head::{Head, is_front};
 use byteorder::{ByteOrder, LittleEndian};
 
-/// The most bytes that a packet of output holds.
+/// The maximum number of bytes in a packet of output.
 pub const MAX_OUTPUT_PACKET: u32 = 1_048_576;
 
-/// The length of a packet with one byte.
+/// The length field of a packet with one byte.
 const ONE: [u8; 4] = [1, 0, 0, 0];
 
-/// The first bytes of a packet.
+/// Parses the first bytes of a packet.
 pub(crate) fn packet_head(front: &[u8]) -> Head
     ensures { result ≡ packet_head front.now }
 {
@@ -25,8 +25,8 @@ pub(crate) fn packet_head(front: &[u8]) -> Head
     }
 }
 
-/// The length of a packet of output: with zeros for the bytes that are missing it is the least that
-/// can follow.
+/// Parses the length of a packet of output. With zeros for the missing bytes the length is the
+/// least that can follow.
 fn output_head(digits: &[u8]) -> Head
     ensures { result ≡ output_head digits.now }
 {
@@ -46,7 +46,7 @@ fn output_head(digits: &[u8]) -> Head
     }
 }
 
-/// The length of a packet with a status.
+/// Parses the length of a packet with an exit status.
 fn exit_head(digits: &[u8]) -> Head
     ensures { result ≡ exit_head digits.now }
 {

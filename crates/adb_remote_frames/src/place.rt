@@ -1,4 +1,4 @@
-//! How a server's answer is cut into frames.
+//! The format that cuts a server's answer into frames.
 
 ghost use Rattle.std.specs.Prelude.{◌≡◌, ℕ, drop};
 
@@ -7,8 +7,8 @@ use crate::head::Awaited;
 use adb_outside::{Format, Front, Text};
 use std::alloc::{AllocError, Global};
 
-/// Frames of a kind, the first of which begins at an offset of the answer. A fault is the offset of
-/// the first byte after which no frame of the kind can follow.
+/// The format of frames of one kind, the first of which begins at an offset of the answer. A fault
+/// is the offset of the first byte after which no frame of the kind can follow.
 #[derive(Clone, Copy)]
 pub struct Place {
     pub awaited: Awaited,
@@ -51,7 +51,7 @@ impl Format<Frame, u64> for Place {
     }
 }
 
-/// The bytes behind the first `n`.
+/// Returns the bytes after the first `n`.
 fn behind(bytes: &[u8], n: usize) -> &[u8]
     ensures { result.now ≡ drop n bytes.now }
 {

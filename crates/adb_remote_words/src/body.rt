@@ -1,4 +1,4 @@
-//! What stands behind the OKAYs of an answer.
+//! The body of an answer: the bytes after its OKAYs.
 
 ghost use Rattle.std.specs.Prelude.{◌≡◌, ◌++◌, [], List, ℕ, IfOk};
 ghost use Rattle.adb_sync_client.specs.declared.step.Step.TheVariants.{More};
@@ -13,7 +13,7 @@ use adb_remote_frames::{Awaited, Place};
 use adb_sync_client::{Pull, Push, Step};
 use std::alloc::{AllocError, Global};
 
-/// What is read behind the OKAYs.
+/// The reader of an answer's body.
 #[derive(Drop)]
 pub enum Body {
     /// Lists, or the packets of a command.
@@ -25,7 +25,7 @@ pub enum Body {
 }
 
 impl Body {
-    /// No byte was fed yet of what a job is answered.
+    /// Makes the reader of the answer to a job, to which nothing was fed.
     pub fn new(alloc: Global, job: &Remote) -> Result<Body, AllocError>
         ensures { IfOk result (λ body. BodyStands job.now [] body) }
     {
@@ -49,8 +49,8 @@ impl Body {
         })
     }
 
-    /// Takes the next piece, and gives what all of them mean. Once that is decided, or after want
-    /// of memory, nothing more is fed.
+    /// Takes the next piece and returns the meaning of all pieces so far. After a decision, and
+    /// after an allocation failure, nothing more may be fed.
     pub fn feed(&mut self, job: &Remote, piece: &[u8]) -> Result<Step<Outcome>, AllocError>
         ensures { IfOk result (λ step. (fed : List ℕ) → BodyStands job.now fed self.old
             → HasFed job.now (fed ++ piece.now) step self.new) }
@@ -63,7 +63,7 @@ impl Body {
     }
 }
 
-/// What the answer to a push means, by what that behind the OKAYs does.
+/// Returns the meaning of the answer to a push, given the meaning of its body.
 fn pushed(step: Step<()>) -> Step<Outcome>
     ensures { result ≡ sync_step (λ done. Outcome.Pushed) step }
 {
@@ -77,7 +77,7 @@ fn pushed(step: Step<()>) -> Step<Outcome>
     }
 }
 
-/// What the answer to a pull means, by what that behind the OKAYs does.
+/// Returns the meaning of the answer to a pull, given the meaning of its body.
 fn pulled(step: Step<Text>) -> Step<Outcome>
     ensures { result ≡ sync_step Outcome.Pulled step }
 {

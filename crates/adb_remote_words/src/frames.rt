@@ -1,4 +1,4 @@
-//! An answer in frames: lists, or the packets of a command.
+//! Parsing of an answer in frames: lists, or the packets of a command.
 
 ghost use Rattle.std.specs.Prelude.{◌≡◌, ◌≢◌, [], None, Err, IfOk, OnOk, OnErr};
 ghost use Rattle.adb_outside.specs.Framing.{answer_of};
@@ -15,7 +15,7 @@ use adb_sync_client::Step;
 use std::alloc::{AllocError, Global};
 use std::marker::Model;
 
-/// What was read of an answer in frames: what they told, and the bytes past them.
+/// The reader of an answer in frames: the contents of the frames so far, and the bytes after them.
 #[derive(Drop)]
 pub struct Frames {
     alloc: Global,
@@ -32,7 +32,7 @@ impl Model for Frames {
 }
 
 impl Frames {
-    /// No byte was fed yet, of frames from a place on. It takes no memory.
+    /// Makes the reader of frames from a place on, to which nothing was fed. It allocates nothing.
     pub fn new(alloc: Global, place: Place) -> Frames
         ensures { result ≡ fresh_frames place }
     {
@@ -43,8 +43,8 @@ impl Frames {
         }
     }
 
-    /// Takes the next piece, and gives what all of them mean. Once that is decided, or after want
-    /// of memory, nothing more is fed.
+    /// Takes the next piece and returns the meaning of all pieces so far. After a decision, and
+    /// after an allocation failure, nothing more may be fed.
     pub fn feed(&mut self, job: &Remote, piece: &[u8]) -> Result<Step<Outcome>, AllocError>
         ensures { IfOk result (λ step. self.old.cut.given ≡ [] → self.old.cut.fault ≡ None
             → ReadsFrames job.now self.old piece.now step self.new) }
@@ -68,7 +68,7 @@ impl Frames {
     }
 }
 
-/// The fault that a framer told; want of memory is none.
+/// Returns the fault that a framer reported. An allocation failure is no fault.
 fn told_fault(answer: Result<(), FeedError<u64>>) -> Result<Option<u64>, AllocError>
     ensures ok { IfOk result (λ fault. (answer ≢ Err FeedError.OutOfMemory)
         × (answer ≡ answer_of FeedError.Fault fault)) }

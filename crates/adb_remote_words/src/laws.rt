@@ -1,4 +1,4 @@
-//! What holds of all answers.
+//! Properties of all answers.
 
 ghost use Rattle.std.specs.Prelude.{◌≡◌, ◌++◌, Bool, false, List, ℕ, Some, Result};
 ghost use Rattle.adb_remote_words.specs.declared.reading.TheConstants.{MAX_ANSWER};
@@ -10,7 +10,8 @@ ghost use Rattle.adb_remote_words.specs.Outcome.{outcome_of};
 
 use adb_sync_client::ended_answers_stay;
 
-/// Where a front of an answer decides, neither the bytes behind it nor the end change it.
+/// States that a decided answer is final: if a prefix of an answer decides it, neither further
+/// bytes nor the end of the answer change the outcome.
 pub fn decided_answers_stay()
     ensures { (job : Remote) (front more : List ℕ) (ended : Bool)
         (outcome : Result Outcome RemoteError) → outcome_of job front false ≡ Some outcome
@@ -19,7 +20,7 @@ pub fn decided_answers_stay()
     ended_answers_stay();
 }
 
-/// How long an answer and a word may be, and the mode of a file that is pushed.
+/// States the maximum lengths of an answer and of a word, and the mode of a file that is pushed.
 pub fn limits_are()
     ensures answer { MAX_ANSWER ≡ 536870912 }
     ensures word { MAX_WORD ≡ 1000 }

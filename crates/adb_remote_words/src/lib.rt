@@ -1,5 +1,5 @@
-//! What a client tool writes to a server, and what the server's answer means (OVERVIEW.TXT,
-//! SERVICES.TXT, SYNC.TXT).
+//! The words that a client tool writes to a server, and the meaning of the server's answer
+//! (OVERVIEW.TXT, SERVICES.TXT, SYNC.TXT).
 #![tactic(auto)]
 
 mod body;

@@ -1,4 +1,4 @@
-//! The OKAYs that an answer begins with.
+//! Parsing of the OKAYs at the beginning of an answer.
 
 ghost use Rattle.std.specs.Prelude.{◌≡◌, ◌≤◌, ◌++◌, ◌+◌, [], true, codes, nat_lt, length, take, drop, IfOk};
 ghost use Rattle.adb_remote_frames.specs.Heads.{is_front};
@@ -11,8 +11,8 @@ use adb_sync_client::Step;
 use std::alloc::{AllocError, Global};
 use std::marker::Model;
 
-/// What was read of an answer while OKAYs are still to come: the bytes behind the last, how many
-/// came, and how many are to come.
+/// The reader of an answer until its last OKAY: the bytes after the last OKAY that came, how many
+/// OKAYs came, and how many are still to come.
 #[derive(Drop)]
 pub struct Opening {
     alloc: Global,
@@ -30,7 +30,8 @@ impl Model for Opening {
 }
 
 impl Opening {
-    /// No byte was fed yet, of an answer that begins with so many OKAYs. It takes no memory.
+    /// Makes the reader of an answer that begins with `left` OKAYs. No byte was fed yet. It
+    /// allocates nothing.
     pub fn new(alloc: Global, left: u8) -> Opening
         ensures { result ≡ record { held = []; okays = 0; left = left } }
     {
@@ -42,28 +43,28 @@ impl Opening {
         }
     }
 
-    /// Whether an OKAY is still to come.
+    /// Returns whether an OKAY is still to come.
     pub fn is_open(&self) -> bool
         ensures { result ≡ nat_lt 0 self.now.left }
     {
         self.left > 0
     }
 
-    /// How many OKAYs came.
+    /// Returns how many OKAYs came.
     pub fn okays(&self) -> u8
         ensures { result ≡ self.now.okays }
     {
         self.okays
     }
 
-    /// The bytes behind the last OKAY that came.
+    /// Returns the bytes after the last OKAY that came.
     pub fn held(&self) -> &[u8]
         ensures { result.now ≡ self.now.held }
     {
         self.held.as_slice()
     }
 
-    /// Takes the next piece: done where no OKAY is still to come.
+    /// Takes the next piece. The step is done if no OKAY is still to come.
     pub fn feed(&mut self, piece: &[u8]) -> Result<Step<()>, AllocError>
         ensures { IfOk result (λ step. self.old.okays + self.old.left ≤ 2
             → Opened (record self.old { held = self.old.held ++ piece.now }) step self.new) }
@@ -89,14 +90,14 @@ impl Opening {
     }
 }
 
-/// Whether bytes begin with an OKAY.
+/// Returns whether bytes begin with an OKAY.
 fn begins_okay(bytes: &[u8]) -> bool
     ensures { result ≡ is_front (codes "OKAY") bytes.now }
 {
     bytes.starts_with(b"OKAY")
 }
 
-/// What bytes at an offset mean that stand in place of an OKAY.
+/// Returns the meaning of bytes at an offset that come in place of an OKAY.
 fn refusal(alloc: Global, offset: u64, bytes: &[u8]) -> Result<Step<()>, AllocError>
     ensures { IfOk result (λ step. step ≡ refusal offset bytes.now) }
 {
@@ -107,21 +108,21 @@ fn refusal(alloc: Global, offset: u64, bytes: &[u8]) -> Result<Step<()>, AllocEr
     })
 }
 
-/// The text of a FAIL of so many bytes.
+/// Returns the text of a FAIL that has `len` bytes.
 fn text_of(alloc: Global, bytes: &[u8], len: usize) -> Result<Text, AllocError>
     ensures { IfOk result (λ text. text ≡ drop 8 (take len bytes.now)) }
 {
     Text::from_slice(alloc, behind(front(bytes, len), 8))
 }
 
-/// The first `n` bytes.
+/// Returns the first `n` bytes.
 fn front(bytes: &[u8], n: usize) -> &[u8]
     ensures { result.now ≡ take n bytes.now }
 {
     &bytes[..n.min(bytes.len())]
 }
 
-/// The bytes behind the first `n`.
+/// Returns the bytes after the first `n`.
 fn behind(bytes: &[u8], n: usize) -> &[u8]
     ensures { result.now ≡ drop n bytes.now }
 {

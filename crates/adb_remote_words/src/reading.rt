@@ -1,4 +1,4 @@
-//! A server's answer, piece by piece.
+//! Parsing of a server's answer, piece by piece.
 
 ghost use Rattle.std.specs.Prelude.{◌≡◌, ◌++◌, [], List, ℕ, IfOk};
 ghost use Rattle.adb_sync_client.specs.declared.step.Step.TheVariants.{More};
@@ -14,11 +14,11 @@ use adb_sync_client::Step;
 use std::alloc::{AllocError, Global};
 use std::marker::Model;
 
-/// The most bytes of an answer that are looked at.
+/// The maximum number of bytes of an answer that are parsed.
 pub const MAX_ANSWER: usize = 536_870_912;
 
-/// What was read of a server's answer to a job. Each byte is looked at once; what is held is what
-/// the outcome needs, and what no frame ends yet.
+/// The reader of a server's answer to a job. Each byte is parsed once. It holds the bytes that the
+/// outcome needs and those of a frame that is not complete.
 #[derive(Drop)]
 pub struct Reading {
     opening: Opening,
@@ -35,7 +35,7 @@ impl Model for Reading {
 }
 
 impl Reading {
-    /// No byte was read yet of the answer to a job.
+    /// Makes the reader of the answer to a job, to which nothing was fed.
     pub fn new(alloc: Global, job: &Remote) -> Result<Reading, AllocError>
         ensures { IfOk result (λ new. ReadingStands job.now [] new) }
     {
@@ -46,22 +46,22 @@ impl Reading {
         })
     }
 
-    /// How many OKAYs came: behind each the next words are due.
+    /// Returns how many OKAYs came. After each of them the next words are due.
     pub fn okays(&self) -> u8
         ensures { result ≡ self.now.opening.okays }
     {
         self.opening.okays()
     }
 
-    /// How many bytes were read, where they decided nothing.
+    /// Returns how many bytes were read, as long as they decided nothing.
     pub fn count(&self) -> usize
         ensures { result ≡ self.now.count }
     {
         self.count
     }
 
-    /// Takes the next piece, of any length, and gives what all of them mean. Once that is decided,
-    /// or after want of memory, nothing more is to be fed.
+    /// Takes the next piece, of any length, and returns the meaning of all pieces so far. After a
+    /// decision, and after an allocation failure, nothing more may be fed.
     pub fn feed(&mut self, job: &Remote, piece: &[u8]) -> Result<Step<Outcome>, AllocError>
         ensures { IfOk result (λ step. (fed : List ℕ) → ReadingStands job.now fed self.old
             → HasRead job.now (fed ++ piece.now) step self.new) }
@@ -73,7 +73,7 @@ impl Reading {
         Ok(limited(step, n < piece.len()))
     }
 
-    /// Takes the next piece of those that are looked at.
+    /// Takes the next piece, within the bytes that are parsed.
     fn feed_within(&mut self, job: &Remote, piece: &[u8]) -> Result<Step<Outcome>, AllocError>
         ensures read { IfOk result (λ step. (fed : List ℕ)
             → Means job.now fed self.old.opening self.old.body
@@ -92,7 +92,7 @@ impl Reading {
     }
 }
 
-/// How many requests a job makes, each of which is answered with an OKAY.
+/// Returns how many requests a job makes. Each of them is answered with an OKAY.
 fn requests(job: &Remote) -> u8
     ensures { result ≡ requests job.now }
 {
@@ -102,7 +102,8 @@ fn requests(job: &Remote) -> u8
     }
 }
 
-/// What bytes mean that may be followed by one past those that are looked at.
+/// Returns the meaning of bytes. If `is_past`, a further byte lies past the maximum length of an
+/// answer.
 fn limited(step: Step<Outcome>, is_past: bool) -> Step<Outcome>
     ensures { result ≡ limited_at is_past step }
 {

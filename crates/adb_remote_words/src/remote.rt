@@ -1,48 +1,48 @@
-//! What a client tool asks, and what it is answered.
+//! The jobs of a client tool, and their outcomes.
 
 use adb_outside::Text;
 
-/// What a client tool asks of a server.
+/// A job that a client tool asks a server for.
 #[derive(Drop)]
 pub enum Remote {
-    /// The list of devices.
+    /// List the devices.
     Devices,
-    /// A device's file at a path shall have these bytes, and a time in seconds since 1970.
+    /// Write these bytes to the file at a path of a device, with a time in seconds since 1970.
     Push { path: Text, mtime: u32, bytes: Text },
-    /// The bytes of a device's file.
+    /// Read the bytes of a device's file.
     Pull { path: Text },
-    /// A device shall run a command, without input.
+    /// Run a command on a device, without input.
     Shell { command: Text },
-    /// A device shall come into a state.
+    /// Wait until a device has this state.
     Wait { serial: Text, state: Text },
 }
 
-/// What a server answered.
+/// The outcome of a job.
 #[derive(Drop)]
 pub enum Outcome {
     /// The list of devices.
     Listed(Text),
-    /// The file is there.
+    /// The file was stored.
     Pushed,
     /// The bytes of the file.
     Pulled(Text),
-    /// What the command wrote, and its status.
+    /// The output and the error output of the command, and its exit status.
     Ran { out: Text, err: Text, status: u8 },
-    /// The device is in the state.
+    /// The device has the state.
     Ready,
 }
 
-/// Why there is no outcome.
+/// The reason why there is no outcome.
 #[derive(Drop)]
 pub enum RemoteError {
-    /// The server, or the device, answered a FAIL with this text.
+    /// The server or the device answered a FAIL with this text.
     Refused(Text),
-    /// The first byte after which no answer can follow those before it, by its offset from the
-    /// first byte of the answer. It is the number of bytes where the answer ended first, and the
-    /// greatest offset where so many bytes decided nothing.
+    /// The offset of the first byte after which no answer can follow, counted from the first byte
+    /// of the answer. It is the number of bytes if the answer ended first, and the greatest offset
+    /// if that many bytes decided nothing.
     BadAnswer { offset: u64 },
     /// A read or a write failed.
     PortFault,
-    /// Memory ran out.
+    /// An allocation failed.
     OutOfMemory,
 }

@@ -1,4 +1,4 @@
-//! What frames tell.
+//! The meaning of frames.
 
 ghost use Rattle.std.specs.Prelude.{◌≡◌, slice_index, IfOk};
 ghost use Rattle.adb_sync_client.specs.declared.step.Step.TheVariants.{More};
@@ -12,7 +12,7 @@ use adb_sync_client::Step;
 use std::alloc::{AllocError, Global};
 use std::mem;
 
-/// What a command wrote so far.
+/// The output of a command so far.
 #[derive(Drop)]
 pub struct Told {
     pub out: Text,
@@ -20,7 +20,7 @@ pub struct Told {
 }
 
 impl Told {
-    /// Nothing was told yet. It takes no memory.
+    /// Returns an empty output. It allocates nothing.
     pub fn new(alloc: Global) -> Told
         ensures { result ≡ nothing_told }
     {
@@ -30,7 +30,7 @@ impl Told {
         }
     }
 
-    /// Takes the next frame, and gives what it means.
+    /// Takes the next frame and returns its meaning.
     pub fn take(
         &mut self,
         alloc: Global,
@@ -47,7 +47,7 @@ impl Told {
         }
     }
 
-    /// Takes the next packet, and gives what it means.
+    /// Takes the next packet and returns its meaning.
     fn packet(&mut self, alloc: Global, id: u8, bytes: &[u8]) -> Result<Step<Outcome>, AllocError>
         ensures step { IfOk result (λ step. step ≡ packet_step self.old id bytes.now) }
         ensures told { IfOk result (λ step. step ≡ More
@@ -67,7 +67,7 @@ impl Told {
         }
     }
 
-    /// What a command wrote that ended with a status: it is moved out.
+    /// Returns the outcome of a command that ended with a status. The output is moved into it.
     fn ran(&mut self, alloc: Global, status: u8) -> Outcome
         ensures { result ≡ Outcome.Ran self.old.out self.old.err status }
     {
@@ -79,14 +79,14 @@ impl Told {
     }
 }
 
-/// The status that an exit packet has.
+/// Returns the exit status in an exit packet.
 fn status_of(bytes: &[u8]) -> u8
     ensures { result ≡ slice_index bytes.now 0 }
 {
     bytes.first().copied().unwrap_or(0)
 }
 
-/// What a list of devices means.
+/// Returns the meaning of a list of devices.
 fn list_step(alloc: Global, job: &Remote, list: Text) -> Result<Step<Outcome>, AllocError>
     ensures { IfOk result (λ step. step ≡ list_step job.now list) }
 {
@@ -96,7 +96,7 @@ fn list_step(alloc: Global, job: &Remote, list: Text) -> Result<Step<Outcome>, A
     }
 }
 
-/// What a list of devices means to who waits for one of its lines.
+/// Returns the meaning of a list of devices for a job that waits for one of its lines.
 fn waiting_step(
     alloc: Global,
     serial: &Text,
@@ -113,7 +113,7 @@ fn waiting_step(
     }
 }
 
-/// The line of a device in a state.
+/// Returns the line of a device in a state.
 fn line_of(alloc: Global, serial: &[u8], state: &[u8]) -> Result<Text, AllocError>
     ensures { IfOk result (λ line. line ≡ line_of serial.now state.now) }
 {
@@ -123,7 +123,7 @@ fn line_of(alloc: Global, serial: &[u8], state: &[u8]) -> Result<Text, AllocErro
     Ok(line)
 }
 
-/// Whether a list has a line.
+/// Returns whether a list has a line.
 fn has_line(line: &[u8], list: &[u8]) -> bool
     ensures { result ≡ has_line line.now list.now }
 {

@@ -1,4 +1,4 @@
-//! What a client tool writes.
+//! The words that a client tool writes.
 
 ghost use Rattle.std.specs.Prelude.{◌≡◌, ◌≤◌, ◌+◌, ◌++◌, length, option_map, IfOk, IfSome};
 ghost use Rattle.adb_remote_words.specs.Words.{HasWords, first_word, request_of, second_word, transport_of};
@@ -8,13 +8,14 @@ use adb_outside::{MAX_ASKED, Text};
 use adb_request::hex4;
 use std::alloc::{AllocError, Global};
 
-/// The mode of a file that is pushed: a regular one, which its owner may write and all may read.
+/// The mode of a file that is pushed: a regular file that its owner may write and everyone may
+/// read.
 pub const FILE_MODE: u32 = 33_188;
 
-/// The most bytes of a path, of a command, and of a serial that is asked for.
+/// The maximum number of bytes of a path, of a command, and of a serial in a request.
 pub const MAX_WORD: usize = MAX_ASKED;
 
-/// The first request of a job, on the device of a serial where there is one.
+/// Returns the first request of a job, on the device with this serial, if one is given.
 pub fn first_word(alloc: Global, job: &Remote, on: Option<&Text>) -> Result<Text, AllocError>
     requires { IfSome on (λ serial. length serial.now ≤ MAX_WORD) }
     ensures { IfOk result (λ word. word ≡ first_word job.now (option_map (λ text. text.now) on.entry)) }
@@ -26,7 +27,7 @@ pub fn first_word(alloc: Global, job: &Remote, on: Option<&Text>) -> Result<Text
     }
 }
 
-/// The request that selects the device of a serial, or any.
+/// Returns the request that selects the device with a serial, or any device.
 fn transport(alloc: Global, on: Option<&Text>) -> Result<Text, AllocError>
     requires { IfSome on (λ serial. length serial.now ≤ MAX_WORD) }
     ensures { IfOk result (λ word. word ≡ transport_of (option_map (λ text. text.now) on.entry)) }
@@ -37,7 +38,7 @@ fn transport(alloc: Global, on: Option<&Text>) -> Result<Text, AllocError>
     }
 }
 
-/// The request for a service that follows the first OKAY; no bytes where none does.
+/// Returns the request for a service that follows the first OKAY, or no bytes if none follows.
 pub fn second_word(alloc: Global, job: &Remote) -> Result<Text, AllocError>
     requires { HasWords job.now }
     ensures { IfOk result (λ word. word ≡ second_word job.now) }
@@ -49,7 +50,7 @@ pub fn second_word(alloc: Global, job: &Remote) -> Result<Text, AllocError>
     }
 }
 
-/// A request of a text in two parts.
+/// Returns a request of a text in two parts.
 fn request(alloc: Global, front: &[u8], rest: &[u8]) -> Result<Text, AllocError>
     requires { length front.now + length rest.now ≤ 65535 }
     ensures { IfOk result (λ word. word ≡ request_of (front.now ++ rest.now)) }

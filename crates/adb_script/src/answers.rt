@@ -1,4 +1,4 @@
-//! What is printed of what a session was handed.
+//! The answer lines of sessions.
 
 ghost use Rattle.std.specs.Prelude.{◌≡◌, ◌++◌, codes, decimal, IfOk, OnOk};
 ghost use Rattle.std.specs.List.{flat_map};
@@ -19,8 +19,8 @@ use adb_sync_client::{Entries, PathAsk, PathValue, Push, StatValue, Step};
 use std::alloc::{AllocError, Global};
 
 impl SessionLine<'_> {
-    /// The answer line, with its newline, where the session was handed these bytes behind the replies
-    /// to its requests. Of bytes that are no answer nothing is printed.
+    /// Returns the answer line, with its newline, of a session that was handed these bytes after
+    /// the replies to its requests. Returns nothing for bytes that are no answer.
     pub fn answer(&self, alloc: Global, got: &[u8]) -> Result<Text, AllocError>
         ensures { IfOk result (λ line. line ≡ printed (asked_of self.now) got.now) }
     {
@@ -46,7 +46,7 @@ impl SessionLine<'_> {
     }
 }
 
-/// What the answer to a push means.
+/// Returns the meaning of the answer to a push.
 fn push_step(alloc: Global, path: &Word<'_>, got: &[u8]) -> Result<Step<()>, AllocError>
     ensures { IfOk result (λ step. step ≡ push_value got.now) }
 {
@@ -55,7 +55,7 @@ fn push_step(alloc: Global, path: &Word<'_>, got: &[u8]) -> Result<Step<()>, All
     Ok(step)
 }
 
-/// What the answer to a request about a path means.
+/// Returns the meaning of the answer to a request about a path.
 fn path_step<V: PathValue>(
     alloc: Global,
     path: &Word<'_>,
@@ -68,7 +68,7 @@ fn path_step<V: PathValue>(
     Ok(step)
 }
 
-/// The answer line of a push.
+/// Returns the answer line of a push.
 fn pushed_line(alloc: Global, path: &[u8], size: u32, step: &Step<()>) -> Result<Text, AllocError>
     ensures { IfOk result (λ line. line ≡ pushed_line path.now size step.now) }
 {
@@ -85,7 +85,7 @@ fn pushed_line(alloc: Global, path: &[u8], size: u32, step: &Step<()>) -> Result
     }
 }
 
-/// The answer line of a pull.
+/// Returns the answer line of a pull.
 fn pulled_line(alloc: Global, path: &[u8], step: &Step<Text>) -> Result<Text, AllocError>
     ensures { IfOk result (λ line. line ≡ pulled_line path.now step.now) }
 {
@@ -104,7 +104,7 @@ fn pulled_line(alloc: Global, path: &[u8], step: &Step<Text>) -> Result<Text, Al
     }
 }
 
-/// The answer line of a stat.
+/// Returns the answer line of a stat.
 fn stat_line(alloc: Global, path: &[u8], step: &Step<StatValue>) -> Result<Text, AllocError>
     ensures { IfOk result (λ line. line ≡ stat_line path.now step.now) }
 {
@@ -121,7 +121,7 @@ fn stat_line(alloc: Global, path: &[u8], step: &Step<StatValue>) -> Result<Text,
     }
 }
 
-/// The answer line of a list.
+/// Returns the answer line of a list.
 fn listed_line(alloc: Global, path: &[u8], step: &Step<Entries>) -> Result<Text, AllocError>
     ensures { IfOk result (λ line. line ≡ listed_line path.now step.now) }
 {
@@ -131,7 +131,7 @@ fn listed_line(alloc: Global, path: &[u8], step: &Step<Entries>) -> Result<Text,
     }
 }
 
-/// The answer line of these entries.
+/// Returns the answer line of these entries.
 fn listing(alloc: Global, path: &[u8], entries: &[Dirent]) -> Result<Text, AllocError>
     ensures { IfOk result (λ line. line ≡ listing_line path.now entries.now) }
 {
@@ -143,7 +143,7 @@ fn listing(alloc: Global, path: &[u8], entries: &[Dirent]) -> Result<Text, Alloc
     Ok(line)
 }
 
-/// Adds entries, each behind a space.
+/// Appends entries, with a space before each.
 fn push_entries(line: &mut Text, entries: &[Dirent]) -> Result<(), AllocError>
     ensures { OnOk result (line.new ≡ line.old ++ flat_map entry_word entries.now) }
 {
@@ -153,7 +153,7 @@ fn push_entries(line: &mut Text, entries: &[Dirent]) -> Result<(), AllocError>
     Ok(())
 }
 
-/// Adds an entry behind a space.
+/// Appends a space and an entry.
 fn push_entry(line: &mut Text, entry: &Dirent) -> Result<(), AllocError>
     ensures { OnOk result (line.new ≡ line.old ++ entry_word entry.now) }
 {
@@ -164,7 +164,7 @@ fn push_entry(line: &mut Text, entry: &Dirent) -> Result<(), AllocError>
     push_behind(line, b":", entry.mtime)
 }
 
-/// Adds a number behind a separator.
+/// Appends a separator and a number.
 fn push_behind(line: &mut Text, before: &[u8], number: u32) -> Result<(), AllocError>
     ensures { OnOk result (line.new ≡ line.old ++ before.now ++ decimal number) }
 {
@@ -172,7 +172,7 @@ fn push_behind(line: &mut Text, before: &[u8], number: u32) -> Result<(), AllocE
     push_number(line, u128::from(number))
 }
 
-/// An answer line up to its path.
+/// Returns an answer line up to its path.
 fn begun(alloc: Global, name: &[u8], path: &[u8]) -> Result<Text, AllocError>
     ensures { IfOk result (λ line. line ≡ name.now ++ path.now) }
 {
@@ -181,7 +181,7 @@ fn begun(alloc: Global, name: &[u8], path: &[u8]) -> Result<Text, AllocError>
     Ok(line)
 }
 
-/// The answer line of a refusal.
+/// Returns the answer line of a refusal.
 fn refused(alloc: Global, name: &[u8], path: &[u8], why: &[u8]) -> Result<Text, AllocError>
     ensures { IfOk result (λ line. line ≡ name.now ++ path.now
         ++ codes " refused " ++ why.now ++ codes "\n") }

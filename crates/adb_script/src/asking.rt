@@ -1,4 +1,4 @@
-//! What a session of a line asks for and writes.
+//! The services that the sessions of a line ask for, and the bytes that they write.
 
 ghost use Rattle.std.specs.Prelude.{◌≡◌, ◌++◌, codes, IfOk};
 ghost use Rattle.adb_script.specs.Answers.{end_of_input, service_of, text_of};
@@ -15,11 +15,12 @@ use adb_shell::write_packet;
 use adb_sync_client::{Entries, PathAsk, PathValue, StatValue};
 use std::alloc::{AllocError, Global};
 
-/// The mode of a file that is pushed: a regular one, which its owner may write and all may read.
+/// The mode of a file that is pushed: a regular file that its owner may write and everyone may
+/// read.
 pub const FILE_MODE: u32 = 33_188;
 
 impl SessionLine<'_> {
-    /// The service that the session asks for.
+    /// Returns the service that the session asks for.
     pub fn service(&self, alloc: Global) -> Result<Text, AllocError>
         ensures { IfOk result (λ service. service ≡ service_of (asked_of self.now)) }
     {
@@ -32,7 +33,7 @@ impl SessionLine<'_> {
         }
     }
 
-    /// The text that the session writes, where its line has this number.
+    /// Returns the text that the session writes if its line has this number.
     pub fn text(&self, alloc: Global, number: u32) -> Result<Text, AllocError>
         ensures { IfOk result (λ text. text ≡ text_of number (asked_of self.now)) }
     {
@@ -46,7 +47,7 @@ impl SessionLine<'_> {
     }
 }
 
-/// The service that runs a command.
+/// Returns the service that runs a command.
 fn shell_service(alloc: Global, command: &Word<'_>) -> Result<Text, AllocError>
     ensures { IfOk result (λ service. service ≡ codes "shell,v2,raw:" ++ command.now) }
 {
@@ -55,14 +56,14 @@ fn shell_service(alloc: Global, command: &Word<'_>) -> Result<Text, AllocError>
     Ok(service)
 }
 
-/// The text of a line's push.
+/// Returns the text of a line's push.
 fn line_text(alloc: Global, path: &Word<'_>, size: u32, number: u32) -> Result<Text, AllocError>
     ensures { IfOk result (λ text. text ≡ push_text path.now FILE_MODE number (pattern 0 size)) }
 {
     pattern_text(alloc, path.as_slice(), FILE_MODE, number, size)
 }
 
-/// The text of a request about a path.
+/// Returns the text of a request about a path.
 fn request<V: PathValue>(alloc: Global, path: &Word<'_>) -> Result<Text, AllocError>
     ensures { IfOk result (λ text. text ≡ V.text path.now) }
 {
@@ -70,7 +71,7 @@ fn request<V: PathValue>(alloc: Global, path: &Word<'_>) -> Result<Text, AllocEr
     Text::from_slice(alloc, ask.out())
 }
 
-/// The packet that ends a command's input.
+/// Returns the packet that ends a command's input.
 fn end_of_input(alloc: Global) -> Result<Text, AllocError>
     ensures { IfOk result (λ text. text ≡ end_of_input) }
 {

@@ -7,7 +7,7 @@ use adb_outside::Text;
 use itoa::Buffer;
 use std::alloc::AllocError;
 
-/// Adds a number in decimal.
+/// Appends a number in decimal.
 pub fn push_number(line: &mut Text, number: u128) -> Result<(), AllocError>
     ensures { OnOk result (line.new ≡ line.old ++ decimal number) }
 {
@@ -15,10 +15,10 @@ pub fn push_number(line: &mut Text, number: u128) -> Result<(), AllocError>
     line.push_slice(digits.format(number).as_bytes())
 }
 
-/// How many bytes are added up in a word.
+/// The number of bytes that are summed in one 32-bit word.
 const PIECE: usize = 65_536;
 
-/// The sum of the bytes.
+/// Returns the sum of the bytes.
 pub fn byte_sum(bytes: &[u8]) -> u128
     ensures { result ≡ sum bytes.now }
 {
@@ -32,7 +32,8 @@ pub fn byte_sum(bytes: &[u8]) -> u128
     total
 }
 
-/// The sum of the bytes of a piece, in a word of which the processor adds several at once.
+/// Returns the sum of the bytes of a piece, in a 32-bit word, so that the processor can add several
+/// bytes at once.
 fn piece_sum(piece: &[u8]) -> u32
     requires { length piece.now ≤ PIECE }
     ensures { result ≡ sum piece.now }

@@ -1,4 +1,4 @@
-//! What holds of all scripts and their answers.
+//! Properties of all scripts and their answers.
 
 ghost use Rattle.std.specs.Prelude.{◌≡◌, ◌≤◌, ◌<◌, ◌^◌, List, ℕ, length};
 ghost use Rattle.adb_files.specs.Entries.{Entry};
@@ -18,7 +18,7 @@ ghost use Rattle.adb_script.specs.declared.word.TheConstants.{MAX_WORD};
 
 use adb_sync_client::written_files_are_pulled;
 
-/// The numbers of the definitions that are read here.
+/// States the values of the constants that the definitions import.
 pub fn limits_are()
     ensures script { MAX_SCRIPT ≡ 1048576 }
     ensures lines { MAX_LINES ≡ 1024 }
@@ -36,8 +36,8 @@ pub fn limits_are()
     ensures end_of_input { CLOSE_STDIN ≡ 4 }
 {}
 
-/// A push stores its file and prints `ok`, or changes nothing and prints why: by what refuses the
-/// file.
+/// States that a push stores its file and prints `ok`, or changes nothing and prints the reason:
+/// that of the file's refusal.
 #[tactic(auto, using(crate::proofs::Printed::push_printed))]
 pub fn pushes_are_stored()
     ensures { (files : List Entry) (number size : ℕ) (path : List ℕ)
@@ -46,8 +46,8 @@ pub fn pushes_are_stored()
         ≡ pushed_by files number path size (put_refusal files path size) }
 {}
 
-/// A pull changes nothing, and prints how many bytes the file of the path has and their sum, or why
-/// none is read.
+/// States that a pull changes nothing, and prints the number of bytes of the path's file and their
+/// sum, or the reason why none is read.
 pub fn pulls_are_read()
     ensures { (files : List Entry) (number : ℕ) (path : List ℕ) → length path ≤ MAX_WORD
         → line_answer files number (Asks (Pulls path))
@@ -56,31 +56,31 @@ pub fn pulls_are_read()
     written_files_are_pulled();
 }
 
-/// A stat changes nothing, and prints the mode, the size and the time of what its path names: of a
-/// file, of a directory, or three zeros where nothing is there.
+/// States that a stat changes nothing, and prints the mode, the size and the time of the file or
+/// directory at its path, or three zeros if nothing is there.
 pub fn stats_are_told()
     ensures { (files : List Entry) (number : ℕ) (path : List ℕ)
         → IsFileMap files → length path ≤ MAX_WORD
         → line_answer files number (Asks (Stats path)) ≡ stat_over files path }
 {}
 
-/// A list changes nothing, and prints how many direct entries its path has, and for each its name,
-/// mode, size and time, in the order of the bytes of the names.
+/// States that a list changes nothing, and prints the number of direct entries of its path, and for
+/// each its name, mode, size and time, in the order of the bytes of the names.
 pub fn lists_are_told()
     ensures { (files : List Entry) (number : ℕ) (path : List ℕ)
         → IsFileMap files → length path ≤ MAX_WORD
         → line_answer files number (Asks (Lists path)) ≡ listed_over files path }
 {}
 
-/// A command leaves the files that its words leave, and prints its status and all that it wrote to
-/// its output and to its error output.
+/// States that a command leaves the files that its words produce, and prints its exit status and
+/// everything that it wrote to its output and to its error output.
 pub fn commands_are_run()
     ensures { (files : List Entry) (number : ℕ) (command : List ℕ)
         → line_answer files number (Asks (Runs command)) ≡ ran_over files (words_of command) }
 {}
 
-/// Behind a push that printed `ok` a pull of its path is handed the pushed bytes, and prints how many
-/// they are and their sum.
+/// States that, after a push that printed `ok`, a pull of its path is handed the pushed bytes, and
+/// prints their number and their sum.
 pub fn pushed_files_are_pulled()
     ensures { (files : List Entry) (number later size : ℕ) (path : List ℕ)
         → length path ≤ MAX_WORD → number < 2 ^ 32

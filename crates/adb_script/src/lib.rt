@@ -1,6 +1,6 @@
-//! Scripts of the command `local`: their lines, what each session of a line asks for and writes, and
-//! what is printed of its answer. What all scripts share stands here too: how their lines and words
-//! are cut, how much one may have, and the bytes of files.
+//! Scripts of the command `local`: their lines, the requests and bytes of each session of a line,
+//! and the printed answers. Also the parts that all scripts share: cutting of lines and words, size
+//! limits, and the bytes of files.
 #![tactic(auto)]
 
 mod answers;

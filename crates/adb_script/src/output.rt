@@ -1,4 +1,4 @@
-//! What a command wrote, by its packets.
+//! The output of a command, from its packets.
 
 ghost use Rattle.std.specs.Prelude.{◌≡◌, ◌++◌, ◌<◌, [], IfOk, OnOk};
 ghost use Rattle.adb_script.specs.Answers.{ran_line};
@@ -10,19 +10,19 @@ use adb_outside::Text;
 use adb_shell::{ShellError, ShellPacket, ShellReader};
 use std::alloc::{AllocError, Global};
 
-/// The id of a packet of a command's output.
+/// The id of a packet of a command's standard output.
 pub const STDOUT: u8 = 1;
 
-/// The id of a packet of its error output.
+/// The id of a packet of a command's standard error.
 pub const STDERR: u8 = 2;
 
-/// The id of the packet that has its status.
+/// The id of the packet with a command's exit status.
 pub const EXIT: u8 = 3;
 
-/// The id of the packet that ends its input.
+/// The id of the packet that ends a command's input.
 pub const CLOSE_STDIN: u8 = 4;
 
-/// What a command wrote, and its status where that came.
+/// The output of a command, and its exit status if that came.
 #[derive(Drop)]
 pub struct Output {
     stdout: Text,
@@ -30,7 +30,8 @@ pub struct Output {
     status: Option<u8>,
 }
 
-/// The answer line of a command of whose service this came; nothing where no status came.
+/// Returns the answer line of a command from the bytes of its service, or nothing if no exit status
+/// came.
 pub fn ran_line(alloc: Global, got: &[u8]) -> Result<Text, AllocError>
     ensures { IfOk result (λ line. line ≡ ran_line (output_in (packets_in got.now))) }
 {
@@ -38,7 +39,7 @@ pub fn ran_line(alloc: Global, got: &[u8]) -> Result<Text, AllocError>
     print(alloc, &output)
 }
 
-/// What is printed of a command.
+/// Returns the printed output of a command.
 fn print(alloc: Global, output: &Output) -> Result<Text, AllocError>
     ensures { IfOk result (λ line. line ≡ ran_line output.now) }
 {
@@ -56,7 +57,7 @@ fn print(alloc: Global, output: &Output) -> Result<Text, AllocError>
     Ok(line)
 }
 
-/// What a command wrote whose packets came; a fault behind them is passed over.
+/// Returns the output of a command, from its packets. A fault after the packets is ignored.
 fn read_output(alloc: Global, got: &[u8]) -> Result<Output, AllocError>
     ensures { IfOk result (λ output. output ≡ output_in (packets_in got.now)) }
 {
@@ -73,7 +74,7 @@ fn read_output(alloc: Global, got: &[u8]) -> Result<Output, AllocError>
     Ok(output)
 }
 
-/// Feeds a reader all that came.
+/// Feeds all bytes to a reader.
 fn take_in(reader: &mut ShellReader, got: &[u8]) -> Result<(), AllocError>
     requires { StandsFor [] [] reader.old }
     ensures { OnOk result (reader.new.given ≡ packets_in got.now) }
@@ -85,7 +86,7 @@ fn take_in(reader: &mut ShellReader, got: &[u8]) -> Result<(), AllocError>
 }
 
 impl Output {
-    /// Adds what a packet says.
+    /// Appends the contents of a packet.
     fn add(&mut self, packet: &ShellPacket) -> Result<(), AllocError>
         ensures { OnOk result (self.new ≡ with_packet self.old packet.now) }
     {
@@ -103,7 +104,7 @@ impl Output {
     }
 }
 
-/// Adds bytes as they are printed: those from 0x20 to 0x7e but the backslash as they are, and each
+/// Appends bytes in printed form: those from 0x20 to 0x7e except the backslash unchanged, and each
 /// other one as `\x` and two digits.
 pub fn push_escaped(line: &mut Text, bytes: &[u8]) -> Result<(), AllocError>
     ensures { OnOk result (line.new ≡ line.old ++ escaped bytes.now) }
@@ -114,7 +115,7 @@ pub fn push_escaped(line: &mut Text, bytes: &[u8]) -> Result<(), AllocError>
     Ok(())
 }
 
-/// Adds a byte as it is printed.
+/// Appends a byte in printed form.
 fn push_escaped_byte(line: &mut Text, byte: u8) -> Result<(), AllocError>
     ensures { OnOk result (line.new ≡ line.old ++ escaped_byte byte) }
 {
@@ -125,7 +126,7 @@ fn push_escaped_byte(line: &mut Text, byte: u8) -> Result<(), AllocError>
     }
 }
 
-/// A hexadecimal digit.
+/// Returns a hexadecimal digit.
 fn hex_digit(digit: u8) -> u8
     requires { digit < 16 }
     ensures { result ≡ hex_digit digit }

@@ -13,19 +13,20 @@ use adb_outside::Text;
 use adb_sync::{MAX_CHUNK, SyncAnswer, SyncAsk, write_answer, write_ask};
 use std::alloc::{AllocError, Global};
 
-/// The modes that a device keeps whole: those of a regular file, with all of its nine bits.
+/// The smallest mode that a device keeps unchanged. `MIN_MODE` to `MAX_MODE` are the modes of a
+/// regular file, with all of its nine bits.
 pub const MIN_MODE: u32 = 32_768;
 
 pub const MAX_MODE: u32 = 33_279;
 
-/// The bytes of the header of a chunk.
+/// The length of the header of a chunk.
 const HEADER: usize = 8;
 
-/// The most bytes of a SEND, of the header of a last chunk, and of a DONE.
+/// The maximum length of a SEND, of the header of a last chunk, and of a DONE together.
 const AROUND: usize = 1_048;
 
-/// What a session writes that pushes a file of these bytes to a path, with its mode and its time. The
-/// bytes are copied once.
+/// Returns the bytes of a session that pushes a file of these bytes to a path, with its mode and
+/// its time. The bytes are copied once.
 pub fn push_text(
     alloc: Global,
     path: &[u8],
@@ -42,7 +43,8 @@ pub fn push_text(
     Ok(text)
 }
 
-/// The same, where the file has so many bytes of the pattern, which are made a chunk at a time.
+/// Returns the bytes of a session that pushes a file of `size` bytes of the pattern, which are made
+/// a chunk at a time.
 pub fn pattern_text(
     alloc: Global,
     path: &[u8],
@@ -59,7 +61,7 @@ pub fn pattern_text(
     Ok(text)
 }
 
-/// The bytes of a SEND, with room for a file of so many bytes behind them.
+/// Returns the bytes of a SEND, with capacity for a file of `size` bytes after them.
 fn send_text(alloc: Global, path: &[u8], mode: u32, size: usize) -> Result<Text, AllocError>
     requires { length path.now ≤ MAX_ASKED_PATH }
     ensures { IfOk result (λ text. text ≡ ask_bytes (SyncAsk.Send path.now (decimal mode))) }
@@ -71,13 +73,13 @@ fn send_text(alloc: Global, path: &[u8], mode: u32, size: usize) -> Result<Text,
     Ok(text)
 }
 
-/// How many bytes the push of a file of so many bytes has at most.
+/// Returns the maximum length of the push of a file of `size` bytes.
 fn room_for(size: usize) -> usize {
     let headers = size / MAX_CHUNK as usize * HEADER;
     size.saturating_add(headers + AROUND)
 }
 
-/// The decimal digits of a number.
+/// Returns the decimal digits of a number.
 fn decimal_of(alloc: Global, number: u32) -> Result<Text, AllocError>
     ensures { IfOk result (λ text. text ≡ decimal number) }
 {
@@ -86,7 +88,7 @@ fn decimal_of(alloc: Global, number: u32) -> Result<Text, AllocError>
     Ok(text)
 }
 
-/// Adds bytes in chunks.
+/// Appends bytes in chunks.
 fn push_chunks(alloc: Global, bytes: &[u8], text: &mut Text) -> Result<(), AllocError>
     ensures { OnOk result (text.new ≡ text.old ++ chunk_bytes bytes.now) }
 {
@@ -100,7 +102,7 @@ fn push_chunks(alloc: Global, bytes: &[u8], text: &mut Text) -> Result<(), Alloc
     Ok(())
 }
 
-/// Adds so many bytes of the pattern in chunks.
+/// Appends `size` bytes of the pattern in chunks.
 fn push_pattern(alloc: Global, size: u32, text: &mut Text) -> Result<(), AllocError>
     ensures { OnOk result (text.new ≡ text.old ++ chunk_bytes (pattern 0 size)) }
 {

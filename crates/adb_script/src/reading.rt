@@ -1,4 +1,4 @@
-//! How a line is read.
+//! Parsing of lines.
 
 ghost use Rattle.std.specs.Prelude.{◌≡◌, ◌∷◌, [], MatchOption, option_map, position};
 ghost use Rattle.adb_script.specs.Lines.{count_line, count_of, command_line, echo_line, line_of};
@@ -10,8 +10,8 @@ use crate::line::{
 use crate::word::Word;
 use adb_outside::read_number;
 
-/// What a line says that has no newline; `None` exactly where it is no line of a script. It takes no
-/// memory.
+/// Parses a line without its newline. Returns `None` exactly if it is no line of a script. It
+/// allocates nothing.
 pub fn read_line(text: &[u8]) -> Option<ScriptLine<'_>>
     ensures { option_map seen result ≡ line_of text.now }
 {
@@ -21,7 +21,7 @@ pub fn read_line(text: &[u8]) -> Option<ScriptLine<'_>>
     read_words(text)
 }
 
-/// A line of words.
+/// Parses a line of words.
 fn read_words(text: &[u8]) -> Option<ScriptLine<'_>>
     ensures { option_map seen result ≡ line_of_words (words_of text.now) }
 {
@@ -35,7 +35,7 @@ fn read_words(text: &[u8]) -> Option<ScriptLine<'_>>
     }
 }
 
-/// A text up to its first space, and what follows that; `None` exactly where it has no space.
+/// Splits a text at its first space. Returns `None` exactly if it has no space.
 pub fn split_once(text: &[u8]) -> Option<(&[u8], &[u8])>
     ensures { MatchOption result
         (words_of text.now ≡ text.now ∷ [])
@@ -45,14 +45,14 @@ pub fn split_once(text: &[u8]) -> Option<(&[u8], &[u8])>
     Some((&text[..space], &text[space + 1..]))
 }
 
-/// The place of the first space.
+/// Returns the index of the first space.
 fn space_in(text: &[u8]) -> Option<usize>
     ensures { result ≡ position is_space text.now }
 {
     text.iter().position(|byte| *byte == b' ')
 }
 
-/// A line of a command.
+/// Returns a line with a command.
 fn command_line(command: &[u8]) -> Option<ScriptLine<'_>>
     ensures { option_map seen result ≡ command_line command.now }
 {
@@ -60,7 +60,7 @@ fn command_line(command: &[u8]) -> Option<ScriptLine<'_>>
     Some(ScriptLine::Session(SessionLine::Shell { command }))
 }
 
-/// A line of a name and a path.
+/// Returns a line with a name and a path.
 fn path_line<'a>(name: &[u8], path: &'a [u8]) -> Option<ScriptLine<'a>>
     ensures { option_map seen result ≡ path_line name.now path.now }
 {
@@ -77,7 +77,7 @@ fn path_line<'a>(name: &[u8], path: &'a [u8]) -> Option<ScriptLine<'a>>
     None
 }
 
-/// A line of a name, a word and a count.
+/// Returns a line with a name, a word and a count.
 fn count_line<'a>(name: &[u8], word: &'a [u8], count: &[u8]) -> Option<ScriptLine<'a>>
     ensures { option_map seen result ≡ count_line name.now word.now count.now }
 {
@@ -90,7 +90,7 @@ fn count_line<'a>(name: &[u8], word: &'a [u8], count: &[u8]) -> Option<ScriptLin
     None
 }
 
-/// A push of so many bytes.
+/// Returns a push of `size` bytes.
 fn push_line(path: &[u8], size: Option<u128>) -> Option<ScriptLine<'_>>
     ensures { option_map seen result ≡ push_line path.now size }
 {
@@ -103,7 +103,7 @@ fn push_line(path: &[u8], size: Option<u128>) -> Option<ScriptLine<'_>>
     Some(ScriptLine::Session(SessionLine::Push { path, size }))
 }
 
-/// An echo of so many streams and bytes.
+/// Returns an echo with these numbers of streams and bytes.
 fn echo_line<'a>(streams: Option<u128>, size: Option<u128>) -> Option<ScriptLine<'a>>
     ensures { option_map seen result ≡ echo_line streams size }
 {
@@ -121,7 +121,7 @@ fn echo_line<'a>(streams: Option<u128>, size: Option<u128>) -> Option<ScriptLine
     }))
 }
 
-/// A count.
+/// Parses a count.
 fn count_of(text: &[u8]) -> Option<u128>
     ensures { result ≡ count_of text.now }
 {

@@ -9,19 +9,19 @@ use crate::reading::read_line;
 use std::alloc::{AllocError, Global};
 use std::marker::Model;
 
-/// The most bytes of a script.
+/// The maximum number of bytes of a script.
 pub const MAX_SCRIPT: usize = 1_048_576;
 
-/// The most lines of a script.
+/// The maximum number of lines of a script.
 pub const MAX_LINES: u32 = 1_024;
 
-/// Why a script is not read.
+/// The reason why a script is not read.
 #[derive(Clone, Copy, Debug, PartialEq, Eq, Drop)]
 pub enum ScriptError {
-    /// The number of the first line that is refused, from 1: one that says nothing a line may say,
-    /// the line 1,025, or the one that holds the byte 1,048,577 of the script.
+    /// The number, from 1, of the first line that is refused: one that has no meaning in a script,
+    /// line 1,025, or the line with byte 1,048,577 of the script.
     BadLine { line: u32 },
-    /// Memory ran out.
+    /// An allocation failed.
     OutOfMemory,
 }
 
@@ -36,7 +36,7 @@ impl From<AllocError> for ScriptError {
     }
 }
 
-/// The lines of a script, none of which is refused. Contracts see them as the list of what they say.
+/// The lines of a script, none of which is refused. Contracts see the list of their meanings.
 #[derive(Drop)]
 pub struct Script<'a> {
     lines: Vec<ScriptLine<'a>>,
@@ -55,8 +55,10 @@ impl<'a> Model for Script<'a> {
 }
 
 impl<'a> Script<'a> {
-    /// Reads a script: lines that end with a newline, a last one without it among them. Where it has
-    /// a line that is refused, that is told, or want of memory.
+    /// Reads a script: lines that end with a newline, which the last line may lack.
+    ///
+    /// - `BadLine`: a line is refused; the first such line is reported.
+    /// - `OutOfMemory`: an allocation failed.
     pub fn read(alloc: Global, script: &'a [u8]) -> Result<Script<'a>, ScriptError>
         ensures lines { IfOk result (λ read. read ≡ lines_in script.now) }
         ensures good { OnOk result (first_bad script.now ≡ None) }
@@ -73,7 +75,7 @@ impl<'a> Script<'a> {
         Ok(Script { lines })
     }
 
-    /// The lines, in order: at most 1,024. The first one's number is 1.
+    /// Returns the lines in order, at most 1,024. The first line has the number 1.
     pub fn lines(&self) -> &[ScriptLine<'a>]
         ensures lines { map seen result.now ≡ self.now }
         ensures few { length result.now ≤ MAX_LINES }
@@ -82,7 +84,7 @@ impl<'a> Script<'a> {
     }
 }
 
-/// Reads the first line of what is left of a script, and gives what follows it.
+/// Reads the first line of the rest of a script, and returns the bytes after it.
 fn add_line<'a>(
     lines: &mut Vec<ScriptLine<'a>>,
     script: &[u8],
@@ -109,7 +111,7 @@ fn add_line<'a>(
     }
 }
 
-/// The first line of a text, without its newline, and what follows it.
+/// Returns the first line of a text, without its newline, and the bytes after it.
 pub fn split_line(text: &[u8]) -> (&[u8], &[u8])
     requires { 0 < length text.now }
     ensures { CutsLine text.now result.0.now result.1.now }
@@ -120,7 +122,7 @@ pub fn split_line(text: &[u8]) -> (&[u8], &[u8])
     }
 }
 
-/// The place of the first newline.
+/// Returns the index of the first newline.
 fn newline_in(text: &[u8]) -> Option<usize>
     ensures { result ≡ position is_newline text.now }
 {

@@ -6,10 +6,10 @@ ghost use Rattle.adb_script.specs.Pattern.{pattern};
 use adb_outside::Text;
 use std::alloc::{AllocError, Global};
 
-/// After how many bytes they begin anew.
+/// The number of bytes after which the pattern repeats.
 const PERIOD: usize = 251;
 
-/// So many bytes, each (its place + shift) mod 251.
+/// Returns `size` bytes, each of which is (its index + `shift`) mod 251.
 pub fn pattern(alloc: Global, shift: u32, size: u32) -> Result<Text, AllocError>
     ensures { IfOk result (λ bytes. bytes ≡ pattern shift size) }
 {
@@ -23,7 +23,7 @@ pub fn pattern(alloc: Global, shift: u32, size: u32) -> Result<Text, AllocError>
     Ok(Text::from_vec(bytes))
 }
 
-/// Whether bytes are so many of these.
+/// Returns whether bytes are `size` bytes of this pattern.
 pub fn is_pattern(bytes: &[u8], shift: u32, size: u32) -> bool
     ensures { result ≡ bytes_eq bytes.now (pattern shift size) }
 {
@@ -42,7 +42,7 @@ pub fn is_pattern(bytes: &[u8], shift: u32, size: u32) -> bool
     true
 }
 
-/// The first 251 of them.
+/// Returns the first 251 bytes of the pattern.
 fn period(shift: u32) -> [u8; PERIOD]
     ensures { result ≡ pattern shift PERIOD }
 {

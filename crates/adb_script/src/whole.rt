@@ -7,8 +7,9 @@ use adb_sync::WHOLE_CHUNK;
 use adb_sync_client::{PathAsk, PathValue, Step};
 use std::alloc::AllocError;
 
-/// What all the bytes of the answer to a request mean, of which none was fed before. They are fed in
-/// pieces of a whole chunk, so that no more than one stands beside what they tell, which is given away.
+/// Returns the meaning of a whole answer to a request, to which nothing was fed before. The bytes
+/// are fed in pieces of a whole chunk, so that at most one chunk is in memory in addition to the
+/// result, which is moved out.
 pub fn read_whole<V: PathValue>(ask: &mut PathAsk<V>, answer: &[u8]) -> Result<Step<V>, AllocError>
     ensures { IfOk result (λ step. StandsFor V.kind [] ask.old.read
         → step ≡ V.value answer.now) }
@@ -23,7 +24,7 @@ pub fn read_whole<V: PathValue>(ask: &mut PathAsk<V>, answer: &[u8]) -> Result<S
     Ok(step)
 }
 
-/// Feeds a piece behind which others come.
+/// Feeds a piece that others follow.
 fn feed_piece<V: PathValue>(ask: &mut PathAsk<V>, piece: &[u8]) -> Result<(), AllocError>
     ensures { OnOk result ((fed : List ℕ) → StandsFor V.kind fed ask.old.read
         → StandsFor V.kind (fed ++ piece.now) ask.new.read) }

@@ -6,7 +6,7 @@ ghost use Rattle.adb_script.specs.Lines.{is_word};
 use adb_outside::MAX_ASKED;
 use std::marker::Model;
 
-/// The most bytes of a path, and of a command.
+/// The maximum number of bytes of a path, and of a command.
 pub const MAX_WORD: usize = MAX_ASKED;
 
 /// A path or a command of a line: 1 to 1,000 bytes of the script. Contracts see those bytes.
@@ -27,7 +27,7 @@ impl<'a> Model for Word<'a> {
 }
 
 impl<'a> Word<'a> {
-    /// The word that these bytes are; `None` exactly where there are none of them, or too many.
+    /// Returns the word of these bytes. `None` exactly if there are no bytes, or too many.
     pub fn read(bytes: &'a [u8]) -> Option<Word<'a>>
         ensures { result ≡ (if is_word bytes.now then Some bytes.now else None) }
     {
@@ -37,7 +37,7 @@ impl<'a> Word<'a> {
         Some(Word { bytes })
     }
 
-    /// Its bytes.
+    /// Returns the bytes of the word.
     pub fn as_slice(&self) -> &[u8]
         ensures bytes { result.now ≡ self.now }
         ensures short { length self.now ≤ MAX_WORD }

@@ -1,4 +1,4 @@
-//! The accept loop: devices are attached, clients are admitted, and their workers are started.
+//! The accept loop: attaches devices, admits clients, and starts their workers.
 
 ghost use Rattle.std.specs.Prelude.{◌≡◌, ◌≢◌, ◌<◌, ◌≤◌, Err, OnOk, vec_len, vec_capacity};
 ghost use Rattle.adb_outside.specs.Outside.{Rises};
@@ -17,8 +17,8 @@ use std::alloc::{AllocError, Global};
 use std::sync::Wait;
 use std::thread::Threads;
 
-/// Everything from which the server makes workers: its runtime, its allocator, the bell of its door,
-/// its maker of jobs, and its yard, which gives gates and binders.
+/// The supplies from which the server makes workers: its runtime, its allocator, the bell of its
+/// door, its maker of jobs, and its yard, which provides gates and binders.
 #[derive(Drop)]
 pub(crate) struct Supplies<W: Drop, B: Drop, S: Drop, Y: Drop> {
     pub(crate) rt: W,
@@ -67,8 +67,8 @@ pub(crate) fn serve_all<
     }
 }
 
-/// Attaches devices in the order of the list and adds the jobs of each to `plugged`. After an error,
-/// which is one of `plug`, the devices left are dropped.
+/// Attaches devices in the order of the list and adds the jobs of each to `plugged`. After an
+/// error, which is one of `plug`, the devices left are dropped.
 fn plug_all<
     W: Wait + Copy + Drop,
     P: Parts,
@@ -121,8 +121,9 @@ fn plug<
     Ok(())
 }
 
-/// Makes the provision of the next device, and reserves its place in `plugged`. `AllocError`: an
-/// allocation failed, and `plugged` holds what it held.
+/// Makes the provision of the next device, and reserves its place in `plugged`.
+///
+/// `AllocError`: an allocation failed, and `plugged` holds what it held.
 fn provide<
     W: Wait + Copy + Drop,
     P: Parts,
@@ -145,7 +146,7 @@ fn provide<
 /// Accepts one connection and starts the workers of its client. A connection that the hall refuses
 /// is dropped.
 ///
-/// - `Done`: the door answered that no more connections come.
+/// - `Done`: the door reported that no more connections come.
 /// - `DoorFault`: the door failed. The hall is halted.
 /// - `RecordFault`: the recorder failed. The hall is shut.
 /// - `OutOfMemory`: an allocation failed. The hall is halted.

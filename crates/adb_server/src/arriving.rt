@@ -13,8 +13,8 @@ use adb_device_reader::{Device, Packets, Plugged, plug_in};
 use adb_hall::Hall;
 use adb_work::Parts;
 
-/// A client that was admitted: the two halves of its connection and the passes of its reader and its
-/// writer.
+/// A client that was admitted: the two halves of its connection and the passes of its reader and
+/// its writer.
 #[derive(Drop)]
 pub(crate) struct Arrival<P: Parts> {
     pub(crate) input: P::ClientIn,
@@ -23,8 +23,8 @@ pub(crate) struct Arrival<P: Parts> {
     pub(crate) writing: ClientOut<P::Entries, P::Moved, P::Marks>,
 }
 
-/// A device that has a link: its two halves, the reader of its packets, and the passes of its reader
-/// and its writer.
+/// A device that has a link: its two halves, the reader of its packets, and the passes of its
+/// reader and its writer.
 #[derive(Drop)]
 pub(crate) struct Linked<P: Parts> {
     pub(crate) device: Device<P::DeviceIn, P::DeviceOut>,
@@ -43,7 +43,7 @@ struct Passes<P: Parts> {
 /// Accepts one connection and admits it. A connection that the hall refuses is dropped, which is
 /// `Ok(None)`.
 ///
-/// - `Done`: the door answered that no more connections come.
+/// - `Done`: the door reported that no more connections come.
 /// - `DoorFault`: the door failed. The hall is halted.
 /// - `RecordFault`: the recorder failed. The hall is shut.
 /// - `OutOfMemory`: an allocation failed. The hall is halted.

@@ -1,4 +1,4 @@
-//! How a server ends.
+//! The end of a server.
 
 ghost use Rattle.std.specs.Prelude.{◌≡◌, ◌≢◌, false, IfSome};
 ghost use Rattle.adb_desk_log.specs.Log.{is_fault};
@@ -11,7 +11,7 @@ use adb_desk_log::DeskError;
 use adb_hub::HubError;
 use adb_recorder::Recorder;
 
-/// Returns the end of a server that could not serve since an allocation failed.
+/// Returns the end of a server that could not serve because an allocation failed.
 pub(crate) fn starved<R: Recorder>() -> Ended<R>
     ensures kept { KeepsHistory R.stands R.faults result.served result.recorder }
     ensures is { result.served ≡ Served.OutOfMemory }
@@ -22,9 +22,9 @@ pub(crate) fn starved<R: Recorder>() -> Ended<R>
     }
 }
 
-/// Returns the end of a server after all workers have returned, from what is left of its desk. `None` for
-/// `left`, which means that a handle of the hall is still in use, is reported as an allocation
-/// failure: no worker that has returned keeps a handle.
+/// Returns the end of a server after all workers have returned, from the parts of its desk. `None`
+/// for `left` means that a handle of the hall is still in use; it is reported as an allocation
+/// failure. It does not occur: no worker that has returned keeps a handle.
 #[tactic(auto, using(crate::proofs::Keeping::keeps_by))]
 pub(crate) fn end_of<R: Recorder>(served: Served, left: Option<Left<R>>) -> Ended<R>
     requires left { IfSome left (λ left. IsLeft R.stands R.faults left) }
@@ -45,8 +45,8 @@ pub(crate) fn end_of<R: Recorder>(served: Served, left: Option<Left<R>>) -> Ende
     }
 }
 
-/// Returns how a server ended, if its accept loop ended with `served` and its desk is shut with
-/// `shut`. The desk alone knows whether the recorder failed.
+/// Returns the way in which a server ended, if its accept loop ended with `served` and its desk is
+/// shut with `shut`. Only the desk knows whether the recorder failed.
 fn served_by(shut: Option<DeskError>, served: Served) -> Served
     requires { served ≢ Served.WriteFault }
     ensures fault { is_record_fault result ≡ is_fault shut }

@@ -1,4 +1,7 @@
-//! The server: it accepts clients at a door, and serves each client and each device by two workers.
+//! The server. It accepts clients at a door, and serves each client and each device with two
+//! workers.
+//!
+//! `serve` listens on a port first; `serve_at` serves at a door that is open already.
 #![tactic(auto)]
 
 mod accepting;

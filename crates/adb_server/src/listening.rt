@@ -1,4 +1,4 @@
-//! The line of the note that says where the server listens.
+//! The line of the note that names the port on which the server listens.
 
 ghost use Rattle.std.specs.Prelude.{◌≡◌, ◌<◌, IfOk, length};
 ghost use Rattle.adb_outside.specs.Outside.{Counts};
@@ -9,7 +9,10 @@ use adb_outside::{Sink, Text, Wrote};
 use itoa::Buffer;
 use std::alloc::{AllocError, Global};
 
-/// Writes to the note where the server listens.
+/// Writes to the note the line that names the port on which the server listens.
+///
+/// - `WriteFault`: the write failed.
+/// - `OutOfMemory`: an allocation failed.
 pub(crate) fn announce<N: Sink>(alloc: Global, note: &mut N, port: u16) -> Result<(), Served>
     ensures announced { HasAnnounced port result (N.written note.old) (N.written note.new) }
     ensures counts { Counts N.steady N.faults note.old note.new (is_write_fault_in result) }
@@ -23,7 +26,7 @@ pub(crate) fn announce<N: Sink>(alloc: Global, note: &mut N, port: u16) -> Resul
     }
 }
 
-/// The line that says where the server listens.
+/// Returns the line that names the port on which the server listens.
 #[tactic(auto, unfolding(crate::specs::Served::listening_line))]
 fn listening_line(alloc: Global, port: u16) -> Result<Text, AllocError>
     ensures line { IfOk result (λ line. line ≡ listening_line port) }

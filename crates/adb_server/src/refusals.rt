@@ -1,4 +1,4 @@
-//! Whether the server goes on after its hall refused a client or a device.
+//! The decision whether the server continues after its hall refused a client or a device.
 
 ghost use Rattle.std.specs.Prelude.{◌≢◌, Err};
 ghost use Rattle.adb_desk_log.specs.declared.error.DeskError.{DeskError};
@@ -9,7 +9,7 @@ use adb_hall::Hall;
 use adb_hub::HubError;
 use adb_work::Parts;
 
-/// Returns `Ok` if the server goes on after this refusal.
+/// Returns `Ok` if the server continues after this refusal.
 ///
 /// - `OutOfMemory`: an allocation failed. The hall is halted.
 /// - `RecordFault`: the recorder failed, which shut the hall.

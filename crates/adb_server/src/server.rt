@@ -26,22 +26,22 @@ use std::sync::Wait;
 use std::sync::ledger::{Blank, Ledger};
 use std::thread::Threads;
 
-/// How a server ended.
+/// The way in which a server ended.
 #[derive(Clone, Copy, Debug, PartialEq, Eq, Drop)]
 pub enum Served {
-    /// The door was closed, as it is after a kill.
+    /// The door was closed, for example by a kill.
     Done,
-    /// The line that says where the server listens could not be written.
+    /// The line that names the port could not be written.
     WriteFault,
     /// An allocation failed.
     OutOfMemory,
     /// The recorder failed.
     RecordFault,
-    /// The port could not be listened on, or the door failed.
+    /// Listening on the port failed, or the door failed.
     DoorFault,
 }
 
-/// How a server ended, and its recorder.
+/// The way in which a server ended, and its recorder.
 #[derive(Drop)]
 pub struct Ended<R: Drop> {
     pub served: Served,
@@ -49,21 +49,22 @@ pub struct Ended<R: Drop> {
     pub recorder: Option<R>,
 }
 
-/// Listens on a port and serves: attaches the devices in their order, and then accepts clients until
-/// the door is closed or fails. A reader and a writer serve each device and each client. Before it
-/// serves it writes to the note where it listens, and it returns after all workers have returned.
+/// Listens on a port and serves: attaches the devices in their order, and then accepts clients
+/// until the door is closed or fails. A reader and a writer serve each device and each client.
+/// Before it serves, it writes to the note the port on which it listens. It returns after all
+/// workers have returned.
 ///
 /// A device that does not come, or that the hall refuses, is unplugged, and a client that the hall
-/// refuses is dropped; the server goes on. `wanted` says whether the history is recorded.
+/// refuses is dropped; the server continues. `wanted` says whether the history is recorded.
 ///
 /// The server ended by:
 ///
 /// - `Done`: the door was closed. The recorder kept the whole history.
-/// - `WriteFault`: the line that says where it listens could not be written. Nothing was served.
-/// - `OutOfMemory`: an allocation failed, and the recorder, if it comes back, kept the history until
+/// - `WriteFault`: the line that names the port could not be written. Nothing was served.
+/// - `OutOfMemory`: an allocation failed. If the recorder is returned, it kept the history until
 ///   then.
 /// - `RecordFault`: the recorder failed, and kept the entries before that.
-/// - `DoorFault`: the port could not be listened on, or the door failed.
+/// - `DoorFault`: listening on the port failed, or the door failed.
 #[tactic(auto, using(crate::proofs::Announcing::served_there, crate::proofs::Announcing::no_write_fault, crate::proofs::Keeping::keeps_none))]
 pub fn serve<
     W: Threads + Wait + Copy + Send + Sync + Drop + 'static,
@@ -108,7 +109,7 @@ pub fn serve<
     serve_at(rt, alloc, yard, &mut door, bell, recorder, devices)
 }
 
-/// Serves at a door, whose bell is `bell`, as `serve` does after it has listened.
+/// Serves at a door with the bell `bell`, as `serve` does after it has listened.
 pub fn serve_at<
     W: Threads + Wait + Copy + Send + Sync + Drop + 'static,
     Y: Yard + 'static,
@@ -163,8 +164,8 @@ pub fn serve_at<
     )
 }
 
-/// Serves at a door, over ledgers of its own. It starts the threads of the workers, so it has a type
-/// parameter for each type that goes to them.
+/// Serves at a door, over ledgers of its own. It starts the threads of the workers, so it has a
+/// type parameter for each type that goes to them.
 fn serve_with<
     W: Threads + Wait + Copy + Send + Sync + Drop + 'static,
     R: Recorder + Send + 'static,

@@ -69,8 +69,8 @@ impl<
     type Bell = B;
 }
 
-/// Makes jobs of workers, which are a `Work<W, P>`. A function over `P: Parts` can't show that these
-/// are `Send`; an implementation of this trait shows it.
+/// Makes jobs of workers, which are a `Work<W, P>`. A function over `P: Parts` can't show that
+/// these are `Send`; an implementation of this trait shows it.
 pub(crate) trait Jobs<T: Drop>: Drop {
     /// The job of one worker.
     type Job: Job + Send + Drop + 'static;
@@ -107,7 +107,7 @@ impl<
     }
 }
 
-/// The jobs of a client's or a device's two workers, and which client or device it is.
+/// The jobs of a client's or a device's two workers, and the client or device that they serve.
 #[derive(Drop)]
 pub(crate) struct Pair<J: Drop> {
     owner: Owner,

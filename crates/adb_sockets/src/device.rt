@@ -13,14 +13,14 @@ use std::net::{Ipv4Addr, Net, Shutdown, SocketAddr, TcpListener, TcpStream};
 use std::sync::{Arc, OnceLock};
 use std::time::Duration;
 
-/// A link to a device: its stream, once it is plugged in.
+/// A link to a device, and its stream after it is plugged in.
 #[derive(Drop)]
 struct Line {
     stream: OnceLock<TcpStream>,
     ending: Ending,
 }
 
-/// The half of a link to a device at a port of this machine that is read. It tells nothing.
+/// The read half of a link to a device at a port of this machine. Contracts do not see its bytes.
 #[derive(Drop)]
 pub struct TcpDeviceIn<W: Net<Listener = TcpListener, Stream = TcpStream> + Drop> {
     rt: W,
@@ -29,8 +29,8 @@ pub struct TcpDeviceIn<W: Net<Listener = TcpListener, Stream = TcpStream> + Drop
     faults: u64,
 }
 
-/// The half of such a link that is written to. A write to a device that does not read waits until the
-/// server ends, and fails then. It tells nothing.
+/// The write half of such a link. A write to a device that does not read blocks until the server
+/// ends, and then fails. Contracts do not see its bytes.
 #[derive(Drop)]
 pub struct TcpDeviceOut {
     line: Arc<Line, Global>,
@@ -38,8 +38,8 @@ pub struct TcpDeviceOut {
     faults: u64,
 }
 
-/// The two halves of a link to the device at a port, which is not plugged in yet. It fails at an
-/// allocation failure.
+/// Makes the two halves of a link to the device at a port, which is not plugged in yet. Fails if an
+/// allocation fails.
 pub fn tcp_device<W: Net<Listener = TcpListener, Stream = TcpStream> + Drop>(
     rt: W,
     alloc: Global,
@@ -68,7 +68,7 @@ pub fn tcp_device<W: Net<Listener = TcpListener, Stream = TcpStream> + Drop>(
     Ok((input, output))
 }
 
-/// The seconds that a connect waits for a device at which too many connections wait already.
+/// The number of seconds that a connect waits for a device with a full queue of connections.
 const PATIENCE: u64 = 1;
 
 /// Connects to a port of this machine.
@@ -112,8 +112,8 @@ impl<W: Net<Listener = TcpListener, Stream = TcpStream> + Drop> DeviceIn for Tcp
 
     ghost steady = { λ device. ⊥ };
 
-    /// Connects, and waits a second at most. If the port refuses the connection the device will not
-    /// come.
+    /// Connects, and waits at most one second. If the port refuses the connection, the device will
+    /// never come.
     fn plug(&mut self) -> Plug {
         let plug = plug(&self.rt, self.port, &self.line);
         if plug == Plug::Failed {
@@ -122,7 +122,7 @@ impl<W: Net<Listener = TcpListener, Stream = TcpStream> + Drop> DeviceIn for Tcp
         plug
     }
 
-    /// Fails before the device is plugged in.
+    /// Reads. Fails if the device is not plugged in yet.
     fn read(&mut self, into: &mut [u8]) -> Got {
         let got = match self.line.stream.get() {
             Some(stream) => receive(stream, into),
@@ -146,12 +146,12 @@ impl DeviceOut for TcpDeviceOut {
 
     ghost steady = { λ device. ⊥ };
 
-    /// Fails before the device is plugged in.
+    /// Writes. Fails if the device is not plugged in yet.
     fn write(&mut self, piece: &[u8]) -> Wrote {
         self.write_both(&[], piece)
     }
 
-    /// Writes both parts by one call of the system, if that takes them whole.
+    /// Writes both parts with one system call, if that call takes them whole.
     fn write_both(&mut self, start: &[u8], rest: &[u8]) -> Wrote {
         let wrote = match self.line.stream.get() {
             Some(stream) => send(stream, &self.line.ending, start, rest),
@@ -163,7 +163,7 @@ impl DeviceOut for TcpDeviceOut {
         wrote
     }
 
-    /// Shuts both directions down, which ends the reads of the other half too.
+    /// Shuts down both directions, which also ends the reads of the other half.
     fn unplug(&mut self) {
         if let Some(stream) = self.line.stream.get() {
             let _ = stream.shutdown(Shutdown::Both);

@@ -1,37 +1,37 @@
-//! Whether a server ends.
+//! The flag that says whether a server ends.
 
 use std::alloc::{AllocError, Global};
 use std::sync::Arc;
 use std::sync::atomic::{AtomicBool, Ordering};
 
-/// Whether the server ends. The bell sets it; the door and every connection share it. A write to a
-/// peer that does not read fails once it is set.
+/// The flag that says whether the server ends. The bell sets it; the door and every connection
+/// share it. After it is set, a write to a peer that does not read fails.
 #[derive(Drop)]
 pub struct Ending {
     flag: Arc<AtomicBool, Global>,
 }
 
 impl Ending {
-    /// Makes a flag that is not set. It fails at an allocation failure.
+    /// Makes a flag that is not set. Fails if an allocation fails.
     pub fn new(alloc: Global) -> Result<Ending, AllocError> {
         Ok(Ending {
             flag: Arc::new(alloc, AtomicBool::new(false))?,
         })
     }
 
-    /// Returns one more owner of the same flag. It fails at an allocation failure.
+    /// Returns one more owner of the same flag. Fails if an allocation fails.
     pub fn share(&self) -> Result<Ending, AllocError> {
         Ok(Ending {
             flag: Arc::try_clone(&self.flag)?,
         })
     }
 
-    /// Sets it, and returns whether this call is the first that does. It stays set.
+    /// Sets the flag, and returns whether this call is the first that sets it. The flag stays set.
     pub fn set(&self) -> bool {
         !self.flag.swap(true, Ordering::SeqCst)
     }
 
-    /// Returns whether it is set.
+    /// Returns whether the flag is set.
     pub fn is_set(&self) -> bool {
         self.flag.load(Ordering::SeqCst)
     }

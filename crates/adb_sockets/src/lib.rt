@@ -1,7 +1,7 @@
-//! TCP connections: the two halves of a client's and of a device's. Nagle's delay is off.
+//! TCP connections: the two halves of a client's and of a device's. Nagle's algorithm is off.
 //!
-//! No clause says what a socket carries. A call that is interrupted is made again, and each call
-//! that fails is counted.
+//! No clause says which bytes a socket carries. An interrupted call is repeated, and each call that
+//! fails is counted.
 #![tactic(auto)]
 
 mod device;

@@ -11,15 +11,15 @@ use std::io;
 use std::net::{Shutdown, TcpStream};
 use std::sync::Arc;
 
-/// The half of a client's connection that is read. It tells nothing.
+/// The read half of a client's connection. Contracts do not see its bytes.
 #[derive(Drop)]
 pub struct TcpIn {
     stream: Arc<TcpStream, Global>,
     faults: u64,
 }
 
-/// The half of a client's connection that is written to. A write to a client that does not read waits
-/// until the server ends, and fails then. It tells nothing.
+/// The write half of a client's connection. A write to a client that does not read blocks until the
+/// server ends, and then fails. Contracts do not see its bytes.
 #[derive(Drop)]
 pub struct TcpOut {
     stream: Arc<TcpStream, Global>,
@@ -28,9 +28,9 @@ pub struct TcpOut {
     faults: u64,
 }
 
-/// The two halves of a connection that was dialled.
+/// Makes the two halves of a connection that was dialled.
 ///
-/// It fails if the system cannot set the stream up, and at an allocation failure. The stream is then
+/// Fails if the system cannot set up the stream, or if an allocation fails. The stream is then
 /// closed.
 pub fn halves(alloc: Global, stream: TcpStream, ending: &Ending) -> io::Result<(TcpIn, TcpOut)>
     ensures { IfOk result (λ ends. (ends.0.faults ≡ 0) × (ends.1.faults ≡ 0)
@@ -40,9 +40,9 @@ pub fn halves(alloc: Global, stream: TcpStream, ending: &Ending) -> io::Result<(
     Ok(accepted(alloc, stream, ending)?)
 }
 
-/// The two halves of a connection that was accepted at a listener that is set up.
+/// Makes the two halves of a connection that was accepted at a listener that is set up.
 ///
-/// It fails at an allocation failure. The stream is then closed.
+/// Fails if an allocation fails. The stream is then closed.
 pub fn accepted(
     alloc: Global,
     stream: TcpStream,
@@ -98,7 +98,7 @@ impl PortOut for TcpOut {
         self.write_both(&[], piece)
     }
 
-    /// Writes both parts by one call of the system, if that takes them whole.
+    /// Writes both parts with one system call, if that call takes them whole.
     fn write_both(&mut self, start: &[u8], rest: &[u8]) -> Wrote {
         let wrote = send(&self.stream, &self.ending, start, rest);
         if wrote != Wrote::All {
@@ -107,7 +107,7 @@ impl PortOut for TcpOut {
         wrote
     }
 
-    /// Shuts both directions down, which ends the reads of the other half too. Bytes that were
+    /// Shuts down both directions, which also ends the reads of the other half. Bytes that were
     /// written are still sent.
     fn close(&mut self) {
         let _ = self.stream.shutdown(Shutdown::Both);

@@ -1,4 +1,4 @@
-//! Calls on the sockets of the system.
+//! System calls on sockets.
 
 ghost use Rattle.std.specs.Prelude.{◌≡◌, ◌<◌, ◌≤◌, ◌++◌, length, drop};
 ghost use Rattle.std.specs.Io.Slices.{io_slices_bytes};
@@ -13,23 +13,23 @@ use std::net::{TcpListener, TcpStream};
 use std::os::fd::OwnedFd;
 use std::time::Duration;
 
-/// The seconds that a write waits for a peer that does not read, before it looks whether the server
-/// ends.
+/// The number of seconds that a write waits for a peer that does not read, before it checks whether
+/// the server ends.
 const PATIENCE: u64 = 1;
 
-/// Sets up a listener, and so what it accepts: the system copies the options of a listener to each
-/// connection. It fails if the system refuses an option or a descriptor.
+/// Sets up a listener, and with it the connections that it accepts: the system copies the options
+/// of a listener to each connection. Fails if the system refuses an option or a descriptor.
 pub fn set_up_listener(listener: &TcpListener) -> io::Result<()> {
     set_up(&TcpStream::from(OwnedFd::from(listener.try_clone()?)))
 }
 
-/// Turns Nagle's delay off, and sets how long a write waits.
+/// Turns Nagle's algorithm off, and sets how long a write waits.
 pub fn set_up(stream: &TcpStream) -> io::Result<()> {
     stream.set_nodelay(true)?;
     stream.set_write_timeout(Some(Duration::from_secs(PATIENCE)))
 }
 
-/// Waits for bytes. An interrupted read is made again.
+/// Waits for bytes and reads them. An interrupted read is repeated.
 pub fn receive(stream: &TcpStream, into: &mut [u8]) -> Got
     requires { 0 < length into.old }
     ensures { FitsBuffer into.old result }
@@ -46,8 +46,8 @@ pub fn receive(stream: &TcpStream, into: &mut [u8]) -> Got
     Got::Failed
 }
 
-/// Sends a piece that lies in two parts, one after the other, by one call of the system if that takes
-/// it whole. It waits for a peer that does not read, until the server ends.
+/// Sends a piece in two parts, the first before the second, with one system call if that call takes
+/// it whole. Waits for a peer that does not read until the server ends.
 pub fn send(stream: &TcpStream, ending: &Ending, start: &[u8], rest: &[u8]) -> Wrote
     requires { 0 < length (start.now ++ rest.now) }
     ensures { FitsPiece (start.now ++ rest.now) result }
@@ -68,7 +68,7 @@ pub fn send(stream: &TcpStream, ending: &Ending, start: &[u8], rest: &[u8]) -> W
     Wrote::Failed { taken }
 }
 
-/// Two parts, one after the other, without so many of their first bytes.
+/// Returns the two parts without the first `taken` bytes of both together.
 fn left<'a>(start: &'a [u8], rest: &'a [u8], taken: usize) -> [IoSlice<'a>; 2]
     requires { taken ≤ length (start.now ++ rest.now) }
     ensures { io_slices_bytes result ≡ drop taken (start.now ++ rest.now) }
@@ -79,7 +79,7 @@ fn left<'a>(start: &'a [u8], rest: &'a [u8], taken: usize) -> [IoSlice<'a>; 2]
     ]
 }
 
-/// Whether a write that failed so is made again.
+/// Returns whether a write that failed with this error is repeated.
 fn goes_on(kind: ErrorKind, ending: &Ending) -> bool {
     match kind {
         ErrorKind::Interrupted => true,

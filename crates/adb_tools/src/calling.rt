@@ -1,4 +1,4 @@
-//! A tool is called.
+//! The call of a client tool.
 
 ghost use Rattle.std.specs.Prelude.{◌≡◌, ◌<◌, ◌⊎◌, None, Some};
 ghost use Rattle.adb_asking.specs.Telling.{seen};
@@ -15,17 +15,19 @@ use adb_yard::{Dialled, Yard};
 use std::alloc::Global;
 use std::sync::Wait;
 
-/// Does what the words behind the program's name say, where they are the call of a client tool: it
-/// asks the server at a port of this machine, and tells what that answers. A push reads the source
-/// first, to its end; no other tool reads it. It waits as long as the server does.
+/// Runs the client tool that the words after the program's name call: asks the server at a port of
+/// this machine, and writes its answer. A push first reads the source to its end; no other tool
+/// reads the source. The call waits as long as the server does.
 ///
-/// `devices` writes the list of devices to the sink, and `pull` the bytes of a file. `push` writes
-/// the line `pushed <n>` there. `shell` writes what the command wrote to the sink, what it wrote as
-/// errors to the note, and behind that the line `exit <status>`. `wait` writes nothing.
+/// `devices` writes the list of devices to the sink, and `pull` writes the bytes of a file. `push`
+/// writes the line `pushed <n>` to the sink. `shell` writes the output of the command to the sink,
+/// its error output to the note, and after that the line `exit <status>` to the note. `wait` writes
+/// nothing.
 ///
-/// `TooLarge` comes where a push finds more than `MAX_INPUT` bytes in the source; nothing is dialled
-/// then. Nothing is written to the note but what `shell` tells, so the line of each end other than
-/// `Done` is still to be written.
+/// `TooLarge`: the source of a push has more than `MAX_INPUT` bytes. Nothing is dialled.
+///
+/// Only `shell` writes to the note, so the caller still has to write the line of each end other
+/// than `Done`.
 pub fn run_tool<W: Wait + Copy + Drop, S: Source, K: Sink, N: Sink, Y: Yard>(
     rt: W,
     alloc: Global,
@@ -35,14 +37,14 @@ pub fn run_tool<W: Wait + Copy + Drop, S: Source, K: Sink, N: Sink, Y: Yard>(
     note: &mut N,
     yard: &mut Y,
 ) -> ToolEnd
-    // Words that are no tool's call nobody, and touch nothing.
+    // Words that call no tool connect to no server, and change nothing.
     ensures usage { tool_of (texts words.now) ≡ None
         → (result ≡ ToolEnd.Usage) ⊎ (result ≡ ToolEnd.OutOfMemory) }
     ensures words { result ≡ ToolEnd.Usage → tool_of (texts words.now) ≡ None }
     ensures untouched { tool_of (texts words.now) ≡ None
         → IsUncalled source.old source.new sink.old sink.new note.old note.new yard.old yard.new }
 
-    // How a call ends, and what it leaves.
+    // The end of a call, and its effects.
     ensures calls { (call : TheCall) → tool_of (texts words.now) ≡ Some call
         → CallsTool (seen S.steady S.faults S.left) (seen K.steady K.faults K.written)
         (seen N.steady N.faults N.written) (seen Y.steady Y.faults Y.answers) call.tool

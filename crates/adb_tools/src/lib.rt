@@ -1,4 +1,4 @@
-//! The client tools: each asks a server on this machine for one thing, and tells what it answers.
+//! The client tools. Each asks a server on this machine for one job and writes the answer.
 #![tactic(auto)]
 
 mod calling;

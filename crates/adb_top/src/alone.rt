@@ -8,12 +8,14 @@ use adb_commands::run_command;
 use adb_outside::{Sink, Source};
 use std::alloc::Global;
 
-/// Runs the command that the words after the program's name say, if it is one that neither serves
-/// nor dials (`adb_commands::run_command`), and writes the line of its end to the note. It never
-/// waits, and returns. Words that are no such command are `Usage`: nothing is read or written then.
+/// Runs the command of the words after the program's name, if it is one that neither serves nor
+/// dials (`adb_commands::run_command`), and writes the line of its end to the note. It never waits,
+/// and returns.
 ///
-/// Each status but `Done` writes its one line to the note. If that write fails the status is
-/// `WriteFault`, whose own line is tried then, once.
+/// If the words are no such command, the status is `Usage`, and nothing is read or written.
+///
+/// Each status except `Done` writes its one line to the note. If that write fails, the status is
+/// `WriteFault`, and its own line is tried once.
 pub fn run_alone<S: Source, K: Sink, N: Sink>(
     alloc: Global,
     words: &[String],

@@ -1,4 +1,4 @@
-//! The lines of the note that tell how a command ended that neither serves nor dials.
+//! The lines of the note for the ends of commands that neither serve nor dial.
 
 ghost use Rattle.std.specs.Prelude.{◌≡◌, ◌⊎◌, ◌<◌, Err, IfOk, false, length};
 ghost use Rattle.adb_outside.specs.Outside.{Counts};
@@ -114,7 +114,7 @@ fn say_bad_capture<N: Sink>(alloc: Global, note: &mut N, refusal: Refusal) -> St
     }
 }
 
-/// The line that names a refusal.
+/// Returns the line that names a refusal.
 #[tactic(auto, unfolding(crate::specs::Notes::bad_capture_line))]
 fn refusal_line(alloc: Global, refusal: Refusal) -> Result<Text, AllocError>
     ensures line { IfOk result (λ line. line ≡ bad_capture_line refusal) }
@@ -144,7 +144,7 @@ fn say_bad_script<N: Sink>(alloc: Global, note: &mut N, line: u32) -> Status
     }
 }
 
-/// The line that names a line of a script.
+/// Returns the line that names a line of a script.
 #[tactic(auto, unfolding(crate::specs::Notes::bad_script_line))]
 fn line_of_script(alloc: Global, line: u32) -> Result<Text, AllocError>
     ensures text { IfOk result (λ text. text ≡ bad_script_line line) }

@@ -1,4 +1,5 @@
-//! The top call of `adbhub`.
+//! The top calls of `adbhub`: `run` runs any command, and `run_alone` one that neither serves nor
+//! dials.
 #![tactic(auto)]
 
 mod alone;

@@ -1,4 +1,4 @@
-//! The lines of the note: one for each status but Done.
+//! The lines of the note: one for each status except `Done`.
 
 ghost use Rattle.std.specs.Prelude.{◌≡◌, ◌≢◌, ◌<◌, ◌≤◌, ◌⊎◌, length};
 ghost use Rattle.adb_outside.specs.Outside.{Counts};
@@ -12,7 +12,7 @@ ghost use Rattle.adb_top.specs.Notes.{IsJust, IsLine, WritesNote};
 use crate::status::Status;
 use adb_outside::{Sink, Wrote};
 
-/// Tells the note that the words are no command.
+/// Writes the line for words that are no command.
 pub fn say_usage<N: Sink>(note: &mut N) -> Status
     ensures status { (result ≡ Status.Usage) ⊎ (result ≡ Status.WriteFault) }
     ensures told { WritesNote result (IsJust Status.Usage usage_line)
@@ -26,7 +26,7 @@ pub fn say_usage<N: Sink>(note: &mut N) -> Status
     )
 }
 
-/// Tells the note that the source failed.
+/// Writes the line for a source that failed.
 pub(crate) fn say_read_fault<N: Sink>(note: &mut N) -> Status
     ensures status { (result ≡ Status.ReadFault) ⊎ (result ≡ Status.WriteFault) }
     ensures told { WritesNote result (IsJust Status.ReadFault read_fault_line)
@@ -36,7 +36,7 @@ pub(crate) fn say_read_fault<N: Sink>(note: &mut N) -> Status
     say(note, Status::ReadFault, b"adbhub: read fault\n")
 }
 
-/// Tells the note that memory ran out.
+/// Writes the line for an allocation failure.
 pub fn say_out_of_memory<N: Sink>(note: &mut N) -> Status
     ensures status { (result ≡ Status.OutOfMemory) ⊎ (result ≡ Status.WriteFault) }
     ensures told { WritesNote result (IsJust Status.OutOfMemory out_of_memory_line)
@@ -46,7 +46,7 @@ pub fn say_out_of_memory<N: Sink>(note: &mut N) -> Status
     say(note, Status::OutOfMemory, b"adbhub: out of memory\n")
 }
 
-/// Tells the note that a history is not legal.
+/// Writes the line for a history that is not legal.
 pub(crate) fn say_illegal<N: Sink>(note: &mut N) -> Status
     ensures status { (result ≡ Status.Illegal) ⊎ (result ≡ Status.WriteFault) }
     ensures told { WritesNote result (IsJust Status.Illegal illegal_history_line)
@@ -56,7 +56,7 @@ pub(crate) fn say_illegal<N: Sink>(note: &mut N) -> Status
     say(note, Status::Illegal, b"adbhub: illegal history\n")
 }
 
-/// Tells the note that what keeps the history failed.
+/// Writes the line for a recorder that failed.
 pub fn say_record_fault<N: Sink>(note: &mut N) -> Status
     ensures status { (result ≡ Status.RecordFault) ⊎ (result ≡ Status.WriteFault) }
     ensures told { WritesNote result (IsJust Status.RecordFault record_fault_line)
@@ -66,7 +66,7 @@ pub fn say_record_fault<N: Sink>(note: &mut N) -> Status
     say(note, Status::RecordFault, b"adbhub: record fault\n")
 }
 
-/// Tells the note that a port could not be listened on, or that its door failed.
+/// Writes the line for a port on which listening failed, or for a door that failed.
 pub(crate) fn say_door_fault<N: Sink>(note: &mut N) -> Status
     ensures status { (result ≡ Status.DoorFault) ⊎ (result ≡ Status.WriteFault) }
     ensures told { WritesNote result (IsJust Status.DoorFault door_fault_line)
@@ -76,7 +76,7 @@ pub(crate) fn say_door_fault<N: Sink>(note: &mut N) -> Status
     say(note, Status::DoorFault, b"adbhub: door fault\n")
 }
 
-/// Tries the line of WriteFault, once, behind a line that could not be written.
+/// Tries to write the line of `WriteFault`, once, after a line that could not be written.
 pub(crate) fn say_lost_line<N: Sink>(note: &mut N) -> Status
     ensures status { result ≡ Status.WriteFault }
     ensures told { WritesNote result (IsJust Status.WriteFault write_fault_line)
@@ -88,7 +88,7 @@ pub(crate) fn say_lost_line<N: Sink>(note: &mut N) -> Status
     Status::WriteFault
 }
 
-/// Writes the line of a status. Where that fails the line of WriteFault is tried once.
+/// Writes the line of a status. If that fails, tries the line of `WriteFault` once.
 pub(crate) fn say<N: Sink>(note: &mut N, status: Status, line: &[u8]) -> Status
     requires some { 0 < length line.now }
     requires own { IsLine status line.now }

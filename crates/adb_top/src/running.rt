@@ -29,15 +29,15 @@ use std::thread::Threads;
 /// `run_alone`.
 ///
 /// `serve` listens at a port of the yard, plugs in the devices that it is given, and serves the
-/// clients that come, until one of them kills the server. It reads nothing of the source and writes
-/// nothing to the sink; the history goes to the yard's recorder, which is returned. It waits as long
-/// as its clients and devices do.
+/// clients that come, until one of them kills the server. It reads nothing from the source and
+/// writes nothing to the sink. The history goes to the yard's recorder, which is returned. `serve`
+/// waits as long as its clients and devices do.
 ///
-/// A client tool asks the server at a port of this machine for one thing, and prints the answer
+/// A client tool asks the server at a port of this machine for one job, and writes the answer
 /// (`adb_tools::run_tool`). It waits as long as that server does.
 ///
-/// Each status other than Done writes its one line to the note, after the line that says where a
-/// server listens. If that write fails, the status is WriteFault, whose own line is tried once.
+/// Each status except `Done` writes its one line to the note, after the line that names the port of
+/// a server. If that write fails, the status is `WriteFault`, and its own line is tried once.
 pub fn run<
     W: Threads + Wait + Copy + Send + Sync + Drop + 'static,
     S: Source,
@@ -60,7 +60,7 @@ pub fn run<
     requires records { is_serve (texts words.now) ≡ true → (asked : Serving)
         → serve_of (texts words.now) ≡ Some asked → Y.records yard asked.records }
 
-    // A command that neither serves nor dials keeps each promise of `run_alone`.
+    // A command that neither serves nor dials has every property of `run_alone`.
     ensures alone { is_serve (texts words.now) ≡ false → names_tool (texts words.now) ≡ false
         → RunsAlone words.now result.status
         (record { told = S.left; faults = S.faults; steady = S.steady })
@@ -68,32 +68,36 @@ pub fn run<
         (record { told = N.written; faults = N.faults; steady = N.steady })
         source.old source.new sink.old sink.new note.old note.new }
 
-    // A server reads nothing, and writes to the note alone.
+    // A server reads nothing, and writes only to the note.
     ensures untouched { is_serve (texts words.now) ≡ true
         → (source.new ≡ source.old) × (sink.new ≡ sink.old) }
 
-    // Words that begin with `serve` and are no command serve nobody, and the note says so.
+    // Words that begin with `serve` and are no command serve no client, and the note has the line
+    // for them.
     ensures usage { is_serve (texts words.now) ≡ true → serve_of (texts words.now) ≡ None
         → SaysUsage result.status (seen N.steady N.faults N.written) note.old note.new }
     ensures command { is_serve (texts words.now) ≡ true → result.status ≡ Status.Usage
         → serve_of (texts words.now) ≡ None }
 
-    // How a server ends, what the note has, and what no steady and no lasting yard comes to.
+    // The end of a server, the contents of the note, and the ends that a steady or lasting yard
+    // rules out.
     ensures serves { (asked : Serving) → serve_of (texts words.now) ≡ Some asked
         → Serves asked result.status (Y.steady yard) (Y.lasting yard)
         (seen N.steady N.faults N.written) note.old note.new }
 
-    // The recorder of a server comes back with the legal history that it kept, by its status.
+    // The recorder of a server is returned with the legal history that it kept, depending on the
+    // status.
     ensures kept { (asked : Serving) → serve_of (texts words.now) ≡ Some asked
         → KeepsRecord Y.Keeper.stands Y.Keeper.faults result.status result.recorder }
 
-    // Words that begin with a tool's name and are none dial nothing, and the note says so.
+    // Words that begin with a tool's name and call no tool dial nothing, and the note has the line
+    // for them.
     ensures unheard { is_serve (texts words.now) ≡ false → names_tool (texts words.now) ≡ true
         → tool_of (texts words.now) ≡ None
         → SaysUsage result.status (seen N.steady N.faults N.written) note.old note.new
         × (source.new ≡ source.old) × (sink.new ≡ sink.old) }
 
-    // What a client tool asked for, what it told of the answer, and how it ended.
+    // The requests of a client tool, the output of the answer, and the end of the tool.
     ensures tools { is_serve (texts words.now) ≡ false → names_tool (texts words.now) ≡ true
         → RunsTool words.now
         (seen S.steady S.faults S.left) (seen K.steady K.faults K.written)

@@ -1,4 +1,4 @@
-//! `serve`.
+//! The command `serve`.
 
 ghost use Rattle.std.specs.Prelude.{◌≡◌, None, Some, true};
 ghost use Rattle.adb_asking.specs.Telling.{seen};
@@ -22,7 +22,7 @@ use std::alloc::Global;
 use std::sync::Wait;
 use std::thread::Threads;
 
-/// Serves as the words say, and writes to the note how that ended unless it is Done.
+/// Serves as the words say, and writes the line of the server's end to the note, except for `Done`.
 pub(crate) fn run_serve<
     W: Threads + Wait + Copy + Send + Sync + Drop + 'static,
     N: Sink,
@@ -59,7 +59,7 @@ pub(crate) fn run_serve<
     }
 }
 
-/// Writes to the note how a server ended, and gives its recorder on.
+/// Writes the line of a server's end to the note, and returns its recorder.
 fn say_ended<N: Sink, R: Drop>(note: &mut N, ended: Ended<R>) -> Ran<R>
     ensures tells { Tells ended.served result.status (seen N.steady N.faults N.written)
         note.old note.new }
@@ -70,7 +70,7 @@ fn say_ended<N: Sink, R: Drop>(note: &mut N, ended: Ended<R>) -> Ran<R>
     Ran { status, recorder }
 }
 
-/// Writes to the note how a server ended, unless it is Done.
+/// Writes the line of a server's end to the note, except for `Done`.
 fn say_served<N: Sink>(note: &mut N, served: Served) -> Status
     ensures { Tells served result (seen N.steady N.faults N.written) note.old note.new }
 {

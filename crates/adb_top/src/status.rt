@@ -6,7 +6,7 @@ ghost use Rattle.adb_top.specs.Notes.{code_of};
 /// The status of a run: of a command that neither serves nor dials, a server, or a client tool.
 #[derive(Clone, Copy, Debug, PartialEq, Eq, Drop)]
 pub enum Status {
-    /// The run did all that it has to do.
+    /// The run is complete.
     Done,
     /// The words are no command. Nothing was read.
     Usage,
@@ -20,13 +20,13 @@ pub enum Status {
     OutOfMemory,
     /// The recorder of a server failed.
     RecordFault,
-    /// The port of a server could not be listened on, or its door failed.
+    /// Listening on the port of a server failed, or its door failed.
     DoorFault,
     /// A line of the script is refused.
     BadScript,
-    /// The server refused what a client tool asked for.
+    /// The server refused the request of a client tool.
     Refused,
-    /// The server's answer is none that a client tool may be given.
+    /// The server's answer is not valid for the request.
     BadAnswer,
     /// The server could not be dialled, or the connection to it failed.
     PortFault,
@@ -37,7 +37,7 @@ pub enum Status {
 }
 
 impl Status {
-    /// The exit code of a program that ends so.
+    /// Returns the exit code of a program that ends with this status.
     pub fn code(&self) -> u8
         ensures { result ≡ code_of self.now }
     {

@@ -1,4 +1,4 @@
-//! The lines of the note that tell how a client tool ended.
+//! The lines of the note for the ends of client tools.
 
 ghost use Rattle.std.specs.Prelude.{◌≡◌, ◌⊎◌, ◌<◌, IfOk, length};
 ghost use Rattle.adb_outside.specs.Outside.{Counts};
@@ -14,7 +14,7 @@ use adb_commands::push_number;
 use adb_outside::{Sink, Text, Wrote};
 use std::alloc::{AllocError, Global};
 
-/// Tells the note that a server refused what was asked, with its text as it is to be shown.
+/// Writes the line for a refusal of a server, with its escaped text.
 pub(crate) fn say_refused<N: Sink>(alloc: Global, note: &mut N, shown: &[u8]) -> Status
     ensures status { (result ≡ Status.Refused) ⊎ (result ≡ Status.OutOfMemory)
         ⊎ (result ≡ Status.WriteFault) }
@@ -30,7 +30,7 @@ pub(crate) fn say_refused<N: Sink>(alloc: Global, note: &mut N, shown: &[u8]) ->
     }
 }
 
-/// Tells the note which byte of a server's answer may not stand there.
+/// Writes the line for a server's answer that is not valid, with the offset of the byte.
 pub(crate) fn say_bad_answer<N: Sink>(alloc: Global, note: &mut N, offset: u64) -> Status
     ensures status { (result ≡ Status.BadAnswer) ⊎ (result ≡ Status.OutOfMemory)
         ⊎ (result ≡ Status.WriteFault) }
@@ -46,7 +46,7 @@ pub(crate) fn say_bad_answer<N: Sink>(alloc: Global, note: &mut N, offset: u64) 
     }
 }
 
-/// Tells the note that a server could not be dialled, or that the connection failed.
+/// Writes the line for a server that could not be dialled, or a connection that failed.
 pub(crate) fn say_port_fault<N: Sink>(note: &mut N) -> Status
     ensures status { (result ≡ Status.PortFault) ⊎ (result ≡ Status.WriteFault) }
     ensures told { WritesNote result (IsJust Status.PortFault port_fault_line)
@@ -56,7 +56,7 @@ pub(crate) fn say_port_fault<N: Sink>(note: &mut N) -> Status
     say(note, Status::PortFault, b"adbhub: port fault\n")
 }
 
-/// Tells the note that what was to be pushed is too large.
+/// Writes the line for a push that is too large.
 pub(crate) fn say_too_large<N: Sink>(note: &mut N) -> Status
     ensures status { (result ≡ Status.TooLarge) ⊎ (result ≡ Status.WriteFault) }
     ensures told { WritesNote result (IsJust Status.TooLarge too_large_line)
@@ -66,7 +66,7 @@ pub(crate) fn say_too_large<N: Sink>(note: &mut N) -> Status
     say(note, Status::TooLarge, b"adbhub: input too large\n")
 }
 
-/// The line that shows a refusal.
+/// Returns the line that shows a refusal.
 #[tactic(auto, unfolding(crate::specs::Notes::refused_line))]
 fn line_of_refusal(alloc: Global, shown: &[u8]) -> Result<Text, AllocError>
     ensures line { IfOk result (λ line. line ≡ refused_line shown.now) }
@@ -78,7 +78,7 @@ fn line_of_refusal(alloc: Global, shown: &[u8]) -> Result<Text, AllocError>
     Ok(line)
 }
 
-/// The line that names a byte of an answer.
+/// Returns the line that names a byte of an answer.
 #[tactic(auto, unfolding(crate::specs::Notes::bad_answer_line))]
 fn line_of_offset(alloc: Global, offset: u64) -> Result<Text, AllocError>
     ensures line { IfOk result (λ line. line ≡ bad_answer_line offset) }

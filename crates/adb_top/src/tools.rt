@@ -18,7 +18,7 @@ use adb_yard::Yard;
 use std::alloc::{AllocError, Global};
 use std::sync::Wait;
 
-/// Calls a tool as the words say, and tells the note how that ended where it is not done.
+/// Calls a tool as the words say, and writes the line of its end to the note, except for `Done`.
 pub(crate) fn run_call<W: Wait + Copy + Drop, S: Source, K: Sink, N: Sink, Y: Yard>(
     rt: W,
     alloc: Global,
@@ -40,7 +40,7 @@ pub(crate) fn run_call<W: Wait + Copy + Drop, S: Source, K: Sink, N: Sink, Y: Ya
     say_end(alloc, note, end)
 }
 
-/// Tells the note how a tool ended, where it is not done.
+/// Writes the line of a tool's end to the note, except for `Done`.
 fn say_end<N: Sink>(alloc: Global, note: &mut N, end: ToolEnd) -> Status
     ensures { TellsEnd end result (seen N.steady N.faults N.written) note.old note.new }
 {
@@ -57,7 +57,7 @@ fn say_end<N: Sink>(alloc: Global, note: &mut N, end: ToolEnd) -> Status
     }
 }
 
-/// Tells the note that a server refused with a text.
+/// Writes the line of a refusal with a text to the note.
 fn say_refusal<N: Sink>(alloc: Global, note: &mut N, text: &Text) -> Status
     ensures { TellsEnd (ToolEnd.Refused text.now) result (seen N.steady N.faults N.written)
         note.old note.new }
@@ -68,7 +68,7 @@ fn say_refusal<N: Sink>(alloc: Global, note: &mut N, text: &Text) -> Status
     }
 }
 
-/// A text as it is shown.
+/// Returns a text in its escaped form.
 fn shown(alloc: Global, text: &Text) -> Result<Text, AllocError>
     ensures { IfOk result (λ shown. shown ≡ escaped text.now) }
 {

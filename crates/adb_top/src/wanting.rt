@@ -1,4 +1,4 @@
-//! Which devices a run is to be given.
+//! The devices of a run.
 
 ghost use Rattle.std.specs.Prelude.{Err};
 ghost use Rattle.adb_words.specs.Serve.{is_serve};
@@ -7,9 +7,12 @@ ghost use Rattle.adb_top.specs.Wanted.{AsksForPorts};
 use adb_words::{Ports, WordsError, is_serve, read_serve};
 use std::alloc::Global;
 
-/// The devices that the words behind the program's name ask for: the model devices, by their
-/// serials, and the devices that are reached by a port of this machine. Words that do not serve ask
-/// for none. `Usage` comes exactly where words that begin with `serve` are no command.
+/// Returns the devices that the words after the program's name ask for: the serials of the model
+/// devices, and the ports of this machine to dial for the others. Words that do not serve ask for
+/// none.
+///
+/// - `Usage`: the words begin with `serve` and are no command.
+/// - `OutOfMemory`: an allocation failed.
 pub fn wanted(alloc: Global, words: &[String]) -> Result<Ports, WordsError>
     ensures serve { AsksForPorts words.now result }
 {

@@ -1,4 +1,5 @@
-//! Trees of files that the scripts of the command `copy` name, and which of their lines are refused.
+//! Trees of files that the scripts of the command `copy` name, and the lines that are refused.
+//! `read_tree` parses such a script.
 #![tactic(auto)]
 
 mod laws;

@@ -1,4 +1,4 @@
-//! What a line of a tree's script names.
+//! The meaning of a line of a tree's script.
 
 ghost use Rattle.std.specs.Prelude.{◌≡◌};
 ghost use Rattle.adb_trees.specs.Lines.{file_line, line_of, mode_of, mtime_of};
@@ -7,10 +7,10 @@ ghost use Rattle.adb_trees.specs.Lines.{number_within, size_of};
 use adb_outside::read_number;
 use adb_script::{MAX_MODE, MIN_MODE, Word, split_once};
 
-/// The most decimal digits of a number.
+/// The maximum number of decimal digits of a number.
 pub const DIGITS: usize = 10;
 
-/// The most bytes of a file.
+/// The maximum number of bytes of a file.
 pub const MAX_FILE: u32 = 16_777_216;
 
 /// A file that a line names.
@@ -19,11 +19,12 @@ pub struct FileLine<'a> {
     pub path: Word<'a>,
     pub mode: u32,
     pub mtime: u32,
-    /// How many bytes the file has.
+    /// The number of bytes of the file.
     pub size: u32,
 }
 
-/// What a line says that has no newline; `None` exactly where it names no file. It takes no memory.
+/// Parses a line without its newline. Returns `None` exactly if it names no file. It allocates
+/// nothing.
 pub fn read_line(text: &[u8]) -> Option<FileLine<'_>>
     ensures { result ≡ line_of text.now }
 {
@@ -36,7 +37,7 @@ pub fn read_line(text: &[u8]) -> Option<FileLine<'_>>
     }
 }
 
-/// A file at a path.
+/// Returns a file at a path.
 fn file_line<'a>(
     path: &'a [u8],
     mode: Option<u32>,
@@ -73,7 +74,7 @@ fn size_of(word: &[u8]) -> Option<u32>
     number_within(word, 0, MAX_FILE)
 }
 
-/// The number of at most ten digits that a word is, between these.
+/// Parses a word as a number of at most ten digits, from `least` to `most`.
 fn number_within(word: &[u8], least: u32, most: u32) -> Option<u32>
     ensures { result ≡ number_within least most word.now }
 {

@@ -1,4 +1,4 @@
-//! A tree of which only the sizes of its files are kept.
+//! A tree that keeps only the sizes of its files.
 
 ghost use Rattle.std.specs.Option.{option_copied};
 ghost use Rattle.std.specs.Prelude.{◌≡◌, ◌+◌, ◌^◌, ◌<◌, ◌≤◌, [], Some, true, is_some, length, IfOk, OnErr};
@@ -20,8 +20,8 @@ use byteorder::{ByteOrder, LittleEndian};
 use std::alloc::{AllocError, Global};
 use std::marker::Model;
 
-/// Files whose bytes are i mod 251, of which it keeps how many they are. Contracts see it as the list of
-/// its files, with their bytes, in rising order of the bytes of their paths.
+/// Files in which each byte is its index mod 251. Only the length of each file is kept. Contracts
+/// see the list of files, with their bytes, in rising order of the bytes of their paths.
 #[derive(Drop)]
 pub struct NamedTree {
     alloc: Global,
@@ -41,7 +41,7 @@ impl Model for NamedTree {
 }
 
 impl NamedTree {
-    /// No files. It takes no memory.
+    /// Makes a tree without files. It allocates nothing.
     pub fn new(alloc: Global) -> NamedTree
         ensures { result ≡ [] }
     {
@@ -51,23 +51,23 @@ impl NamedTree {
         }
     }
 
-    /// The least path of a file that is greater than `after` in the order of bytes; `None` exactly
-    /// where no file has a greater one.
+    /// Returns the least path of a file that is greater than `after` in the order of bytes. `None`
+    /// exactly if no file has a greater one.
     pub fn next_path(&self, after: &[u8]) -> Option<&[u8]>
         ensures { option_copied result ≡ next_path after.now self.now }
     {
         self.kept.next_path(after)
     }
 
-    /// The files are a map from path to file.
+    /// Proves that the files are a map from path to file.
     pub fn are_a_map(&self)
         ensures { IsFileMap self.now }
     {
         self.kept.get(b"");
     }
 
-    /// What a session writes that pushes the file of a path to that path. The bytes of the file are made
-    /// for it.
+    /// Returns the bytes of a session that pushes the file at a path to that path. The bytes of the
+    /// file are made for it.
     pub fn push_text(&self, alloc: Global, path: &[u8]) -> Result<Text, AllocError>
         requires { is_some (file_at path.now self.now) ≡ true }
         ensures { (file : File) → file_at path.now self.now ≡ Some file
@@ -79,15 +79,16 @@ impl NamedTree {
         }
     }
 
-    /// Whether a path was named.
+    /// Returns whether a path was named.
     pub fn has(&self, path: &[u8]) -> bool
         ensures { result ≡ is_some (file_at path.now self.now) }
     {
         self.kept.get(path).is_some()
     }
 
-    /// Puts the file of a line; `false` where it is refused. The tree is as before then, and after want
-    /// of memory.
+    /// Puts the file of a line. Returns `false` if it is refused; the tree is then unchanged.
+    ///
+    /// `AllocError`: an allocation failed, and the tree is unchanged.
     pub(crate) fn put(&mut self, line: &FileLine<'_>) -> Result<bool, AllocError>
         requires room { total self.old + line.now.size ≤ MAX_TREE }
         requires few { length self.old < MAX_LINES }
@@ -104,7 +105,9 @@ impl NamedTree {
     }
 }
 
-/// Puts a file; `false` where it is refused. The files are as before then, and after want of memory.
+/// Puts a file. Returns `false` if it is refused; the files are then unchanged.
+///
+/// `AllocError`: an allocation failed, and the files are unchanged.
 fn put_file(files: &mut Files, path: &[u8], file: File) -> Result<bool, AllocError>
     requires { length path.now < 2 ^ 32 }
     ensures put { IfOk result (λ put. Puts put path.now file files.old files.new) }
@@ -117,7 +120,7 @@ fn put_file(files: &mut Files, path: &[u8], file: File) -> Result<bool, AllocErr
     }
 }
 
-/// What pushes the file that is kept as this one.
+/// Returns the bytes that push the file that is kept as this one.
 fn text_of(alloc: Global, path: &[u8], kept: &File) -> Result<Text, AllocError>
     requires path { length path.now ≤ MAX_WORD }
     requires size { length kept.now.bytes ≡ 4 }
@@ -128,7 +131,7 @@ fn text_of(alloc: Global, path: &[u8], kept: &File) -> Result<Text, AllocError>
     pattern_text(alloc, path, kept.mode, kept.mtime, size)
 }
 
-/// A number of bytes, as it is kept.
+/// Encodes a number of bytes as it is kept.
 fn size_bytes(size: u32) -> [u8; 4]
     ensures bytes { result ≡ little_bytes 4 size }
     ensures size { size < 2 ^ 32 }
@@ -138,7 +141,7 @@ fn size_bytes(size: u32) -> [u8; 4]
     bytes
 }
 
-/// The number of bytes that is kept so.
+/// Decodes a number of bytes that is kept.
 fn size_in(bytes: &[u8]) -> u32
     requires { length bytes.now ≡ 4 }
     ensures { result ≡ little_number 4 bytes.now }

@@ -1,4 +1,4 @@
-//! Reading the tree of a script.
+//! Parsing of the tree of a script.
 
 ghost use Rattle.std.specs.Prelude.{◌≡◌, ◌≢◌, ◌<◌, ◌+◌, ℕ, Some, None, Err, length, IfOk, OnOk};
 ghost use Rattle.adb_trees.specs.Trees.{AreNamed, Reads, first_bad, tree_of};
@@ -8,8 +8,11 @@ use crate::tree::Tree;
 use adb_script::{MAX_LINES, MAX_SCRIPT, ScriptError, split_line};
 use std::alloc::{AllocError, Global};
 
-/// Reads the files that the lines of a script name: lines that end with a newline, a last one without
-/// it among them. Where a line is refused the first such is told, or want of memory.
+/// Reads the files that the lines of a script name: lines that end with a newline, which the last
+/// line may lack.
+///
+/// - `BadLine`: a line is refused; the first such line is reported.
+/// - `OutOfMemory`: an allocation failed.
 pub fn read_tree(alloc: Global, script: &[u8]) -> Result<NamedTree, ScriptError>
     ensures tree { IfOk result (λ files. tree_of script.now ≡ Some files) }
     ensures named { IfOk result (λ files. AreNamed files) }
@@ -29,7 +32,7 @@ pub fn read_tree(alloc: Global, script: &[u8]) -> Result<NamedTree, ScriptError>
     Ok(tree.into_files())
 }
 
-/// Takes the first line of what is left of a script, behind so many lines, and gives what follows
+/// Takes the first line of the rest of a script, after `lines` lines, and returns the bytes after
 /// it.
 fn read_line<'a>(
     tree: &mut Tree,

@@ -1,4 +1,4 @@
-//! A tree, as lines name its files.
+//! A tree that is built from the lines that name its files.
 
 ghost use Rattle.std.specs.Prelude.{◌≡◌, ◌+◌, ◌<◌, length, nat_lt, is_some, Some, IfOk};
 ghost use Rattle.adb_files.specs.Files.{file_at};
@@ -12,10 +12,11 @@ use crate::named::NamedTree;
 use std::alloc::{AllocError, Global};
 use std::marker::Model;
 
-/// The most bytes that all files of a tree may have.
+/// The maximum number of bytes of all files of a tree.
 pub const MAX_TREE: u32 = 67_108_864;
 
-/// The files that the lines so far name. Contracts see them, and how many bytes they have together.
+/// The files that the lines so far name. Contracts see them, and the number of bytes that they have
+/// together.
 #[derive(Drop)]
 pub struct Tree {
     files: NamedTree,
@@ -36,7 +37,7 @@ impl Model for Tree {
 }
 
 impl Tree {
-    /// No files. It takes no memory.
+    /// Makes a tree without files. It allocates nothing.
     pub fn new(alloc: Global) -> Tree
         ensures { result ≡ no_tree }
     {
@@ -46,8 +47,8 @@ impl Tree {
         }
     }
 
-    /// Takes the file that a line names, without its newline; `false` where the line is refused. The
-    /// tree is as before then.
+    /// Takes the file that a line names, given without its newline. Returns `false` if the line is
+    /// refused; the tree is then unchanged.
     pub fn take(&mut self, text: &[u8]) -> Result<bool, AllocError>
         requires { length self.old.files < MAX_LINES }
         ensures { IfOk result (λ taken.
@@ -59,7 +60,7 @@ impl Tree {
         }
     }
 
-    /// The files.
+    /// Returns the files.
     pub fn into_files(self) -> NamedTree
         ensures { result ≡ self.files }
     {
@@ -82,14 +83,14 @@ impl Tree {
         Ok(true)
     }
 
-    /// Whether a path was named.
+    /// Returns whether a path was named.
     fn has(&self, path: &[u8]) -> bool
         ensures { result ≡ is_some (file_at path.now self.now.files) }
     {
         self.files.has(path)
     }
 
-    /// Whether so many bytes more are too many.
+    /// Returns whether `size` more bytes are too many.
     fn is_too_much(&self, size: u32) -> bool
         ensures { result ≡ nat_lt MAX_TREE (self.now.size + size) }
     {

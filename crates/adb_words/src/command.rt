@@ -1,26 +1,26 @@
-//! What the words of a command line are.
+//! The commands that a command line can name.
 
 ghost use Rattle.std.specs.Prelude.{◌≡◌};
 
 use adb_outside::MAX_ASKED;
 use std::alloc::AllocError;
 
-/// The most streams of a load.
+/// The maximum number of streams of a load.
 pub const MAX_STREAMS: u16 = 10_000;
 
-/// The most digits of a number.
+/// The maximum number of digits of a number.
 pub const MAX_DIGITS: usize = 20;
 
-/// The port of a server, where no word says another.
+/// The default port of a server.
 pub const DEFAULT_PORT: u16 = 5037;
 
 /// The maximum number of devices that the words of `serve` may name.
 pub const MAX_SERVED: usize = 16;
 
-/// The most bytes of a path or a command that a tool is given.
+/// The maximum number of bytes of the path or the command that a tool is given.
 pub const MAX_OPERAND: usize = MAX_ASKED;
 
-/// The numbers that definitions take from the code, written out.
+/// States the values of these constants for the definitions that import them.
 pub fn limits_are()
     ensures streams { MAX_STREAMS ≡ 10000 }
     ensures digits { MAX_DIGITS ≡ 20 }
@@ -29,27 +29,27 @@ pub fn limits_are()
     ensures operand { MAX_OPERAND ≡ 1000 }
 {}
 
-/// A command, with what its words give.
+/// A command with its arguments.
 #[derive(Clone, Copy, Debug, PartialEq, Eq, Drop)]
 pub enum Command {
-    /// A capture is read, and its history is written.
+    /// Reads a capture and writes its history.
     Replay,
-    /// A history is read, and judged.
+    /// Reads a history and judges it.
     Check,
-    /// A load is made, drawn from this seed, of that many streams.
+    /// Generates a load of this many streams from this seed.
     Gen { seed: u64, streams: u16 },
-    /// A script is read and answered, its choices drawn from this seed.
+    /// Reads a script and answers it. Its choices are drawn from this seed.
     Local { seed: u64 },
-    /// A tree of files is copied, the choices of its copying drawn from this seed.
+    /// Copies a tree of files. The choices of the copying are drawn from this seed.
     Copy { seed: u64 },
 }
 
-/// Why words give no command.
+/// The reason why words give no command.
 #[derive(Clone, Copy, Debug, PartialEq, Eq, Drop)]
 pub enum WordsError {
-    /// They are no command.
+    /// The words are no command.
     Usage,
-    /// Memory ran out.
+    /// An allocation failed.
     OutOfMemory,
 }
 

@@ -1,4 +1,4 @@
-//! Words with options and operands, read by a simple command.
+//! Parsing of words with options and operands, by a clap command.
 
 ghost use Rattle.std.specs.Prelude.{◌≡◌, ◌≢◌, ◌⊎◌, [], true, false, Err, IfOk};
 ghost use Rattle.clap.specs.Words.{HasMatchesOf, app_of, fault_of, found_of, is_simple_and_free};
@@ -14,21 +14,21 @@ use crate::operands::{is_operand, matches_of, named_command};
 use clap::{Arg, ArgAction, ArgMatches, Command};
 use std::alloc::{AllocError, Global};
 
-/// A command without arguments and help, that is given the words behind its name.
+/// Returns a command without arguments and without help. It parses the words after its name.
 pub fn bare_command<'a>(alloc: Global, name: &'a str) -> Command<'a>
     ensures { app_of result ≡ bare_app name.entry.now }
 {
     named_command(alloc, name).disable_help_flag(true)
 }
 
-/// A command whose one argument is a port.
+/// Returns a command with a port as its only argument.
 pub fn port_only<'a>(alloc: Global, name: &'a str) -> Result<Command<'a>, AllocError>
     ensures { IfOk result (λ command. app_of command ≡ port_only name.entry.now) }
 {
     with_option(alloc, bare_command(alloc, name), "port")
 }
 
-/// A command with one more option that has a value. Each of its uses adds one.
+/// Adds an option with a value to a command. Each use of the option adds a value.
 pub fn with_option<'a>(
     alloc: Global,
     command: Command<'a>,
@@ -40,8 +40,8 @@ pub fn with_option<'a>(
     command.arg(Arg::new(alloc, name).long(name).action(ArgAction::Append))
 }
 
-/// A command with one more option that has no value. Each of its uses adds the empty one, so that
-/// they can be counted.
+/// Adds an option without a value to a command. Each use of the option adds an empty value, so that
+/// the uses can be counted.
 pub fn with_flag<'a>(
     alloc: Global,
     command: Command<'a>,
@@ -54,7 +54,7 @@ pub fn with_flag<'a>(
     command.arg(flag.num_args(0).default_missing_value(""))
 }
 
-/// A command with operands, which add up under a name.
+/// Adds operands to a command. All of them are values of one name.
 pub fn with_operands<'a>(
     alloc: Global,
     command: Command<'a>,
@@ -66,9 +66,9 @@ pub fn with_operands<'a>(
     command.arg(Arg::new(alloc, name).action(ArgAction::Append))
 }
 
-/// What a command makes of words, each of which is an operand or one of these options and flags.
-/// Any other word that begins with a hyphen is refused, `--` among them, which the command itself
-/// would take.
+/// Parses words with a command. Each word must be an operand or one of these options and flags. Any
+/// other word that begins with a hyphen is refused, including `--`, which the command itself would
+/// accept.
 pub fn given_of<'a>(
     command: Command<'a>,
     options: &[&str],
@@ -90,7 +90,7 @@ pub fn given_of<'a>(
     matches_of(command, words)
 }
 
-/// The values of a name, in the order of the words, or what is handed over for none.
+/// Returns the values of a name in the order of the words, or `none` if the name has no value.
 pub fn values_in<'m, 'a>(
     matches: &'m ArgMatches<'a>,
     name: &str,
@@ -102,7 +102,7 @@ pub fn values_in<'m, 'a>(
     matches.get_raw(name).unwrap_or(none)
 }
 
-/// Whether each word is an operand, or one of these options and flags.
+/// Returns whether each word is an operand or one of these options and flags.
 fn are_known(words: &[String], options: &[&str], flags: &[&str]) -> bool
     ensures { result ≡ are_known (texts_in options.now) (texts_in flags.now) words.now }
 {
@@ -111,14 +111,14 @@ fn are_known(words: &[String], options: &[&str], flags: &[&str]) -> bool
         .all(|word| is_known(word.as_str(), options, flags))
 }
 
-/// Whether a word is an operand, or one of these options and flags.
+/// Returns whether a word is an operand or one of these options and flags.
 fn is_known(word: &str, options: &[&str], flags: &[&str]) -> bool
     ensures { result ≡ is_known (texts_in options.now) (texts_in flags.now) word.now }
 {
     is_operand(word) || is_known_option(word.as_bytes(), options, flags)
 }
 
-/// Whether a word is one of these options and flags.
+/// Returns whether a word is one of these options and flags.
 fn is_known_option(word: &[u8], options: &[&str], flags: &[&str]) -> bool
     ensures { result ≡ is_known_option (texts_in options.now) (texts_in flags.now) word.now }
 {
@@ -128,7 +128,8 @@ fn is_known_option(word: &[u8], options: &[&str], flags: &[&str]) -> bool
     }
 }
 
-/// The same of what stands behind its hyphens, by the place of its first `=`.
+/// Returns whether a text, which follows the two hyphens of a word, is one of these options and
+/// flags. `equals` is the index of its first `=`.
 fn is_known_at(text: &[u8], equals: Option<usize>, options: &[&str], flags: &[&str]) -> bool
     requires { equals ≡ equals_at text.now }
     ensures { result ≡ is_known_at (texts_in options.now) (texts_in flags.now) text.now equals }
@@ -139,21 +140,21 @@ fn is_known_at(text: &[u8], equals: Option<usize>, options: &[&str], flags: &[&s
     }
 }
 
-/// Where the first `=` stands.
+/// Returns the index of the first `=`.
 fn equals_at(text: &[u8]) -> Option<usize>
     ensures { result ≡ equals_at text.now }
 {
     text.iter().position(|byte| *byte == b'=')
 }
 
-/// Whether a text is one of these names.
+/// Returns whether a text is one of these names.
 fn is_one_of(names: &[&str], text: &[u8]) -> bool
     ensures { result ≡ is_one_of (texts_in names.now) text.now }
 {
     has_name(names, text)
 }
 
-/// The same, as the names are held.
+/// Returns whether a text is one of these names, given as they are held.
 fn has_name(names: &[&str], text: &[u8]) -> bool
     ensures { result ≡ has_name names.now text.now }
 {

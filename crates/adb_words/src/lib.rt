@@ -1,4 +1,7 @@
-//! The words of a command line: the command that they are.
+//! Parsing of a command line: from its words to the command that they name.
+//!
+//! `read_serve` parses the words of `serve`, `read_tool` those of a client tool, and `read_words`
+//! those of every other command. `is_serve` and `names_tool` select the parser.
 #![tactic(auto)]
 
 mod command;

@@ -1,4 +1,4 @@
-//! The words of a load.
+//! Parsing of the words of a load.
 
 ghost use Rattle.std.specs.Prelude.{◌≡◌, ◌≢◌, ◌∷◌, List, ℕ, [], Err, Some, None, IfOk};
 ghost use Rattle.std.specs.Prelude.{IsOkAnd, codes, ok_or};
@@ -19,7 +19,7 @@ struct Load<'a> {
     streams: &'a str,
 }
 
-/// `gen`, from the words behind it.
+/// Parses the words after `gen`.
 pub fn read_load(alloc: Global, words: &[String]) -> Result<Command, WordsError>
     ensures { result ≢ Err WordsError.OutOfMemory
         → result ≡ ok_or (gen_of (texts words.now)) WordsError.Usage }
@@ -30,7 +30,7 @@ pub fn read_load(alloc: Global, words: &[String]) -> Result<Command, WordsError>
     }
 }
 
-/// The two words, where they are two. A refusal says that they are no load.
+/// Returns the two words of a load. `Usage` means that the words are no load.
 fn load_words<'a>(alloc: Global, words: &'a [String]) -> Result<Load<'a>, WordsError>
     ensures ok { IfOk result (λ load.
         texts words.entry.now ≡ load.seed.now ∷ load.streams.now ∷ []) }
@@ -46,7 +46,7 @@ fn load_words<'a>(alloc: Global, words: &'a [String]) -> Result<Load<'a>, WordsE
     }
 }
 
-/// The command that reads them.
+/// Returns the command that parses the two words.
 fn load_command<'a>(alloc: Global) -> Result<clap::Command<'a>, AllocError>
     ensures { IfOk result (λ command. app_of command ≡ gen_app) }
 {
@@ -54,7 +54,7 @@ fn load_command<'a>(alloc: Global) -> Result<clap::Command<'a>, AllocError>
     with_word(alloc, command, "streams")
 }
 
-/// The words that it found.
+/// Returns the two words that the command found.
 fn load_in<'a>(matches: &ArgMatches<'a>) -> Result<Load<'a>, WordsError>
     ensures { (seed streams : List ℕ)
         → first_value (found_of matches.now) (codes "seed") ≡ Some seed
@@ -67,7 +67,7 @@ fn load_in<'a>(matches: &ArgMatches<'a>) -> Result<Load<'a>, WordsError>
     }
 }
 
-/// The load that two words are.
+/// Parses the two words of a load.
 fn load_of(seed: &str, streams: &str) -> Result<Command, WordsError>
     ensures { result ≡ ok_or (gen_of (seed.now ∷ streams.now ∷ [])) WordsError.Usage }
 {
@@ -83,7 +83,7 @@ fn load_of(seed: &str, streams: &str) -> Result<Command, WordsError>
     })
 }
 
-/// The number that a text is, where it lies between these.
+/// Parses a text as a number from `least` to `most`. Returns `None` if it is no such number.
 pub fn number_within(text: &str, least: u64, most: u64) -> Option<u64>
     ensures { result ≡ number_within least most text.now }
 {

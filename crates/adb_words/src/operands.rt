@@ -1,4 +1,4 @@
-//! Words without options, read by a simple command.
+//! Parsing of words without options, by a clap command.
 
 ghost use Rattle.std.specs.Prelude.{◌≡◌, ◌≢◌, ◌⊎◌, [], true, false, Err, IfOk};
 ghost use Rattle.adb_words.specs.Apps.{app_named, required};
@@ -11,14 +11,14 @@ use clap::error::ErrorKind;
 use clap::{Arg, ArgMatches, Command, Error};
 use std::alloc::{AllocError, Global};
 
-/// A command without arguments, that is given the words behind its name.
+/// Returns a command without arguments. It parses the words after its name.
 pub fn named_command<'a>(alloc: Global, name: &'a str) -> Command<'a>
     ensures { app_of result ≡ app_named name.entry.now }
 {
     Command::new(alloc, name).no_binary_name(true)
 }
 
-/// A command with one more word, which has to be there.
+/// Adds one required word to a command.
 pub fn with_word<'a>(
     alloc: Global,
     command: Command<'a>,
@@ -30,8 +30,8 @@ pub fn with_word<'a>(
     command.arg(Arg::new(alloc, name).required(true))
 }
 
-/// What a command that has no options makes of words. A word that begins with a hyphen is refused,
-/// `--` among them, which the command itself would take.
+/// Parses words with a command that has no options. A word that begins with a hyphen is refused,
+/// including `--`, which the command itself would accept.
 pub fn operands_of<'a>(
     command: Command<'a>,
     words: &'a [String],
@@ -50,7 +50,7 @@ pub fn operands_of<'a>(
     matches_of(command, words)
 }
 
-/// What a command makes of words.
+/// Parses words with a command.
 pub fn matches_of<'a>(
     command: Command<'a>,
     words: &'a [String],
@@ -68,21 +68,21 @@ pub fn matches_of<'a>(
     }
 }
 
-/// Whether no word begins with a hyphen.
+/// Returns whether no word begins with a hyphen.
 fn are_operands(words: &[String]) -> bool
     ensures { result ≡ are_operands words.now }
 {
     words.iter().all(|word| is_operand(word.as_str()))
 }
 
-/// Whether a word does not begin with a hyphen.
+/// Returns whether a word does not begin with a hyphen.
 pub fn is_operand(word: &str) -> bool
     ensures { result ≡ is_operand word.now }
 {
     word.as_bytes().first() != Some(&b'-')
 }
 
-/// Why a command refused words.
+/// Returns the error for words that a command refused.
 fn error_of(error: Error) -> WordsError
     ensures usage { result ≡ WordsError.Usage → kind_of error ≢ ErrorKind.OutOfMemory }
 {

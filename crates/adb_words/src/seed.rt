@@ -1,4 +1,4 @@
-//! The one word of a command that takes a seed.
+//! Parsing of the one word of a command that takes a seed.
 
 ghost use Rattle.std.specs.Prelude.{◌≡◌, ◌≢◌, ◌∷◌, List, ℕ, [], Err, Some, None, IfOk};
 ghost use Rattle.std.specs.Prelude.{IsOkAnd, codes, ok_or};
@@ -12,7 +12,7 @@ use crate::operands::{named_command, operands_of, with_word};
 use clap::ArgMatches;
 use std::alloc::{AllocError, Global};
 
-/// The seed that the words behind a command's name are.
+/// Parses the seed from the words after a command's name.
 pub fn read_seed(alloc: Global, name: &str, words: &[String]) -> Result<u64, WordsError>
     ensures { result ≢ Err WordsError.OutOfMemory
         → result ≡ ok_or (seed_of (texts words.now)) WordsError.Usage }
@@ -23,7 +23,7 @@ pub fn read_seed(alloc: Global, name: &str, words: &[String]) -> Result<u64, Wor
     }
 }
 
-/// The word, where it is one. A refusal says that the words are no seed.
+/// Returns the word if there is exactly one. `Usage` means that the words are no seed.
 fn seed_word<'a>(alloc: Global, name: &'a str, words: &'a [String]) -> Result<&'a str, WordsError>
     ensures ok { IfOk result (λ seed. texts words.entry.now ≡ seed.now ∷ []) }
     ensures refused { result ≡ Err WordsError.Usage → seed_of (texts words.entry.now) ≡ None }
@@ -37,14 +37,14 @@ fn seed_word<'a>(alloc: Global, name: &'a str, words: &'a [String]) -> Result<&'
     }
 }
 
-/// The command that reads it.
+/// Returns the command that parses the word.
 fn seed_command<'a>(alloc: Global, name: &'a str) -> Result<clap::Command<'a>, AllocError>
     ensures { IfOk result (λ command. app_of command ≡ seed_app name.entry.now) }
 {
     with_word(alloc, named_command(alloc, name), "seed")
 }
 
-/// The word that it found.
+/// Returns the word that the command found.
 fn seed_in<'a>(matches: &ArgMatches<'a>) -> Result<&'a str, WordsError>
     ensures { (seed : List ℕ) → first_value (found_of matches.now) (codes "seed") ≡ Some seed
         → IsOkAnd result (λ word. word.now ≡ seed) }

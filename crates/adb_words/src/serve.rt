@@ -1,4 +1,4 @@
-//! The words of `serve`.
+//! Parsing of the words of `serve`.
 
 ghost use Rattle.std.specs.Prelude.{◌≡◌, ◌⊎◌, Err, Some, None, IfOk, codes, ok_or, option_map};
 ghost use Rattle.std.specs.Prelude.{true};
@@ -17,12 +17,12 @@ use adb_outside::{Text, is_serial};
 use clap::{ArgMatches, Command};
 use std::alloc::{AllocError, Global};
 
-/// What a server is to do.
+/// The arguments of a server.
 #[derive(Drop)]
 pub struct Serve {
-    /// The port that it listens at; 0 lets the system choose.
+    /// The port on which it listens; 0 lets the system choose.
     pub port: u16,
-    /// Whether its history goes to standard output.
+    /// Whether its history is written to standard output.
     pub records: bool,
     /// The devices that it makes.
     pub ports: Ports,
@@ -33,11 +33,11 @@ pub struct Serve {
 pub struct Ports {
     /// The serials of its model devices, in the order of the words.
     pub devices: Vec<Text>,
-    /// The ports that it dials, each for a device, in the order of the words.
+    /// The ports that it dials, one for each device, in the order of the words.
     pub connects: Vec<u16>,
 }
 
-/// Whether the first word is `serve`. It takes no memory.
+/// Returns whether the first word is `serve`. It allocates nothing.
 pub fn is_serve(words: &[String]) -> bool
     ensures { result ≡ is_serve (texts words.now) }
 {
@@ -47,8 +47,11 @@ pub fn is_serve(words: &[String]) -> bool
     }
 }
 
-/// The server that the words behind the program's name are. Where memory ran out it may be that
-/// they are none; it is wanted only behind `serve`.
+/// Parses a server from the words after the program's name.
+///
+/// - `Usage`: the words are no server.
+/// - `OutOfMemory`: an allocation failed; the words may be no server. It is returned only if the
+///   first word is `serve`.
 pub fn read_serve(alloc: Global, words: &[String]) -> Result<Serve, WordsError>
     ensures serve { IfOk result (λ serve. serve_of (texts words.now) ≡ Some (serving serve)) }
     ensures usage { result ≡ Err WordsError.Usage → serve_of (texts words.now) ≡ None }
@@ -63,7 +66,7 @@ pub fn read_serve(alloc: Global, words: &[String]) -> Result<Serve, WordsError>
     read_behind(alloc, words)
 }
 
-/// The server that the words behind `serve` are.
+/// Parses a server from the words after `serve`.
 fn read_behind(alloc: Global, words: &[String]) -> Result<Serve, WordsError>
     ensures ok { IfOk result (λ serve.
         served_in (texts words.now) ≡ Some (serving serve)) }
@@ -76,7 +79,8 @@ fn read_behind(alloc: Global, words: &[String]) -> Result<Serve, WordsError>
     }
 }
 
-/// What the words behind `serve` give. A refusal says that they are none of a server.
+/// Returns the matches of the words after `serve`. `Usage` means that they are not the words of a
+/// server.
 fn serve_matches<'a>(alloc: Global, words: &'a [String]) -> Result<ArgMatches<'a>, WordsError>
     ensures ok { IfOk result (Finds serve_layout (texts words.entry.now)) }
     ensures refused { result ≡ Err WordsError.Usage
@@ -88,14 +92,14 @@ fn serve_matches<'a>(alloc: Global, words: &'a [String]) -> Result<ArgMatches<'a
     given_of(command, &["port", "device", "connect"], &["record"], words)
 }
 
-/// The command that reads them.
+/// Returns the command that parses the words.
 fn serve_command<'a>(alloc: Global) -> Result<Command<'a>, AllocError>
     ensures { IfOk result (λ command. app_of command ≡ serve_app) }
 {
     with_flag(alloc, serve_options(alloc)?, "record")
 }
 
-/// Its options that have a value: a port, and what its devices are.
+/// Returns the command with its options that have a value: a port, and the two kinds of devices.
 fn serve_options<'a>(alloc: Global) -> Result<Command<'a>, AllocError>
     ensures { IfOk result (λ command. app_of command
         ≡ with_rule (with_rule (port_only (codes "serve")) (option_rule (codes "device")))
@@ -104,7 +108,7 @@ fn serve_options<'a>(alloc: Global) -> Result<Command<'a>, AllocError>
     with_option(alloc, port_and_device(alloc)?, "connect")
 }
 
-/// The first two of them.
+/// Returns the command with the first two of these options.
 fn port_and_device<'a>(alloc: Global) -> Result<Command<'a>, AllocError>
     ensures { IfOk result (λ command. app_of command
         ≡ with_rule (port_only (codes "serve")) (option_rule (codes "device"))) }
@@ -112,7 +116,7 @@ fn port_and_device<'a>(alloc: Global) -> Result<Command<'a>, AllocError>
     with_option(alloc, port_only(alloc, "serve")?, "device")
 }
 
-/// The server of the values that were found.
+/// Returns the server of the values that were found.
 fn serve_in(alloc: Global, matches: &ArgMatches<'_>) -> Result<Serve, WordsError>
     ensures ok { IfOk result (λ serve.
         served_by (λ name. values_found name (found_of matches.now)) ≡ Some (serving serve)) }
@@ -134,7 +138,7 @@ fn serve_in(alloc: Global, matches: &ArgMatches<'_>) -> Result<Serve, WordsError
     })
 }
 
-/// The devices of the texts of `--device` and of `--connect`.
+/// Returns the devices of the texts of `--device` and of `--connect`.
 fn devices_in(alloc: Global, devices: &[&str], connects: &[&str]) -> Result<Ports, WordsError>
     ensures ok { IfOk result (λ ports.
         (each_of serial_of (texts_in devices.now) ≡ Some ports.devices.items)
@@ -148,7 +152,7 @@ fn devices_in(alloc: Global, devices: &[&str], connects: &[&str]) -> Result<Port
     Ok(Ports { devices, connects })
 }
 
-/// The port that an option gives at most once: a number from `least` on.
+/// Returns the port of an option that may be given at most once: a number of at least `least`.
 pub fn port_in(texts: &[&str], least: u16) -> Result<u16, WordsError>
     ensures { result ≡ ok_or (port_of least (texts_in texts.now)) WordsError.Usage }
 {
@@ -159,7 +163,7 @@ pub fn port_in(texts: &[&str], least: u16) -> Result<u16, WordsError>
     }
 }
 
-/// The port that a text is, from `least` on.
+/// Parses a text as a port number of at least `least`.
 fn port_within(text: &str, least: u16) -> Option<u16>
     ensures { result ≡ number_within least 65535 text.now }
 {
@@ -167,7 +171,7 @@ fn port_within(text: &str, least: u16) -> Option<u16>
     Some(port as u16)
 }
 
-/// Whether a flag stands, which stands at most once.
+/// Returns whether a flag is given. It may be given at most once.
 fn flag_in(texts: &[&str]) -> Result<bool, WordsError>
     ensures { result ≡ ok_or (flag_of (texts_in texts.now)) WordsError.Usage }
 {
@@ -178,7 +182,7 @@ fn flag_in(texts: &[&str]) -> Result<bool, WordsError>
     }
 }
 
-/// The serials that texts are.
+/// Parses texts as serials.
 fn serials_in(alloc: Global, texts: &[&str]) -> Result<Vec<Text>, WordsError>
     ensures ok { IfOk result (λ serials.
         each_of serial_of (texts_in texts.now) ≡ Some serials.items) }
@@ -198,7 +202,7 @@ fn serials_in(alloc: Global, texts: &[&str]) -> Result<Vec<Text>, WordsError>
     Ok(serials)
 }
 
-/// The text, where it is a serial.
+/// Returns the text if it is a serial.
 fn serial_word<'a>(text: &'a str) -> Option<&'a str>
     ensures { option_map (λ serial. serial.now) result ≡ serial_of text.entry.now }
 {
@@ -208,7 +212,7 @@ fn serial_word<'a>(text: &'a str) -> Option<&'a str>
     Some(text)
 }
 
-/// The serial that a text is, in memory of its own.
+/// Copies the serial that a text is.
 pub fn serial_in(alloc: Global, text: &str) -> Result<Text, WordsError>
     ensures ok { IfOk result (λ serial. serial_of text.now ≡ Some serial) }
     ensures usage { result ≡ Err WordsError.Usage → serial_of text.now ≡ None }
@@ -219,7 +223,7 @@ pub fn serial_in(alloc: Global, text: &str) -> Result<Text, WordsError>
     Ok(Text::from_slice(alloc, text.as_bytes())?)
 }
 
-/// The ports that texts are.
+/// Parses texts as ports.
 fn ports_in(alloc: Global, texts: &[&str]) -> Result<Vec<u16>, WordsError>
     ensures ok { IfOk result (λ ports.
         each_of (number_within 1 65535) (texts_in texts.now) ≡ Some ports.items) }

@@ -1,4 +1,4 @@
-//! The words of the client tools.
+//! Parsing of the words of the client tools.
 
 ghost use Rattle.std.specs.Prelude.{◌≡◌, ◌≢◌, Err, Some, None, IfOk, IfErr, ok_or, true};
 ghost use Rattle.clap.specs.Words.{found_of};
@@ -17,28 +17,28 @@ use adb_outside::{State, Text, is_serial};
 use clap::ArgMatches;
 use std::alloc::{AllocError, Global};
 
-/// A client tool, with what it is to do.
+/// A client tool with its arguments.
 #[derive(Drop)]
 pub enum Tool {
-    /// The devices of a server are listed.
+    /// Lists the devices of a server.
     Devices,
-    /// A file is written to a device, with this time.
+    /// Writes a file to a device, with this time.
     Push {
         path: Text,
         mtime: u32,
         serial: Option<Text>,
     },
-    /// A file of a device is read.
+    /// Reads a file of a device.
     Pull {
         path: Text,
         serial: Option<Text>,
     },
-    /// A command runs at a device.
+    /// Runs a command on a device.
     Shell {
         command: Text,
         serial: Option<Text>,
     },
-    /// A device is waited for, till it has this state.
+    /// Waits until a device has this state.
     Wait {
         serial: Text,
         state: State,
@@ -52,7 +52,7 @@ pub struct Call {
     pub tool: Tool,
 }
 
-/// Whether the first word is the name of a client tool. It takes no memory.
+/// Returns whether the first word is the name of a client tool. It allocates nothing.
 pub fn names_tool(words: &[String]) -> bool
     ensures { result ≡ names_tool (texts words.now) }
 {
@@ -62,8 +62,11 @@ pub fn names_tool(words: &[String]) -> bool
     }
 }
 
-/// The call of a tool that the words behind the program's name are. Where memory ran out it may be
-/// that they are none; it is wanted only behind the name of a tool.
+/// Parses the call of a tool from the words after the program's name.
+///
+/// - `Usage`: the words are no call of a tool.
+/// - `OutOfMemory`: an allocation failed; the words may be no call. It is returned only if the
+///   first word is the name of a tool.
 pub fn read_tool(alloc: Global, words: &[String]) -> Result<Call, WordsError>
     ensures call { result ≢ Err WordsError.OutOfMemory
         → result ≡ ok_or (tool_of (texts words.now)) WordsError.Usage }
@@ -79,14 +82,14 @@ pub fn read_tool(alloc: Global, words: &[String]) -> Result<Call, WordsError>
     read_named(alloc, name.as_str(), words)
 }
 
-/// Whether it is the name of a tool.
+/// Returns whether a name is the name of a tool.
 fn is_tool(name: &str) -> bool
     ensures { result ≡ is_tool name.now }
 {
     matches!(name, "devices" | "push" | "pull" | "shell" | "wait")
 }
 
-/// The call of a tool's name, with the words behind it.
+/// Parses the call of a tool from its name and the words after it.
 fn read_named(alloc: Global, name: &str, words: &[String]) -> Result<Call, WordsError>
     ensures { result ≢ Err WordsError.OutOfMemory
         → result ≡ ok_or (tool_named name.now (texts words.now)) WordsError.Usage }
@@ -97,7 +100,7 @@ fn read_named(alloc: Global, name: &str, words: &[String]) -> Result<Call, Words
     }
 }
 
-/// The call of the values that were found.
+/// Returns the call of the values that were found.
 fn call_in(alloc: Global, name: &str, matches: &ArgMatches<'_>) -> Result<Call, WordsError>
     ensures { result ≢ Err WordsError.OutOfMemory
         → result ≡ ok_or (called_by name.now
@@ -116,7 +119,7 @@ fn call_in(alloc: Global, name: &str, matches: &ArgMatches<'_>) -> Result<Call, 
     Ok(Call { port, tool })
 }
 
-/// The tool of the values of each name.
+/// Returns the tool of the values of each name.
 fn tool_in(
     alloc: Global,
     name: &str,
@@ -137,7 +140,7 @@ fn tool_in(
     }
 }
 
-/// `devices`, which has no operand.
+/// Returns `devices`, which has no operand.
 fn devices_in(operands: &[&str]) -> Result<Tool, WordsError>
     ensures { result ≡ ok_or (devices_of (texts_in operands.now)) WordsError.Usage }
 {
@@ -147,7 +150,7 @@ fn devices_in(operands: &[&str]) -> Result<Tool, WordsError>
     Ok(Tool::Devices)
 }
 
-/// `push` of a path.
+/// Returns `push` of a path.
 fn push_in(
     alloc: Global,
     operands: &[&str],
@@ -170,7 +173,7 @@ fn push_in(
     })
 }
 
-/// `pull` of a path.
+/// Returns `pull` of a path.
 fn pull_in(alloc: Global, operands: &[&str], serials: &[&str]) -> Result<Tool, WordsError>
     ensures { result ≢ Err WordsError.OutOfMemory
         → result ≡ ok_or (pull_of (operand_of (texts_in operands.now))
@@ -183,7 +186,7 @@ fn pull_in(alloc: Global, operands: &[&str], serials: &[&str]) -> Result<Tool, W
     Ok(Tool::Pull { path, serial })
 }
 
-/// `shell` of a command.
+/// Returns `shell` of a command.
 fn shell_in(alloc: Global, operands: &[&str], serials: &[&str]) -> Result<Tool, WordsError>
     ensures { result ≢ Err WordsError.OutOfMemory
         → result ≡ ok_or (shell_of (operand_of (texts_in operands.now))
@@ -196,7 +199,7 @@ fn shell_in(alloc: Global, operands: &[&str], serials: &[&str]) -> Result<Tool, 
     Ok(Tool::Shell { command, serial })
 }
 
-/// `wait` for a serial and a state.
+/// Returns `wait` for a serial and a state.
 fn wait_in(alloc: Global, operands: &[&str]) -> Result<Tool, WordsError>
     ensures { result ≢ Err WordsError.OutOfMemory
         → result ≡ ok_or (wait_of (texts_in operands.now)) WordsError.Usage }
@@ -211,7 +214,7 @@ fn wait_in(alloc: Global, operands: &[&str]) -> Result<Tool, WordsError>
     Ok(Tool::Wait { serial, state })
 }
 
-/// The state that a text names.
+/// Returns the state that a text names.
 fn state_named(text: &str) -> Option<State>
     ensures { result ≡ state_named text.now }
 {
@@ -228,7 +231,7 @@ fn state_named(text: &str) -> Option<State>
     }
 }
 
-/// The one operand: a path or a command.
+/// Returns the only operand: a path or a command.
 fn operand_in<'m, 'a>(operands: &'m [&'a str]) -> Result<&'a str, WordsError>
     ensures ok { IfOk result (λ operand. operand_of (texts_in operands.now) ≡ Some operand.now) }
     ensures err { IfErr result (λ error. (error ≡ WordsError.Usage)
@@ -240,7 +243,7 @@ fn operand_in<'m, 'a>(operands: &'m [&'a str]) -> Result<&'a str, WordsError>
     }
 }
 
-/// The time that an option gives at most once.
+/// Parses the time of an option that may be given at most once.
 fn mtime_in(texts: &[&str]) -> Result<u32, WordsError>
     ensures { result ≡ ok_or (mtime_of (texts_in texts.now)) WordsError.Usage }
 {
@@ -254,7 +257,7 @@ fn mtime_in(texts: &[&str]) -> Result<u32, WordsError>
     }
 }
 
-/// The serial that an option gives at most once.
+/// Returns the serial of an option that may be given at most once.
 fn wanted_in<'m, 'a>(texts: &'m [&'a str]) -> Result<Option<&'a str>, WordsError>
     ensures ok { IfOk result (λ wanted.
         wanted_of (texts_in texts.now) ≡ Some (text_in wanted)) }
@@ -268,7 +271,7 @@ fn wanted_in<'m, 'a>(texts: &'m [&'a str]) -> Result<Option<&'a str>, WordsError
     }
 }
 
-/// A text in memory of its own, where there is one.
+/// Copies a text, if there is one.
 fn copy_of(alloc: Global, text: Option<&str>) -> Result<Option<Text>, AllocError>
     ensures { IfOk result (λ copy. copy ≡ text_in text.entry) }
 {

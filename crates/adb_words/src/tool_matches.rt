@@ -1,4 +1,4 @@
-//! What the words behind a tool's name give.
+//! The matches of the words after a tool's name.
 
 ghost use Rattle.std.specs.Prelude.{◌≡◌, Err, None, IfOk, codes};
 ghost use Rattle.clap.specs.Words.{app_of, with_rule};
@@ -14,7 +14,7 @@ use crate::given::{given_of, port_only, with_operands, with_option};
 use clap::{ArgMatches, Command};
 use std::alloc::{AllocError, Global};
 
-/// What the words behind a tool's name give. A refusal says that they are none of it.
+/// Parses the words after a tool's name. `Usage` means that they are not the words of that tool.
 pub fn tool_matches<'a>(
     alloc: Global,
     name: &'a str,
@@ -31,7 +31,7 @@ pub fn tool_matches<'a>(
     }
 }
 
-/// A tool that has a port and operands.
+/// Parses the words of a tool that has a port and operands.
 fn port_matches<'a>(
     alloc: Global,
     name: &'a str,
@@ -47,7 +47,7 @@ fn port_matches<'a>(
     given_of(command, &["port"], &[], words)
 }
 
-/// A tool that has a port, a serial and operands.
+/// Parses the words of a tool that has a port, a serial and operands.
 fn serial_matches<'a>(
     alloc: Global,
     name: &'a str,
@@ -63,7 +63,7 @@ fn serial_matches<'a>(
     given_of(command, &["port", "serial"], &[], words)
 }
 
-/// `push`, which has a port, a serial, a time and operands.
+/// Parses the words of `push`, which has a port, a serial, a time and operands.
 fn push_matches<'a>(alloc: Global, words: &'a [String]) -> Result<ArgMatches<'a>, WordsError>
     ensures ok { IfOk result (Finds push_layout (texts words.entry.now)) }
     ensures refused { result ≡ Err WordsError.Usage
@@ -75,35 +75,35 @@ fn push_matches<'a>(alloc: Global, words: &'a [String]) -> Result<ArgMatches<'a>
     given_of(command, &["port", "serial", "mtime"], &[], words)
 }
 
-/// The command that reads a port and operands.
+/// Returns the command that parses a port and operands.
 fn port_command<'a>(alloc: Global, name: &'a str) -> Result<Command<'a>, AllocError>
     ensures { IfOk result (λ command. app_of command ≡ port_app name.entry.now) }
 {
     with_operands(alloc, port_only(alloc, name)?, "operand")
 }
 
-/// The command that reads a port, a serial and operands.
+/// Returns the command that parses a port, a serial and operands.
 fn serial_command<'a>(alloc: Global, name: &'a str) -> Result<Command<'a>, AllocError>
     ensures { IfOk result (λ command. app_of command ≡ serial_app name.entry.now) }
 {
     with_operands(alloc, port_and_serial(alloc, name)?, "operand")
 }
 
-/// A command whose arguments are a port and a serial.
+/// Returns a command with a port and a serial as its arguments.
 fn port_and_serial<'a>(alloc: Global, name: &'a str) -> Result<Command<'a>, AllocError>
     ensures { IfOk result (λ command. app_of command ≡ with_serial (port_only name.entry.now)) }
 {
     with_option(alloc, port_only(alloc, name)?, "serial")
 }
 
-/// The command that reads the words of `push`.
+/// Returns the command that parses the words of `push`.
 fn push_command<'a>(alloc: Global) -> Result<Command<'a>, AllocError>
     ensures { IfOk result (λ command. app_of command ≡ push_app) }
 {
     with_operands(alloc, push_options(alloc)?, "operand")
 }
 
-/// Its options: a port, a serial and a time.
+/// Returns the command with the options of `push`: a port, a serial and a time.
 fn push_options<'a>(alloc: Global) -> Result<Command<'a>, AllocError>
     ensures { IfOk result (λ command. app_of command
         ≡ with_rule (with_serial (port_only (codes "push"))) (option_rule (codes "mtime"))) }

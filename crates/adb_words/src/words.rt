@@ -1,4 +1,4 @@
-//! The command that words are.
+//! Parsing of a command from the words of a command line.
 
 ghost use Rattle.std.specs.Prelude.{◌≡◌, ◌≢◌, Err, ok_or, option_map, true};
 ghost use Rattle.adb_words.specs.Words.{command_of, bare_of, names_command, seed_of, texts};
@@ -9,8 +9,11 @@ use crate::operands::{named_command, operands_of};
 use crate::seed::read_seed;
 use std::alloc::Global;
 
-/// The command that the words behind the program's name are. Where memory ran out it may be that
-/// they are none; it is wanted only behind the name of a command.
+/// Parses a command from the words after the program's name.
+///
+/// - `Usage`: the words are no command.
+/// - `OutOfMemory`: an allocation failed; the words may be no command. It is returned only if the
+///   first word is the name of a command.
 pub fn read_words(alloc: Global, words: &[String]) -> Result<Command, WordsError>
     ensures command { result ≢ Err WordsError.OutOfMemory
         → result ≡ ok_or (command_of (texts words.now)) WordsError.Usage }
@@ -30,7 +33,7 @@ pub fn read_words(alloc: Global, words: &[String]) -> Result<Command, WordsError
     }
 }
 
-/// `local`, from the words behind it.
+/// Parses the words after `local`.
 fn read_local(alloc: Global, words: &[String]) -> Result<Command, WordsError>
     ensures { result ≢ Err WordsError.OutOfMemory
         → result ≡ ok_or (option_map Command.Local (seed_of (texts words.now))) WordsError.Usage }
@@ -39,7 +42,7 @@ fn read_local(alloc: Global, words: &[String]) -> Result<Command, WordsError>
     Ok(Command::Local { seed })
 }
 
-/// `copy`, from the words behind it.
+/// Parses the words after `copy`.
 fn read_copy(alloc: Global, words: &[String]) -> Result<Command, WordsError>
     ensures { result ≢ Err WordsError.OutOfMemory
         → result ≡ ok_or (option_map Command.Copy (seed_of (texts words.now))) WordsError.Usage }
@@ -48,7 +51,7 @@ fn read_copy(alloc: Global, words: &[String]) -> Result<Command, WordsError>
     Ok(Command::Copy { seed })
 }
 
-/// A command that is its name alone, from the words behind that.
+/// Parses a command that is its name alone: no word may follow the name.
 fn read_bare(
     alloc: Global,
     name: &str,

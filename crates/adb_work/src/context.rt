@@ -1,4 +1,4 @@
-//! The context of a worker: everything that it owns besides its task.
+//! The context of a worker: everything that it owns except its task.
 
 use crate::parts::{HallOf, Parts};
 use adb_connections::Bell;
@@ -10,7 +10,7 @@ use std::sync::{Arc, Wait};
 ///
 /// It has no bound about threads, unlike `Bell`: jobs run in calls that can't use such a bound.
 pub trait Ringing: Drop {
-    /// Makes the door answer `Closed` from now on.
+    /// Makes the door return `Closed` from now on.
     fn ring(&self);
 
     /// Makes another handle of the same bell. `AllocError`: an allocation failed, and the bell is
@@ -57,8 +57,8 @@ pub struct Context<W: Wait + Copy + Drop, P: Parts> {
 }
 
 impl<W: Wait + Copy + Drop, P: Parts> Context<W, P> {
-    /// Rings the bell of the door if `over`, the answer of the hall's `over`, says that no client can
-    /// come any more: after a kill, and when the hall is shut.
+    /// Rings the bell of the door if `over`, the answer of the hall's `over`, says that no client
+    /// can come any more: after a kill, and when the hall is shut.
     pub(crate) fn ring_if(&self, over: Option<DeskError>) {
         if over.is_some() {
             self.bell.ring();
@@ -67,7 +67,7 @@ impl<W: Wait + Copy + Drop, P: Parts> Context<W, P> {
 }
 
 /// The contexts of the two workers of a client or of a device. The server makes them before it
-/// accepts a connection, so that it never accepts one for which memory has run out.
+/// accepts a connection, so that it accepts no connection without the memory to serve it.
 #[derive(Drop)]
 pub struct Contexts<W: Wait + Copy + Drop, P: Parts> {
     pub reader: Context<W, P>,

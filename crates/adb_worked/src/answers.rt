@@ -1,4 +1,4 @@
-//! The lines that tell what answers of a sync service come to.
+//! The lines that print the results of a sync service's answers.
 
 use crate::asks::{Ask, What};
 use crate::machine::exchange;
@@ -9,10 +9,10 @@ use adb_sync_client::{Entries, List, MAX_ASKED_PATH, Pull, Push, Stat, StatValue
 use itoa::Buffer;
 use std::alloc::{AllocError, Global};
 
-/// A regular file that its owner may write and all may read.
+/// The mode of a regular file that its owner may write and everyone may read.
 const MODE: u32 = 33_188;
 
-/// Asks, and tells in a line what the answer comes to.
+/// Asks, and appends a line with the result of the answer.
 pub fn tell_answer(
     alloc: Global,
     files: &mut Files,
@@ -38,7 +38,7 @@ pub fn tell_answer(
     line.push_slice(b"\n")
 }
 
-/// The bytes of a file that is pushed: each is its place modulo 251.
+/// Returns the bytes of a file that is pushed: each is its index modulo 251.
 fn content(alloc: Global, len: usize) -> Result<Vec<u8>, AllocError> {
     let mut bytes = Vec::with_capacity(alloc, len)?;
     for place in 0..len {
@@ -80,7 +80,7 @@ fn pull(
     tell_pull(line, &step)
 }
 
-/// Its size, and the sum of its bytes.
+/// Appends the size of a file, and the sum of its bytes.
 fn tell_pull(line: &mut Text, step: &Step<Text>) -> Result<(), AllocError> {
     match step {
         Step::Done(bytes) => {
@@ -121,7 +121,7 @@ fn list(
     tell_list(line, &step)
 }
 
-/// How many entries there are, and each of them.
+/// Appends the number of entries, and each of them.
 fn tell_list(line: &mut Text, step: &Step<Entries>) -> Result<(), AllocError> {
     match step {
         Step::Done(entries) => tell_entries(line, entries.as_slice()),
@@ -139,7 +139,7 @@ fn tell_entries(line: &mut Text, entries: &[Dirent]) -> Result<(), AllocError> {
     Ok(())
 }
 
-/// An answer that is not done.
+/// Appends an answer that is not done.
 fn tell_other<V: Drop>(line: &mut Text, step: &Step<V>) -> Result<(), AllocError> {
     match step {
         Step::Refused(text) => {

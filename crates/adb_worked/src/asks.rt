@@ -1,4 +1,4 @@
-//! What is asked of a sync service, a line each.
+//! Requests to a sync service, one a line.
 
 ghost use Rattle.std.specs.Prelude.{◌≤◌};
 
@@ -7,10 +7,10 @@ use adb_files::Files;
 use adb_outside::{Text, read_number};
 use std::alloc::{AllocError, Global};
 
-/// What is asked about a path.
+/// The request about a path.
 #[derive(Clone, Copy, Drop)]
 pub enum What {
-    /// A file of so many bytes is pushed, with this time.
+    /// Push a file of this many bytes, with this time.
     Push { size: usize, mtime: u32 },
     Pull,
     Stat,
@@ -18,7 +18,7 @@ pub enum What {
 }
 
 impl What {
-    /// What a line of it begins with.
+    /// Returns the word with which its line begins.
     pub fn name(self) -> &'static [u8] {
         match self {
             What::Push { .. } => b"push ",
@@ -36,11 +36,11 @@ pub struct Ask<'a> {
     pub path: &'a [u8],
 }
 
-/// The most bytes of a file that is pushed.
+/// The maximum number of bytes of a file that is pushed.
 const MAX_PUSHED: u32 = 1_000_000;
 
-/// Asks a sync service over files of its own what the lines of a text ask, where bytes go either
-/// way in pieces of at most `size`, and tells in a line what each answer comes to.
+/// Asks a sync service over files of its own the requests of a text's lines, with bytes in pieces
+/// of at most `size` in both directions. Returns a line with the result of each answer.
 pub fn told(alloc: Global, played: &[u8], size: usize) -> Result<Text, AllocError> {
     let mut files = Files::new(alloc);
     let mut told = Text::new(alloc);
@@ -52,7 +52,7 @@ pub fn told(alloc: Global, played: &[u8], size: usize) -> Result<Text, AllocErro
     Ok(told)
 }
 
-/// What a line asks: `push` with a path, a size and a time, or another word with a path.
+/// Parses a line: `push` with a path, a size and a time, or another word with a path.
 fn ask_of(alloc: Global, line: &[u8]) -> Result<Option<Ask<'_>>, AllocError> {
     let words: Vec<&[u8]> = line.split(|byte| *byte == b' ').collect(alloc)?;
     Ok(match words.as_slice() {

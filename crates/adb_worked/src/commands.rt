@@ -1,4 +1,4 @@
-//! Runs of any words.
+//! Runs of commands with any words.
 
 ghost use Rattle.std.specs.Prelude.{◌≤◌};
 
@@ -6,8 +6,8 @@ use crate::runs::run_told;
 use adb_outside::Text;
 use std::alloc::{AllocError, Global};
 
-/// Runs the words that stand in the first lines of a text, one a line, over what stands behind the
-/// empty line after them, and tells how that ends.
+/// Runs the words in the first lines of a text, one a line, over the bytes after the empty line
+/// that follows them. Returns the printed end of the run.
 pub fn told(alloc: Global, played: &[u8], piece: usize) -> Result<Text, AllocError>
     requires { 1 ≤ piece }
 {
@@ -24,7 +24,7 @@ pub fn told(alloc: Global, played: &[u8], piece: usize) -> Result<Text, AllocErr
     run_told(alloc, words.as_slice(), rest, piece)
 }
 
-/// A text's first line, and what stands behind its end.
+/// Returns a text's first line, and the rest after its line end.
 fn first_line(text: &[u8]) -> (&[u8], &[u8]) {
     match text.iter().position(|byte| *byte == b'\n') {
         Some(at) => (&text[..at], &text[at + 1..]),

@@ -8,18 +8,20 @@ use adb_outside::Text;
 use byteorder::{ByteOrder, LittleEndian};
 use std::alloc::{AllocError, Global};
 
-/// The most bytes of a payload that the device takes.
+/// The maximum payload that the device accepts.
 const SMALL_MAXDATA: u32 = 4_096;
 
-/// How many bytes a header has, and where it has the length of the payload.
+/// The length of a header, and the offset of the payload's length in it.
 const HEADER: usize = 24;
 
 const LENGTH: usize = 12;
 
-/// Sends what a host sends to a model device, which takes credit in bytes where the exchange's name
-/// begins so, each packet in pieces of at most `piece` bytes. Tells all that went over the link, in
-/// order: what the device owes before, and then each packet, how the device answers where it takes
-/// it not, and what it owes then. At the end the paths of its files follow, with a line for each.
+/// Sends a host's bytes to a model device, each packet in pieces of at most `piece` bytes. The
+/// device uses credit in bytes if the exchange's name begins with `credit`.
+///
+/// Returns everything that went over the link, in order: the bytes that the device owes first, and
+/// then, for each packet, the packet, the error of the device if it refuses the packet, and the
+/// bytes that it owes then. At the end follow the paths of its files, one a line.
 pub fn told(alloc: Global, name: &str, host: &[u8], piece: usize) -> Result<Text, AllocError>
     requires { 1 ≤ piece }
 {
@@ -27,7 +29,7 @@ pub fn told(alloc: Global, name: &str, host: &[u8], piece: usize) -> Result<Text
     play(alloc, &mut daemon, host, piece)
 }
 
-/// A device without files.
+/// Makes a device without files.
 fn device(alloc: Global, credit: bool) -> Result<Daemon, AllocError> {
     let files = Files::new(alloc);
     if credit {
@@ -56,7 +58,7 @@ fn play(alloc: Global, daemon: &mut Daemon, host: &[u8], piece: usize) -> Result
     Ok(told)
 }
 
-/// How many bytes the first packet has.
+/// Returns the length of the first packet.
 fn packet_len(bytes: &[u8]) -> usize
     ensures { result ≤ length bytes.now }
 {
@@ -67,7 +69,7 @@ fn packet_len(bytes: &[u8]) -> usize
     bytes.len().min(HEADER.saturating_add(length))
 }
 
-/// Sends a packet. Gives the answer to its last piece.
+/// Sends a packet. Returns the answer to its last piece.
 fn send(daemon: &mut Daemon, packet: &[u8], piece: usize) -> Result<(), DaemonError>
     requires { 1 ≤ piece }
 {
@@ -78,7 +80,7 @@ fn send(daemon: &mut Daemon, packet: &[u8], piece: usize) -> Result<(), DaemonEr
     answer
 }
 
-/// Says how the device answers a packet, where it takes it not.
+/// Appends the error of the device if it refuses a packet.
 fn say(alloc: Global, answer: Result<(), DaemonError>, told: &mut Text) -> Result<(), AllocError> {
     match answer {
         Ok(()) => Ok(()),
@@ -90,7 +92,7 @@ fn say(alloc: Global, answer: Result<(), DaemonError>, told: &mut Text) -> Resul
     }
 }
 
-/// Takes what the device owes.
+/// Takes the bytes that the device owes.
 fn hear(daemon: &mut Daemon, told: &mut Text) -> Result<(), AllocError> {
     told.push_slice(daemon.out())?;
     let n = daemon.out().len();
@@ -98,7 +100,7 @@ fn hear(daemon: &mut Daemon, told: &mut Text) -> Result<(), AllocError> {
     Ok(())
 }
 
-/// The paths of files, in order.
+/// Appends the paths of files, in order.
 fn list(files: &Files, told: &mut Text) -> Result<(), AllocError> {
     let mut path: &[u8] = b"";
     for _ in 0..1_000 {

@@ -9,21 +9,21 @@ use std::alloc::{AllocError, Global};
 /// A kind of worked texts.
 #[derive(Clone, Copy, Drop)]
 pub enum Kind {
-    /// What is asked of a sync service, and what the answers come to.
+    /// Requests to a sync service, and the results of the answers.
     Asks,
-    /// The words of a command, its capture, and how it ends.
+    /// The words of a command, its capture, and the end of its run.
     Commands,
-    /// What a host sends to a model device, and all that goes over the link.
+    /// The bytes that a host sends to a model device, and everything that goes over the link.
     Exchanges,
-    /// A capture, and how its replay ends.
+    /// A capture, and the end of its replay.
     Histories,
 }
 
-/// All of them, in the order of their folders.
+/// All kinds, in the order of their folders.
 pub const KINDS: [Kind; 4] = [Kind::Asks, Kind::Commands, Kind::Exchanges, Kind::Histories];
 
 impl Kind {
-    /// The folder of its texts.
+    /// Returns the folder of its texts.
     pub fn folder(self) -> &'static str {
         match self {
             Kind::Asks => "asks",
@@ -33,7 +33,7 @@ impl Kind {
         }
     }
 
-    /// How the names of the files end that are played.
+    /// Returns the suffix of the names of its files.
     pub fn ending(self) -> &'static str {
         match self {
             Kind::Asks => ".asks",
@@ -43,7 +43,7 @@ impl Kind {
         }
     }
 
-    /// Of how many bytes at most the pieces are, in which each text is played.
+    /// Returns the maximum sizes of the pieces in which each text is played.
     pub fn pieces(self) -> &'static [usize]
         ensures { All (λ size. 1 ≤ size) result.now }
     {
@@ -54,7 +54,7 @@ impl Kind {
         }
     }
 
-    /// Plays the text of that name, and tells how it goes.
+    /// Plays the text with that name, and returns the printed course.
     pub fn told(
         self,
         alloc: Global,

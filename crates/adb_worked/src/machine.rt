@@ -1,4 +1,4 @@
-//! A machine that asks, and the sync service that answers it.
+//! A sync client's machine, and the sync service that answers it.
 
 ghost use Rattle.std.specs.Prelude.{◌≤◌, length};
 
@@ -6,11 +6,12 @@ use adb_files::{Files, SyncService};
 use adb_sync_client::{PathAsk, PathValue, Push, Step};
 use std::alloc::{AllocError, Global};
 
-/// A machine that asks one request.
+/// A machine that makes one request.
 pub trait Machine: Drop {
     type Value: Drop;
 
-    /// Gives a service the next piece of the request, at most `size` bytes; says how many are left.
+    /// Gives a service the next piece of the request, at most `size` bytes. Returns how many bytes
+    /// are left.
     fn give(
         &mut self,
         service: &mut SyncService,
@@ -18,7 +19,7 @@ pub trait Machine: Drop {
         size: usize,
     ) -> Result<usize, AllocError>;
 
-    /// Takes a piece of the answer, and tells what all of it means.
+    /// Takes a piece of the answer. Returns the meaning of all pieces so far.
     fn take(&mut self, piece: &[u8]) -> Result<Step<Self::Value>, AllocError>;
 }
 
@@ -64,7 +65,7 @@ impl<V: PathValue> Machine for PathAsk<V> {
     }
 }
 
-/// What a request comes to, where bytes go either way in pieces of at most `size`.
+/// Returns the result of a request, with bytes in pieces of at most `size` in both directions.
 pub fn exchange<M: Machine>(
     alloc: Global,
     machine: M,
@@ -100,7 +101,7 @@ fn ask<M: Machine>(
     Ok(())
 }
 
-/// Takes the whole answer, behind a piece of it without bytes.
+/// Takes the whole answer, after an empty first piece.
 fn hear<M: Machine>(
     machine: &mut M,
     service: &mut SyncService,
@@ -119,7 +120,7 @@ fn hear<M: Machine>(
     Ok(step)
 }
 
-/// The first bytes of some, at most `size`.
+/// Returns the first bytes of `bytes`, at most `size`.
 fn front_of(bytes: &[u8], size: usize) -> &[u8]
     ensures { length result.now ≤ length bytes.now }
 {

@@ -1,4 +1,4 @@
-//! Plays each worked text of the folder that it is run in, and tells whether it goes as told.
+//! Plays each worked text of the working directory, and prints whether it goes as expected.
 #![tactic(auto)]
 
 mod answers;
@@ -13,8 +13,8 @@ use kind::{KINDS, Kind};
 use std::process::ExitCode;
 use std::{fs, io};
 
-/// Writes a line for each text, in the order of their kinds and names. Ends with status 1 where one
-/// does not go as told.
+/// Prints a line for each text, in the order of their kinds and names. Exits with status 1 if one
+/// does not go as expected.
 fn main(rt: HostRuntime) -> io::Result<ExitCode> {
     let mut all = true;
     for kind in KINDS {
@@ -35,7 +35,7 @@ fn main(rt: HostRuntime) -> io::Result<ExitCode> {
     })
 }
 
-/// The names of the texts of a kind: those of the files that are played.
+/// Returns the names of the texts of a kind: those of its files.
 fn names(rt: &HostRuntime, kind: Kind) -> io::Result<Vec<String>> {
     let mut names = Vec::new(rt.alloc());
     for entry in fs::read_dir(rt, kind.folder())? {
@@ -47,7 +47,7 @@ fn names(rt: &HostRuntime, kind: Kind) -> io::Result<Vec<String>> {
     Ok(names)
 }
 
-/// Whether a text goes as its file `NAME.told` says, in pieces of each size.
+/// Returns whether a text goes as its file `NAME.told` says, in pieces of each size.
 fn goes_as_told(rt: &HostRuntime, kind: Kind, name: &str) -> io::Result<bool> {
     let played = read_file(rt, kind, name, kind.ending())?;
     let want = read_file(rt, kind, name, ".told")?;

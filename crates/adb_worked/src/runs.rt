@@ -1,4 +1,4 @@
-//! How a run of the program's commands ends.
+//! The printed ends of runs of the program's commands.
 
 ghost use Rattle.std.specs.Prelude.{◌≡◌, ◌≤◌, ℕ, IfOk};
 ghost use Rattle.adb_worked.specs.Told.{told_as};
@@ -9,8 +9,8 @@ use adb_top::{Status, run_alone};
 use itoa::Buffer;
 use std::alloc::{AllocError, Global};
 
-/// Replays a capture whose source gives at most `piece` bytes a call, and tells how that ends, and
-/// that the history which was written is not legal, where a judge says so.
+/// Replays a capture from a source that yields at most `piece` bytes a call. Returns the printed
+/// end of the replay, which includes that the written history is not legal if a judge finds that.
 pub fn replay_told(alloc: Global, capture: &[u8], piece: usize) -> Result<Text, AllocError>
     requires { 1 ≤ piece }
 {
@@ -19,8 +19,8 @@ pub fn replay_told(alloc: Global, capture: &[u8], piece: usize) -> Result<Text, 
     run(alloc, words.as_slice(), capture, piece, true)
 }
 
-/// Runs words over a capture whose source gives at most `piece` bytes a call, and tells the status,
-/// the note and what was written.
+/// Runs words over a capture from a source that yields at most `piece` bytes a call. Returns the
+/// printed status, the note and the written bytes.
 pub fn run_told(
     alloc: Global,
     words: &[String],
@@ -72,7 +72,7 @@ fn tell(
     Ok(told)
 }
 
-/// Whether a capture is that of a legal history, or nothing of one.
+/// Returns whether a capture is that of a legal history, or of none.
 fn is_legal(alloc: Global, capture: &[u8]) -> Result<bool, AllocError> {
     if capture.is_empty() {
         return Ok(true);
@@ -86,7 +86,7 @@ fn judges_legal(alloc: Global, source: &mut MemorySource) -> bool {
     matches!(judge_capture(alloc, source), Ok(Judgement::Legal { .. }))
 }
 
-/// A line of the status, the note, an empty line and what was written.
+/// Returns a line with the status, the note, an empty line and the written bytes.
 fn spell(alloc: Global, status: Status, note: &[u8], written: &[u8]) -> Result<Text, AllocError>
     ensures { IfOk result (λ text. text ≡ told_as status note.now written.now) }
 {

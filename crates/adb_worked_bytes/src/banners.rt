@@ -1,4 +1,4 @@
-//! Who a device says that it is.
+//! Cases of banners: the identity that a device announces.
 
 use crate::cases::cut;
 use crate::telling::{tell_bytes, tell_value};
@@ -6,8 +6,8 @@ use adb_banner::{has_feature, read};
 use adb_outside::{Identity, Text, state_of, state_text};
 use std::alloc::{AllocError, Global};
 
-/// Tells the state of a device that says so, and its texts: system, serial, product, model, device
-/// and features.
+/// Appends the state of a device that is announced, and its texts: system, serial, product, model,
+/// device and features.
 pub fn tell(alloc: Global, bytes: &[u8], told: &mut Text) -> Result<(), AllocError> {
     match read(alloc, bytes) {
         Ok(identity) => tell_identity(&identity, told),
@@ -26,7 +26,8 @@ fn tell_identity(identity: &Identity, told: &mut Text) -> Result<(), AllocError>
     tell_bytes(told, b" ", identity.features.as_slice())
 }
 
-/// Tells of a text `NAME of BYTES` whether who says the bytes has the feature of that name.
+/// Appends, for a text `NAME of BYTES`, whether the device that announces BYTES has the feature
+/// NAME.
 pub fn tell_feature(alloc: Global, text: &[u8], told: &mut Text) -> Result<(), AllocError> {
     let (name, bytes) = cut(text, b" of ");
     match read(alloc, bytes) {

@@ -1,18 +1,18 @@
-//! The cases of a text. Each has bytes that are played, and the lines that tell how that goes.
+//! The cases of a text. Each has bytes to play, and the expected lines.
 
 use crate::kind::Kind;
 use adb_outside::{Text, read_number};
 use bstr::{ByteSlice, ByteVec};
 use std::alloc::{AllocError, Global};
 
-/// What each case begins with.
+/// The bytes with which each case begins.
 const BEGIN: &[u8] = b"\n\"";
 
-/// How many bytes at most the pieces have, in which each case is played.
+/// The maximum sizes of the pieces in which each case is played.
 const SIZES: [usize; 9] = [1, 2, 5, 23, 24, 25, 47, 200, 65_536];
 
-/// How many cases of a text go as they tell before one that does not, and how many bytes are left
-/// from that on: none, where all go as they tell.
+/// Returns how many cases of a text play as expected before one that does not, and how many bytes
+/// are left from that case on: none if all play as expected.
 pub fn play(alloc: Global, kind: Kind, text: &[u8]) -> Result<(usize, usize), AllocError> {
     let (_, mut rest) = cut(text, BEGIN);
     let mut count = 0usize;
@@ -27,7 +27,7 @@ pub fn play(alloc: Global, kind: Kind, text: &[u8]) -> Result<(usize, usize), Al
     Ok((count, rest.len()))
 }
 
-/// What stands before a mark, and behind it; all, where there is none.
+/// Splits a text at a mark. Without the mark, the first part is the whole text.
 pub fn cut<'a>(text: &'a [u8], mark: &[u8]) -> (&'a [u8], &'a [u8]) {
     text.split_once_str(mark).unwrap_or((text, b""))
 }
@@ -50,7 +50,7 @@ fn goes(alloc: Global, kind: Kind, bytes: &[u8], want: &[u8]) -> Result<bool, Al
     Ok(true)
 }
 
-/// Adds the bytes of a case, and the lines that tell how it goes, each behind its line's end.
+/// Adds the bytes of a case, and its expected lines, each after a line end.
 fn read(alloc: Global, case: &[u8], bytes: &mut Text, want: &mut Text) -> Result<(), AllocError> {
     for line in case.lines() {
         add_line(alloc, line, bytes, want)?;
@@ -72,7 +72,7 @@ fn add_line(
     Ok(())
 }
 
-/// What stands before the last quote, and behind one before it where there is one.
+/// Returns the text between the last two quotes, or before the last quote if there is only one.
 fn quoted_in(line: &[u8]) -> &[u8] {
     let (front, _) = line.rsplit_once_str(b"\"").unwrap_or((b"", line));
     match front.rsplit_once_str(b"\"") {
@@ -81,7 +81,7 @@ fn quoted_in(line: &[u8]) -> &[u8] {
     }
 }
 
-/// How many times a line stands: once, or as often as is told behind its quotes.
+/// Returns how many times a line is repeated: once, or the number after its quotes.
 fn times_of(line: &[u8]) -> u128 {
     match line.rsplit_once_str(b"\"*") {
         Some((_, digits)) => read_number(digits.trim(), 6).unwrap_or(0),
@@ -89,7 +89,7 @@ fn times_of(line: &[u8]) -> u128 {
     }
 }
 
-/// Adds some bytes, and those that a text spells.
+/// Appends bytes, and then the bytes that an escaped text spells.
 fn add(alloc: Global, front: &[u8], escaped: &[u8], to: &mut Text) -> Result<(), AllocError> {
     let bytes = Vec::unescape_bytes(alloc, str::from_utf8(escaped).unwrap_or("?"))?;
     to.push_slice(front)?;

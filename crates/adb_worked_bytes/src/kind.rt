@@ -15,25 +15,25 @@ pub enum Kind {
     Answers,
     /// Requests to a sync service.
     Asks,
-    /// Who a device says that it is.
+    /// Banners of devices.
     Banners,
-    /// What a client's bytes begin with.
+    /// The beginning of a client's bytes.
     Cuts,
-    /// Whether a device has a feature.
+    /// The features of a device.
     Features,
     /// Answers of a sync service to a LIST.
     Lists,
-    /// What a request means.
+    /// The meaning of a request.
     Meanings,
     /// Packets.
     Packets,
     /// Packets of a shell.
     Shell,
-    /// Packets that are not looked into.
+    /// Packets whose contents are not parsed.
     Slices,
 }
 
-/// All of them.
+/// All kinds.
 pub const KINDS: [Kind; 10] = [
     Kind::Answers,
     Kind::Asks,
@@ -48,7 +48,7 @@ pub const KINDS: [Kind; 10] = [
 ];
 
 impl Kind {
-    /// The file of its cases.
+    /// Returns the name of the file of its cases.
     pub fn file(self) -> &'static str {
         match self {
             Kind::Answers => "answers.txt",
@@ -64,8 +64,8 @@ impl Kind {
         }
     }
 
-    /// Plays bytes, a stream in pieces of at most `size`. Tells how that goes, in lines each of
-    /// which stands behind a line's end.
+    /// Plays bytes, a stream in pieces of at most `size` bytes. Appends the resulting lines, each
+    /// after a line end.
     pub fn play(
         self,
         alloc: Global,

@@ -1,4 +1,4 @@
-//! Plays each case of the texts in the folder that it is run in, and tells whether it goes as told.
+//! Plays each case of the texts in the working directory, and prints whether it goes as expected.
 #![tactic(auto)]
 
 mod banners;
@@ -16,8 +16,8 @@ use kind::{KINDS, Kind};
 use std::process::ExitCode;
 use std::{fs, io};
 
-/// Writes a line for each kind: how many of its cases go as told, and what is left behind these.
-/// Ends with status 1 where something is.
+/// Prints a line for each kind: how many of its cases play as expected, and how many bytes are left
+/// after these. Exits with status 1 if any bytes are left.
 fn main(rt: HostRuntime) -> io::Result<ExitCode> {
     let mut code = ExitCode::SUCCESS;
     for kind in KINDS {
@@ -28,7 +28,7 @@ fn main(rt: HostRuntime) -> io::Result<ExitCode> {
     Ok(code)
 }
 
-/// Plays the text of a kind; says how many of its bytes are left.
+/// Plays the text of a kind and returns how many of its bytes are left.
 fn play(rt: &HostRuntime, kind: Kind) -> io::Result<usize> {
     let text = fs::read(rt, kind.file())?;
     tell(rt, kind, text.as_slice())

@@ -12,12 +12,12 @@ pub trait Reader: Drop {
     /// Takes the next piece of the stream.
     fn take(&mut self, piece: &[u8]) -> Result<(), Self::Error>;
 
-    /// Tells the next message that came, or nothing.
+    /// Appends the next message that came, or nothing.
     fn tell_next(&mut self, alloc: Global, told: &mut Text) -> Result<(), AllocError>;
 }
 
-/// Gives a reader a stream in pieces of at most `size` bytes. Tells the messages that come, a line
-/// each, and then what it answers to the last piece.
+/// Feeds a reader a stream in pieces of at most `size` bytes. Appends the messages that come, one a
+/// line, and then the result of the last piece.
 pub fn read<R: Reader>(
     alloc: Global,
     reader: R,
@@ -44,7 +44,7 @@ fn read_with<R: Reader>(
     tell_value(alloc, told, answer)
 }
 
-/// Tells the messages that came.
+/// Appends the messages that came.
 fn tell_all<R: Reader>(alloc: Global, reader: &mut R, told: &mut Text) -> Result<(), AllocError> {
     for _ in 0..u64::MAX {
         let before = told.len();

@@ -1,16 +1,16 @@
-//! Requests of clients.
+//! Cases of clients' requests.
 
 use crate::telling::{tell_bytes, tell_number, tell_value};
 use adb_outside::{Selector, Text};
 use adb_request::{Request, Which, cut, hex4, read, read_hex4};
 use std::alloc::{AllocError, Global};
 
-/// Tells the number that bytes are in hexadecimal digits, and what they begin with.
+/// Appends the number that bytes are in hexadecimal digits, and the kind of their beginning.
 pub fn tell_cut(alloc: Global, bytes: &[u8], told: &mut Text) -> Result<(), AllocError> {
     tell_value(alloc, told, (read_hex4(bytes), cut(bytes)))
 }
 
-/// Tells what a request means.
+/// Appends the meaning of a request.
 pub fn tell(alloc: Global, text: &[u8], told: &mut Text) -> Result<(), AllocError> {
     let request = read(alloc, text)?;
     tell_request(&request, told)
@@ -94,7 +94,7 @@ fn tell_by(told: &mut Text, by: &Selector) -> Result<(), AllocError> {
     }
 }
 
-/// Adds a word, and a port behind it in hexadecimal digits.
+/// Appends a word, and then a port in hexadecimal digits.
 fn tell_port(told: &mut Text, word: &[u8], port: u16) -> Result<(), AllocError> {
     told.push_slice(word)?;
     told.push_slice(&hex4(port))

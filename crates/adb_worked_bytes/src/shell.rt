@@ -1,4 +1,4 @@
-//! Packets of a shell.
+//! Cases of shell packets.
 
 use crate::reader::Reader;
 use crate::telling::{tell_bytes, tell_number};

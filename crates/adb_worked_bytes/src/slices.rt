@@ -1,11 +1,11 @@
-//! Packets that are not looked into.
+//! Cases of packets whose contents are not parsed.
 
 use crate::telling::tell_bytes;
 use adb_outside::Text;
 use adb_wire::Slicer;
 use std::alloc::{AllocError, Global};
 
-/// Tells the slices of a stream that comes in pieces, and what is held at its end.
+/// Appends the slices of a stream that comes in pieces, and the bytes that are held at its end.
 pub fn read(alloc: Global, stream: &[u8], size: usize, told: &mut Text) -> Result<(), AllocError> {
     let mut slicer = Slicer::new(alloc)?;
     tell(&mut slicer, stream, size, told)

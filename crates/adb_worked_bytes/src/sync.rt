@@ -1,4 +1,4 @@
-//! Requests to a sync service, and its answers.
+//! Cases of requests to a sync service, and of its answers.
 
 use crate::reader::Reader;
 use crate::telling::{tell_bytes, tell_number};

@@ -1,4 +1,4 @@
-//! Packets.
+//! Cases of packets.
 
 ghost use Rattle.std.specs.Prelude.{◌≤◌, length};
 ghost use Rattle.adb_wire.specs.declared.headers.TheConstants.{MAX_PAYLOAD};
@@ -24,7 +24,7 @@ impl Reader for Deframer {
     }
 }
 
-/// Tells a packet, and how it is spelled on a new link, where a CNXN alone has its sum.
+/// Appends a packet, and its encoding on a new link, on which only a CNXN has its sum.
 fn tell(alloc: Global, packet: &Packet, told: &mut Text) -> Result<(), AllocError>
     requires { length packet.now.payload ≤ MAX_PAYLOAD }
 {

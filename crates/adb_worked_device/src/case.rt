@@ -1,23 +1,24 @@
-//! A worked session, as its text is cut.
+//! A worked session, as it is cut from its text.
 
 use adb_outside::read_number;
 
-/// A session of a script's line, and how it goes.
+/// A session of a script's line, and its expected course.
 #[derive(Clone, Copy, Drop)]
 pub struct Case<'a> {
     pub name: &'a str,
     /// The number of its line, or of its stream in an echo.
     pub number: u32,
     pub line: &'a [u8],
-    /// The bytes that it was handed.
+    /// The bytes that the session was handed.
     pub handed: &'a [u8],
-    /// What it asks for, what it writes, what the bytes mean, and what is printed of them.
+    /// The expected text: the request, the bytes that the session writes, the meaning of the bytes
+    /// that it was handed, and the printed bytes.
     pub told: &'a [u8],
 }
 
-/// The first case of a text, and what stands behind it: three lines, of its name, its number and
-/// its script, and then two texts, each behind a line that says how many bytes it has. What is left
-/// out is empty or 0.
+/// Returns the first case of a text, and the text after it. A case has three lines, with its name,
+/// its number and its script, and then two texts, each after a line with its length in bytes. A
+/// missing part is empty or 0.
 pub fn first_case(text: &[u8]) -> (Case<'_>, &[u8]) {
     let (name, rest) = first_line(text);
     let (number, rest) = first_line(rest);
@@ -34,13 +35,13 @@ pub fn first_case(text: &[u8]) -> (Case<'_>, &[u8]) {
     (case, rest)
 }
 
-/// The first of the texts, and what stands behind it.
+/// Returns the first of the texts, and the rest after it.
 fn first_text(text: &[u8]) -> (&[u8], &[u8]) {
     let (digits, rest) = first_line(text);
     rest.split_at(rest.len().min(number_of(digits) as usize))
 }
 
-/// A text's first line, and what stands behind its end.
+/// Returns a text's first line, and the rest after its line end.
 fn first_line(text: &[u8]) -> (&[u8], &[u8]) {
     match text.iter().position(|byte| *byte == b'\n') {
         Some(end) => (&text[..end], &text[end + 1..]),

@@ -1,5 +1,5 @@
-//! Plays the worked sessions in the file `sessions` of the folder that it is run in, and tells
-//! whether each goes as told.
+//! Plays the worked sessions in the file `sessions` of the working directory, and prints whether
+//! each goes as expected.
 #![tactic(auto)]
 
 ghost use Rattle.std.specs.Prelude.{◌≤◌};
@@ -13,8 +13,8 @@ use std::alloc::{AllocError, Global};
 use std::process::ExitCode;
 use std::{fs, io};
 
-/// Writes a line for each session, in their order. Ends with status 1 where one does not go as
-/// told.
+/// Prints a line for each session, in their order. Exits with status 1 if one does not go as
+/// expected.
 fn main(rt: HostRuntime) -> io::Result<ExitCode> {
     let cases = fs::read(&rt, "sessions")?;
     play(&rt, cases.as_slice())
@@ -36,7 +36,7 @@ fn play(rt: &HostRuntime, cases: &[u8]) -> io::Result<ExitCode> {
     Ok(code)
 }
 
-/// Writes whether a session goes as told, and says it.
+/// Prints and returns whether a session goes as expected.
 fn is_told(rt: &HostRuntime, case: Case<'_>) -> io::Result<bool> {
     let goes = goes_as_told(rt.alloc(), case)?;
     let how = if goes { "as told" } else { "not as told" };
@@ -44,8 +44,8 @@ fn is_told(rt: &HostRuntime, case: Case<'_>) -> io::Result<bool> {
     Ok(goes)
 }
 
-/// Whether a session goes as told, where what it is handed comes in pieces of at most 1 byte, of
-/// at most 5, and whole.
+/// Returns whether a session goes as expected if the bytes that it is handed come in pieces of at
+/// most 1 byte, of at most 5 bytes, and whole.
 fn goes_as_told(alloc: Global, case: Case<'_>) -> Result<bool, AllocError> {
     Ok(goes_by(alloc, case, 1)? && goes_by(alloc, case, 5)? && goes_by(alloc, case, 65_536)?)
 }

@@ -1,4 +1,4 @@
-//! What a sync client makes of the answer to a session.
+//! The meaning of a session's answer for a sync client.
 
 ghost use Rattle.std.specs.Prelude.{◌≤◌, length};
 ghost use Rattle.adb_sync_client.specs.declared.request.TheConstants.{MAX_ASKED_PATH};
@@ -10,7 +10,7 @@ use std::alloc::{AllocError, Global};
 
 /// The value of an answer.
 trait Value: Drop {
-    /// The bytes of a file; nothing of what is printed whole.
+    /// Returns the bytes of a file, or none for a value that is printed whole.
     fn bytes(&self) -> &[u8];
 }
 
@@ -38,8 +38,8 @@ impl Value for Entries {
     }
 }
 
-/// Tells in a line what an answer means that comes in pieces of at most `piece` bytes. The answer
-/// to a command has no such line.
+/// Appends a line with the meaning of an answer that comes in pieces of at most `piece` bytes. The
+/// answer to a command has no such line.
 pub fn tell_meaning(
     alloc: Global,
     session: &SessionLine<'_>,

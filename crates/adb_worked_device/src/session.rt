@@ -1,4 +1,4 @@
-//! How a session goes.
+//! The course of a session.
 
 ghost use Rattle.std.specs.Prelude.{◌≤◌};
 
@@ -8,8 +8,8 @@ use adb_outside::Text;
 use adb_script::{EchoLine, Script, ScriptLine, SessionLine};
 use std::alloc::{AllocError, Global};
 
-/// What a session asks for, what it writes, what the bytes mean that it was handed, where they come
-/// in pieces of at most `piece`, and what is printed of them.
+/// Returns the request of a session, the bytes that it writes, the meaning of the bytes that it was
+/// handed, in pieces of at most `piece` bytes, and the printed bytes.
 pub fn told(alloc: Global, case: Case<'_>, piece: usize) -> Result<Text, AllocError>
     requires { 1 ≤ piece }
 {
@@ -74,7 +74,7 @@ fn tell_echo(
     tell(echo.answer(alloc)?, b"", told)
 }
 
-/// Adds a text, and what ends it.
+/// Appends a text, and then its end.
 fn tell(text: Text, end: &[u8], told: &mut Text) -> Result<(), AllocError> {
     told.push_slice(text.as_slice())?;
     told.push_slice(end)

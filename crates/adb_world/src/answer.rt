@@ -1,4 +1,4 @@
-//! What a session was answered.
+//! The answer to a session.
 
 ghost use Rattle.std.specs.Prelude.{◌≡◌, drop};
 ghost use Rattle.adb_world.specs.declared.session.TheConstants.{REPLIES};
@@ -7,7 +7,8 @@ use crate::session::{REPLIES, behind_replies};
 use adb_outside::Text;
 use std::marker::Model;
 
-/// What a session was handed behind the replies to its two requests. Contracts see those bytes.
+/// The bytes that a session was handed after the replies to its two requests. Contracts see those
+/// bytes.
 #[derive(Drop)]
 pub struct Answer {
     got: Text,
@@ -23,21 +24,22 @@ impl Model for Answer {
 }
 
 impl Answer {
-    /// Of all that a session was handed. It takes no memory.
+    /// Makes the answer from all bytes that a session was handed. It allocates nothing.
     pub(crate) fn new(got: Text) -> Answer
         ensures { result ≡ drop REPLIES got }
     {
         Answer { got }
     }
 
-    /// The bytes.
+    /// Returns the bytes.
     pub fn as_slice(&self) -> &[u8]
         ensures { result.now ≡ self.now }
     {
         behind_replies(self.got.as_slice())
     }
 
-    /// The bytes as a text, which are moved to its front. It takes no memory.
+    /// Returns the bytes as a text. It moves them to the beginning of their memory, and allocates
+    /// nothing.
     pub fn into_text(self) -> Text
         ensures { result ≡ self }
     {

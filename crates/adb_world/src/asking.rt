@@ -1,4 +1,4 @@
-//! What a session is answered that runs alone, and is dropped then.
+//! Sessions that run alone, and are then dropped.
 
 ghost use Rattle.std.specs.Prelude.{◌≡◌, ◌+◌, ◌<◌, IfOk, OnErr, OnOk};
 ghost use Rattle.adb_daemon.specs.Daemon.{files_of};
@@ -15,10 +15,10 @@ use crate::starting::begin;
 use adb_outside::Text;
 use std::alloc::{AllocError, Global};
 
-/// What a new session of the file service is answered to some bytes.
+/// Returns the answer to these bytes of a new session of the file service.
 ///
-/// - `AllocError`: an allocation failed. The files are those after a prefix of the whole requests of
-///   the bytes.
+/// - `AllocError`: an allocation failed. The files are those after a prefix of the whole requests
+///   of the bytes.
 pub(crate) fn sync_parts(
     alloc: Global,
     parts: &mut Parts,

@@ -1,4 +1,4 @@
-//! What a world asks of its hub and its device, which refuse none of it.
+//! The calls of a world on its hub and its device, none of which they refuse.
 
 ghost use Rattle.std.specs.Prelude.{◌≡◌, ◌≢◌, ◌<◌, ◌≤◌, ◌+◌, ◌-◌, ◌^◌, ◌++◌, ◌∷◌, [], true, false, ℕ, List, Err, length, take, IfOk, OnErr, OnOk};
 ghost use Rattle.adb_wire.specs.Cutting.{parts_of};
@@ -27,7 +27,7 @@ const LINK: u32 = 1;
 
 const SERIAL: &[u8] = b"model-1";
 
-/// The device is plugged in.
+/// Plugs in the device.
 pub(crate) fn plug_in(hub: &mut Hub) -> Result<(), AllocError>
     requires { IsLawful hub.old [] }
     ensures { OnOk result (IsLawful hub.new (plugging ∷ [])) }
@@ -39,7 +39,7 @@ pub(crate) fn plug_in(hub: &mut Hub) -> Result<(), AllocError>
     }
 }
 
-/// The next client comes.
+/// Admits the next client.
 pub(crate) fn join(hub: &mut Hub) -> Result<u32, AllocError>
     requires held { HasHistory hub.old }
     requires on { hub.old.stopped ≡ false }
@@ -55,7 +55,7 @@ pub(crate) fn join(hub: &mut Hub) -> Result<u32, AllocError>
     }
 }
 
-/// The hub reads the next words of the session of a client, at most `max` bytes.
+/// Makes the hub read the next words of the session of a client, at most `max` bytes.
 pub(crate) fn read_next(
     hub: &mut Hub,
     client: u32,
@@ -80,7 +80,7 @@ pub(crate) fn read_next(
     read(hub, client, piece.as_slice())
 }
 
-/// Bytes come from a client.
+/// Makes the hub read bytes of a client.
 fn read(hub: &mut Hub, client: u32, piece: &[u8]) -> Result<(), AllocError>
     requires held { HasHistory hub.old }
     requires on { hub.old.stopped ≡ false }
@@ -95,7 +95,7 @@ fn read(hub: &mut Hub, client: u32, piece: &[u8]) -> Result<(), AllocError>
     }
 }
 
-/// The input of a client ends in order. It takes no memory.
+/// Ends the input of a client in order. It allocates nothing.
 pub(crate) fn end(hub: &mut Hub, client: u32)
     requires held { HasHistory hub.old }
     requires on { hub.old.stopped ≡ false }
@@ -109,7 +109,7 @@ pub(crate) fn end(hub: &mut Hub, client: u32)
     }
 }
 
-/// Bytes come on the link.
+/// Makes the hub receive bytes on the link.
 pub(crate) fn receive(hub: &mut Hub, piece: &[u8]) -> Result<(), AllocError>
     requires held { HasHistory hub.old }
     requires on { hub.old.stopped ≡ false }
@@ -124,7 +124,8 @@ pub(crate) fn receive(hub: &mut Hub, piece: &[u8]) -> Result<(), AllocError>
     }
 }
 
-/// Hands out the first bytes that are due to a client, at most `max`; `None` where there are none.
+/// Hands out the first bytes that are due to a client, at most `max`. Returns `None` if none are
+/// due.
 pub(crate) fn put(hub: &mut Hub, client: u32, max: usize) -> Result<Option<HandOut>, AllocError>
     requires some { 0 < max }
     requires held { HasHistory hub.old }
@@ -140,7 +141,8 @@ pub(crate) fn put(hub: &mut Hub, client: u32, max: usize) -> Result<Option<HandO
     }
 }
 
-/// Hands out the first bytes that are due on the link, at most `max`; `None` where there are none.
+/// Hands out the first bytes that are due on the link, at most `max`. Returns `None` if none are
+/// due.
 pub(crate) fn send(hub: &mut Hub, max: usize) -> Result<Option<HandOut>, AllocError>
     requires some { 0 < max }
     requires held { HasHistory hub.old }
@@ -155,7 +157,7 @@ pub(crate) fn send(hub: &mut Hub, max: usize) -> Result<Option<HandOut>, AllocEr
     }
 }
 
-/// What was handed out.
+/// Returns the bytes that were handed out.
 fn bytes_of(handed: Handed) -> Option<HandOut>
     ensures { result ≡ bytes_of handed }
 {
@@ -165,10 +167,10 @@ fn bytes_of(handed: Handed) -> Option<HandOut>
     }
 }
 
-/// Feeds the device bytes that were handed out, in which it finds nothing wrong.
+/// Feeds the device bytes that were handed out, in which it finds no fault.
 ///
-/// - `AllocError`: an allocation failed. The device has treated some of the packets; its files are
-///   those after them, or after a prefix of what the next packet asks for.
+/// - `AllocError`: an allocation failed. The device has handled some of the packets; its files are
+///   those after them, or after a prefix of the requests of the next packet.
 pub(crate) fn feed(device: &mut Daemon, out: &HandOut) -> Result<(), AllocError>
     requires { TakesSoundly device.old out.now }
     ensures done { OnOk result ((fed taken : List ℕ)
@@ -185,7 +187,8 @@ pub(crate) fn feed(device: &mut Daemon, out: &HandOut) -> Result<(), AllocError>
     Ok(())
 }
 
-/// The device takes bytes. An error in them is dropped here: it returns it again for later bytes.
+/// Feeds the device bytes. An error in them is dropped here, because the device returns it again
+/// for later bytes.
 fn feed_front(device: &mut Daemon, piece: &[u8]) -> Result<(), AllocError>
     ensures done { OnOk result ((setting : Setting) (fed taken : List ℕ)
         → HasDone setting fed taken device.old
@@ -202,7 +205,7 @@ fn feed_front(device: &mut Daemon, piece: &[u8]) -> Result<(), AllocError>
     Ok(())
 }
 
-/// Whether a device found no memory.
+/// Returns whether an allocation of a device failed.
 fn ran_out(answer: &Result<(), DaemonError>) -> bool
     ensures found { result ≡ false → answer.now ≢ Err DaemonError.OutOfMemory }
     ensures none { result ≡ true → answer.now ≡ Err DaemonError.OutOfMemory }
@@ -210,7 +213,7 @@ fn ran_out(answer: &Result<(), DaemonError>) -> bool
     matches!(answer, Err(DaemonError::OutOfMemory))
 }
 
-/// The device takes bytes in which it finds nothing wrong.
+/// Feeds the device bytes in which it finds no fault.
 fn feed_last(device: &mut Daemon, piece: &[u8]) -> Result<(), AllocError>
     requires { TakesSoundly device.old piece.now }
     ensures done { OnOk result ((fed taken : List ℕ)

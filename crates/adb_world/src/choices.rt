@@ -1,9 +1,9 @@
-//! What the words of a seed choose.
+//! The choices that the words of a seed make.
 
 ghost use Rattle.std.specs.Prelude.{◌<◌};
 
-/// What can move: bytes that are due on the link, bytes that the device owes, bytes that are due to
-/// a session, and bytes that a session has still to write.
+/// The bytes that can move: those that are due on the link, those that the device owes, those that
+/// are due to a session, and those that a session has still to write.
 #[derive(Clone, Copy)]
 pub(crate) enum Side {
     Down,
@@ -12,17 +12,17 @@ pub(crate) enum Side {
     Write,
 }
 
-/// What is tried first in a turn, and how much moves at most.
+/// The kind of bytes that is tried first in a turn, and the maximum that moves.
 #[derive(Clone, Copy)]
 pub(crate) struct Turn {
     pub first: Side,
-    /// The sessions behind this number come before the others.
+    /// The sessions after this number come before the others.
     pub after: u32,
-    /// How many bytes move at most.
+    /// The maximum number of bytes that move.
     pub most: usize,
 }
 
-/// What two words choose, where so many sessions were given.
+/// Returns the choice of two words, if `given` sessions were given.
 pub(crate) fn turn_of(side: u32, size: u32, given: u32) -> Turn
     ensures { 0 < result.most }
 {
@@ -46,7 +46,7 @@ fn number_below(word: u32, given: u32) -> u32 {
     if given == 0 { 0 } else { word % given }
 }
 
-/// One byte, about a header, or up to a packet.
+/// Returns a size: one byte, up to about a header, or up to a packet.
 fn piece_of(word: u32) -> usize
     ensures { 0 < result }
 {

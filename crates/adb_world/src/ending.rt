@@ -1,4 +1,4 @@
-//! Ending sessions, one after the other.
+//! Ending of sessions, one after the other.
 
 ghost use Rattle.std.specs.Prelude.{◌≡◌, [], true, is_some, Some, IfOk, OnErr, OnOk};
 ghost use Rattle.adb_outside.specs.Tables.{at};
@@ -13,8 +13,8 @@ use crate::settling::settle_parts;
 use adb_laws_births::what_came_stays;
 use std::alloc::AllocError;
 
-/// The client of each session ends in order, and no session is kept. The files stay, also if an
-/// allocation fails.
+/// Ends the client of each session in order, and keeps no session. The files are unchanged, also if
+/// an allocation fails.
 pub(crate) fn finish_parts(parts: &mut Parts, seed: u64) -> Result<(), AllocError>
     requires { IsDone parts.old }
     ensures done { OnOk result (IsDone parts.new) }
@@ -30,8 +30,8 @@ pub(crate) fn finish_parts(parts: &mut Parts, seed: u64) -> Result<(), AllocErro
     Ok(())
 }
 
-/// The client of a session ends in order, and all settles without it. The session is given away.
-/// The files stay, also if an allocation fails.
+/// Ends the client of a session in order, settles the world without it, and returns the session.
+/// The files are unchanged, also if an allocation fails.
 pub(crate) fn finish_one(parts: &mut Parts, number: u32, seed: u64) -> Result<Session, AllocError>
     requires done { IsDone parts.old }
     requires there { is_some (at number parts.old.sessions.entries) ≡ true }

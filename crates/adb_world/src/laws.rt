@@ -1,5 +1,5 @@
-//! What a world is in which no step is possible. Each function does nothing: its contract is the
-//! law.
+//! Properties of a world in which no step is possible. The functions do nothing: the contract of
+//! each states a property.
 
 ghost use Rattle.adb_world.specs.Parts.{IsRunning};
 ghost use Rattle.adb_daemon.specs.Daemon.{files_of};
@@ -31,7 +31,7 @@ use adb_laws_worlds::{
     streams_of_one_plain_device_are_plain, streams_that_live_heard_no_close,
 };
 
-/// Where no step is possible all is settled, and each session was answered.
+/// States that, if no step is possible, everything is settled, and each session was answered.
 pub(crate) fn worlds_that_rest_are_settled()
     ensures done { (parts : Parts) → IsRunning parts → Rests parts → IsDone parts }
     ensures answered { (parts : Parts) → IsRunning parts → Rests parts
@@ -49,7 +49,8 @@ pub(crate) fn worlds_that_rest_are_settled()
     streams_that_live_heard_no_close();
 }
 
-/// Where all is settled, as many clients and streams were drawn as sessions were given.
+/// States that, if everything is settled, the numbers of clients and of streams that were drawn
+/// equal the number of sessions that were given.
 pub(crate) fn settled_worlds_are_counted()
     ensures { (parts : Parts) → IsDone parts → IsCounted (view_of parts false true) }
 {
@@ -57,7 +58,8 @@ pub(crate) fn settled_worlds_are_counted()
     sessions_ask_for_services();
 }
 
-/// Where all is settled, the end of a session's client and all that follows it changes no file.
+/// States that, if everything is settled, the end of a session's client and everything that follows
+/// it change no file.
 pub(crate) fn ended_sessions_change_no_file()
     ensures { (number : ℕ) (old mid new : Parts) → IsDone old → HasEnded number old mid new
         → files_of new.device ≡ files_of old.device }
@@ -71,15 +73,15 @@ pub(crate) fn ended_sessions_change_no_file()
     settled_worlds_are_counted();
 }
 
-/// A world to which no session was given has no files.
+/// States that a world to which no session was given has no files.
 pub(crate) fn new_worlds_have_no_files()
     ensures { (parts : Parts) → IsRunning parts → parts.given ≡ 0 → files_of parts.device ≡ [] }
 {
     sessions_ask_for_services();
 }
 
-/// Where no step is possible a session that ran alone was answered over the files as they were, and
-/// left those that stand.
+/// States that, if no step is possible, a session that ran alone was answered over the files as
+/// they were, and produced the files as they are.
 pub(crate) fn sessions_alone_are_answered()
     ensures { (old new : Parts) → IsAtEase old → GoesOn old new → Rests new
         → (n : ℕ) (session : Session) → IsNewAlone n old.sessions.entries
@@ -104,7 +106,8 @@ pub(crate) fn sessions_alone_are_answered()
     echoes_leave_files();
 }
 
-/// Where no step is possible, the steps from a time at which nothing was on its way are few.
+/// States that, if no step is possible, the number of steps since a time at which nothing was in
+/// transit is bounded.
 pub(crate) fn settling_takes_few_steps()
     ensures { (old new : Parts) → IsAtEase old → (n : ℕ) → HasMade n old new → Rests new
         → n ≤ most_steps new.sessions.entries }
@@ -124,7 +127,8 @@ pub(crate) fn settling_takes_few_steps()
     streams_that_live_heard_no_close();
 }
 
-/// Where no step is possible sessions that asked for echoes alone left the files as they were.
+/// States that, if no step is possible, sessions that asked only for echoes left the files
+/// unchanged.
 pub(crate) fn echoes_change_no_file()
     ensures { (old new : Parts) → IsAtEase old → GoesOn old new → Rests new
         → AreEchoes old.sessions.entries → files_of new.device ≡ files_of old.device }
@@ -147,9 +151,9 @@ pub(crate) fn echoes_change_no_file()
     echoes_leave_files();
 }
 
-/// Where no step is possible sessions that ran side by side were answered through one order of all
-/// their commands and whole sync requests, which leads from the files as they were to those that
-/// stand.
+/// States that, if no step is possible, concurrent sessions were answered through one order of all
+/// their commands and whole sync requests, which leads from the files as they were to the files as
+/// they are.
 pub(crate) fn sessions_are_answered_together()
     ensures { (old new : Parts) → IsAtEase old → GoesOn old new → Rests new
         → AreWhole old.sessions.entries
@@ -175,8 +179,8 @@ pub(crate) fn sessions_are_answered_together()
     streams_run_together();
 }
 
-/// If a step fails, the files are those after whole commands and whole sync requests, in one order,
-/// and each session that had written nothing asked for a prefix of what it asks for.
+/// States that, if a step fails, the files are those after whole commands and whole sync requests,
+/// in one order, and each session that had written nothing asked for a prefix of its requests.
 pub(crate) fn sessions_are_asked_in_part()
     ensures { (old new : Parts) → IsAtEase old → HasStopped old new
         → AreWhole old.sessions.entries
@@ -201,8 +205,8 @@ pub(crate) fn sessions_are_asked_in_part()
     streams_run_in_part();
 }
 
-/// If all is settled, a session's client ends, and a step fails before all has settled again, no file
-/// has changed.
+/// States that, if everything is settled, a session's client ends, and a step fails before
+/// everything has settled again, no file has changed.
 pub(crate) fn sessions_that_end_in_part_change_no_file()
     ensures { (number : ℕ) (old mid new : Parts) → IsDone old
         → HasEndedInPart number old mid new → files_of new.device ≡ files_of old.device }

@@ -1,5 +1,8 @@
-//! A world: one hub, one model device and scripted clients, with nothing outside. Its bytes move in
-//! pieces and in an order that a seed picks, until none can move.
+//! A world: one hub, one model device and scripted clients, without any environment. Its bytes move
+//! in pieces and in an order that a seed picks, until none can move.
+//!
+//! `World::start` adds a session, `settle` moves the bytes, and `World::answer` returns the answer
+//! to a session.
 #![tactic(auto)]
 
 mod answer;

@@ -1,4 +1,4 @@
-//! Moving bytes of one kind, where any can move.
+//! Moving of bytes of one kind, if any can move.
 
 ghost use Rattle.std.specs.Prelude.{◌≡◌, ◌<◌, IfOk, OnErr, OnOk};
 ghost use Rattle.adb_daemon.specs.Daemon.{files_of};
@@ -10,7 +10,7 @@ use crate::parts::Parts;
 use adb_laws_births::what_came_stays;
 use std::alloc::AllocError;
 
-/// Moves what is due on the link down.
+/// Moves bytes that are due on the link to the device.
 pub(crate) fn down(parts: &mut Parts, most: usize) -> Result<bool, AllocError>
     requires runs { IsRunning parts.old }
     requires some { 0 < most }
@@ -22,7 +22,7 @@ pub(crate) fn down(parts: &mut Parts, most: usize) -> Result<bool, AllocError>
     Ok(moved)
 }
 
-/// Moves what the device owes up.
+/// Moves bytes that the device owes to the hub.
 pub(crate) fn up(parts: &mut Parts, most: usize) -> Result<bool, AllocError>
     requires runs { IsRunning parts.old }
     requires some { 0 < most }
@@ -34,7 +34,7 @@ pub(crate) fn up(parts: &mut Parts, most: usize) -> Result<bool, AllocError>
     Ok(moved)
 }
 
-/// Hands something to the first session after a number, if anything is due to it.
+/// Hands bytes to the first session after a number, if any are due to it.
 pub(crate) fn hand_one(parts: &mut Parts, after: u32, most: usize) -> Result<bool, AllocError>
     requires runs { IsRunning parts.old }
     requires some { 0 < most }
@@ -49,7 +49,7 @@ pub(crate) fn hand_one(parts: &mut Parts, after: u32, most: usize) -> Result<boo
     Ok(moved)
 }
 
-/// Lets the first session after a number write, if it has anything to write.
+/// Writes bytes of the first session after a number, if it has any left to write.
 pub(crate) fn write_one(parts: &mut Parts, after: u32, most: usize) -> Result<bool, AllocError>
     requires runs { IsRunning parts.old }
     requires some { 0 < most }
@@ -64,8 +64,8 @@ pub(crate) fn write_one(parts: &mut Parts, after: u32, most: usize) -> Result<bo
     Ok(moved)
 }
 
-/// Hands something to the first session to which anything is due. Nothing is due on the link. No
-/// session is looked at to which nothing is due.
+/// Hands bytes to the first session to which any are due. Nothing may be due on the link. Sessions
+/// to which nothing is due are not visited.
 pub(crate) fn hand_next(parts: &mut Parts, most: usize) -> Result<bool, AllocError>
     requires runs { IsRunning parts.old }
     requires some { 0 < most }
@@ -81,8 +81,9 @@ pub(crate) fn hand_next(parts: &mut Parts, most: usize) -> Result<bool, AllocErr
     Ok(moved)
 }
 
-/// Lets the first session write that has anything to write. The sessions up to `wrote` have written
-/// everything; it grows past each other session that has, so that none is looked at twice.
+/// Writes bytes of the first session that has any left to write. The sessions up to `wrote` have
+/// written everything; `wrote` grows past each further session that has, so that none is visited
+/// twice.
 pub(crate) fn write_next(
     parts: &mut Parts,
     wrote: &mut u32,

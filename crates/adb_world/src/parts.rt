@@ -1,4 +1,4 @@
-//! What a world is made of.
+//! The parts of a world.
 
 ghost use Rattle.std.specs.Prelude.{◌≡◌, ◌+◌, ◌^◌, ◌<◌, [], ◌∷◌, ℕ, Some, None, true, is_some, IfOk, OnErr, OnOk, MatchOption};
 ghost use Rattle.adb_outside.specs.Tables.{at, put_at, Puts};
@@ -23,7 +23,7 @@ use adb_laws_sessions::{requests_open_their_service, sessions_ask_for_services};
 use std::alloc::{AllocError, Global};
 use std::collections::BTreeMap;
 
-/// The most bytes of a payload of the model device.
+/// The maximum payload of the model device.
 const DEVICE_MAXDATA: u32 = 65_536;
 
 /// A hub, the model device on its link, and the sessions by the numbers of their clients.
@@ -32,12 +32,12 @@ pub struct Parts {
     pub hub: Hub,
     pub device: Daemon,
     pub sessions: BTreeMap<u32, Session>,
-    /// How many sessions were given.
+    /// The number of sessions that were given.
     pub given: u32,
 }
 
 impl Parts {
-    /// A hub with a device plugged in, and no session. Neither end has said who it is.
+    /// Makes a hub with a device plugged in, and no session. Neither end has sent its banner.
     pub(crate) fn new(alloc: Global) -> Result<Parts, AllocError>
         ensures holds { IfOk result (Holds (plugging ∷ [])) }
         ensures sessions { IfOk result (λ parts. parts.sessions.entries ≡ []) }
@@ -54,7 +54,7 @@ impl Parts {
         })
     }
 
-    /// Both ends of the link say who they are.
+    /// Exchanges the banners of both ends of the link.
     pub(crate) fn greet(&mut self) -> Result<(), AllocError>
         requires { Holds (plugging ∷ []) self.old }
         ensures runs { OnOk result (IsRunning self.new) }
@@ -67,7 +67,7 @@ impl Parts {
         Ok(())
     }
 
-    /// A client comes for a session, which is kept under its number.
+    /// Admits a client for a session, and keeps the session under its number.
     pub(crate) fn join(&mut self, session: Session) -> Result<u32, AllocError>
         requires held { IsHeld self.old }
         requires room { self.old.given < most_sessions }
@@ -89,8 +89,8 @@ impl Parts {
         Ok(number)
     }
 
-    /// The client of a session ends in order, by which it is gone, and the session is kept no more:
-    /// it is given away. It takes no memory.
+    /// Ends the client of a session in order, by which the client is gone. Removes the session and
+    /// returns it. It allocates nothing.
     pub(crate) fn end(&mut self, number: u32) -> Session
         requires done { IsDone self.old }
         requires there { is_some (at number self.old.sessions.entries) ≡ true }
@@ -107,7 +107,7 @@ impl Parts {
         take_session(&mut self.sessions, number)
     }
 
-    /// The least number of a session that is greater than this.
+    /// Returns the least number of a session that is greater than `after`.
     pub(crate) fn next_session(&self, after: u32) -> Option<u32>
         ensures { MatchOption result
             ((c : ℕ) → after < c → c < 2 ^ 32 → at c self.now.sessions.entries ≡ None)
@@ -121,8 +121,8 @@ impl Parts {
         Some(*number)
     }
 
-    /// The least number of a session to which anything is due, where nothing is due on the link.
-    /// Nothing changes that contracts see. It takes no memory.
+    /// Returns the least number of a session to which anything is due. Nothing may be due on the
+    /// link. Nothing that contracts see changes. It allocates nothing.
     pub(crate) fn next_owed(&mut self) -> Option<u32>
         requires runs { IsRunning self.old }
         requires down { NoneDown self.old }
@@ -139,7 +139,7 @@ impl Parts {
     }
 }
 
-/// The session of a number is given away, and none is kept there.
+/// Removes and returns the session with a number.
 fn take_session(sessions: &mut BTreeMap<u32, Session>, number: u32) -> Session
     requires { is_some (at number sessions.old.entries) ≡ true }
     ensures session { Some result ≡ at number sessions.old.entries }
@@ -151,7 +151,7 @@ fn take_session(sessions: &mut BTreeMap<u32, Session>, number: u32) -> Session
     }
 }
 
-/// A session is kept under a number.
+/// Keeps a session under a number.
 fn add(
     sessions: &mut BTreeMap<u32, Session>,
     number: u32,

@@ -1,4 +1,5 @@
-//! A session of a world: a client that writes what it was given and keeps what it is handed.
+//! A session of a world: a client that writes the bytes that it was given and keeps those that it
+//! is handed.
 
 ghost use Rattle.std.specs.Prelude.{◌≡◌, ◌≤◌, ◌+◌, ◌++◌, length, take, drop, IfOk, OnOk};
 ghost use Rattle.adb_world.specs.declared.session.TheConstants.{REPLIES};
@@ -15,24 +16,24 @@ use std::alloc::{AllocError, Global};
 /// The request by which every session selects the model device.
 const SELECTS: &[u8] = b"0016host:transport:model-1";
 
-/// How many bytes the replies to the two requests of a session have.
+/// The number of bytes of the replies to the two requests of a session.
 pub const REPLIES: usize = 8;
 
 /// A session. It writes two requests and its text, and then neither writes nor closes.
 #[derive(Drop)]
 pub struct Session {
-    /// The service that it asks for.
+    /// The service that the session asks for.
     pub service: Text,
-    /// All that it writes.
+    /// All bytes that the session writes.
     pub words: Words,
-    /// How many bytes of these it has written.
+    /// The number of these bytes that are written.
     pub written: usize,
-    /// What it was handed.
+    /// The bytes that the session was handed.
     pub got: Text,
 }
 
 impl Session {
-    /// A session that will ask for a service and write a text.
+    /// Makes a session that will ask for a service and write a text.
     pub(crate) fn new(alloc: Global, service: &[u8], text: Text) -> Result<Session, AllocError>
         requires { length service.now ≤ most_service }
         ensures { IfOk result (λ session. session ≡ new_session service.now text) }
@@ -48,7 +49,7 @@ impl Session {
         })
     }
 
-    /// How many bytes it writes next, at most `max`.
+    /// Returns how many bytes the session writes next, at most `max`.
     pub(crate) fn next_len(&self, max: usize) -> usize
         requires { self.now.written ≤ length self.now.words }
         ensures { result ≡ length (take max (left_of self.now)) }
@@ -56,7 +57,7 @@ impl Session {
         max.min(self.words.len() - self.written)
     }
 
-    /// The next bytes that it writes, at most `max`.
+    /// Returns the next bytes that the session writes, at most `max`.
     pub(crate) fn next_words(&self, max: usize) -> Parts<'_>
         requires { self.now.written ≤ length self.now.words }
         ensures { result.start.now ++ result.rest.now ≡ take max (left_of self.now) }
@@ -64,21 +65,21 @@ impl Session {
         self.words.behind(self.written, max)
     }
 
-    /// What it was handed behind the replies to its requests.
+    /// Returns the bytes that the session was handed after the replies to its requests.
     pub(crate) fn answer(&self) -> &[u8]
         ensures { result.now ≡ answer_of self.now }
     {
         behind_replies(self.got.as_slice())
     }
 
-    /// The same, given away. It takes no memory.
+    /// Returns the same bytes, moved out of the session. It allocates nothing.
     pub(crate) fn into_answer(self) -> Answer
         ensures { result ≡ answer_of self }
     {
         Answer::new(self.got)
     }
 
-    /// It is handed some bytes.
+    /// Keeps bytes that the session is handed.
     pub(crate) fn hear(&mut self, piece: &HandOut) -> Result<(), AllocError>
         ensures { OnOk result (self.new ≡ handed piece.now self.old) }
     {
@@ -87,7 +88,7 @@ impl Session {
         self.got.push_slice(rest)
     }
 
-    /// It has written so many bytes more.
+    /// Notes that the session has written `n` more bytes.
     pub(crate) fn advance(&mut self, n: usize)
         requires { self.old.written + n ≤ length self.old.words }
         ensures { self.new ≡ wrote n self.old }
@@ -97,7 +98,7 @@ impl Session {
     }
 }
 
-/// What follows the replies to the requests.
+/// Returns the bytes after the replies to the requests.
 pub(crate) fn behind_replies(got: &[u8]) -> &[u8]
     ensures { result.now ≡ drop REPLIES got.now }
 {

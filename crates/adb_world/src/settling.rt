@@ -1,4 +1,4 @@
-//! Running a world until nothing in it can move.
+//! Running of a world until nothing in it can move.
 
 ghost use Rattle.std.specs.Prelude.{ℕ, ◌<◌, ◌≤◌, ◌≡◌, Some, IfOk, OnErr, OnOk};
 ghost use Rattle.adb_outside.specs.Tables.{at};
@@ -69,7 +69,7 @@ pub(crate) fn settle_parts(parts: &mut Parts, seed: u64, wrote: u32) -> Result<u
     Err(AllocError)
 }
 
-/// One step, where one is possible.
+/// Makes one step, if one is possible.
 fn step(parts: &mut Parts, turn: Turn, wrote: &mut u32) -> Result<bool, AllocError>
     requires runs { IsRunning parts.old }
     requires some { 0 < turn.most }
@@ -94,7 +94,7 @@ fn step(parts: &mut Parts, turn: Turn, wrote: &mut u32) -> Result<bool, AllocErr
     Ok(moved)
 }
 
-/// A step of the kind that was chosen, where one is possible.
+/// Makes a step of the chosen kind, if one is possible.
 fn first_step(parts: &mut Parts, turn: Turn) -> Result<bool, AllocError>
     requires runs { IsRunning parts.old }
     requires some { 0 < turn.most }

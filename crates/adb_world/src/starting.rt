@@ -11,7 +11,7 @@ use crate::session::Session;
 use adb_outside::Text;
 use std::alloc::{AllocError, Global};
 
-/// A session is made, and its client comes.
+/// Makes a session, and admits its client.
 pub(crate) fn begin(
     alloc: Global,
     parts: &mut Parts,

@@ -22,7 +22,8 @@ use std::alloc::AllocError;
 use std::collections::BTreeMap;
 
 impl Parts {
-    /// At most `max` bytes that are due on the link go to the device. Tells whether any did.
+    /// Moves at most `max` bytes that are due on the link to the device. Returns whether there were
+    /// any.
     pub(crate) fn down(&mut self, max: usize) -> Result<bool, AllocError>
         requires some { 0 < max }
         requires held { IsHeld self.old }
@@ -41,7 +42,7 @@ impl Parts {
         Ok(true)
     }
 
-    /// At most `max` bytes that the device owes come on the link. Tells whether any did.
+    /// Moves at most `max` bytes that the device owes to the hub. Returns whether there were any.
     pub(crate) fn up(&mut self, max: usize) -> Result<bool, AllocError>
         requires some { 0 < max }
         requires held { IsHeld self.old }
@@ -63,7 +64,7 @@ impl Parts {
         Ok(true)
     }
 
-    /// At most `max` bytes that are due to the client of a session are handed to it. Returns whether
+    /// Hands at most `max` bytes that are due to the client of a session to it. Returns whether
     /// there were any.
     pub(crate) fn hand(&mut self, number: u32, max: usize) -> Result<bool, AllocError>
         requires some { 0 < max }
@@ -82,8 +83,8 @@ impl Parts {
         Ok(true)
     }
 
-    /// A session writes at most `max` bytes of what it has still to write. Tells whether it wrote
-    /// any.
+    /// Writes at most `max` of the bytes that a session has still to write. Returns whether there
+    /// were any.
     pub(crate) fn write(&mut self, number: u32, max: usize) -> Result<bool, AllocError>
         requires some { 0 < max }
         requires runs { IsRunning self.old }
@@ -108,7 +109,7 @@ impl Parts {
     }
 }
 
-/// A session keeps what it is handed.
+/// Makes a session keep the bytes that it is handed.
 fn keep(
     sessions: &mut BTreeMap<u32, Session>,
     number: u32,
@@ -123,7 +124,7 @@ fn keep(
     }
 }
 
-/// A session has written so many bytes more.
+/// Notes that a session has written `n` more bytes.
 fn advance(sessions: &mut BTreeMap<u32, Session>, number: u32, n: usize)
     requires { IfSome (at number sessions.old.entries)
         (λ session. session.written + n ≤ length session.words) }

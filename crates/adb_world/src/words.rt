@@ -1,4 +1,4 @@
-//! What a session writes.
+//! The bytes that a session writes.
 
 ghost use Rattle.std.specs.Prelude.{◌≡◌, ◌≤◌, ◌++◌, length, take, drop, IfOk};
 
@@ -6,7 +6,7 @@ use adb_outside::{Parts, Text};
 use std::alloc::{AllocError, Global};
 use std::marker::Model;
 
-/// The requests of a session, and its text behind them, which is not copied. Contracts see all their
+/// The requests of a session, and the text after them, which is not copied. Contracts see all their
 /// bytes as one list.
 #[derive(Drop)]
 pub struct Words {
@@ -24,7 +24,7 @@ impl Model for Words {
 }
 
 impl Words {
-    /// Requests, and a text. It takes no memory.
+    /// Makes the bytes of requests and a text. It allocates nothing.
     pub(crate) fn new(alloc: Global, requests: Text, text: Text) -> Words
         ensures { result ≡ requests ++ text }
     {
@@ -35,14 +35,14 @@ impl Words {
         }
     }
 
-    /// How many bytes there are.
+    /// Returns the number of bytes.
     pub(crate) fn len(&self) -> usize
         ensures { result ≡ length self.now }
     {
         self.requests.as_slice().len() + self.text.as_slice().len()
     }
 
-    /// The bytes behind the first `n`, where they are, and at most `max` of them.
+    /// Returns the bytes after the first `n`, at most `max`, without a copy.
     pub(crate) fn behind(&self, n: usize, max: usize) -> Parts<'_>
         requires { n ≤ length self.now }
         ensures { result.start.now ++ result.rest.now ≡ take max (drop n self.now) }
@@ -57,7 +57,7 @@ impl Words {
         }
     }
 
-    /// A copy of two slices, one behind the other.
+    /// Returns a copy of two slices, the first before the second.
     pub(crate) fn join(&self, start: &[u8], rest: &[u8]) -> Result<Text, AllocError>
         ensures { IfOk result (λ text. text ≡ start.now ++ rest.now) }
     {
@@ -67,7 +67,7 @@ impl Words {
     }
 }
 
-/// The first bytes, at most `max`.
+/// Returns the first bytes, at most `max`.
 fn first(bytes: &[u8], max: usize) -> &[u8]
     ensures { result.now ≡ take max bytes.now }
 {

@@ -29,14 +29,14 @@ use std::marker::Model;
 
 /// One hub, one model device, and the sessions of scripted clients by their numbers. Between two
 /// calls each session has written all its words, or none. After an allocation failure the world is
-/// spent: each later call that can fail returns an error and changes nothing, and the files are those
-/// after whole commands and whole sync requests.
+/// spent: each later call that can fail returns an error and changes nothing, and the files are
+/// those after whole commands and whole sync requests.
 #[derive(Drop)]
 pub struct World {
     alloc: Global,
     parts: Parts,
     spent: bool,
-    /// Whether all that was started has settled.
+    /// Whether everything that was started has settled.
     settled: bool,
 }
 
@@ -54,7 +54,7 @@ impl Model for World {
 }
 
 impl World {
-    /// A hub and a device that said to each other who they are, and no session.
+    /// Makes a world with a hub and a device that have exchanged their banners, and no session.
     pub fn new(alloc: Global) -> Result<World, AllocError>
         ensures empty { IfOk result (λ world. world.sessions ≡ []) }
         ensures given { IfOk result (λ world. world.given ≡ 0) }
@@ -81,7 +81,7 @@ impl World {
     /// Adds a session and returns its number, the next one. Its client will select the device, ask
     /// for a service and write a text, and then neither write nor close.
     ///
-    /// - `AllocError`: an allocation failed. The world is spent, and its files are as before.
+    /// - `AllocError`: an allocation failed. The world is spent, and its files are unchanged.
     pub fn start(&mut self, service: &[u8], text: &[u8]) -> Result<u32, AllocError>
         requires known { is_some (service_of service.now) ≡ true }
         requires short { length service.now ≤ most_service }
@@ -107,9 +107,9 @@ impl World {
         }
     }
 
-    /// The same with a text that is moved, and not copied.
+    /// Adds a session as `start` does, with a text that is moved and not copied.
     ///
-    /// - `AllocError`: an allocation failed. The world is spent, and its files are as before.
+    /// - `AllocError`: an allocation failed. The world is spent, and its files are unchanged.
     pub fn start_text(&mut self, service: &[u8], text: Text) -> Result<u32, AllocError>
         requires known { is_some (service_of service.now) ≡ true }
         requires short { length service.now ≤ most_service }
@@ -138,7 +138,7 @@ impl World {
         }
     }
 
-    /// The bytes that a session was handed; `None` exactly if no session has the number.
+    /// Returns the bytes that a session was handed. `None` exactly if no session has the number.
     pub fn got(&self, session: u32) -> Option<&[u8]>
         ensures { option_copied result
             ≡ option_map (λ session. session.got) (at session self.now.sessions) }
@@ -149,8 +149,8 @@ impl World {
         }
     }
 
-    /// The bytes that a session was handed after the replies to its two requests; `None` exactly if
-    /// no session has the number.
+    /// Returns the bytes that a session was handed after the replies to its two requests. `None`
+    /// exactly if no session has the number.
     pub fn answer(&self, session: u32) -> Option<&[u8]>
         ensures { option_copied result
             ≡ option_map answer_of (at session self.now.sessions) }
@@ -161,9 +161,9 @@ impl World {
         }
     }
 
-    /// Returns what a new session of the file service is answered to some bytes, alone: what is
-    /// served to their whole requests, in order, over the files. The session is dropped then, and the
-    /// others stay. All that was started has to have settled.
+    /// Runs a new session of the file service alone and returns its answer to these bytes: the
+    /// answers to their whole requests, in order, over the files. The session is then dropped, and
+    /// the others are unchanged. Everything that was started must have settled.
     ///
     /// - `AllocError`: an allocation failed. The world is spent, and its files are those after a
     ///   prefix of the whole requests.
@@ -198,7 +198,7 @@ impl World {
         }
     }
 
-    /// The same with bytes that are moved, and an answer that is: neither is copied.
+    /// Runs a session as `sync` does. The bytes and the answer are moved and not copied.
     ///
     /// - `AllocError`: an allocation failed. The world is spent, and its files are those after a
     ///   prefix of the whole requests.
@@ -230,11 +230,11 @@ impl World {
         }
     }
 
-    /// Ends the client of each session in order, one after the other, and drops the sessions, whose
-    /// numbers are not given again. All settles without them. All that was started has to have
-    /// settled.
+    /// Ends the client of each session in order, one after the other, and drops the sessions. Their
+    /// numbers are not given again. The world settles without them. Everything that was started
+    /// must have settled.
     ///
-    /// - `AllocError`: an allocation failed. The world is spent, and its files are as before.
+    /// - `AllocError`: an allocation failed. The world is spent, and its files are unchanged.
     pub fn finish(&mut self, seed: u64) -> Result<(), AllocError>
         requires settled { self.old.settled ≡ true }
         ensures empty { OnOk result (self.new.sessions ≡ []) }
@@ -260,7 +260,7 @@ impl World {
         }
     }
 
-    /// The files of the device.
+    /// Returns the files of the device.
     pub fn files(&self) -> &Files
         ensures { result.now ≡ self.now.files }
     {
@@ -268,24 +268,25 @@ impl World {
     }
 }
 
-/// A block of the size up to which memory that is given back is kept for what is asked for next.
+/// The size of a block up to which freed memory is kept for later allocations.
 const KEPT_BLOCK: usize = 33_550_000;
 
-/// Takes a block and gives it back, where there is one: from then on glibc returns no block of its
-/// size or less to the system (`mallopt(3)`, `M_MMAP_THRESHOLD`), so that the bytes that move come
-/// to the same pages again. None of it is touched.
+/// Allocates a block and frees it, if the allocation succeeds. From then on glibc returns no block
+/// of this size or less to the system (`mallopt(3)`, `M_MMAP_THRESHOLD`), so that the bytes that
+/// move use the same pages again. The block itself is never touched.
 fn keep_memory(alloc: Global) {
     let block: Result<Vec<u8>, AllocError> = Vec::with_capacity(alloc, KEPT_BLOCK);
     drop(block);
 }
 
-/// Moves bytes, in pieces and between sides that the seed picks, until none can move, and returns the
-/// number of steps, each of which is an entry of the hub's history: at most 64 for each byte of the
-/// sessions' services, of their texts and of what they were handed, 1,024 for each session, and 1,024.
+/// Moves bytes, in pieces and between sides that the seed picks, until none can move, and returns
+/// the number of steps, each of which is an entry of the hub's history. There are at most 64 steps
+/// for each byte of the sessions' services, of their texts and of the bytes that they were handed,
+/// 1,024 for each session, and 1,024 more.
 ///
-/// - `AllocError`: an allocation failed. The world is spent. Its files are those after whole commands
-///   and whole sync requests of the sessions that had written nothing, in one order, each session's
-///   a prefix of what it asks for.
+/// - `AllocError`: an allocation failed. The world is spent. Its files are those after whole
+///   commands and whole sync requests of the sessions that had written nothing, in one order. The
+///   requests of each session are a prefix of those that it asks for.
 pub fn settle(world: &mut World, seed: u64) -> Result<u64, AllocError>
     ensures settled { OnOk result (IsSettled world.new) }
     ensures counted { OnOk result (IsCounted world.new) }

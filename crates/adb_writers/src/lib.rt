@@ -1,4 +1,5 @@
-//! The writers of clients and of devices: each writes what is handed out to it, in order.
+//! The writers of clients and of devices. Each writes the bytes that are handed out to it, in
+//! order.
 #![tactic(auto)]
 
 mod client_writer;

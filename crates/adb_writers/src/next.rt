@@ -1,12 +1,12 @@
-//! Whether a writer goes on.
+//! The decision of a writer after a turn.
 
-/// Whether a writer goes on.
+/// The decision of a writer after a turn.
 #[derive(Clone, Copy, Debug, PartialEq, Eq, Drop)]
 pub(crate) enum Next {
-    /// More may be due.
+    /// The writer continues: more bytes may be due.
     More,
-    /// Nothing is due for now.
+    /// The writer stops for now: nothing is due.
     Idle,
-    /// Nothing will be written any more.
+    /// The writer stops for good: nothing will be written any more.
     Stop,
 }

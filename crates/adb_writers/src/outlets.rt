@@ -1,4 +1,4 @@
-//! The output halves of clients and devices, as one writer sees them.
+//! The output halves of clients and devices, behind one interface for the writer.
 
 use adb_connections::{DeviceOut, PortOut};
 use adb_outside::Wrote;
@@ -9,10 +9,10 @@ pub(crate) trait Outlets<O> {
     ghost use Rattle.adb_outside.specs.Outside.{Counts};
     ghost use Rattle.adb_outside.specs.Sink.{FitsPiece, TellsWrite, is_failed_write};
 
-    /// The count of failed writes.
+    /// The number of failed writes.
     ghost faults: { O → ℕ };
 
-    /// The bytes that went out, where the port shows them.
+    /// The bytes that were written, if the port shows them to contracts.
     ghost written: { O → Option (List ℕ) };
 
     /// Whether the port is closed.
@@ -21,7 +21,7 @@ pub(crate) trait Outlets<O> {
     /// The port never fails.
     ghost steady: { O → Type 0 };
 
-    /// Writes a piece that lies in two parts, of which either may be empty.
+    /// Writes a piece in two parts, of which either may be empty.
     fn write(&self, port: &mut O, start: &[u8], rest: &[u8]) -> Wrote
         requires { 0 < length (start.now ++ rest.now) }
         ensures fits { FitsPiece (start.now ++ rest.now) result }
@@ -37,7 +37,7 @@ pub(crate) trait Outlets<O> {
         ensures counts { Counts steady faults port.old port.new false };
 }
 
-/// Clients: a port is closed.
+/// The output halves of clients. `close` closes the port.
 #[derive(Clone, Copy, Drop)]
 pub(crate) struct Clients {}
 
@@ -59,7 +59,7 @@ impl<O: PortOut> Outlets<O> for Clients {
     }
 }
 
-/// Devices: a port is unplugged.
+/// The output halves of devices. `close` unplugs the device.
 #[derive(Clone, Copy, Drop)]
 pub(crate) struct Devices {}
 

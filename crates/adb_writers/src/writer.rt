@@ -51,7 +51,8 @@ fn break_off<E: Ledger, M: Ledger, K: Marks, H: Hall<E, M, K>>(
     }
 }
 
-/// Stops after a hand-out that the hall refused. An allocation failure ends the connection.
+/// Stops after a hand-out that the hall refused. Ends the connection if the refusal is an
+/// allocation failure.
 fn give_up<E: Ledger, M: Ledger, K: Marks, H: Hall<E, M, K>>(
     hall: &mut H,
     pass: &mut Pass<E, M, K>,
@@ -103,7 +104,7 @@ fn write_out<E: Ledger, M: Ledger, K: Marks, H: Hall<E, M, K>, O, S: Outlets<O>>
     }
 }
 
-/// The place of the gate that the writer passes before each write.
+/// Returns the place of the gate that the writer passes before each write.
 fn place_of(half: Half) -> Place {
     match half {
         Half::Client => Place::ClientWriter,
@@ -111,7 +112,7 @@ fn place_of(half: Half) -> Place {
     }
 }
 
-/// Takes one turn: has a piece handed out, and writes it.
+/// Takes one turn: requests the next hand-out, and writes it.
 fn turn<E: Ledger, M: Ledger, K: Marks, H: Hall<E, M, K>, O, S: Outlets<O>, G: Gate>(
     side: &S,
     hall: &mut H,
@@ -144,9 +145,9 @@ fn turn<E: Ledger, M: Ledger, K: Marks, H: Hall<E, M, K>, O, S: Outlets<O>, G: G
     }
 }
 
-/// Writes what is handed out until nothing more will be, and closes the port then. Returns whether
-/// it stopped because nothing is due for now, with the port as it was: a hall that waits never
-/// answers that.
+/// Writes the bytes that are handed out until nothing more will be, and then closes the port.
+/// Returns whether it stopped because nothing is due for now, with the port unchanged. Over a hall
+/// that waits it never returns that.
 pub(crate) fn write<
     W: Wait + Copy + Drop,
     E: Ledger,

@@ -1,4 +1,5 @@
-//! Yards: everything of the outside that a server or a client tool is given.
+//! Yards. A yard is the environment of a server or a client tool: sockets, threads, and the
+//! recorder. `NoYard` is the yard of a program that neither serves nor dials.
 #![tactic(auto)]
 
 mod no_yard;

@@ -9,7 +9,7 @@ use adb_connections::{Came, Door, MemoryIn, MemoryOut, OpenGate, SilentBell};
 use adb_recorder::NullRecorder;
 use std::alloc::Global;
 
-/// A door that is closed.
+/// A closed door.
 #[derive(Drop)]
 pub struct NoDoor {}
 
@@ -28,7 +28,7 @@ impl Door for NoDoor {
 
     ghost steady = { λ door. ⊤ };
 
-    /// Answers `Closed`.
+    /// Returns `Closed`.
     fn accept(&mut self) -> Came<MemoryIn, MemoryOut> {
         Came::Closed
     }

@@ -1,19 +1,19 @@
-//! The trait of yards: what a server is given of the outside.
+//! The trait of yards, which are the environments of servers.
 
 use adb_binder::Binder;
 use adb_connections::{Bell, Door, Gate, PortIn, PortOut};
 use adb_recorder::Recorder;
 
-/// The answer of `Yard::listen`.
+/// The result of `Yard::listen`.
 #[derive(Drop)]
 pub enum Listening<D: Drop, B: Drop> {
-    /// The door at which clients come in, its bell, and the port of the door, which is not 0.
+    /// The door that accepts clients, its bell, and the port on which it listens, which is not 0.
     Here(D, B, u16),
-    /// The port could not be listened on.
+    /// Listening on the port failed.
     Failed,
 }
 
-/// The answer of `Yard::dial`.
+/// The result of `Yard::dial`.
 #[derive(Drop)]
 pub enum Dialled<I: Drop, O: Drop> {
     /// The two halves of a connection to a server.
@@ -22,19 +22,19 @@ pub enum Dialled<I: Drop, O: Drop> {
     Failed,
 }
 
-/// How the jobs of a server are run.
+/// The worker pool that runs the jobs of a server.
 #[derive(Drop)]
 pub enum Staff {
     /// Each job runs in a thread of its own.
     Threads,
-    /// Each job runs within the call that submits it. The calls whose numbers, counted from 1, are in
-    /// `failing` return their job unrun.
+    /// Each job runs within the call that submits it. `failing` lists submissions by their numbers,
+    /// counted from 1; these return their job without running it.
     Inline { failing: Vec<u64> },
 }
 
-/// Everything of the outside that a server is given, and the connections of client tools.
+/// The environment of a server, and the connections of client tools.
 ///
-/// `listen` and `dial` can fail, and their answers say so. No other call fails.
+/// `listen` and `dial` can fail and report that in their results. No other call fails.
 pub trait Yard: Drop {
     ghost use Rattle.std.specs.Prelude.{◌≡◌, ◌<◌, ℕ, List, [], Bool, Option, false, ⊤};
     ghost use Rattle.adb_outside.specs.Outside.{Counts};
@@ -56,28 +56,29 @@ pub trait Yard: Drop {
 
     type DialOut: PortOut + Drop;
 
-    /// How many of its calls failed. A count at its largest value counts as having risen.
+    /// The number of failed calls. A count at its largest value counts as having risen.
     ghost faults: { Self → ℕ };
 
     /// Neither the yard nor any object that it returns ever fails.
     ghost steady: { Self → Type 0 };
 
-    /// No door that it returns ever answers `Closed`.
+    /// No door that it returns ever returns `Closed`.
     ghost lasting: { Self → Type 0 };
 
-    /// The bytes that the next dialled connection will yield, if the yard shows them.
+    /// The bytes that the next dialled connection will yield, if the yard shows them to contracts.
     ghost answers: { Self → Option (List ℕ) };
 
-    /// The port on which it listens if it is asked for this one, if the yard shows it.
+    /// The port on which the yard listens if `listen` is called with this port, if the yard shows
+    /// it to contracts.
     ghost here: { Self → ℕ → Option ℕ };
 
-    /// It has a recorder for a server whose history is to be kept (`true`), or whose history is not
+    /// The yard has a recorder for a server that keeps its history (`true`) or does not keep it
     /// (`false`). A yard that was made for one of the two has no recorder for the other.
     ghost records: { Self → Bool → Type 0 };
 
-    /// Listens on a port of this machine, on any free one if `port` is 0.
+    /// Listens on a port of this machine, or on any free port if `port` is 0.
     ///
-    /// `Failed`: the port could not be listened on, and the count of faults rises. No other answer
+    /// `Failed`: listening on the port failed, and the count of faults rises. No other result
     /// changes the count.
     fn listen(&mut self, port: u16) -> Listening<Self::Door, Self::Bell>
         ensures fits { FitsPort port result }
@@ -87,7 +88,7 @@ pub trait Yard: Drop {
         ensures steady { steady self.old → HasDoor Self.Door.steady result }
         ensures lasting { lasting self.old → HasDoor Self.Door.lasting result };
 
-    /// Returns the recorder of a server. It has kept no entry. If `wanted` it keeps the history;
+    /// Returns the recorder of a server. It has kept no entry. If `wanted`, it keeps the history;
     /// otherwise it may discard every entry.
     fn recorder(&mut self, wanted: bool) -> Self::Keeper
         requires { records self.old wanted }
@@ -102,18 +103,18 @@ pub trait Yard: Drop {
         ensures counts { Counts steady faults self.old self.new false }
         ensures steady { steady self.old → IsSteadyStaff result };
 
-    /// Returns the binder of the forwards of one more client.
+    /// Returns a binder for the forwards of one more client.
     fn ports(&mut self) -> Self::Ports
         ensures counts { Counts steady faults self.old self.new false }
         ensures steady { steady self.old → Self.Ports.steady result };
 
-    /// Returns the gate of one more worker.
+    /// Returns a gate for one more worker.
     fn gate(&mut self) -> Self::Gate
         ensures counts { Counts steady faults self.old self.new false };
 
     /// Connects to a server on this machine.
     ///
-    /// `Failed`: the connection failed, and the count of faults rises. No other answer changes the
+    /// `Failed`: the connection failed, and the count of faults rises. No other result changes the
     /// count.
     fn dial(&mut self, port: u16) -> Dialled<Self::DialIn, Self::DialOut>
         requires { 0 < port }

@@ -1,4 +1,4 @@
-//! `adbexplain`: what each entry of a history did, and which streams it ended.
+//! `adbexplain`: the effect of each entry of a history, and the streams that it ended.
 #![tactic(auto)]
 
 use adb_explain::start;
@@ -6,7 +6,7 @@ use adb_streams::Stream;
 use std::process::ExitCode;
 use std::{env, io};
 
-/// Explains the history on standard input, and ends with the status's code.
+/// Explains the history on standard input, and exits with the status's code.
 fn main(rt: HostRuntime) -> ExitCode {
     let mut source = Stream::new(rt.stdin());
     let mut sink = Stream::new(rt.stdout());

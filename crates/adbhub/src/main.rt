@@ -5,7 +5,7 @@ use adb_serving::{Stream, start, words_of};
 use std::process::ExitCode;
 use std::{env, io};
 
-/// Runs the words of the command line over the standard streams, and ends with the status's code.
+/// Runs the words of the command line over the standard streams, and exits with the status's code.
 fn main(rt: HostRuntime) -> ExitCode {
     let mut source = Stream::new(rt.stdin());
     let mut sink = Stream::new(rt.stdout());
@@ -17,7 +17,7 @@ fn main(rt: HostRuntime) -> ExitCode {
     ExitCode::from(started.status.code())
 }
 
-/// The words behind the program's name. A word that is not UTF-8 is an error.
+/// Returns the words after the program's name. A word that is not UTF-8 is an error.
 fn words(rt: &HostRuntime) -> io::Result<Vec<String>> {
     Ok(words_of(env::args(rt)?.collect(rt.alloc())?))
 }
