@@ -1,4 +1,4 @@
-//! Reading captures: the records of a source, one by one, lent or as entries.
+//! Reading captures: the records of a source one by one, borrowed or as entries of their own.
 #![tactic(auto)]
 
 mod awaiting;

@@ -57,7 +57,7 @@ impl<K: Sink + Drop> SinkRecorder<K> {
         &self.sink
     }
 
-    /// Gives the sink back.
+    /// Returns the sink that the recorder owns.
     pub fn into_sink(self) -> K
         ensures { result ≡ self.sink }
     {

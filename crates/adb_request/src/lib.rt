@@ -1,5 +1,5 @@
-//! Requests of clients: how they are cut from a client's bytes, and what each means (OVERVIEW.TXT,
-//! SERVICES.TXT).
+//! The requests of clients: how they are cut from a client's bytes, and what each means
+//! (OVERVIEW.TXT, SERVICES.TXT).
 #![tactic(auto)]
 
 mod cutting;

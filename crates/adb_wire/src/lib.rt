@@ -1,4 +1,4 @@
-//! The packets of the Android Debug Bridge (protocol.txt): their spelling, and the cutting of a
+//! The packets of the Android Debug Bridge (protocol.txt): their encoding, and the cutting of a
 //! stream that comes in any pieces.
 #![tactic(auto)]
 

@@ -1,4 +1,4 @@
-//! The packets of a stream, whole but not looked into, in memory that is taken once.
+//! A slicer of streams into whole packets, which are not decoded, in memory that is allocated once.
 
 ghost use Rattle.std.specs.Prelude.{◌≡◌, ◌≤◌, ◌++◌, ◌∷◌, [], ℕ, List, min, take, length, IfOk, IfSome, IsSome, ◌↔◌};
 ghost use Rattle.adb_wire.specs.Slicing.{slice_len, need_of, IsSlice, HasSliced};
@@ -8,11 +8,11 @@ use adb_outside::ByteQueue;
 use std::alloc::{AllocError, Global};
 use std::marker::Model;
 
-/// The most bytes that a packet has: its header and the longest payload.
+/// The maximum number of bytes of a packet: its header and the longest payload.
 pub const MAX_PACKET: usize = HEADER_LEN + MAX_PAYLOAD as usize;
 
-/// How long the slice is that the bytes begin: a header's length as long as that is not whole or
-/// has a fault, and else that of its packet.
+/// Returns the length of the slice that the bytes begin: a header's length while the header is not
+/// whole or if it has a fault, and that of the header's packet otherwise.
 #[tactic(auto, unfolding(crate::specs::Slicing::slice_len))]
 fn slice_len(bytes: &[u8]) -> usize
     ensures { result ≡ slice_len bytes.now }
@@ -26,18 +26,18 @@ fn slice_len(bytes: &[u8]) -> usize
     }
 }
 
-/// How many bytes are missing to that slice.
+/// Returns how many bytes are missing to that slice.
 pub(crate) fn need(bytes: &[u8]) -> usize
     ensures { result ≡ need_of bytes.now }
 {
     slice_len(bytes).saturating_sub(bytes.len())
 }
 
-/// Cuts a stream into slices: each is a packet whose header has no fault, or a header that has one
-/// (protocol.txt, "MESSAGES"). Check words are not looked at. It holds one slice, or a front of it,
-/// and takes memory only when it is made. Contracts see it as the bytes that it holds.
+/// A slicer of a stream: each slice is a packet whose header has no fault, or a header that has one
+/// (protocol.txt, "MESSAGES"). Check words are not verified. The slicer holds one slice, or a
+/// prefix of one, and allocates only when it is made. Contracts see it as the bytes that it holds.
 ///
-/// What comes behind a header with a fault means nothing: the stream has no packets from there on.
+/// The bytes after a faulty header have no meaning: the stream has no packets from there on.
 #[derive(Drop)]
 pub struct Slicer {
     held: ByteQueue,
