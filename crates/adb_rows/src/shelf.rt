@@ -11,12 +11,11 @@ use crate::slots::{Slot, count, drop_empty, find, held, keep_only, place_of, row
 use std::alloc::{AllocError, Global};
 use std::mem;
 
-/// The number of slots without a row that may be kept in addition to one for each slot that has a
-/// row.
+/// Slots without a row are dropped once half of all slots are more than the rows and this number.
 const SPARE: usize = 32;
 
-/// Slots by rising number. A removed row leaves its slot. Slots without a row are dropped once
-/// there are more of them than of the others and `SPARE` together.
+/// Slots by rising number. A removed row leaves its slot. Slots without a row are dropped once half
+/// of all slots are more than the rows and `SPARE`.
 #[derive(Drop)]
 pub(crate) struct Shelf<V> {
     pub slots: Vec<Slot<V>>,
@@ -137,8 +136,7 @@ impl<V: Drop> Shelf<V> {
         Ok(None)
     }
 
-    /// Drops the slots without a row if there are more of them than of the others and `SPARE`
-    /// together.
+    /// Drops the slots without a row if half of all slots are more than the rows and `SPARE`.
     fn thin_out(&mut self)
         requires { IsSound self.old }
         ensures sound { IsSound self.new }

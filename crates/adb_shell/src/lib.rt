@@ -1,5 +1,5 @@
-//! The packets of the shell protocol, version 2, that a device's `shell,v2:` service and its client
-//! send each other.
+//! The packets of the shell protocol, version 2, which a device's `shell,v2:` service and its
+//! client send each other.
 #![tactic(auto)]
 
 mod format;

@@ -1,4 +1,4 @@
-//! The requests and answers of a device's file sync service, as SYNC.TXT has them: readers of a
+//! The requests and answers of a device's file sync service, as SYNC.TXT defines them: readers of a
 //! stream that comes in pieces, and writers.
 #![tactic(auto)]
 

@@ -57,7 +57,7 @@ impl Model for Slicer {
 }
 
 impl Slicer {
-    /// Nothing was fed yet. It takes the memory of the longest packet.
+    /// Returns a slicer to which nothing was fed. Allocates memory for the longest packet.
     pub fn new(alloc: Global) -> Result<Slicer, AllocError>
         ensures value { IfOk result (λ slicer. slicer ≡ []) }
         ensures stands { IfOk result (λ slicer. HasSliced [] [] slicer) }
@@ -67,9 +67,9 @@ impl Slicer {
         Ok(Slicer { held })
     }
 
-    /// Takes bytes off the front of a piece, as many as are missing to 24 bytes, and then to the
-    /// packet that the header tells, and says how many: all of a shorter piece, and none exactly
-    /// where a slice is whole or the piece has no bytes. It takes no memory.
+    /// Takes bytes from the start of a piece: as many as are missing to 24 bytes, and then to the
+    /// packet that the header describes. Returns how many it took: all of a shorter piece, and 0
+    /// exactly if a slice is whole or the piece is empty. Allocates nothing.
     pub fn take(&mut self, piece: &[u8]) -> usize
         ensures taken { result ≡ min (length piece.now) (need_of self.old) }
         ensures held { self.new ≡ self.old ++ take result piece.now }
@@ -81,7 +81,8 @@ impl Slicer {
         n
     }
 
-    /// The slice that is held; `None` exactly where bytes are missing to it. It takes no memory.
+    /// Returns the slice that is held; `None` exactly if bytes are missing to it. Allocates
+    /// nothing.
     pub fn whole(&self) -> Option<&[u8]>
         ensures whole { IsSome result ↔ (need_of self.now ≡ 0) }
         ensures bytes { IfSome result (λ bytes. bytes.now ≡ self.now) }
@@ -91,14 +92,14 @@ impl Slicer {
         if need(bytes) == 0 { Some(bytes) } else { None }
     }
 
-    /// The bytes that are held: a slice, or a front of it. It takes no memory.
+    /// Returns the held bytes: a slice, or a prefix of one. Allocates nothing.
     pub fn held(&self) -> &[u8]
         ensures { result.now ≡ self.now }
     {
         self.held.as_slice()
     }
 
-    /// All that is held goes; where it was whole, it was the next slice. It takes no memory.
+    /// Removes the held bytes; if they were a whole slice, the next one follows. Allocates nothing.
     pub fn clear(&mut self)
         ensures value { self.new ≡ [] }
         ensures stands { (fed : List ℕ) (gave : List (List ℕ)) → need_of self.old ≡ 0
