@@ -1,5 +1,5 @@
-//! The machine over a hub: what the entries of a history make of it, one after another, and what is
-//! to be handed out next.
+//! The machine over a hub: applying the entries of a history to it, one after another, and the next
+//! hand-out.
 #![tactic(auto)]
 
 mod applying;

@@ -1,5 +1,5 @@
-//! The hub: the machine between many clients and many devices (OVERVIEW.TXT). Each call makes one
-//! entry of a history, or none, and contracts speak of the history so far.
+//! The hub: the state machine between many clients and many devices (OVERVIEW.TXT). Each call makes
+//! one entry of a history, or none, and contracts speak of the history so far.
 #![tactic(auto)]
 
 mod answers;

@@ -47,7 +47,7 @@ impl Endings {
         }
     }
 
-    /// Makes `n` places spare. After an allocation failure the log is as before.
+    /// Makes `n` places spare. If an allocation fails, the log is unchanged.
     pub fn reserve(&mut self, n: usize) -> Result<(), AllocError>
         ensures list { self.new.list ≡ self.old.list }
         ensures ok { OnOk result (n ≤ self.new.spare) }
