@@ -1,5 +1,5 @@
-//! The replay of a capture: its entries are made in order, all that is due is handed out after
-//! each, and the whole history goes out as a capture.
+//! The replay of a capture: its entries are applied in order, all output is handed out after each,
+//! and the whole history is written as a capture.
 #![tactic(auto)]
 
 mod output;

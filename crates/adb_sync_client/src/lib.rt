@@ -1,5 +1,5 @@
-//! The asking side of a device's file sync service (SYNC.TXT): one machine for each request, which
-//! gives the request's bytes as they are taken and tells what the answer bytes mean.
+//! The client of a device's file sync service (SYNC.TXT): one machine for each kind of request. A
+//! machine hands out the request's bytes and interprets the bytes of the answer.
 #![tactic(auto)]
 
 mod asking;
