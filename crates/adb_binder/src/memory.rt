@@ -38,8 +38,8 @@ impl Model for MemoryBinder {
 
 impl MemoryBinder {
     /// Returns a binder that answers `first`, and then one more each time, to calls that ask for
-    /// any port, up to 65,535; after that such calls fail. It also fails at the calls whose
-    /// numbers, counted from 1, are in `failing`. Allocates nothing.
+    /// any port, up to 65,535; after that such calls fail. It also fails at the calls listed in
+    /// `failing` by number, counted from 1. Allocates nothing.
     pub fn new(alloc: Global, first: u16, failing: Vec<u64>) -> MemoryBinder
         requires { first ≢ 0 }
         ensures { result ≡ record {
@@ -108,8 +108,8 @@ impl Binder for MemoryBinder {
 
     ghost steady = { λ binder. ⊥ };
 
-    /// Fails at the calls whose numbers are in the list, if any port is asked for and none is left,
-    /// and if the allocation for the answer fails.
+    /// Fails at the listed calls, if any port is asked for and none is left, and if the allocation
+    /// for the answer fails.
     fn bind(&mut self, port: u16) -> Binding
         ensures fits { FitsPort port result }
         ensures told { TellsOneMore self.old.answered (port, port_of result) self.new.answered }

@@ -1,4 +1,4 @@
-//! Entries whose bytes are borrowed.
+//! Entries with borrowed bytes.
 
 ghost use Rattle.std.specs.Prelude.{◌≡◌};
 ghost use Rattle.adb_capture.specs.Lent.{entry_lent};
@@ -6,7 +6,7 @@ ghost use Rattle.adb_capture.specs.Lent.{entry_lent};
 use crate::entry::Entry;
 use adb_outside::{Cause, Kind, Parts};
 
-/// An entry whose bytes are borrowed from where they are stored.
+/// An entry that borrows its bytes from where they are stored.
 #[derive(Clone, Copy, Drop)]
 pub enum Lent<'a> {
     Join {

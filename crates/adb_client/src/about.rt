@@ -3,7 +3,7 @@
 use crate::phase::Phase;
 use adb_outside::Text;
 
-/// A forward that a client asked for and whose port is to be bound.
+/// A forward that a client asked for, with a port that is still to be bound.
 #[derive(Drop)]
 pub struct Want {
     /// The transport id of the device to which it leads.

@@ -145,9 +145,8 @@ impl Client {
         self.parts.input.len()
     }
 
-    /// Makes at least the first `n` held bytes ready to be cut off, in at least `cuts` pieces,
-    /// whose lengths need not be known yet. The bytes are copied only if they lie in more than two
-    /// buffers.
+    /// Makes at least the first `n` held bytes ready to be cut off, in at least `cuts` pieces of
+    /// any lengths. The bytes are copied only if they lie in more than two buffers.
     pub fn prepare_cuts(&mut self, n: usize, cuts: usize) -> Result<(), AllocError>
         requires { n ≤ length self.old.held }
         ensures ok { OnOk result (self.new ≡ record self.old {
@@ -250,7 +249,7 @@ impl Client {
         self.parts.output.front_len(max)
     }
 
-    /// Removes the first `n` queued bytes, which were handed out. Allocates nothing.
+    /// Removes the first `n` queued bytes, which were handed out. Needs no memory.
     pub fn hand(&mut self, n: usize)
         requires { n ≤ length self.old.due }
         ensures { self.new ≡ record self.old { due = drop n self.old.due } }

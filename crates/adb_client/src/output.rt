@@ -25,8 +25,7 @@ pub fn limits_are()
 /// length of the queue fits a `usize`.
 const MAX_DUE: usize = 1 << 63;
 
-/// The number of bytes, and of places for slices, whose memory may be kept while the queue is
-/// empty.
+/// The number of bytes, and of places for slices, that may stay allocated while the queue is empty.
 const FEW_BYTES: usize = 16 * 1024;
 
 const FEW_SLICES: usize = 64;
@@ -202,7 +201,7 @@ impl Output {
         max
     }
 
-    /// Removes the first `n` bytes, which were handed out. Allocates nothing.
+    /// Removes the first `n` bytes, which were handed out. Needs no memory.
     pub(crate) fn hand(&mut self, n: usize)
         requires { n ≤ length self.old.due }
         ensures { self.new ≡ record self.old { due = drop n self.old.due } }

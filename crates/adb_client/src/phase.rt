@@ -21,7 +21,7 @@ pub enum Phase {
     Opening(u32),
     /// This stream is open.
     Streaming(u32),
-    /// The client asked for a forward whose port is to be bound.
+    /// The client asked for a forward with a port that is still to be bound.
     Binding,
     /// The client is sent the list of the devices each time it changes.
     Tracking,

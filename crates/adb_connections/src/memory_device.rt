@@ -37,8 +37,9 @@ impl Model for MemoryDeviceIn {
 }
 
 impl MemoryDeviceIn {
-    /// Returns a device that answers every `plug` with `plug`, sends at most `piece` bytes a call,
-    /// and fails at the reads whose numbers, counted from 1, are in `failing`. Allocates nothing.
+    /// Returns a device that answers every `plug` with the argument `plug`, sends at most `piece`
+    /// bytes a call, and fails at the reads listed in `failing` by number, counted from 1.
+    /// Allocates nothing.
     pub fn new(
         alloc: Global,
         plug: Plug,
@@ -102,7 +103,7 @@ impl DeviceIn for MemoryDeviceIn {
         self.plug
     }
 
-    /// Fails at the calls whose numbers are in the list. Otherwise gives as many bytes as allowed.
+    /// Fails at the listed calls. Otherwise gives as many bytes as allowed.
     fn read(&mut self, into: &mut [u8]) -> Got
         requires { 0 < length into.old }
         ensures fits { FitsBuffer into.old result }
@@ -134,7 +135,7 @@ impl Model for MemoryDeviceOut {
 }
 
 impl MemoryDeviceOut {
-    /// Returns a device at which the writes fail whose numbers, counted from 1, are in `failing`; a
+    /// Returns a device that fails at the writes listed in `failing` by number, counted from 1; a
     /// failed write takes nothing. Each part of a piece in two parts is a write of its own, unless
     /// it is empty. Allocates nothing.
     pub fn new(alloc: Global, failing: Vec<u64>) -> MemoryDeviceOut
@@ -173,8 +174,7 @@ impl DeviceOut for MemoryDeviceOut {
 
     ghost steady = { λ device. ⊥ };
 
-    /// Fails at the calls whose numbers are in the list, and if an allocation fails. A failed write
-    /// takes nothing.
+    /// Fails at the listed calls, and if an allocation fails. A failed write takes nothing.
     fn write(&mut self, piece: &[u8]) -> Wrote
         requires { 0 < length piece.now }
         ensures fits { FitsPiece piece.now result }

@@ -26,8 +26,8 @@ impl Model for MemoryIn {
 }
 
 impl MemoryIn {
-    /// Returns a client that sends at most `piece` bytes a call and fails at the calls whose
-    /// numbers, counted from 1, are in `failing`. Allocates nothing.
+    /// Returns a client that sends at most `piece` bytes a call and fails at the calls listed in
+    /// `failing` by number, counted from 1. Allocates nothing.
     pub fn new(bytes: Text, piece: usize, failing: Vec<u64>) -> MemoryIn
         requires { 1 ≤ piece }
         ensures { result ≡ record {
@@ -53,7 +53,7 @@ impl PortIn for MemoryIn {
 
     ghost steady = { λ port. port.failing ≡ [] };
 
-    /// Fails at the calls whose numbers are in the list. Otherwise gives as many bytes as allowed.
+    /// Fails at the listed calls. Otherwise gives as many bytes as allowed.
     fn read(&mut self, into: &mut [u8]) -> Got
         requires { 0 < length into.old }
         ensures fits { FitsBuffer into.old result }
@@ -83,7 +83,7 @@ impl Model for MemoryOut {
 }
 
 impl MemoryOut {
-    /// Returns a client at which the writes fail whose numbers, counted from 1, are in `failing`; a
+    /// Returns a client that fails at the writes listed in `failing` by number, counted from 1; a
     /// failed write takes nothing. Each part of a piece in two parts is a write of its own, unless
     /// it is empty. Allocates nothing.
     pub fn new(alloc: Global, failing: Vec<u64>) -> MemoryOut
@@ -123,8 +123,8 @@ impl PortOut for MemoryOut {
 
     ghost steady = { λ port. ⊥ };
 
-    /// Fails at the calls whose numbers are in the list, and if an allocation fails. A failed write
-    /// takes nothing. A closed port still takes writes as before.
+    /// Fails at the listed calls, and if an allocation fails. A failed write takes nothing. A
+    /// closed port still takes writes as before.
     fn write(&mut self, piece: &[u8]) -> Wrote
         requires { 0 < length piece.now }
         ensures fits { FitsPiece piece.now result }

@@ -88,7 +88,7 @@ impl Daemon {
         self.machine.services.due.as_slice()
     }
 
-    /// Removes the first `n` bytes for the host, which were taken. Allocates nothing.
+    /// Removes the first `n` bytes for the host, which were taken. Needs no memory.
     pub fn taken(&mut self, n: usize)
         requires { n ≤ length (owed self.old) }
         ensures done { (setting : Setting) (fed gone : List ℕ)

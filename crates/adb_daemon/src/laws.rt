@@ -43,8 +43,8 @@ pub fn writes_are_acknowledged()
         in IsAcked own s.made (at own s.rows) (over_at own s.ended) }
 {}
 
-/// States that a live stream has nothing to write that its window allows, and is not done: a stream
-/// whose service has ended, with all written and nothing outstanding, was closed.
+/// States that a live stream has nothing to write that its window allows, and is not done: once its
+/// service has ended, and all is written with nothing outstanding, a stream is closed.
 pub fn streams_are_settled()
     ensures { (setting : Setting) (packets : List Packet) (link : Link) (own : ℕ) (row : Row)
         → (device_behind setting packets).link ≡ Some link

@@ -188,7 +188,7 @@ impl Services {
         self.table.clear();
     }
 
-    /// Removes the first `n` queued bytes, which were taken. Allocates nothing.
+    /// Removes the first `n` queued bytes, which were taken. Needs no memory.
     pub fn taken(&mut self, n: usize)
         requires { n ≤ length self.old.due.bytes }
         ensures holds { (s : Serving) (gone : List ℕ) → Holds s gone (view_of self.old)
@@ -201,8 +201,8 @@ impl Services {
     }
 }
 
-/// Frees memory that only holds bytes that were taken. If none are left, `KEPT` bytes stay for the
-/// next packets. Allocates nothing.
+/// Frees memory that only holds bytes that were taken. If none are left, up to `KEPT` bytes stay
+/// for the next packets. Needs no memory.
 fn give_back(due: &mut ByteQueue)
     ensures { due.new.bytes ≡ due.old.bytes }
 {

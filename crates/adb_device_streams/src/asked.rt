@@ -10,7 +10,7 @@ pub enum Asked<'a> {
     Echo,
     /// The file sync service (SYNC.TXT).
     Sync,
-    /// A command, whose streams consist of packets of the shell protocol or not.
+    /// A command. `packets` says whether its streams consist of packets of the shell protocol.
     Shell { packets: bool, command: &'a [u8] },
 }
 

@@ -15,7 +15,7 @@ use std::alloc::{AllocError, Global};
 /// The service at the device's end of a stream (SERVICES.TXT).
 #[derive(Drop)]
 pub enum Service {
-    /// A service whose answer is its input.
+    /// A service that answers with its input.
     Echo(ByteQueue),
     Sync(SyncService),
     Shell(ShellService),
@@ -68,7 +68,7 @@ impl Service {
         }
     }
 
-    /// Removes the first `n` bytes of the answer, which were taken. Allocates nothing.
+    /// Removes the first `n` bytes of the answer, which were taken. Needs no memory.
     pub fn taken(&mut self, n: usize)
         requires { n ≤ length (out_of self.old) }
         ensures left { out_of self.new ≡ drop n (out_of self.old) }

@@ -63,7 +63,7 @@ impl Outbox {
         }
     }
 
-    /// Removes the first `n` bytes, which were taken. Allocates nothing.
+    /// Removes the first `n` bytes, which were taken. Needs no memory.
     pub fn taken(&mut self, n: usize)
         requires { n ≤ length self.old }
         ensures { self.new ≡ drop n self.old }

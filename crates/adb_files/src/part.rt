@@ -26,8 +26,8 @@ impl Part {
         }
     }
 
-    /// Removes at most the first `n` bytes. Returns how many: at least one if any are left.
-    /// Allocates nothing.
+    /// Removes at most the first `n` bytes. Returns how many: at least one if any are left. Needs
+    /// no memory.
     pub fn take_front(&mut self, n: usize) -> usize
         ensures most { result ≤ n }
         ensures here { result ≤ length (part_bytes self.old) }

@@ -11,7 +11,7 @@ use adb_outside::Text;
 use std::alloc::{AllocError, Global};
 use std::sync::Arc;
 
-/// Returns the place of the slot whose path is `front` and `back`, or the place where it would be
+/// Returns the place of the slot of the path `front` and `back`, or the place where it would be
 /// inserted.
 pub fn place_of(slots: &[Slot], front: &[u8], back: &[u8]) -> Result<usize, usize>
     requires { IsRising slots.now }
@@ -32,7 +32,7 @@ pub fn place_at(slots: &[Slot], path: &[u8]) -> Result<usize, usize>
     place_of(slots, path, b"")
 }
 
-/// Returns the place of the first slot whose path is not before `front` and `back`.
+/// Returns the place of the first slot with a path that is not before `front` and `back`.
 pub fn first_from(slots: &[Slot], front: &[u8], back: &[u8]) -> usize
     requires { IsRising slots.now }
     ensures { BeginsAt (front.now ++ back.now) slots.now result }

@@ -106,7 +106,7 @@ impl SyncService {
         self.session.out.front()
     }
 
-    /// Removes the first `n` bytes of the answers, which were taken. Allocates nothing.
+    /// Removes the first `n` bytes of the answers, which were taken. Needs no memory.
     pub fn taken(&mut self, n: usize)
         requires { n ≤ length self.old.out }
         ensures left { self.new ≡ record self.old { out = drop n self.old.out } }

@@ -18,7 +18,7 @@ use adb_outside::Text;
 use adb_sync::{AskReader, SyncAnswer, SyncAsk, SyncFault};
 use std::alloc::{AllocError, Global};
 
-/// An open SEND, whose DONE has not come yet.
+/// An open SEND: its DONE has not come yet.
 #[derive(Drop)]
 pub struct Sending {
     pub path: Text,

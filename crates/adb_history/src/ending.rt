@@ -42,7 +42,7 @@ impl Ending {
     }
 }
 
-/// Returns what happened to a client whose connection failed.
+/// Returns the text for a client with a failed connection.
 fn failure_text(cause: Cause) -> &'static [u8]
     ensures { result.now ≡ ending_text (Ending.ClientFailed cause) }
 {

@@ -31,7 +31,7 @@ pub enum Reason {
     NotDrawn,
     /// The record plugs in a device while the maximum number of devices is plugged in.
     TooManyDevices,
-    /// The record plugs in a device whose serial is not allowed.
+    /// The record plugs in a device with a serial that is not allowed.
     BadSerial,
 }
 
@@ -55,8 +55,8 @@ impl Reason {
 }
 
 impl Refusal {
-    /// Returns the refusal of a capture whose reader returned this error; `None` if the source
-    /// failed or an allocation failed, which refuses nothing.
+    /// Returns the refusal of a capture, given the error of its reader; `None` if the source failed
+    /// or an allocation failed, which refuses nothing.
     pub fn by(error: CaptureError) -> Option<Refusal>
         ensures { result ≡ refusal_by error }
     {

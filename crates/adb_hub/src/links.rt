@@ -87,7 +87,7 @@ impl Hub {
         Ok(self.link_life(link))
     }
 
-    /// Detaches a device that was unplugged, or whose connection failed. Allocates nothing.
+    /// Detaches a device after it was unplugged, or after its connection failed. Allocates nothing.
     ///
     /// `Stopped`: a kill was requested. `NoLink`: no link has had that number.
     pub fn detach(&mut self, link: u32, cause: Cause) -> Result<Life, HubError>

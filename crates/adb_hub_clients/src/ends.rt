@@ -1,4 +1,4 @@
-//! Clients whose input ends.
+//! The end of a client's input.
 
 ghost use Rattle.adb_outside.specs.declared.kinds.Cause.TheVariants.{Eof};
 ghost use Rattle.adb_capture.specs.declared.entry.Entry.TheVariants.{End};

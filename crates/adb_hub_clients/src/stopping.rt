@@ -14,8 +14,8 @@ use adb_history::Ending;
 use adb_hub_tables::{Ended, Endings, Tables};
 use adb_stream::Streams;
 
-/// Stops the server: all rows are removed but that of the client that asked for it, whose output
-/// queue is still handed out. Allocates nothing.
+/// Stops the server: all rows are removed but that of the client that asked for it. That client's
+/// output queue is still handed out. Allocates nothing.
 pub fn stop(tables: &mut Tables, client: u32)
     requires { IsFit tables.old }
     ensures { Leaves (stops client (state_of tables.old)).state tables.new }

@@ -1,5 +1,5 @@
-//! The clients and links with output: the least link, or otherwise the least client; and those
-//! whose workers are to be notified.
+//! The clients and links with output: the least link, or otherwise the least client; and those that
+//! have a worker to notify.
 
 ghost use Rattle.std.specs.Prelude.{◌≡◌, ◌<◌, ◌≤◌, option_and_then, option_map};
 ghost use Rattle.adb_outside.specs.Tables.{IsRising};

@@ -67,7 +67,7 @@ fn front_of(tables: &Tables, client: u32, max: usize) -> Result<HandOut, AllocEr
     }
 }
 
-/// Queues the whole list for a client whose list is stale, and hands out its first bytes.
+/// Queues the whole list for a client with a stale list, and hands out its first bytes.
 fn put_list(
     tables: &mut Tables,
     client: u32,
@@ -97,7 +97,7 @@ fn first(text: &[u8], max: usize) -> &[u8]
     &text[..max.min(text.len())]
 }
 
-/// Queues the list for a client of these, whose list is no longer stale then.
+/// Queues the list for a client of these. The client's list is no longer stale then.
 fn owe_list(clients: &mut TouchedMap<Client>, id: u32, list: &Text) -> Result<(), AllocError>
     ensures ok { OnOk result (Lists id list.now clients.old.entries clients.new.entries) }
     ensures err { OnErr result ((c : ℕ) → at c clients.new.entries ≡ at c clients.old.entries) }

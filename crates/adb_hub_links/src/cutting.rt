@@ -85,7 +85,7 @@ fn next_came(alloc: Global, incoming: &mut Deframer) -> Result<Option<Came>, All
     }
 }
 
-/// Returns a packet that came, whose check word was verified.
+/// Returns a packet that came. Its check word was verified.
 pub(crate) fn came(alloc: Global, packet: Packet) -> Result<Came, AllocError>
     requires { length packet.payload ≤ MAX_PAYLOAD }
     ensures came { IfOk result IsCame }

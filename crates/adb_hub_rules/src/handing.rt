@@ -17,9 +17,9 @@ use adb_client::Phase;
 use adb_hub_tables::Tables;
 use adb_stream::{Flow, Part, Stream};
 
-/// Removes the first `n` bytes of a client's output queue, which were handed out. A closing client
-/// whose queue is empty then is removed. On a stream the device is acknowledged the bytes that were
-/// handed out.
+/// Removes the first `n` bytes of a client's output queue, which were handed out. If the queue of a
+/// closing client is empty then, the client is removed. On a stream the device is acknowledged the
+/// bytes that were handed out.
 pub fn hand_client(tables: &mut Tables, client: u32, n: usize)
     requires due { AreDue n (at client tables.old.clients.entries) }
     requires place { HasRoom 1 (open_stream (at client tables.old.clients.entries) tables.old)
@@ -86,7 +86,7 @@ fn hand_row(tables: &mut Tables, client: u32, n: usize) -> usize
     }
 }
 
-/// Accounts for the stream of a client whose output queue holds `due` bytes.
+/// Accounts for the stream of a client that has `due` bytes in its output queue.
 fn hand_stream(tables: &mut Tables, id: u32, due: usize)
     requires { HasRoom 1 (at id tables.old.streams.streams) tables.old }
     ensures state { let s = state_of tables.old in

@@ -89,7 +89,7 @@ fn open(tables: &mut Tables, id: u32, remote: u32, word: Option<u32>, stream: &S
     tables.open_client(stream.client, id);
 }
 
-/// Queues `OKAY` for a client whose stream was opened, unless the client came through a forward.
+/// Queues `OKAY` for the client of an opened stream, unless the client came through a forward.
 fn hear_okay(tables: &mut Tables, client: u32)
     requires { ClientRoom 1 (at client tables.old.clients.entries) }
     ensures state { let s = state_of tables.old in

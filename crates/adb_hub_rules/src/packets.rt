@@ -23,8 +23,8 @@ use adb_outside::{Identity, State};
 use adb_stream::Stream;
 use adb_wire::{Command, Head, MAX_PAYLOAD, MIN_MAXDATA, MIN_VERSION, VERSION};
 
-/// Handles a CNXN. A device whose version is too old, that accepts too few bytes or that sends no
-/// identity breaks its link.
+/// Handles a CNXN. A device breaks its link if its version is too old, if it accepts too few bytes
+/// or if it sends no identity.
 pub(crate) fn take_cnxn(
     tables: &mut Tables,
     ends: &mut Endings,

@@ -201,7 +201,7 @@ fn close(client: &mut Client) -> bool
     true
 }
 
-/// Stops reading from a client whose output queue holds bytes.
+/// Stops reading from a client with a non-empty output queue.
 fn shut(client: &mut Client)
     ensures row { client_row client.new ≡ shut_row (client_row client.old) }
     ensures places { client.new.places ≡ client.old.places }

@@ -76,8 +76,8 @@ impl Endings {
         self.spare -= 1;
     }
 
-    /// Records a stream that ended, unless it was an orphan, whose end was recorded when its client
-    /// failed.
+    /// Records a stream that ended, unless it was an orphan: the end of an orphan was recorded when
+    /// its client failed.
     pub fn push_unless(&mut self, orphan: bool, ended: Ended)
         ensures { self.new ≡ add_unless orphan ended self.old }
     {

@@ -128,7 +128,7 @@ impl Tables {
     }
 }
 
-/// Returns the header of a packet, whose check word is ignored.
+/// Returns the header of a packet. Its check word is ignored.
 pub fn head(command: Command, arg0: u32, arg1: u32, length: u32) -> Head
     ensures { result ≡ record {
       command = command;

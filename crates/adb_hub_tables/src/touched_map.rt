@@ -113,8 +113,8 @@ impl<V: Owes> TouchedMap<V> {
 }
 
 impl<V: Owes + Drop> TouchedMap<V> {
-    /// Returns the least number whose row was lent, inserted or removed, and that was not returned
-    /// since. Numbers whose rows were removed before the first call are not returned, and those
+    /// Returns the least number of a row that was lent, inserted or removed, and that was not
+    /// returned since. Rows that were removed before the first call are not returned, and those
     /// that `clear` or `keep_only` removed need not be. Allocates nothing. Looks only at the row of
     /// the number that it returns.
     pub fn next_touched(&mut self) -> Option<u32>
@@ -199,7 +199,7 @@ fn name_first<V>(rows: &RowMap<V>, marks: &mut Marks) -> Option<u32>
     Some(id)
 }
 
-/// Keeps a number whose row is gone for `next_touched` if `watched` is set, and forgets it
+/// Keeps the number of a removed row for `next_touched` if `watched` is set, and forgets it
 /// otherwise.
 fn leave(marks: &mut Marks, watched: bool, id: u32)
     ensures fits { id < 2 ^ 32 }

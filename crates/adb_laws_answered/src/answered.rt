@@ -18,7 +18,7 @@ pub fn nothing_more_is_said()
     ensures { (history : List Entry) → IsLegal history → OfWhoJoined SaysNothingMore history }
 {}
 
-/// States that a forward whose port is to be bound is answered when its listener is bound or has
+/// States that a forward that waits for its port is answered when its listener is bound or has
 /// failed to be, and by nothing else.
 pub fn listeners_are_told()
     ensures { (history : List Entry) → IsLegal history → OfWhoJoined RepliesWhenBound history }
@@ -30,7 +30,7 @@ pub fn trackers_are_handed_lists()
     ensures { (history : List Entry) → IsLegal history → OfWhoJoined ListsTracked history }
 {}
 
-/// States that a tracker with an empty output queue, and whose list is not stale, has the current
+/// States that a tracker with an empty output queue and a list that is not stale has the current
 /// list.
 pub fn trackers_have_the_present_list()
     ensures { (history : List Entry) → IsLegal history → OfWhoJoined HasPresentList history }

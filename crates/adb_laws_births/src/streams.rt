@@ -34,7 +34,7 @@ pub fn streams_are_asked_for_at_once()
 {}
 
 /// States that a stream that was drawn and is no longer kept has ended, and that one that is kept
-/// has not, unless it is an orphan, whose client failed.
+/// has not, unless it is an orphan after its client's failure.
 pub fn streams_live_or_end()
     ensures { (history : List Entry) → IsLegal history → EndingsAreRows history }
 {}

@@ -40,7 +40,7 @@ pub fn keeps_up_window()
     ensures { (history : List Entry) → IsLegal history → KeepsUpWindow history }
 {}
 
-/// States that in every legal history a stream whose client closed is done: with one write at a
+/// States that in every legal history a stream is done if its client closed: with one write at a
 /// time each write was answered, and with credit all that the client wrote was queued.
 pub fn closed_streams_are_done()
     ensures { (history : List Entry) → IsLegal history → ClosedStreamsAreDone history }

@@ -1,4 +1,4 @@
-//! A server and one device on its first link, paired: laws of a history whose link brings the
+//! A server and one device on its first link, paired: laws of a history with a link that brings the
 //! packets that any device on a plain link sends in answer to the packets that it was sent. Each
 //! function does nothing: its contract is the law.
 #![tactic(auto)]

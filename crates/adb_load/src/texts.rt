@@ -116,7 +116,7 @@ fn device_head(command: Command, stream: u16, payload: &[u8]) -> [u8; HEADER_LEN
     head_of(command, remote_of(stream), client_of(stream), payload)
 }
 
-/// Returns the header of a packet whose check word is 0.
+/// Returns the header of a packet with the check word 0.
 fn head_of(command: Command, arg0: u32, arg1: u32, payload: &[u8]) -> [u8; HEADER_LEN]
     requires { length payload.now ≤ MAX_PAYLOAD }
     ensures { result ++ payload.now ≡ packet_of command arg0 arg1 payload.now }

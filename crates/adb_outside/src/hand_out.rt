@@ -175,7 +175,7 @@ impl HandOut {
     }
 }
 
-/// Returns whether two parts hold the same bytes as two others, whose first part is no longer.
+/// Returns whether two parts hold the same bytes as two others, the first of which is no longer.
 #[tactic(auto, using(crate::proofs::Joined::same_parts))]
 fn are_same(start: &[u8], rest: &[u8], shorter: &[u8], more: &[u8]) -> bool
     requires { length shorter.now ≤ length start.now }

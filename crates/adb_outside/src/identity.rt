@@ -5,7 +5,8 @@ ghost use Rattle.adb_outside.specs.Identity.{state_of_system, text_of_state};
 
 use crate::text::Text;
 
-/// What a device can do for a client (SERVICES.TXT, `<host-prefix>:get-state`).
+/// The state of a device, as far as clients are concerned (SERVICES.TXT,
+/// `<host-prefix>:get-state`).
 #[derive(Clone, Copy, Debug, PartialEq, Eq, Drop)]
 pub enum State {
     /// Plugged in, but the device has not sent its identity.

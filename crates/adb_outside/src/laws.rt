@@ -1,4 +1,4 @@
-//! The limits as numbers: a function that does nothing, whose contract is the law.
+//! The limits as numbers. The function does nothing: its contract is the law.
 
 ghost use Rattle.std.specs.Prelude.{◌≡◌};
 ghost use Rattle.adb_outside.specs.declared.asked.TheConstants.{MAX_ASKED};

@@ -36,8 +36,8 @@ impl Model for MemorySource {
 }
 
 impl MemorySource {
-    /// Returns a source that gives at most `piece` bytes a call and fails at the calls whose
-    /// numbers, counted from 1, are in `failing`. Allocates nothing.
+    /// Returns a source that gives at most `piece` bytes a call and fails at the calls listed in
+    /// `failing` by number, counted from 1. Allocates nothing.
     pub fn new(bytes: Text, piece: usize, failing: Vec<u64>) -> MemorySource
         requires { 1 ≤ piece }
         ensures { result ≡ record {
@@ -73,7 +73,7 @@ impl Source for MemorySource {
 
     ghost steady = { λ s. s.failing ≡ [] };
 
-    /// Fails at the calls whose numbers are in the list. Otherwise gives as many bytes as allowed.
+    /// Fails at the listed calls. Otherwise gives as many bytes as allowed.
     fn read(&mut self, into: &mut [u8]) -> Got
         requires { 0 < length into.old }
         ensures fits { FitsBuffer into.old result }
@@ -111,7 +111,7 @@ impl Model for MemorySink {
 }
 
 impl MemorySink {
-    /// Returns a sink that fails at the calls whose numbers, counted from 1, are in `failing`; a
+    /// Returns a sink that fails at the calls listed in `failing` by number, counted from 1; a
     /// failed write takes nothing. Allocates nothing.
     pub fn new(alloc: Global, failing: Vec<u64>) -> MemorySink
         ensures { result ≡ record { out = []; failing = failing.items; calls = 0; faults = 0 } }
@@ -139,8 +139,7 @@ impl Sink for MemorySink {
 
     ghost steady = { λ s. ⊥ };
 
-    /// Fails at the calls whose numbers are in the list, and if an allocation fails. A failed write
-    /// takes nothing.
+    /// Fails at the listed calls, and if an allocation fails. A failed write takes nothing.
     fn write(&mut self, piece: &[u8]) -> Wrote
         requires { 0 < length piece.now }
         ensures fits { FitsPiece piece.now result }

@@ -31,8 +31,8 @@ impl From<AllocError> for RecordError {
 
 /// A list of entries to which a running server appends.
 ///
-/// What an implementation shows (its memory, the bytes of its sink) is tied to the entries that it has
-/// kept by the relation `stands`.
+/// The content that an implementation shows (its memory, the bytes of its sink) is tied to the
+/// entries that it has kept by the relation `stands`.
 pub trait Recorder: Drop {
     ghost use Rattle.std.specs.Prelude.{◌≤◌, ℕ, List, Option, length};
     ghost use Rattle.adb_outside.specs.Outside.{Counts};

@@ -104,7 +104,7 @@ impl Output {
         Ok(&[])
     }
 
-    /// Keeps the end of a record whose start is in the buffer: it is written directly, after the
+    /// Keeps the end of a record that starts in the buffer: it is written directly, after the
     /// buffer is flushed. If the end is empty, the buffer is flushed once it holds a piece.
     fn keep_end<K: Sink>(&mut self, sink: &mut K, end: &[u8]) -> Result<(), Stop>
         ensures kept { (had text piece : List ℕ)

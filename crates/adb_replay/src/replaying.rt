@@ -40,7 +40,7 @@ pub fn replay<S: Source, K: Sink>(alloc: Global, source: &mut S, sink: &mut K) -
     ended
 }
 
-/// Replays the records of a capture whose magic was read: all of them, or those up to a kill.
+/// Replays the records of a capture, after its magic was read: all of them, or those up to a kill.
 fn replay_records<S: Source, K: Sink>(
     alloc: Global,
     reader: &mut CaptureReader,

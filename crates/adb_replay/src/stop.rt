@@ -22,7 +22,8 @@ pub enum Stop {
 }
 
 impl Stop {
-    /// Returns the reason why a replay stops at the record of that offset, whose entry is not made.
+    /// Returns the reason why a replay stops at the record of that offset. The record's entry is
+    /// not made.
     pub fn at(offset: u64, why: Refused) -> Stop
         ensures { result ≡ stop_at offset why }
     {

@@ -126,7 +126,7 @@ fn forward_between(
     }
 }
 
-/// Returns the request to end the forward of a local end, whose port is not 0.
+/// Returns the request to end the forward of a local end with a port other than 0.
 fn kill_forward(local: &[u8]) -> Request
     ensures { result ≡ killed_at (local_in local.now) }
 {

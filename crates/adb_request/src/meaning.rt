@@ -116,7 +116,7 @@ fn fixed_transport(text: &[u8]) -> Option<Request>
     Some(Request::Transport { by, tell_id })
 }
 
-/// Parses the text after `host-serial:`, whose serial ends at the first colon that a form follows.
+/// Parses the text after `host-serial:`. The serial ends at the first colon that a form follows.
 fn serial_request(alloc: Global, text: &[u8]) -> Result<Option<Request>, AllocError>
     ensures { IfOk result (λ request. request ≡ serial_request text.now) }
 {
@@ -141,7 +141,7 @@ fn serial_end(text: &[u8]) -> Option<usize>
     None
 }
 
-/// Parses the text after `host-transport-id:`, whose id ends at the first colon.
+/// Parses the text after `host-transport-id:`. The id ends at the first colon.
 fn id_request(alloc: Global, text: &[u8]) -> Result<Option<Request>, AllocError>
     ensures { IfOk result (λ request. request ≡ id_request text.now) }
 {

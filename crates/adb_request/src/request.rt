@@ -42,7 +42,7 @@ pub enum Request {
         local: u16,
         remote: Text,
     },
-    /// A forward, or the end of one, whose specification has another form.
+    /// A forward, or the end of one, with a specification of another form.
     BadForward,
     /// Ends the forward of that local port.
     KillForward(u16),

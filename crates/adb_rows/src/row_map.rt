@@ -12,10 +12,9 @@ use std::marker::Model;
 
 /// Rows under numbers. Contracts see it as std's map of them.
 ///
-/// If numbers are drawn in order, a new row is appended, and rows whose numbers are close together
-/// are found without a search. Otherwise a search takes as many steps as the number of rows has
-/// binary digits. At most as many slots of removed rows are kept as there are live rows, and a few
-/// more.
+/// If numbers are drawn in order, a new row is appended, and rows with numbers close together are
+/// found without a search. Otherwise a search takes as many steps as the number of rows has binary
+/// digits. At most as many slots of removed rows are kept as there are live rows, and a few more.
 #[derive(Drop)]
 pub struct RowMap<V> {
     shelf: Shelf<V>,

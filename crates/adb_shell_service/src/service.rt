@@ -20,7 +20,7 @@ use adb_shell::{ShellError, ShellPacket, ShellReader};
 use std::alloc::{AllocError, Global};
 use std::marker::Model;
 
-/// The service `shell:` of a device, and `shell,v2:`, whose streams consist of packets of the shell
+/// The service `shell:` of a device, and `shell,v2:`, which sends and takes packets of the shell
 /// protocol (SERVICES.TXT). The command is run when the service is opened. Contracts see the input
 /// that its reader holds while it still reads input, the answer that was not taken yet, and whether
 /// it is spent by an allocation failure.
@@ -117,7 +117,7 @@ impl ShellService {
         self.out.as_slice()
     }
 
-    /// Removes the first `n` bytes of the answer, which were taken. Allocates nothing.
+    /// Removes the first `n` bytes of the answer, which were taken. Needs no memory.
     pub fn taken(&mut self, n: usize)
         requires { n ≤ length self.old.out }
         ensures left { self.new ≡ record self.old { out = drop n self.old.out } }

@@ -46,7 +46,7 @@ impl<W: Threads + Wait + Copy + Send + Sync + Drop + 'static, J: Job + Send + Dr
     J,
 > {
     /// Returns a crew that runs each job within the call, and hands back the jobs of the calls
-    /// whose numbers, counted from 1, are in `failing`. Allocates nothing.
+    /// listed in `failing` by number, counted from 1. Allocates nothing.
     pub fn inline(failing: Vec<u64>) -> Crew<W, J>
         ensures { result ≡ record {
           failing = failing.items;

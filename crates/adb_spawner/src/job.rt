@@ -2,7 +2,7 @@
 
 /// A job, which is run once.
 pub trait Job {
-    /// What holds once the job was run.
+    /// The condition that holds once the job was run.
     ghost done: { Self → Type 0 };
 
     fn run(self)

@@ -19,7 +19,7 @@ pub fn limits_are()
     ensures step { CREDIT_STEP ≡ 65536 }
 {}
 
-/// A credit in bytes, on a link whose two ends name the feature `hub_credit`, which is this
+/// A credit in bytes, on a link with two ends that name the feature `hub_credit`, which is this
 /// project's own: a WRTE holds no more bytes than there is credit, and an OKAY gives credit for
 /// more. Contracts see the credit to send, the credit that the other end has left, how many bytes
 /// are still to be handed out, and how many were handed out and not given back yet. No call

@@ -32,7 +32,7 @@ impl Model for AnswerReader {
 
 impl AnswerReader {
     /// Returns a reader to which nothing was fed. `list` says whether the answers are those to a
-    /// LIST, whose DONE is longer. Allocates nothing.
+    /// LIST, which has a longer DONE. Allocates nothing.
     pub fn new(alloc: Global, list: bool) -> AnswerReader
         ensures { StandsForAnswers list [] [] result }
     {

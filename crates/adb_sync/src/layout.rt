@@ -47,8 +47,8 @@ impl Limit {
     }
 }
 
-/// The layout of the bytes after an id: numbers, and possibly a body whose length is the last of
-/// them.
+/// The layout of the bytes after an id: numbers, and possibly a body. The last number is the length
+/// of the body.
 #[derive(Clone, Copy)]
 pub struct Layout {
     /// The number of bytes of all the numbers.
@@ -75,7 +75,7 @@ impl Layout {
         }
     }
 
-    /// Returns the layout of `count` numbers and a text whose length is the last of them.
+    /// Returns the layout of `count` numbers and a text. The last number is the length of the text.
     pub fn text(count: usize, limit: Option<Limit>) -> Layout
         requires { count ≤ 4 }
         ensures { result ≡ text count limit }

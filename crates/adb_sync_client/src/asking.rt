@@ -55,7 +55,7 @@ pub trait PathValue: Drop + Sized {
     ghost is_part: { (bytes : List ℕ) → value bytes ≡ step_map part (answer_value kind bytes) };
 }
 
-/// A machine that makes one request about a path, whose answer is a `V`.
+/// A machine that makes one request about a path. The answer is a `V`.
 #[derive(Drop)]
 pub struct PathAsk<V: PathValue> {
     out: ByteQueue,

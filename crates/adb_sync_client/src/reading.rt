@@ -125,7 +125,7 @@ impl Reading {
     }
 }
 
-/// Returns the meaning of bytes whose answers do not end.
+/// Returns the meaning of bytes with answers that do not end.
 fn unended(fault: Option<u64>) -> Step<()>
     ensures { (said : Said) → with_said said result ≡ unended fault }
 {
