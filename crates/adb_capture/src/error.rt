@@ -11,8 +11,7 @@ pub enum Why {
     TooLarge,
 }
 
-/// The reason why no record begins at an offset, which counts the bytes of the capture before the
-/// record.
+/// The reason why some bytes begin no record. An offset is that of their first byte in the capture.
 #[derive(Clone, Copy, Debug, PartialEq, Eq, Drop)]
 pub enum FormFault {
     BadRecord { offset: u64, why: Why },

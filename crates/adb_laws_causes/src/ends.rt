@@ -51,7 +51,8 @@ pub fn ends_by_failure()
     ensures { (history : List Entry) → IsLegal history → EndsByFailure history }
 {}
 
-/// States that a stream ends with the server only if a kill was requested by that entry.
+/// States that a stream ends with the server only if the server is stopped by a kill from that
+/// entry on.
 pub fn ends_by_stop()
     ensures { (history : List Entry) → IsLegal history → EndsByStop history }
 {}

@@ -121,7 +121,7 @@ fn name_lines(alloc: Global, files: &Files, path: &[u8]) -> Result<Text, AllocEr
     Ok(lines)
 }
 
-/// Returns whether a file may be removed. The file is removed where the command is run.
+/// Returns the outcome of `rm`: whether the file may be removed. Running the command removes it.
 fn remove(alloc: Global, files: &Files, arguments: &[&[u8]]) -> Result<Outcome, AllocError>
     ensures { IfOk result (λ outcome. outcome
         ≡ remove_outcome files.now (map (λ word. word.now) arguments.now)) }
