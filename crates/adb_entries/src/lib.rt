@@ -1,5 +1,5 @@
-//! The machine over a hub: applying the entries of a history to it, one after another, and the next
-//! hand-out.
+//! The machine over a hub. `apply` makes the next entry of a history in the hub, and `hand_next`
+//! makes its next hand-out.
 #![tactic(auto)]
 
 mod applying;

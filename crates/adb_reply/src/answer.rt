@@ -18,8 +18,8 @@ pub enum Next {
         transport: u32,
         service: Text,
     },
-    /// Listens at the local port, or at any port if it is 0, which `chosen` says; the reply follows
-    /// then.
+    /// Listens at the local port, or at any port if it is 0, in which case `chosen` is set. The
+    /// reply follows then.
     Bind {
         transport: u32,
         local: u16,

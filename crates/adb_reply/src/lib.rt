@@ -1,5 +1,6 @@
-//! Answers to requests: the bytes of the reply, and the action of the server that follows, as a
-//! function of the devices, the forwards, the device that the connection selected, and the request.
+//! Answers to requests. `reply` computes the bytes of the reply, and the action of the server that
+//! follows, from the devices, the forwards, the device that the connection selected, and the
+//! request. It changes nothing itself.
 #![tactic(auto)]
 
 mod about_devices;
