@@ -85,7 +85,7 @@ impl Entry {
         }
     }
 
-    /// Returns the same entry, in memory of its own.
+    /// Returns the same entry, in memory of its own. Fails if an allocation fails.
     pub fn copy(&self) -> Result<Entry, AllocError>
         ensures { IfOk result (λ e. e ≡ self.now) }
     {

@@ -50,7 +50,7 @@ impl Model for CaptureReader {
 }
 
 impl CaptureReader {
-    /// Returns a reader that has read nothing. Allocates its buffers.
+    /// Returns a reader that has read nothing. Fails if the allocation of its buffers fails.
     pub fn new(alloc: Global) -> Result<CaptureReader, AllocError>
         ensures { IfOk result (λ r. r ≡ record {
           opened = false;

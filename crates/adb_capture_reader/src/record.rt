@@ -98,7 +98,8 @@ impl<'a> Record<'a> {
         said.form.lent(said.owner, said.content)
     }
 
-    /// Returns the record's entry, with a copy of the bytes of its text.
+    /// Returns the record's entry, with a copy of the bytes of its text. Fails if an allocation
+    /// fails.
     pub fn copy(&self, alloc: Global) -> Result<Entry, AllocError>
         ensures is { IfOk result (λ e. e ≡ self.now.1) }
         ensures form { HasRecord self.now.1 }

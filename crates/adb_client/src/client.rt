@@ -232,7 +232,7 @@ impl Client {
     }
 
     /// Returns the first `max` bytes of the queue, or all if there are fewer. The bytes of a single
-    /// slice are shared, others are copied. Nothing changes.
+    /// slice are shared, others are copied. Nothing changes. Fails if an allocation fails.
     pub fn front(&self, max: usize) -> Result<HandOut, AllocError>
         ensures { IfOk result (λ bytes. bytes ≡ take max self.now.due) }
     {

@@ -30,7 +30,7 @@ pub struct Daemon {
 
 impl Daemon {
     /// Returns a device with these files that accepts payloads of at most `maxdata` bytes, and
-    /// credit in bytes if its host does. Its own CNXN is queued.
+    /// credit in bytes if its host does. Its own CNXN is queued. Fails if an allocation fails.
     pub fn new(alloc: Global, files: Files, maxdata: u32) -> Result<Daemon, AllocError>
         requires least { MIN_MAXDATA ≤ maxdata }
         requires most { maxdata ≤ MAX_PAYLOAD }
@@ -39,7 +39,7 @@ impl Daemon {
         begin(alloc, files, maxdata, true)
     }
 
-    /// Returns the same with one write each way on every link.
+    /// Returns the same with one write each way on every link. Fails if an allocation fails.
     pub fn plain(alloc: Global, files: Files, maxdata: u32) -> Result<Daemon, AllocError>
         requires least { MIN_MAXDATA ≤ maxdata }
         requires most { maxdata ≤ MAX_PAYLOAD }
@@ -51,13 +51,13 @@ impl Daemon {
     /// Takes the next piece of the host's bytes. Each whole packet is handled in order.
     ///
     /// - `BadCnxn`: returned exactly if one of the packets is a CNXN that is refused. The error
-    /// persists, and nothing after it is handled.
+    ///   persists, and nothing after it is handled.
     /// - `Broken`: otherwise, exactly if the bytes have a fault, which is that of `Deframer`. The
-    /// error persists, and nothing after the fault is handled.
+    ///   error persists, and nothing after the fault is handled.
     /// - `OutOfMemory`: an allocation failed. The device is spent: every later call returns
-    /// `OutOfMemory` and changes nothing. Its output is that of a prefix of the packets. The files
-    /// are those after all packets of earlier pieces and a prefix of the new ones, or after a
-    /// prefix of what the next packet asks for.
+    ///   `OutOfMemory` and changes nothing. Its output is that of a prefix of the packets. The
+    ///   files are those after all packets of earlier pieces and a prefix of the new ones, or after
+    ///   a prefix of what the next packet asks for.
     pub fn feed(&mut self, piece: &[u8]) -> Result<(), DaemonError>
         ensures whole { result ≢ Err DaemonError.OutOfMemory → (setting : Setting)
             (fed taken : List ℕ) → HasDone setting fed taken self.old

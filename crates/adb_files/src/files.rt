@@ -132,7 +132,7 @@ impl Files {
 
     /// Returns the entries of a directory, including its subdirectories, in the order of the bytes
     /// of their names. A directory has the mode 16,877, no bytes and the time 0. A bad path, a
-    /// file, or a path with nothing there has no entries.
+    /// file, or a path with nothing there has no entries. Fails if an allocation fails.
     pub fn list(&self, path: &[u8]) -> Result<Vec<Dirent>, AllocError>
         ensures list { IfOk result (λ entries. entries.items ≡ listing path.now self.now) }
         ensures names { All (λ entry. length entry.name < 2 ^ 32) (listing path.now self.now) }

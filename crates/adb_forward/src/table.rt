@@ -147,7 +147,7 @@ impl Forwards {
     }
 
     /// Returns a line `<serial> tcp:<local> <remote>` for each row, each with its newline, in
-    /// rising port.
+    /// rising port. Fails if an allocation fails.
     pub fn list(&self) -> Result<Text, AllocError>
         ensures text { IfOk result (λ text. text ≡ forward_list self.now) }
         ensures fits { IfOk result (λ text. length text < 2 ^ 16) }

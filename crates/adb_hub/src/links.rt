@@ -75,6 +75,7 @@ impl Hub {
 
     /// Submits a whole packet of a link, like `recv` with its bytes. If a link's packets all come
     /// whole and it verifies no check words, no header is parsed again, and no payload is copied.
+    /// The errors are those of `recv`.
     pub fn recv_whole(&mut self, link: u32, packet: &Whole) -> Result<Life, HubError>
         ensures received { (h : List Entry) → IsLawful self.old h
             → AnswersLink link (Entry.Recv link packet.now) result h self.new }

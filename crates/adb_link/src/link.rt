@@ -105,7 +105,7 @@ impl Link {
     }
 
     /// Returns the input with a further piece, without the packets that were not taken before. The
-    /// link itself is unchanged. No payload is copied twice.
+    /// link itself is unchanged. No payload is copied twice. Fails if an allocation fails.
     pub fn with_piece(&mut self, piece: &[u8]) -> Result<Deframer, AllocError>
         requires { self.old.incoming.fault ≡ None }
         ensures stays { self.new ≡ self.old }
@@ -189,7 +189,7 @@ impl Link {
 
     /// Returns the first `max` queued bytes, or all if there are fewer. The payload is shared if
     /// the first packet alone contains them, in one slice of it; otherwise the bytes are copied.
-    /// Nothing changes.
+    /// Nothing changes. Fails if an allocation fails.
     pub fn front(&self, max: usize) -> Result<HandOut, AllocError>
         ensures { IfOk result (λ bytes. bytes ≡ take max self.now.due) }
     {

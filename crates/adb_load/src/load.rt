@@ -34,7 +34,7 @@ impl Model for Load {
 }
 
 impl Load {
-    /// Returns the load of a seed with `streams` streams.
+    /// Returns the load of a seed with `streams` streams. Fails if an allocation fails.
     pub fn new(alloc: Global, seed: u64, streams: u32) -> Result<Load, AllocError>
         requires { streams < 2 ^ 16 }
         ensures { IfOk result (λ l. l ≡ load seed streams) }

@@ -223,7 +223,7 @@ impl<V: Drop, F: Copy, S: Format<V, F>> Framer<S, V, F> {
     }
 
     /// Returns another framer that holds the same bytes, but none of the frames, and takes a
-    /// further piece. This framer stays as it is.
+    /// further piece. This framer stays as it is. Fails if an allocation fails.
     pub fn with_piece(&mut self, piece: &[u8]) -> Result<Framer<S, V, F>, AllocError>
         requires { self.old.fault ≡ None }
         ensures stays { self.new ≡ self.old }

@@ -163,7 +163,8 @@ impl HandOut {
         self.len() == 0
     }
 
-    /// Returns the same bytes. The bytes of a text are copied; shared bytes are not.
+    /// Returns the same bytes. The bytes of a text are copied; shared bytes are not. Fails if an
+    /// allocation fails.
     pub fn copy(&self) -> Result<HandOut, AllocError>
         ensures { IfOk result (λ h. h ≡ self.now) }
     {

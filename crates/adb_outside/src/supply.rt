@@ -28,6 +28,7 @@ impl Model for Supply {
 }
 
 impl Supply {
+    /// Returns the bytes of a text, of which each call gives at most `piece`. Allocates nothing.
     pub fn new(bytes: Text, piece: usize) -> Supply
         requires { 1 ≤ piece }
         ensures { result ≡ record { coming = bytes; piece = piece } }

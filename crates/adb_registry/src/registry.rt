@@ -213,6 +213,7 @@ impl Registry {
     }
 
     /// Returns the list of `host:devices` (SERVICES.TXT): a line for each device, in rising id.
+    /// Fails if an allocation fails.
     pub fn short_list(&self) -> Result<Text, AllocError>
         ensures lines { IfOk result (λ list. list ≡ short_list (values_of self.now.rows)) }
         ensures fits { IfOk result (λ list. length list < 2 ^ 16) }
@@ -221,6 +222,7 @@ impl Registry {
     }
 
     /// Returns the list of `host:devices-l` (SERVICES.TXT): a line for each device, in rising id.
+    /// Fails if an allocation fails.
     pub fn long_list(&self) -> Result<Text, AllocError>
         ensures lines { IfOk result (λ list. list ≡ long_list (values_of self.now.rows)) }
         ensures fits { IfOk result (λ list. length list < 2 ^ 16) }

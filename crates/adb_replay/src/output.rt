@@ -31,7 +31,7 @@ impl Model for Output {
 }
 
 impl Output {
-    /// Returns a buffer that holds the magic.
+    /// Returns a buffer that holds the magic. Fails if an allocation fails.
     pub fn new(alloc: Global) -> Result<Output, AllocError>
         ensures { IfOk result (λ output. output ≡ magic) }
     {
@@ -41,7 +41,8 @@ impl Output {
         Ok(Output { gathered })
     }
 
-    /// Returns a buffer that holds no bytes and has room for two pieces.
+    /// Returns a buffer that holds no bytes and has room for two pieces. Fails if an allocation
+    /// fails.
     pub fn empty(alloc: Global) -> Result<Output, AllocError>
         ensures { IfOk result (λ output. output ≡ []) }
     {
@@ -51,7 +52,8 @@ impl Output {
     }
 
     /// Appends the record of an entry. If the end of the record is large, it is written directly,
-    /// after the buffer is flushed; otherwise the buffer is flushed once it holds a piece.
+    /// after the buffer is flushed; otherwise the buffer is flushed once it holds a piece. The
+    /// errors are those of `keep_bytes`.
     pub fn keep<K: Sink>(&mut self, sink: &mut K, entry: &Entry) -> Result<(), Stop>
         requires { HasRecord entry.now }
         ensures kept { KeepsEntry result entry.now
@@ -64,7 +66,8 @@ impl Output {
     }
 
     /// Appends a record that was read. If the record is large, it is written directly, after the
-    /// buffer is flushed; otherwise the buffer is flushed once it holds a piece.
+    /// buffer is flushed; otherwise the buffer is flushed once it holds a piece. The errors are
+    /// those of `keep_bytes`.
     pub fn keep_record<K: Sink>(&mut self, sink: &mut K, read: &Record<'_>) -> Result<(), Stop>
         ensures kept { KeepsEntry result read.now.1
             (K.written sink.old, self.old) (K.written sink.new, self.new) }
@@ -78,8 +81,8 @@ impl Output {
     /// Keeps bytes for the sink. At least `LARGE` bytes are written directly, after the buffer is
     /// flushed; fewer are appended to the buffer, which is flushed once it holds a piece.
     ///
-    /// - `WriteFault`: the sink failed. A prefix of all that was kept is written, and the buffer
-    /// is empty.
+    /// - `WriteFault`: the sink failed. A prefix of all that was kept is written, and the buffer is
+    ///   empty.
     /// - `OutOfMemory`: the bytes are not kept, and all else is unchanged.
     pub fn keep_bytes<K: Sink>(&mut self, sink: &mut K, bytes: &[u8]) -> Result<(), Stop>
         ensures kept { KeepsBytes result bytes.now
@@ -120,7 +123,8 @@ impl Output {
         write_piece(sink, end)
     }
 
-    /// Writes the buffered bytes. The buffer is empty afterwards, also if the sink failed.
+    /// Writes the buffered bytes. The buffer is empty afterwards. If the sink fails, a prefix of
+    /// the bytes is written.
     pub fn write_out<K: Sink>(&mut self, sink: &mut K) -> Result<(), Stop>
         ensures out { (had text : List ℕ) → Keeps had text (K.written sink.old, self.old)
             → WritesOut result had text (K.written sink.new) }

@@ -24,8 +24,14 @@ use adb_hub::Hub;
 use adb_outside::{Sink, Source};
 use std::alloc::Global;
 
-/// Replays the capture of a source, and writes the whole history to the sink as a capture. If the
-/// magic is wrong, nothing is written.
+/// Replays the capture of a source, up to its end or a kill, and writes the whole history to the
+/// sink as a capture. If the magic is wrong, nothing is written.
+///
+/// - `ReadFault`: the source failed. The history of the consumed bytes is written.
+/// - `WriteFault`: the sink failed. A prefix of the history is written.
+/// - `OutOfMemory`: an allocation failed. Nothing is written, or a prefix of the history up to the
+///   end of a record.
+/// - `Refused`: a record, or the magic, is refused. The history before it is written.
 pub fn replay<S: Source, K: Sink>(alloc: Global, source: &mut S, sink: &mut K) -> Result<(), Stop>
     ensures replays { ReplaysCapture (S.left source.old) (S.left source.new)
         (K.written sink.old) (K.written sink.new) result }

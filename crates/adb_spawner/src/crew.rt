@@ -61,7 +61,8 @@ impl<W: Threads + Wait + Copy + Send + Sync + Drop + 'static, J: Job + Send + Dr
         }
     }
 
-    /// Returns a crew that runs each job in a thread of its own while it runs.
+    /// Returns a crew that runs each job in a thread of its own while it runs. Fails if an
+    /// allocation fails.
     pub fn threads(rt: W, alloc: Global) -> Result<Crew<W, J>, AllocError>
         ensures { IfOk result (λ crew. crew
             ≡ record { failing = []; calls = 0; faults = 0; threads = Some 0 }) }
@@ -72,8 +73,8 @@ impl<W: Threads + Wait + Copy + Send + Sync + Drop + 'static, J: Job + Send + Dr
         })
     }
 
-    /// Runs a job, or hands it back without running it. The count of faults rises exactly when it
-    /// is handed back.
+    /// Runs a job, or returns it as the error without running it. The count of faults rises exactly
+    /// when it is returned.
     pub fn spawn(&mut self, job: J) -> Result<(), J>
         ensures back { IfErr result (λ back. back ≡ job) }
         ensures counts { Counts IsSteady (λ crew. crew.faults)

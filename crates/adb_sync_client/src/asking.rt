@@ -72,7 +72,7 @@ impl<V: PathValue> Model for PathAsk<V> {
 }
 
 impl<V: PathValue> PathAsk<V> {
-    /// Returns a machine that makes a request about a path.
+    /// Returns a machine that makes a request about a path. Fails if an allocation fails.
     pub fn new(alloc: Global, path: &[u8]) -> Result<PathAsk<V>, AllocError>
         requires { length path.now ≤ MAX_ASKED_PATH }
         ensures { IfOk result (λ new. Asks V.kind (V.text path.now) new) }
@@ -113,7 +113,7 @@ impl<V: PathValue> PathAsk<V> {
     }
 
     /// Does the same, if nothing is fed after the end of the answer: the value is moved out, and
-    /// not copied.
+    /// not copied. The errors are those of `feed`.
     pub fn feed_to_end(&mut self, piece: &[u8]) -> Result<Step<V>, AllocError>
         ensures { FeedsToEnd V.kind V.value self.old piece.now result self.new }
     {

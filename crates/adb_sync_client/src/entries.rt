@@ -22,7 +22,7 @@ impl Model for Entries {
 }
 
 impl Entries {
-    /// Returns a copy of these entries.
+    /// Returns a copy of these entries. Fails if an allocation fails.
     pub fn copy_of(alloc: Global, entries: &[Dirent]) -> Result<Entries, AllocError>
         ensures { IfOk result (λ copy. copy ≡ entries.now) }
     {

@@ -125,7 +125,8 @@ impl Deframer {
     }
 
     /// Returns another deframer that holds the same bytes, but none of the packets, and takes a
-    /// further piece. This deframer stays as it is. No payload is copied twice.
+    /// further piece. This deframer stays as it is. No payload is copied twice. Fails if an
+    /// allocation fails.
     pub fn with_piece(&mut self, piece: &[u8]) -> Result<Deframer, AllocError>
         requires { self.old.fault ≡ None }
         ensures stays { self.new ≡ self.old }

@@ -57,7 +57,8 @@ impl Model for Slicer {
 }
 
 impl Slicer {
-    /// Returns a slicer to which nothing was fed. Allocates memory for the longest packet.
+    /// Returns a slicer to which nothing was fed. Fails if the allocation of memory for the longest
+    /// packet fails.
     pub fn new(alloc: Global) -> Result<Slicer, AllocError>
         ensures value { IfOk result (λ slicer. slicer ≡ []) }
         ensures stands { IfOk result (λ slicer. HasSliced [] [] slicer) }
