@@ -5,9 +5,9 @@ use adb_outside::{Got, Wrote};
 /// Whether a device is plugged in.
 #[derive(Clone, Copy, Debug, PartialEq, Eq, Drop)]
 pub enum Plug {
-    /// It is: bytes can be read.
+    /// The device is plugged in: bytes can be read.
     Here,
-    /// It will not come.
+    /// The device will not come.
     Never,
     /// The call failed to find out.
     Failed,

@@ -41,7 +41,7 @@ pub trait Door: Drop {
     /// The kinds of the answers in order, if the door shows them.
     ghost came: { Self → Option (List Arrival) };
 
-    /// It never answers `Closed`.
+    /// The door never answers `Closed`.
     ghost lasting: { Self → Type 0 };
 
     /// No call fails.

@@ -5,8 +5,8 @@ ghost use Rattle.adb_outside.specs.Outside.{Rises, Counts, counted, counted_on};
 
 use std::marker::Model;
 
-/// Which calls of a fake fail, how many were made, and how many failed. Both counts stay at their
-/// largest value.
+/// The calls of a fake that fail, the number of calls made, and the number that failed. Both counts
+/// stay at their largest value.
 #[derive(Drop)]
 pub struct Failing {
     numbers: Vec<u64>,

@@ -41,7 +41,7 @@ pub trait Format<V, F>: Copy {
     ghost use Rattle.adb_outside.specs.declared.framer.Front.{Front};
     ghost use Rattle.adb_outside.specs.Framing.{IsFraming};
 
-    /// What the bytes begin with.
+    /// The beginning of some bytes: no whole frame yet, a fault, or a whole frame.
     ghost find: { Self → List ℕ → Front F };
 
     /// The value of a whole frame.

@@ -2,7 +2,7 @@
 
 use crate::text::Text;
 
-/// How a device is plugged in.
+/// The kind of a device's connection.
 #[derive(Clone, Copy, Debug, PartialEq, Eq, Drop)]
 pub enum Kind {
     Usb,

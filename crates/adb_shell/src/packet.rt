@@ -4,9 +4,9 @@ ghost use Rattle.adb_shell.specs.Packets.{error_of, failure_of};
 
 use adb_outside::{FeedError, Text};
 
-/// A packet of the shell protocol. Its id determines what the bytes are: 0 is the command's input,
-/// 1 its output, 2 its error output, 3 its exit status in one byte, 4 the end of its input, 5 the
-/// size of the window.
+/// A packet of the shell protocol. Its id determines the meaning of its bytes: 0 is the command's
+/// input, 1 its output, 2 its error output, 3 its exit status in one byte, 4 the end of its input,
+/// 5 the size of the window.
 #[derive(Drop)]
 pub struct ShellPacket {
     pub id: u8,

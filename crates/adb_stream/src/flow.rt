@@ -10,9 +10,9 @@ use crate::window::Window;
 pub enum Took {
     /// Its bytes are to be handed out.
     Accepted,
-    /// It is acknowledged now.
+    /// The WRTE is acknowledged now.
     AckNow,
-    /// It came before the other end was allowed to send it, so the stream ends.
+    /// The WRTE came before the other end was allowed to send it, so the stream ends.
     OutOfTurn,
 }
 

@@ -71,8 +71,7 @@ pub const CHUNK_HEADER_BYTES: usize = 8;
 pub const WHOLE_CHUNK: usize = CHUNK_HEADER_BYTES + MAX_CHUNK as usize;
 
 /// Returns the header of a chunk of this many bytes, for a caller that hands a chunk out of its own
-/// buffer: the header and the bytes together are what `write_answer` writes for the chunk.
-/// Allocates nothing.
+/// buffer: `write_answer` writes the header and the bytes together. Allocates nothing.
 pub fn chunk_header(size: u32) -> [u8; CHUNK_HEADER_BYTES]
     ensures { (bytes : List ℕ) → length bytes ≡ size
         → result ++ bytes ≡ answer_bytes (SyncAnswer.Chunk bytes) }

@@ -23,8 +23,8 @@ pub enum PacketFault {
     BadSum { said: u32, is: u32 },
 }
 
-/// How the packets at a place of a stream are read: whether their check words are verified. They
-/// are while the last CNXN had a version below 0x01000001.
+/// The reading of packets at a place of a stream: whether their check words are verified. They are
+/// while the last CNXN had a version below 0x01000001.
 #[derive(Clone, Copy, Debug, PartialEq, Eq, Drop)]
 pub struct PacketFormat {
     pub sums: bool,
