@@ -120,8 +120,8 @@ pub fn write_both<K: Sink>(sink: &mut K, first: &[u8], last: &[u8]) -> Wrote
 /// The maximum number of bytes of a head: those before a text, and the start of one.
 const MAX_HEAD: usize = RECORD_HEADER_LEN + 2 + MAX_START;
 
-/// The bytes of a record before its text: the kind, the number, the length of the data, the data that
-/// are no text, and possibly the start of the text.
+/// The bytes of a record before its text: the kind, the number, the length of the data, the data
+/// that are no text, and possibly the start of the text.
 #[derive(Drop)]
 pub struct Head {
     bytes: [u8; MAX_HEAD],

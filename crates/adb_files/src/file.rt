@@ -26,8 +26,8 @@ pub(crate) fn have_32_bits(mode: u32, mtime: u32)
 /// The reason why a file was not put or removed. The files are unchanged then.
 #[derive(Clone, Copy, Debug, PartialEq, Eq, Drop)]
 pub enum FileError {
-    /// The path is neither `/` nor one or more parts of a slash and a name. A name is not empty, not
-    /// `.` and not `..`, and has no NUL.
+    /// The path is neither `/` nor one or more parts of a slash and a name. A name is not empty,
+    /// not `.` and not `..`, and has no NUL.
     BadPath,
     /// The path is `/`, or a file lies below it.
     IsDirectory,
