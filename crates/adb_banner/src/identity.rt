@@ -1,4 +1,4 @@
-//! Reading an identity.
+//! Parsing an identity.
 
 ghost use Rattle.adb_banner.specs.Banner.{without_nuls, is_colon, is_semicolon, is_identity, part_value, last_value, identity_of, is_feature};
 ghost use Rattle.adb_banner.specs.declared.identity.IdentityError.TheVariants.{OutOfMemory};
@@ -10,18 +10,19 @@ use adb_outside::{Identity, Text};
 use bstr::ByteSlice;
 use std::alloc::{AllocError, Global};
 
-/// How many bytes an identity may have, without the NULs at its end.
+/// The maximum number of bytes of an identity, without the NULs at its end.
 pub const MAX_IDENTITY: usize = 32_768;
 
-/// The numbers that definitions take from the code, written out.
+/// States the numbers that definitions take from the code.
 pub fn limits_are()
     ensures identity { MAX_IDENTITY ≡ 32768 }
 {}
 
-/// Why no identity was read.
+/// The reason why no identity was parsed.
 #[derive(Clone, Copy, Debug, PartialEq, Eq, Drop)]
 pub enum IdentityError {
-    /// Without the NULs at their end, the bytes have fewer than two colons, or are too many.
+    /// Without the NULs at their end, the bytes have fewer than two colons, or there are too many
+    /// of them.
     NotIdentity,
     OutOfMemory,
 }
@@ -34,12 +35,14 @@ impl From<AllocError> for IdentityError {
     }
 }
 
-/// Reads the payload of a CNXN, `<system>:<serial>:<banner>`, where NULs may stand at the end. It
-/// is cut at its first two colons, so a banner may have more. The banner has parts `<key>=<value>`
-/// between `;`, each cut at its first `=`. The keys `ro.product.name`, `ro.product.model`,
-/// `ro.product.device` and `features` are known, and of a repeated one the last counts; other keys,
-/// and parts without `=`, are passed over. `NotIdentity` comes exactly where, without the NULs,
-/// fewer than two colons stand or there are more than `MAX_IDENTITY` bytes.
+/// Parses the payload of a CNXN, `<system>:<serial>:<banner>`, which NULs may follow. It is cut at
+/// its first two colons, so a banner may contain more. The banner consists of parts `<key>=<value>`
+/// separated by `;`, each cut at its first `=`. The keys `ro.product.name`, `ro.product.model`,
+/// `ro.product.device` and `features` are known, and the last part with a key counts. Other keys,
+/// and parts without `=`, are ignored.
+///
+/// `NotIdentity`: returned exactly if the bytes without the NULs have fewer than two colons, or are
+/// more than `MAX_IDENTITY`.
 #[tactic(auto, unfolding(crate::specs::Banner::identity_of))]
 pub fn read(alloc: Global, bytes: &[u8]) -> Result<Identity, IdentityError>
     ensures identity { IfOk result (λ identity. identity_of bytes.now ≡ Some identity) }
@@ -58,7 +61,7 @@ pub fn read(alloc: Global, bytes: &[u8]) -> Result<Identity, IdentityError>
     })
 }
 
-/// Whether the name is one of the comma-separated parts of the features. Features that are empty
+/// Returns whether the name is one of the comma-separated parts of the features. Empty features
 /// have one part, which is empty.
 pub fn has_feature(identity: &Identity, name: &[u8]) -> bool
     ensures { result ≡ is_feature identity.now.features name.now }
@@ -70,7 +73,7 @@ pub fn has_feature(identity: &Identity, name: &[u8]) -> bool
         .any(|part| part == name)
 }
 
-/// An identity, cut at its first two colons.
+/// The parts of an identity, which is cut at its first two colons.
 #[derive(Clone, Copy)]
 struct Sections<'a> {
     system: &'a [u8],
@@ -78,7 +81,7 @@ struct Sections<'a> {
     banner: &'a [u8],
 }
 
-/// Cuts the bytes without the NULs at their end, or gives `None` where they are no identity.
+/// Cuts the bytes without the NULs at their end. Returns `None` if they are no identity.
 fn cut(bytes: &[u8]) -> Option<Sections<'_>>
     ensures { let text = without_nuls bytes.now in let rest = after_first is_colon text in
         MatchOption result (is_identity text ≡ false) (λ cut. (is_identity text ≡ true)
@@ -99,7 +102,7 @@ fn cut(bytes: &[u8]) -> Option<Sections<'_>>
     })
 }
 
-/// The bytes without the NULs at their end.
+/// Returns the bytes without the NULs at their end.
 fn strip_nuls(bytes: &[u8]) -> &[u8]
     ensures { result.now ≡ without_nuls bytes.now }
 {
@@ -109,7 +112,7 @@ fn strip_nuls(bytes: &[u8]) -> &[u8]
     }
 }
 
-/// The value of the last part of a banner that has the key, and nothing where no part has it.
+/// Returns the value of the last part of a banner that has the key, or no bytes if no part has it.
 fn find_last<'a>(banner: &'a [u8], key: &[u8]) -> &'a [u8]
     ensures last { result.now ≡ last_value key.now (slice_split is_semicolon banner.now) }
     ensures short { length result.now ≤ length banner.now }
@@ -123,7 +126,7 @@ fn find_last<'a>(banner: &'a [u8], key: &[u8]) -> &'a [u8]
     found
 }
 
-/// The value of a part, if the part has the key.
+/// Returns the value of a part, if the part has the key.
 fn value_of<'a>(part: &'a [u8], key: &[u8]) -> Option<&'a [u8]>
     ensures { option_copied result ≡ part_value key.now part.now }
 {

@@ -1,5 +1,5 @@
-//! Who a device says that it is, read from the payload of its CNXN (protocol.txt, "The CONNECT
-//! message").
+//! The identity that a device reports, parsed from the payload of its CNXN (protocol.txt, "The
+//! CONNECT message").
 #![tactic(auto)]
 
 mod identity;

@@ -1,32 +1,32 @@
-//! What binds the ports of forwards.
+//! Binders of the ports of forwards.
 
-/// What became of binding a port.
+/// The result of binding a port.
 #[derive(Clone, Copy, Debug, PartialEq, Eq, Drop)]
 pub enum Binding {
-    /// This port is bound, which is not 0.
+    /// The port, which is not 0, is bound.
     Bound(u16),
     /// The port could not be bound.
     Failed,
 }
 
-/// What binds the ports of forwards.
+/// A binder of the ports of forwards.
 pub trait Binder {
     ghost use Rattle.std.specs.Prelude.{ℕ, List, Option};
     ghost use Rattle.adb_outside.specs.Outside.{Counts, TellsOneMore};
     ghost use Rattle.adb_binder.specs.Binder.{FitsPort, port_of, is_failed_bind};
 
-    /// How many of its calls failed. A count at its last value counts as having risen.
+    /// The number of calls that failed. A count at its largest value counts as having risen.
     ghost faults: { Self → ℕ };
 
-    /// Each port that was asked for with the port that was answered, 0 where it failed, in order,
-    /// where the binder tells them.
+    /// Each port that was asked for with the port that was answered, 0 if the call failed, in
+    /// order, if the binder shows them.
     ghost answered: { Self → Option (List (ℕ × ℕ)) };
 
-    /// It never fails.
+    /// No call fails.
     ghost steady: { Self → Type 0 };
 
-    /// Binds a port, any where `port` is 0. One that is bound already is answered again. The count of
-    /// faults rises at `Failed`, and stands at every other answer.
+    /// Binds a port, or any port if `port` is 0. A port that is already bound is answered again.
+    /// The count of faults rises at `Failed` and is unchanged at every other answer.
     fn bind(&mut self, port: u16) -> Binding
         ensures fits { FitsPort port result }
         ensures told { TellsOneMore (answered self.old) (port, port_of result) (answered self.new) }

@@ -1,4 +1,4 @@
-//! What binds the ports of forwards, and the ports that are bound.
+//! Binding the ports of forwards, and the set of ports that are bound.
 #![tactic(auto)]
 
 mod binder;

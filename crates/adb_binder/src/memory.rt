@@ -1,4 +1,4 @@
-//! A binder in memory, which fails where a test wants it.
+//! A binder in memory that fails at the calls that a test chooses.
 
 ghost use Rattle.std.specs.Prelude.{◌≡◌, ◌≢◌, [], Some, option_map};
 ghost use Rattle.adb_outside.specs.Outside.{Counts, TellsOneMore};
@@ -10,8 +10,8 @@ use adb_outside::{Answers, Failing};
 use std::alloc::Global;
 use std::marker::Model;
 
-/// A binder that binds nothing. It tells its answers as long as it finds memory for them. The call
-/// that finds none fails, so it is never steady.
+/// A binder that binds nothing. It shows its answers as long as it can allocate memory for them. A
+/// call for which an allocation fails is a failed call, so `steady` never holds.
 #[derive(Drop)]
 pub struct MemoryBinder {
     next: Option<u16>,
@@ -37,9 +37,9 @@ impl Model for MemoryBinder {
 }
 
 impl MemoryBinder {
-    /// A binder that answers `first` and then one more each time where any port is asked for, up to
-    /// 65,535, and fails there afterwards; and that fails at the calls whose numbers, counted from 1,
-    /// are in `failing`. It takes no memory.
+    /// Returns a binder that answers `first`, and then one more each time, to calls that ask for
+    /// any port, up to 65,535; after that such calls fail. It also fails at the calls listed in
+    /// `failing` by number, counted from 1. Allocates nothing.
     pub fn new(alloc: Global, first: u16, failing: Vec<u64>) -> MemoryBinder
         requires { first ≢ 0 }
         ensures { result ≡ record {
@@ -57,14 +57,15 @@ impl MemoryBinder {
         }
     }
 
-    /// The ports that were asked for and answered, as long as it finds memory for them.
+    /// Returns the ports that were asked for and answered; `None` if an allocation for them has
+    /// failed.
     pub fn answered(&self) -> Option<&[(u16, u16)]>
         ensures { option_map (λ list. list.now) result ≡ self.now.answered }
     {
         self.answered.list()
     }
 
-    /// The answer to a port that is asked for, if it can be noted.
+    /// Returns the answer to a call that asks for a port, if it can be noted.
     fn offer(&mut self, port: u16) -> Binding
         ensures fits { FitsPort port result }
         ensures counts { Counts (λ binder. ⊥) (λ binder. binder.faults)
@@ -84,7 +85,8 @@ impl MemoryBinder {
         }
     }
 
-    /// Notes an answer; `false` where the answers were told, and there is no memory for this one.
+    /// Notes an answer. Returns `false` if the answers were shown so far and the allocation for
+    /// this one fails.
     fn note(&mut self, port: u16, binding: Binding) -> bool
         ensures told { TellsOneMore self.old.answered (port, port_of binding) self.new.answered }
         ensures noted { Noted self.old.answered result self.new.answered }
@@ -106,8 +108,8 @@ impl Binder for MemoryBinder {
 
     ghost steady = { λ binder. ⊥ };
 
-    /// It fails at the calls whose numbers are in the list, where any port is asked for and none is
-    /// left, and where it finds no memory for its answer.
+    /// Fails at the listed calls, if any port is asked for and none is left, and if the allocation
+    /// for the answer fails.
     fn bind(&mut self, port: u16) -> Binding
         ensures fits { FitsPort port result }
         ensures told { TellsOneMore self.old.answered (port, port_of result) self.new.answered }

@@ -22,7 +22,7 @@ impl Model for OpenPorts {
 }
 
 impl OpenPorts {
-    /// No port is open. It takes no memory.
+    /// Returns a set in which no port is open. Allocates nothing.
     pub fn new(alloc: Global) -> OpenPorts
         ensures { result ≡ [] }
     {
@@ -31,14 +31,14 @@ impl OpenPorts {
         }
     }
 
-    /// Whether a port was opened.
+    /// Returns whether a port was opened.
     pub fn opened(&self, port: u16) -> bool
         ensures { result ≡ is_open self.now port }
     {
         self.ports.contains(&port)
     }
 
-    /// Opens a port. After want of memory the set is as before, and the port was not in it.
+    /// Adds a port. If an allocation fails, the set is unchanged, and the port was not in it.
     pub fn add(&mut self, port: u16) -> Result<(), AllocError>
         ensures ok { OnOk result ((other : ℕ)
             → is_open self.new other ≡ (other == port || is_open self.old other)) }

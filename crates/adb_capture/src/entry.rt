@@ -1,4 +1,4 @@
-//! What happens to the server: one entry for each event.
+//! The entries of a history: one for each event of the server.
 
 use adb_outside::{Cause, HandOut, Kind, Text};
 use std::alloc::AllocError;
@@ -14,7 +14,7 @@ pub enum Entry {
     Read { client: u32, bytes: Text },
     /// A client's input ended.
     End { client: u32, cause: Cause },
-    /// The listener that a client waits for stands at a port; 0 says that none could be made.
+    /// The listener that a client waits for is bound to a port; 0 means that none could be made.
     Bound { client: u32, port: u16 },
     /// A device was plugged in.
     Attach { link: u32, kind: Kind, serial: Text },
@@ -28,7 +28,7 @@ pub enum Entry {
     Send { link: u32, bytes: HandOut },
 }
 
-/// Whom an entry names: a client or a link, by its number.
+/// The client or link that an entry names, by its number.
 #[derive(Clone, Copy, Debug, PartialEq, Eq, Drop)]
 pub enum Owner {
     Client(u32),
@@ -39,7 +39,7 @@ impl Owner {
     ghost use Rattle.std.specs.Prelude.{◌≡◌};
     ghost use Rattle.adb_capture.specs.Records.{number_in};
 
-    /// The number of the client or of the link.
+    /// Returns the number of the client or link.
     pub fn number(self) -> u32
         ensures { result ≡ number_in self }
     {
@@ -54,7 +54,7 @@ impl Entry {
     ghost use Rattle.std.specs.Prelude.{◌≡◌, IfOk};
     ghost use Rattle.adb_capture.specs.Records.{came_from, owner_of};
 
-    /// The entry of a piece that came from a client or a device.
+    /// Returns the entry for a piece that came from a client or a device.
     pub fn came_from(from: Owner, piece: Text) -> Entry
         ensures { result ≡ came_from from piece }
     {
@@ -67,7 +67,7 @@ impl Entry {
         }
     }
 
-    /// The client or the link that the entry names.
+    /// Returns the client or link that the entry names.
     pub fn owner(&self) -> Owner
         ensures { result ≡ owner_of self.now }
     {
@@ -85,7 +85,7 @@ impl Entry {
         }
     }
 
-    /// The same entry, in memory of its own.
+    /// Returns the same entry, in memory of its own. Fails if an allocation fails.
     pub fn copy(&self) -> Result<Entry, AllocError>
         ensures { IfOk result (λ e. e ≡ self.now) }
     {

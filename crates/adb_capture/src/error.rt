@@ -1,17 +1,17 @@
-//! What is wrong with a capture.
+//! The faults of a capture.
 
-/// What is wrong with a record.
+/// The fault of a record.
 #[derive(Clone, Copy, Debug, PartialEq, Eq, Drop)]
 pub enum Why {
-    /// No record's kind is that byte.
+    /// The byte is no record's kind.
     UnknownKind,
-    /// The data are not of its kind's form.
+    /// The data do not have the form that the kind requires.
     BadForm,
-    /// Its data are longer than 2,097,152 bytes.
+    /// The data are longer than 2,097,152 bytes.
     TooLarge,
 }
 
-/// Why no record begins so. An offset is that of its first byte in the capture.
+/// The reason why some bytes begin no record. An offset is that of their first byte in the capture.
 #[derive(Clone, Copy, Debug, PartialEq, Eq, Drop)]
 pub enum FormFault {
     BadRecord { offset: u64, why: Why },
@@ -19,7 +19,7 @@ pub enum FormFault {
     TooLong { offset: u64 },
 }
 
-/// Why no record is read. An offset is that of the record's first byte in the capture.
+/// The reason why no record is read. An offset is that of the record's first byte in the capture.
 #[derive(Clone, Copy, Debug, PartialEq, Eq, Drop)]
 pub enum CaptureError {
     /// The capture does not begin with the magic.
@@ -29,9 +29,9 @@ pub enum CaptureError {
     Truncated { offset: u64 },
     /// The record ends past byte 1,073,741,824 of the capture.
     TooLong { offset: u64 },
-    /// The source failed.
+    /// A read of the source failed.
     ReadFault,
-    /// Memory ran out. The next call gives the same record.
+    /// An allocation failed. The next call returns the same record.
     OutOfMemory,
 }
 

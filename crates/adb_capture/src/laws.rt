@@ -7,7 +7,7 @@ ghost use Rattle.adb_capture.specs.declared.limits.TheConstants.{RECORD_HEADER_L
 ghost use Rattle.adb_capture.specs.declared.entry.Entry.{Entry};
 ghost use Rattle.adb_capture.specs.Records.{record_at, record_of, entry_in, offset_after, HasRecord};
 
-/// The numbers of the limits, which definitions name.
+/// States the values of the limits, for the definitions that name them.
 pub fn limits_are()
     ensures header { RECORD_HEADER_LEN ≡ 9 }
     ensures data { MAX_DATA ≡ 2097152 }
@@ -15,15 +15,15 @@ pub fn limits_are()
     ensures read { MAX_READ ≡ 65536 }
 {}
 
-/// Records are a format: whether bytes begin with a record or a refusal stays so, whatever follows.
-/// Bytes that begin with neither are fewer than the longest record has.
+/// States that records are a format: bytes that begin with a record or a fault still do so,
+/// whatever follows. Bytes that begin with neither are shorter than the longest record.
 pub fn records_are_framed()
     ensures framing { IsFraming record_at entry_in offset_after }
     ensures short { (offset : ℕ) (bytes : List ℕ)
         → record_at offset bytes ≡ More → length bytes < RECORD_HEADER_LEN + MAX_DATA }
 {}
 
-/// What is spelled is read back, whatever follows it.
+/// States that an encoded entry is decoded again, whatever follows it.
 pub fn spelled_is_read()
     ensures whole { (offset : ℕ) (e : Entry) (rest : List ℕ)
         → HasRecord e → offset + length (record_of e) ≤ MAX_CAPTURE
@@ -32,7 +32,7 @@ pub fn spelled_is_read()
         → HasRecord e → entry_in offset (record_of e) ≡ (offset, e) }
 {}
 
-/// What is read is spelled so: an entry has one spelling.
+/// States that a decoded entry is encoded to the same bytes: an entry has one encoding.
 pub fn read_is_spelled()
     ensures spelled { (offset n : ℕ) (bytes : List ℕ)
         → All (λ b. b < 256) bytes → record_at offset bytes ≡ Whole n

@@ -1,4 +1,4 @@
-//! An entry whose bytes are lent.
+//! Entries with borrowed bytes.
 
 ghost use Rattle.std.specs.Prelude.{◌≡◌};
 ghost use Rattle.adb_capture.specs.Lent.{entry_lent};
@@ -6,7 +6,7 @@ ghost use Rattle.adb_capture.specs.Lent.{entry_lent};
 use crate::entry::Entry;
 use adb_outside::{Cause, Kind, Parts};
 
-/// An entry whose bytes are lent, where they lie.
+/// An entry that borrows its bytes from where they are stored.
 #[derive(Clone, Copy, Drop)]
 pub enum Lent<'a> {
     Join {
@@ -52,7 +52,7 @@ pub enum Lent<'a> {
 }
 
 impl Entry {
-    /// The entry, which lends its bytes.
+    /// Returns the entry with its bytes borrowed.
     pub fn lend(&self) -> Lent<'_>
         ensures { entry_lent result ≡ self.now }
     {

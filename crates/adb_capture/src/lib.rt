@@ -1,4 +1,5 @@
-//! Captures of histories: the entries of a history as records of bytes, and writing them to a sink.
+//! Captures of histories: the entries of a history as records of bytes, and the functions that
+//! write them to a sink.
 #![tactic(auto)]
 
 mod entry;

@@ -19,7 +19,7 @@ use std::marker::Model;
 /// The eight bytes that a capture begins with.
 pub const MAGIC: [u8; 8] = *b"ADBHUB1\n";
 
-/// Writes the eight bytes that a capture begins with. It takes no memory.
+/// Writes the eight bytes that a capture begins with. Allocates nothing.
 pub fn write_magic<K: Sink>(sink: &mut K) -> Wrote
     ensures fits { FitsPiece magic result }
     ensures told { TellsWrite (K.written sink.old) (K.written sink.new) magic result }
@@ -28,8 +28,8 @@ pub fn write_magic<K: Sink>(sink: &mut K) -> Wrote
     sink.write(&MAGIC)
 }
 
-/// Writes the record of an entry, which has at most 2,097,152 bytes of data. `Failed` says how many
-/// bytes of the record went out. It takes no memory.
+/// Writes the record of an entry, which has at most 2,097,152 bytes of data. `Failed` holds the
+/// number of bytes of the record that went out. Allocates nothing.
 pub fn write_entry<K: Sink>(sink: &mut K, entry: &Entry) -> Wrote
     requires { HasRecord entry.now }
     ensures fits { FitsPiece (record_of entry.now) result }
@@ -41,7 +41,8 @@ pub fn write_entry<K: Sink>(sink: &mut K, entry: &Entry) -> Wrote
     write_both(sink, head.as_slice(), rest)
 }
 
-/// Adds the bytes that a capture begins with. After want of memory the bytes are as before.
+/// Appends the eight bytes that a capture begins with. If an allocation fails, the bytes are
+/// unchanged.
 pub fn append_magic(bytes: &mut ByteQueue) -> Result<(), AllocError>
     ensures ok { OnOk result (bytes.new.bytes ≡ bytes.old.bytes ++ magic) }
     ensures err { OnErr result (bytes.new.bytes ≡ bytes.old.bytes) }
@@ -49,8 +50,8 @@ pub fn append_magic(bytes: &mut ByteQueue) -> Result<(), AllocError>
     bytes.push(&MAGIC)
 }
 
-/// Adds the record of an entry, which has at most 2,097,152 bytes of data. After want of memory
-/// the bytes are as before.
+/// Appends the record of an entry, which has at most 2,097,152 bytes of data. If an allocation
+/// fails, the bytes are unchanged.
 pub fn append_entry(bytes: &mut ByteQueue, entry: &Entry) -> Result<(), AllocError>
     requires { HasRecord entry.now }
     ensures ok { OnOk result (bytes.new.bytes ≡ bytes.old.bytes ++ record_of entry.now) }
@@ -60,13 +61,13 @@ pub fn append_entry(bytes: &mut ByteQueue, entry: &Entry) -> Result<(), AllocErr
     append_parts(bytes, head.as_slice(), rest)
 }
 
-/// The fewest bytes of a record's end that is written from where it lies, and not gathered with its
-/// start: from there on a write of its own costs less than the copy.
+/// The least length of a record's end that is written directly instead of being copied after its
+/// start. From this length on a separate write costs less than the copy.
 pub const LARGE: usize = 16 * 1024;
 
-/// Adds the record of an entry, which has at most 2,097,152 bytes of data, but for its end where that
-/// is large, which is given back: it is to be written behind the bytes from where it lies. After want
-/// of memory the bytes are as before.
+/// Appends the record of an entry, which has at most 2,097,152 bytes of data. If the end of the
+/// record is large, the function returns it instead of appending it, and the caller writes it after
+/// the bytes. If an allocation fails, the bytes are unchanged.
 pub fn append_start<'a>(bytes: &mut ByteQueue, entry: &'a Entry) -> Result<&'a [u8], AllocError>
     requires { HasRecord entry.now }
     ensures ok { IfOk result (λ end. bytes.new.bytes ++ end.now
@@ -82,7 +83,7 @@ pub fn append_start<'a>(bytes: &mut ByteQueue, entry: &'a Entry) -> Result<&'a [
     Ok(rest)
 }
 
-/// Adds bytes in two parts. After want of memory the bytes are as before.
+/// Appends bytes in two parts. If an allocation fails, the bytes are unchanged.
 fn append_parts(bytes: &mut ByteQueue, start: &[u8], rest: &[u8]) -> Result<(), AllocError>
     requires { length start.now + length rest.now < 2 ^ 63 }
     ensures ok { OnOk result (bytes.new.bytes ≡ bytes.old.bytes ++ (start.now ++ rest.now)) }
@@ -94,8 +95,8 @@ fn append_parts(bytes: &mut ByteQueue, start: &[u8], rest: &[u8]) -> Result<(), 
     Ok(())
 }
 
-/// Writes `first`, which is not empty, and then `last`, which may be. `Failed` says how many bytes of
-/// both went out. It takes no memory.
+/// Writes `first`, which is not empty, and then `last`, which may be. `Failed` holds the number of
+/// bytes of both that went out. Allocates nothing.
 pub fn write_both<K: Sink>(sink: &mut K, first: &[u8], last: &[u8]) -> Wrote
     requires some { 0 < length first.now }
     requires small { length first.now + length last.now < 2 ^ 63 }
@@ -116,11 +117,11 @@ pub fn write_both<K: Sink>(sink: &mut K, first: &[u8], last: &[u8]) -> Wrote
     }
 }
 
-/// How many bytes a head has at most: those before a text, and the start of one.
+/// The maximum number of bytes of a head: those before a text, and the start of one.
 const MAX_HEAD: usize = RECORD_HEADER_LEN + 2 + MAX_START;
 
-/// The bytes of a record before its text: the kind, the number, the length of the data, the data that
-/// are no text, and possibly the start of the text.
+/// The bytes of a record before its text: the kind, the number, the length of the data, the data
+/// that are no text, and possibly the start of the text.
 #[derive(Drop)]
 pub struct Head {
     bytes: [u8; MAX_HEAD],
@@ -220,7 +221,7 @@ impl<'a> Spelled<'a> {
     }
 }
 
-/// The data of a record that are no text.
+/// The data of a record that are not part of its text.
 #[derive(Drop)]
 struct Word {
     bytes: [u8; 2],
@@ -253,7 +254,7 @@ impl Word {
     }
 }
 
-/// The bytes of an entry's text. Its start is short.
+/// Returns the parts of an entry's text. The first part is short.
 fn parts(entry: &Entry) -> Parts<'_>
     ensures is { result.start.now ++ result.rest.now ≡ text_of entry.now }
     ensures short { length result.start.now ≤ MAX_START }
@@ -267,7 +268,7 @@ fn parts(entry: &Entry) -> Parts<'_>
     }
 }
 
-/// Bytes that lie in one part.
+/// Returns bytes that lie in one part.
 fn whole(rest: &[u8]) -> Parts<'_>
     ensures is { result.start.now ++ result.rest.now ≡ rest.now }
     ensures short { length result.start.now ≤ MAX_START }

@@ -1,4 +1,4 @@
-//! Reading on until what is wanted is held.
+//! Reading on until the wanted bytes are held.
 
 ghost use Rattle.std.specs.Prelude.{◌≤◌, ◌<◌, ◌+◌, length, Ok, Err, IfOk, IfSome, OnOk};
 ghost use Rattle.adb_outside.specs.Outside.{Counts};
@@ -13,7 +13,7 @@ use adb_capture::{CaptureError, MAGIC};
 use adb_outside::{Front, Got, Source};
 use std::alloc::AllocError;
 
-/// Reads on until the bytes begin with the magic, and takes it.
+/// Reads until the bytes begin with the magic, and removes it.
 pub(crate) fn take_magic<S: Source>(held: &mut Held, source: &mut S) -> Result<(), CaptureError>
     requires { HoldsFew held.old }
     ensures is { AwaitsMagic held.old (S.left source.old) held.new (S.left source.new) result }
@@ -36,8 +36,8 @@ pub(crate) fn take_magic<S: Source>(held: &mut Held, source: &mut S) -> Result<(
     Ok(())
 }
 
-/// Reads on until the bytes at an offset begin with a record, which stays there, or a refusal;
-/// `None` where no byte came.
+/// Reads until the bytes at an offset begin with a record, which stays there, or with a fault.
+/// Returns `None` if the source ends before any byte.
 pub(crate) fn await_record<S: Source>(
     held: &mut Held,
     offset: u64,

@@ -1,4 +1,4 @@
-//! What the data of a record are, by its kind.
+//! The forms of a record's data, by its kind.
 
 ghost use Rattle.std.specs.Prelude.{◌≡◌, ◌<◌, ◌++◌, ℕ, Some, IfOk, drop, option_map};
 ghost use Rattle.adb_capture.specs.Lent.{entry_lent};
@@ -10,7 +10,7 @@ use adb_outside::{Cause, HandOut, Kind, Parts, Text};
 use byteorder::{ByteOrder, LittleEndian};
 use std::alloc::{AllocError, Global};
 
-/// What a record says beside its number and the bytes of a text.
+/// The content of a record beside its number and the bytes of its text.
 #[derive(Clone, Copy, Drop)]
 pub(crate) enum Form {
     Join,
@@ -26,8 +26,8 @@ pub(crate) enum Form {
 }
 
 impl Form {
-    /// What a record of that kind and those data says; none where no kind has that letter, or the
-    /// data are not of its form.
+    /// Parses the data of a record of that kind. Returns `None` if no kind has that letter, or if
+    /// the data do not have its form.
     pub(crate) fn of(kind: u8, content: &[u8]) -> Option<Form>
         ensures { (n : ℕ)
             → option_map (λ f. entry_by f n content.now) result ≡ entry_at kind n content.now }
@@ -50,7 +50,7 @@ impl Form {
         }
     }
 
-    /// The entry, with its number and its texts where the data lie.
+    /// Returns the entry with this number, its texts borrowed from the data.
     pub(crate) fn lent(self, owner: u32, content: &[u8]) -> Lent<'_>
         ensures { entry_lent result ≡ entry_by self owner content.now }
     {
@@ -93,7 +93,7 @@ impl Form {
         }
     }
 
-    /// The entry, with its number and its texts copied from the data.
+    /// Returns the entry with this number, its texts copied from the data.
     pub(crate) fn entry(
         self,
         alloc: Global,
@@ -142,7 +142,7 @@ impl Form {
     }
 }
 
-/// Bytes that lie in one part.
+/// Returns bytes that lie in one part.
 fn whole(content: &[u8]) -> Parts<'_>
     ensures { result.start.now ++ result.rest.now ≡ content.now }
 {

@@ -1,4 +1,4 @@
-//! The bytes that were read from a source and not yet taken.
+//! The bytes that were read from a source and not taken yet.
 
 ghost use Rattle.std.specs.Prelude.{◌≡◌, ◌<◌, ◌≤◌, ◌+◌, ◌-◌, ℕ, List, [], length, take, drop, slice_range, IfOk, OnOk};
 ghost use Rattle.adb_outside.specs.Outside.{Counts};
@@ -12,10 +12,10 @@ use adb_outside::{Got, Source};
 use std::alloc::{AllocError, Global};
 use std::marker::Model;
 
-/// How many bytes the buffer has at first.
+/// The initial size of the buffer in bytes.
 const ROOM: usize = 4 * MAX_READ;
 
-/// The bytes that were read and not yet taken: they lie in a buffer, where the source put them.
+/// The bytes that were read and not taken yet, in the buffer into which the source put them.
 #[derive(Drop)]
 pub(crate) struct Held {
     buffer: Vec<u8>,
@@ -37,7 +37,7 @@ impl Model for Held {
 }
 
 impl Held {
-    /// No bytes yet.
+    /// Returns a buffer without bytes.
     pub(crate) fn new(alloc: Global) -> Result<Held, AllocError>
         ensures { IfOk result (λ h. h ≡ []) }
     {
@@ -54,7 +54,7 @@ impl Held {
         &self.buffer[self.start..self.end]
     }
 
-    /// Takes the first bytes.
+    /// Removes the first bytes.
     pub(crate) fn skip(&mut self, count: usize)
         requires { count ≤ length self.old }
         ensures { self.new ≡ drop count self.old }
@@ -62,7 +62,7 @@ impl Held {
         self.start += count;
     }
 
-    /// Reads more of the source. After want of memory nothing was read.
+    /// Reads more from the source. If an allocation fails, nothing was read.
     pub(crate) fn fill<S: Source>(&mut self, source: &mut S) -> Result<Got, AllocError>
         ensures bytes { KeepsBytes self.old (S.left source.old) self.new (S.left source.new) }
         ensures more { ReadsMore self.old (S.left source.old) self.new result }
@@ -80,8 +80,8 @@ impl Held {
     }
 }
 
-/// Moves the bytes that lie from `start` to `end` to the front, where there are none or no read has
-/// room behind them. Says where they start then.
+/// Moves the bytes between `start` and `end` to the start of the buffer if there are none, or if no
+/// read has room after them. Returns where they start afterwards.
 fn make_way(buffer: &mut Vec<u8>, start: usize, end: usize) -> usize
     requires ordered { start ≤ end }
     requires within { end ≤ length buffer.old.items }
@@ -97,7 +97,7 @@ fn make_way(buffer: &mut Vec<u8>, start: usize, end: usize) -> usize
     0
 }
 
-/// Makes room for a read behind the first `end` bytes.
+/// Makes room for a read after the first `end` bytes.
 fn grow(buffer: &mut Vec<u8>, end: usize) -> Result<(), AllocError>
     requires { end ≤ length buffer.old.items }
     ensures len { length buffer.old.items ≤ length buffer.new.items }
@@ -111,7 +111,7 @@ fn grow(buffer: &mut Vec<u8>, end: usize) -> Result<(), AllocError>
     buffer.resize(twice.max(end + MAX_READ), 0)
 }
 
-/// Reads into the place behind the first `end` bytes.
+/// Reads into the space after the first `end` bytes.
 fn read_behind<S: Source>(buffer: &mut Vec<u8>, end: usize, source: &mut S) -> Got
     requires { end + MAX_READ ≤ length buffer.old.items }
     ensures len { length buffer.new.items ≡ length buffer.old.items }

@@ -1,4 +1,7 @@
-//! Reading captures: the records of a source, one by one, lent or as entries.
+//! Reading captures: the records of a source one by one.
+//!
+//! `CaptureReader::next` returns the entries with copies of their bytes. `await_next`, `first` and
+//! `pass` give the same records without a copy.
 #![tactic(auto)]
 
 mod awaiting;

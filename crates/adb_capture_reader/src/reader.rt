@@ -16,8 +16,8 @@ use adb_outside::Source;
 use std::alloc::{AllocError, Global};
 use std::marker::Model;
 
-/// A reader of the entries of a capture. It holds the bytes of one record, and what was read past
-/// it with one read, never the capture.
+/// A reader of the entries of a capture. It holds the bytes of one record and those that one read
+/// brought past it, never the whole capture.
 #[derive(Drop)]
 pub struct CaptureReader {
     alloc: Global,
@@ -50,7 +50,7 @@ impl Model for CaptureReader {
 }
 
 impl CaptureReader {
-    /// A reader that has read nothing. It makes its buffers.
+    /// Returns a reader that has read nothing. Fails if the allocation of its buffers fails.
     pub fn new(alloc: Global) -> Result<CaptureReader, AllocError>
         ensures { IfOk result (λ r. r ≡ record {
           opened = false;
@@ -68,7 +68,7 @@ impl CaptureReader {
         })
     }
 
-    /// Reads the magic, where it was not read yet; `next` does so too. Its errors stay as those of
+    /// Reads the magic if it was not read yet; `next` does so too. Its errors persist as those of
     /// `next` do.
     pub fn open<S: Source>(&mut self, source: &mut S) -> Result<(), CaptureError>
         ensures ahead { self.old.failed ≡ None
@@ -95,16 +95,17 @@ impl CaptureReader {
         opened
     }
 
-    /// Reads on until the next record is held whole, with the magic before it where it was not read
-    /// yet: how many bytes it has, or `None` where the source ends between two records. It stays the
-    /// next record until it is passed. Errors are those of `next`, and stay as those do.
+    /// Reads until the next record is held whole, after the magic if it was not read yet. Returns
+    /// the record's length in bytes, or `None` if the source ends between two records. The record
+    /// stays the next one until it is passed. The errors are those of `next`, and persist as those
+    /// do.
     pub fn await_next<S: Source>(&mut self, source: &mut S) -> Result<Option<usize>, CaptureError>
         ensures answers { self.old.failed ≡ None
             → AwaitsNext self.old (S.left source.old) self.new (S.left source.new) result }
         ensures whole { IfOk result (λ found. IfSome found (λ size.
             record_at self.new.offset self.new.held ≡ Whole size)) }
 
-        // Nothing is given yet.
+        // Nothing is returned yet.
         ensures ahead { self.old.failed ≡ None → OnOk result ((self.new.offset ≡ self.old.offset)
             × StaysAhead self.old (S.left source.old) self.new (S.left source.new)) }
         ensures few { HoldsFew self.new.held }
@@ -113,11 +114,12 @@ impl CaptureReader {
         ensures ok { OnOk result
             ((self.old.failed ≡ None) × (self.new.failed ≡ None) × IsTrue self.new.opened) }
 
-        // The count of faults rises at ReadFault, and stands at every other answer.
+        // The count of faults rises at ReadFault and is unchanged at every other answer.
         ensures counts { self.old.failed ≡ None
             → Counts S.steady S.faults source.old source.new (is_fault result) }
 
-        // An error is answered again, and nothing is read; want of memory passes.
+        // An error is returned again and nothing is read, except that an allocation failure is not
+        // kept.
         ensures stays { (e : CaptureError) → self.old.failed ≡ Some e
             → (result ≡ Err e) × (self.new ≡ self.old) × (source.new ≡ source.old) }
         ensures keeps { (e : CaptureError) → e ≢ CaptureError.OutOfMemory
@@ -137,7 +139,7 @@ impl CaptureReader {
         }
     }
 
-    /// The next record, which is held whole and has so many bytes.
+    /// Returns the next record, which is held whole and has this many bytes.
     pub fn first(&self, size: usize) -> Record<'_>
         requires { record_at self.now.offset self.now.held ≡ Whole size }
         ensures { result ≡ entry_in self.now.offset (take size self.now.held) }
@@ -145,7 +147,7 @@ impl CaptureReader {
         Record::new(self.offset, &self.held.as_slice()[..size])
     }
 
-    /// The next record was taken: it is held whole and has so many bytes.
+    /// Passes the next record, which is held whole and has this many bytes.
     pub fn pass(&mut self, size: usize)
         requires { record_at self.old.offset self.old.held ≡ Whole size }
         ensures { self.new ≡ passed size self.old }
@@ -154,12 +156,13 @@ impl CaptureReader {
         self.offset += size as u64;
     }
 
-    /// The next entry with the offset of its record's first byte, or `None` where the source ends
-    /// between two records; a later call asks the source again. The first call reads the magic.
+    /// Returns the next entry with the offset of its record's first byte, or `None` if the source
+    /// ends between two records; a later call reads the source again. The first call reads the
+    /// magic.
     ///
-    /// Every error but `OutOfMemory` stays: each later call answers it, and reads nothing. After
-    /// `OutOfMemory` the next call gives the same record. At `ReadFault` too no byte that was read is
-    /// lost: what is held is a part of the next record, or of the magic.
+    /// Every error but `OutOfMemory` persists: each later call returns it and reads nothing. After
+    /// `OutOfMemory` the next call returns the same record. After `ReadFault` no byte that was read
+    /// is lost: the held bytes are a part of the next record, or of the magic.
     pub fn next<S: Source>(&mut self, source: &mut S) -> Result<Option<(u64, Entry)>, CaptureError>
         ensures answers { self.old.failed ≡ None
             → AnswersNext self.old (S.left source.old) self.new (S.left source.new) result }
@@ -168,11 +171,12 @@ impl CaptureReader {
         ensures ok { OnOk result
             ((self.old.failed ≡ None) × (self.new.failed ≡ None) × IsTrue self.new.opened) }
 
-        // The count of faults rises at ReadFault, and stands at every other answer.
+        // The count of faults rises at ReadFault and is unchanged at every other answer.
         ensures counts { self.old.failed ≡ None
             → Counts S.steady S.faults source.old source.new (is_fault result) }
 
-        // An error is answered again, and nothing is read; want of memory passes.
+        // An error is returned again and nothing is read, except that an allocation failure is not
+        // kept.
         ensures stays { (e : CaptureError) → self.old.failed ≡ Some e
             → (result ≡ Err e) × (self.new ≡ self.old) × (source.new ≡ source.old) }
         ensures keeps { (e : CaptureError) → e ≢ CaptureError.OutOfMemory
@@ -190,8 +194,7 @@ impl CaptureReader {
         }
     }
 
-    /// Reads on until the next record is held whole, with the magic before it where it was not read
-    /// yet.
+    /// Reads until the next record is held whole, after the magic if it was not read yet.
     fn advance<S: Source>(&mut self, source: &mut S) -> Result<Option<usize>, CaptureError>
         ensures answers { AwaitsNext self.old (S.left source.old)
             self.new (S.left source.new) result }
@@ -212,7 +215,7 @@ impl CaptureReader {
         }
     }
 
-    /// Takes the magic, where it was not taken yet.
+    /// Removes the magic if it was not removed yet.
     fn open_now<S: Source>(&mut self, source: &mut S) -> Result<(), CaptureError>
         ensures ahead { Opens self.old (S.left source.old) self.new (S.left source.new) result }
         ensures keeps { OnOk result (KeepsBytes (taken_by self.old) (S.left source.old)
@@ -231,7 +234,7 @@ impl CaptureReader {
         Ok(())
     }
 
-    /// Reads on until the next record is held whole, where the magic was taken.
+    /// Reads until the next record is held whole, once the magic was removed.
     fn find_next<S: Source>(&mut self, source: &mut S) -> Result<Option<usize>, CaptureError>
         ensures records { (coming : List ℕ) → S.left source.old ≡ Some coming
             → GivesNext self.old.offset (self.old.held ++ coming) (given_by result self.new)
@@ -259,7 +262,7 @@ impl CaptureReader {
         found
     }
 
-    /// Gives the record of that many bytes at the front, which is passed then.
+    /// Returns the entry of the first record, which has this many bytes, and passes it.
     fn give(&mut self, size: usize) -> Result<(u64, Entry), AllocError>
         requires { record_at self.old.offset self.old.held ≡ Whole size }
         ensures given { IfOk result (λ g. g ≡ entry_in self.old.offset (take size self.old.held)) }
@@ -272,7 +275,7 @@ impl CaptureReader {
         Ok((offset, entry))
     }
 
-    /// Keeps an error that stays.
+    /// Keeps an error that persists.
     fn remember(&mut self, error: CaptureError)
         requires { self.old.failed ≡ None }
         ensures memory { error ≡ CaptureError.OutOfMemory → self.new.failed ≡ None }

@@ -1,4 +1,4 @@
-//! Records: at the front of some bytes, and lent.
+//! Records: at the start of some bytes, and borrowed.
 
 ghost use Rattle.std.specs.Prelude.{◌≡◌, ◌≤◌, ℕ, IfOk, length, take};
 ghost use Rattle.adb_capture.specs.declared.limits.TheConstants.{RECORD_HEADER_LEN};
@@ -13,7 +13,7 @@ use byteorder::{ByteOrder, LittleEndian};
 use std::alloc::{AllocError, Global};
 use std::marker::Model;
 
-/// What the bytes at an offset of a capture begin with: a record, or the first of its refusals.
+/// Returns what the bytes at an offset of a capture begin with: a record, or its first fault.
 #[tactic(auto, unfolding(adb_capture::specs::Records::record_at))]
 pub(crate) fn front(offset: u64, bytes: &[u8]) -> Front<FormFault>
     requires { offset ≤ MAX_CAPTURE }
@@ -42,7 +42,7 @@ pub(crate) fn front(offset: u64, bytes: &[u8]) -> Front<FormFault>
     }
 }
 
-/// A record as it was read, lent from where the read put it. Contracts see the offset of its first
+/// A record borrowed from the buffer into which it was read. Contracts see the offset of its first
 /// byte and its entry.
 #[derive(Drop)]
 pub struct Record<'a> {
@@ -65,7 +65,7 @@ impl<'a> Model for Record<'a> {
 }
 
 impl<'a> Record<'a> {
-    /// The record that the bytes are.
+    /// Returns the record that the bytes are.
     pub(crate) fn new(offset: u64, bytes: &'a [u8]) -> Record<'a>
         requires { record_at offset bytes.now ≡ Front.Whole (length bytes.now) }
         ensures { result ≡ entry_in offset bytes.now }
@@ -73,14 +73,14 @@ impl<'a> Record<'a> {
         Record { offset, bytes }
     }
 
-    /// Where in the capture its first byte is.
+    /// Returns the offset of the record's first byte in the capture.
     pub fn offset(&self) -> u64
         ensures { result ≡ self.now.0 }
     {
         self.offset
     }
 
-    /// Its bytes: as its entry is spelled.
+    /// Returns the record's bytes, which are the encoding of its entry.
     pub fn bytes(&self) -> &[u8]
         ensures { result.now ≡ record_of self.now.1 }
     {
@@ -88,7 +88,7 @@ impl<'a> Record<'a> {
         self.bytes
     }
 
-    /// Its entry, which lends the bytes of its text.
+    /// Returns the record's entry, with the bytes of its text borrowed.
     pub fn entry(&self) -> Lent<'_>
         ensures is { entry_lent result ≡ self.now.1 }
         ensures form { HasRecord self.now.1 }
@@ -98,7 +98,8 @@ impl<'a> Record<'a> {
         said.form.lent(said.owner, said.content)
     }
 
-    /// Its entry, with a copy of the bytes of its text.
+    /// Returns the record's entry, with a copy of the bytes of its text. Fails if an allocation
+    /// fails.
     pub fn copy(&self, alloc: Global) -> Result<Entry, AllocError>
         ensures is { IfOk result (λ e. e ≡ self.now.1) }
         ensures form { HasRecord self.now.1 }
@@ -109,7 +110,7 @@ impl<'a> Record<'a> {
     }
 }
 
-/// What a record says: its number, and its data with what they say beside it.
+/// The content of a record: its number, its data, and their form.
 #[derive(Drop)]
 struct Said<'a> {
     form: Form,
@@ -117,7 +118,7 @@ struct Said<'a> {
     content: &'a [u8],
 }
 
-/// What a whole record says.
+/// Returns the content of a whole record.
 fn read(offset: u64, bytes: &[u8]) -> Said<'_>
     requires { record_at offset bytes.now ≡ Front.Whole (length bytes.now) }
     ensures { (offset, entry_by result.form result.owner result.content.now)
@@ -134,15 +135,16 @@ fn read(offset: u64, bytes: &[u8]) -> Said<'_>
     }
 }
 
-/// A record that is read is spelled so, and has one spelling: a law, as a function that does nothing.
+/// States that a record that is read has this encoding and no other: a law, as a function that does
+/// nothing.
 fn is_spelled(offset: u64, bytes: &[u8])
     requires { record_at offset bytes.now ≡ Front.Whole (length bytes.now) }
     ensures spelled { bytes.now ≡ record_of (entry_in offset bytes.now).1 }
     ensures form { HasRecord (entry_in offset bytes.now).1 }
 {}
 
-/// The entry of each whole record at the front of some bytes has a record: a law, as a function that
-/// does nothing.
+/// States that the entry of each whole record at the start of some bytes has a record: a law, as a
+/// function that does nothing.
 pub(crate) fn fronts_have_form(bytes: &[u8])
     ensures { (offset n : ℕ) → record_at offset bytes.now ≡ Front.Whole n
         → HasRecord (entry_in offset (take n bytes.now)).1 }
@@ -154,7 +156,7 @@ fn bad(offset: u64, why: Why) -> Front<FormFault>
     Front::Bad(FormFault::BadRecord { offset, why })
 }
 
-/// Whether some record is of that kind.
+/// Returns whether some record is of that kind.
 fn has_kind(letter: u8) -> bool
     ensures { result ≡ is_kind letter }
 {
@@ -164,7 +166,7 @@ fn has_kind(letter: u8) -> bool
     )
 }
 
-/// The number of the client or link.
+/// Returns the number of the client or link.
 fn owner(bytes: &[u8]) -> u32
     requires { RECORD_HEADER_LEN ≤ length bytes.now }
     ensures { result ≡ owner_in bytes.now }

@@ -1,35 +1,35 @@
-//! What is plain of a client.
+//! The plain fields of a client.
 
 use crate::phase::Phase;
 use adb_outside::Text;
 
-/// The forward that a client asked for, whose port is to be bound.
+/// A forward that a client asked for, with a port that is still to be bound.
 #[derive(Drop)]
 pub struct Want {
-    /// The transport id of the device that it leads to.
+    /// The transport id of the device to which it leads.
     pub transport: u32,
-    /// The port that was asked for, and 0 where any port serves.
+    /// The port that was asked for, 0 for any port.
     pub local: u16,
-    /// What is opened on the device for each connection.
+    /// The service that is opened on the device for each connection.
     pub remote: Text,
 }
 
-/// What is plain of a client: no buffer depends on it.
+/// The plain fields of a client, on which no buffer depends.
 #[derive(Drop)]
 pub struct About {
-    /// Its number, from 1.
+    /// The client's number, at least 1.
     pub number: u32,
-    /// Whether it came through a forward.
+    /// Whether the client came through a forward.
     pub forwarded: bool,
     pub phase: Phase,
-    /// The transport id that it selected.
+    /// The transport id that the client selected.
     pub selected: Option<u32>,
-    /// Whether its input ended.
+    /// Whether the client's input ended.
     pub ended: bool,
-    /// Whether the list that it tracks changed since it was due to it last.
+    /// Whether the list that the client tracks changed since it was last queued for the client.
     pub mark: bool,
-    /// Whether it tracks the long list.
+    /// Whether the client tracks the long list.
     pub long: bool,
-    /// The forward that it asked for, while its port is being bound.
+    /// The forward that the client asked for, while its port is being bound.
     pub want: Option<Want>,
 }

@@ -1,4 +1,4 @@
-//! What a client asks.
+//! The first request of a client's bytes.
 
 ghost use Rattle.std.specs.Prelude.{◌≡◌, ◌≤◌, ◌+◌, length, take, drop, IfOk};
 ghost use Rattle.adb_client.specs.Ask.{asked_in};
@@ -6,7 +6,7 @@ ghost use Rattle.adb_client.specs.Ask.{asked_in};
 use adb_request::{Found, Request, cut, read};
 use std::alloc::{AllocError, Global};
 
-/// What unread bytes of a client ask first (OVERVIEW.TXT, "Protocol details").
+/// The beginning of a client's unread bytes (OVERVIEW.TXT, "Protocol details").
 #[derive(Drop)]
 pub enum Ask {
     /// No whole request yet.
@@ -16,14 +16,16 @@ pub enum Ask {
     Whole(Request),
 }
 
-/// What unread bytes ask first, and how many bytes that takes: 0 where it is no whole request.
+/// The beginning of unread bytes, and the number of bytes that the request takes: 0 if there is no
+/// whole request.
 #[derive(Drop)]
 pub struct Asked {
     pub ask: Ask,
     pub len: usize,
 }
 
-/// What some bytes ask first. An error is want of memory for a text of the request.
+/// Returns the first request of some bytes. Fails only if the allocation for a text of the request
+/// fails.
 pub fn ask_in(alloc: Global, bytes: &[u8]) -> Result<Asked, AllocError>
     ensures asked { IfOk result (λ asked. asked ≡ asked_in bytes.now) }
     ensures within { IfOk result (λ asked. asked.len ≤ length bytes.now) }
@@ -44,7 +46,7 @@ pub fn ask_in(alloc: Global, bytes: &[u8]) -> Result<Asked, AllocError>
     }
 }
 
-/// The text of a whole request: the `len` bytes behind the first four.
+/// Returns the text of a whole request: the `len` bytes after the first four.
 fn text_of(bytes: &[u8], len: usize) -> &[u8]
     requires { 4 + len ≤ length bytes.now }
     ensures { result.now ≡ take len (drop 4 bytes.now) }

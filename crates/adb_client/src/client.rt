@@ -14,13 +14,14 @@ use bytes::Bytes;
 use std::alloc::{AllocError, Global};
 use std::marker::Model;
 
-/// A client: what is plain of it, what it sent that is held, and what is due to it. What is held
-/// was not read yet while the client asks; from then on it is to be sent up. Contracts see both as
-/// lists of bytes, and four numbers beside them: how many of the first bytes held are ready to be
-/// cut off without memory, in how many pieces, and how many places are reserved for bytes, and how
-/// many for slices, that become due without memory. After want of memory the client is as before.
+/// A client: its plain fields, its input that is held, and its output queue. While the client asks,
+/// held bytes are unread requests; from then on they are to be sent to the device. Contracts see
+/// both as lists of bytes, and four numbers beside them: how many of the first held bytes are ready
+/// to be cut off without an allocation, in how many pieces, and how many places are reserved for
+/// bytes, and how many for slices, that can be queued without an allocation. If an allocation
+/// fails, the client is unchanged.
 ///
-/// It is one word, so that a table moves its row for little.
+/// The client is a pointer, so that a table moves its row cheaply.
 #[derive(Drop)]
 pub struct Client {
     parts: Box<Parts>,
@@ -47,8 +48,8 @@ impl Client {
     ghost use Rattle.std.specs.Borrow.{sem};
     ghost use Rattle.adb_client.specs.Lending.{LendsAbout};
 
-    /// A client that asks and sent nothing yet, by its number, and whether it came through a
-    /// forward. The error is want of memory.
+    /// Returns a client that asks and has sent nothing yet, by its number, and whether it came
+    /// through a forward. Fails if an allocation fails.
     pub fn new(alloc: Global, number: u32, forwarded: bool) -> Result<Client, AllocError>
         ensures { IfOk result (λ client. client ≡ record {
           about = new_about number forwarded;
@@ -79,14 +80,14 @@ impl Client {
         })
     }
 
-    /// What is plain of it.
+    /// Returns the plain fields.
     pub fn about(&self) -> &About
         ensures { result.now ≡ self.now.about }
     {
         &self.parts.about
     }
 
-    /// What is plain of it, to be written.
+    /// Returns the plain fields for writing.
     pub fn about_mut(&mut self) -> &mut About
         ensures* writes_back { sem 𝓛 (LendsAbout self.entry result) }
         ensures value { result.now ≡ self.old.about }
@@ -94,7 +95,7 @@ impl Client {
         &mut self.parts.about
     }
 
-    /// A piece came, and is held behind what was.
+    /// Appends a piece that came to the held bytes.
     pub fn take_in(&mut self, piece: &[u8]) -> Result<(), AllocError>
         ensures ok { OnOk result (self.new ≡ record self.old {
           held = self.old.held ++ piece.now;
@@ -104,7 +105,7 @@ impl Client {
         self.parts.input.take_in(piece)
     }
 
-    /// The last `n` bytes held go again, and what was ready is so no longer. It takes no memory.
+    /// Removes the last `n` held bytes. No bytes are ready afterwards. Allocates nothing.
     pub fn take_back(&mut self, n: usize)
         requires { n ≤ length self.old.held }
         ensures { self.new ≡ record self.old {
@@ -116,8 +117,8 @@ impl Client {
         self.parts.input.take_back(n);
     }
 
-    /// What is asked first from a place on among what is held. Nothing changes. An error is want of
-    /// memory for a text of the request.
+    /// Returns the first request from a place on in the held bytes. Nothing changes. Fails only if
+    /// the allocation for a text of the request fails.
     pub fn ask_from(&self, at: usize) -> Result<Asked, AllocError>
         requires { at ≤ length self.now.held }
         ensures asked { IfOk result (λ asked. asked ≡ asked_in (drop at self.now.held)) }
@@ -126,7 +127,7 @@ impl Client {
         self.parts.input.ask_from(at)
     }
 
-    /// The first `n` bytes held go. It takes no memory.
+    /// Removes the first `n` held bytes. Allocates nothing.
     pub fn pass_over(&mut self, n: usize)
         requires { n ≤ length self.old.held }
         ensures { self.new ≡ record self.old {
@@ -137,16 +138,15 @@ impl Client {
         self.parts.input.pass_over(n);
     }
 
-    /// How many bytes are held.
+    /// Returns how many bytes are held.
     pub fn held(&self) -> usize
         ensures { result ≡ length self.now.held }
     {
         self.parts.input.len()
     }
 
-    /// Makes at least the first `n` bytes held ready to be cut off, in at least `cuts` pieces,
-    /// whose lengths need not be known yet. They are copied only where they lie in more than two
-    /// memories.
+    /// Makes at least the first `n` held bytes ready to be cut off, in at least `cuts` pieces of
+    /// any lengths. The bytes are copied only if they lie in more than two buffers.
     pub fn prepare_cuts(&mut self, n: usize, cuts: usize) -> Result<(), AllocError>
         requires { n ≤ length self.old.held }
         ensures ok { OnOk result (self.new ≡ record self.old {
@@ -159,8 +159,7 @@ impl Client {
         self.parts.input.prepare_cuts(n, cuts)
     }
 
-    /// Takes the first `n` bytes held off, of those that are ready, without a copy. It takes no
-    /// memory.
+    /// Cuts off the first `n` held bytes, which are ready, without a copy. Allocates nothing.
     pub fn cut_ready(&mut self, n: usize) -> SplitBytes
         requires within { n ≤ self.old.ready }
         requires cut { 0 < self.old.cuts }
@@ -174,7 +173,7 @@ impl Client {
         self.parts.input.cut_ready(n)
     }
 
-    /// Bytes become due, copied.
+    /// Queues a copy of the bytes for output.
     pub fn owe(&mut self, bytes: &[u8]) -> Result<(), AllocError>
         ensures ok { OnOk result (self.new ≡ record self.old { due = self.old.due ++ bytes.now }) }
         ensures err { OnErr result (self.new ≡ self.old) }
@@ -182,8 +181,8 @@ impl Client {
         self.parts.output.owe(bytes)
     }
 
-    /// Makes the spare at least `n`: so many bytes can become due by `owe_spare`, which alone lowers
-    /// it.
+    /// Makes the spare capacity at least `n`: that many bytes can be queued with `owe_spare`, the
+    /// only call that lowers it.
     pub fn reserve(&mut self, n: usize) -> Result<(), AllocError>
         ensures ok { OnOk result (self.new ≡ record self.old { spare = max n self.old.spare }) }
         ensures err { OnErr result (self.new ≡ self.old) }
@@ -192,7 +191,7 @@ impl Client {
         self.parts.output.reserve(n)
     }
 
-    /// Bytes become due, in reserved places. It takes no memory.
+    /// Queues bytes for output in reserved places. Allocates nothing.
     pub fn owe_spare(&mut self, bytes: &[u8])
         requires { length bytes.now ≤ self.old.spare }
         ensures { self.new ≡ record self.old {
@@ -203,8 +202,8 @@ impl Client {
         self.parts.output.owe_spare(bytes);
     }
 
-    /// Makes the places at least `n`: so many slices can become due by `owe_slice_spare`, which alone
-    /// lowers them.
+    /// Makes the reserved places at least `n`: that many slices can be queued with
+    /// `owe_slice_spare`, the only call that lowers them.
     pub fn reserve_slices(&mut self, n: usize) -> Result<(), AllocError>
         ensures ok { OnOk result (self.new ≡ record self.old { places = max n self.old.places }) }
         ensures err { OnErr result (self.new ≡ self.old) }
@@ -213,7 +212,7 @@ impl Client {
         self.parts.output.reserve_slices(n)
     }
 
-    /// A slice becomes due, in a reserved place; no byte is copied. It takes no memory.
+    /// Queues a slice for output in a reserved place, without a copy. Allocates nothing.
     pub fn owe_slice_spare(&mut self, bytes: Bytes)
         requires place { 0 < self.old.places }
         requires size { length bytes ≤ MAX_SLICE }
@@ -225,23 +224,24 @@ impl Client {
         self.parts.output.owe_slice_spare(bytes);
     }
 
-    /// How many bytes are due.
+    /// Returns how many bytes are queued for output.
     pub fn owed(&self) -> usize
         ensures { result ≡ length self.now.due }
     {
         self.parts.output.owed()
     }
 
-    /// The first `max` bytes that are due, or all where there are fewer. Those of one slice are
-    /// shared, others are copied. Nothing changes.
+    /// Returns the first `max` bytes of the queue, or all if there are fewer. The bytes of a single
+    /// slice are shared, others are copied. Nothing changes. Fails if an allocation fails.
     pub fn front(&self, max: usize) -> Result<HandOut, AllocError>
         ensures { IfOk result (λ bytes. bytes ≡ take max self.now.due) }
     {
         self.parts.output.front(max)
     }
 
-    /// How many bytes to hand out at once, at most `max`, so that no slice of 4 KiB or more is copied:
-    /// its own, or those before it; `max` where there is none. It takes no memory.
+    /// Returns how many bytes to hand out at once, at most `max`, so that no slice of 4 KiB or more
+    /// is copied: those of such a slice or those before it, or `max` if there is none. Allocates
+    /// nothing.
     pub fn front_len(&self, max: usize) -> usize
         requires { 0 < max }
         ensures { (0 < result) × (result ≤ max) }
@@ -249,7 +249,7 @@ impl Client {
         self.parts.output.front_len(max)
     }
 
-    /// The first `n` bytes that were due were handed out. It takes no memory.
+    /// Removes the first `n` queued bytes, which were handed out. Needs no memory.
     pub fn hand(&mut self, n: usize)
         requires { n ≤ length self.old.due }
         ensures { self.new ≡ record self.old { due = drop n self.old.due } }

@@ -1,4 +1,4 @@
-//! A slice of which pieces can be cut off without memory.
+//! A slice of which pieces can be cut off without an allocation.
 
 ghost use Rattle.std.specs.Prelude.{◌≡◌, ◌<◌, ◌≤◌, ◌+◌, ◌-◌, ◌^◌, [], length, take, drop, vec_len, All, IfOk, OnOk, OnErr};
 ghost use Rattle.adb_client.specs.Input.{EndsWith};
@@ -8,8 +8,8 @@ use bytes::Bytes;
 use std::alloc::{AllocError, Global};
 use std::marker::Model;
 
-/// A slice with handles that were made in advance: each becomes a part of it by leaving off bytes
-/// at both ends, which takes no memory.
+/// A slice with handles that were made in advance. Each handle becomes a part of the slice by
+/// dropping bytes at both ends, which allocates nothing.
 #[derive(Drop)]
 pub(crate) struct Front {
     alloc: Global,
@@ -29,14 +29,14 @@ impl Model for Front {
 }
 
 impl Front {
-    /// No bytes. It takes no memory.
+    /// Returns an empty slice. Allocates nothing.
     pub(crate) fn new(alloc: Global) -> Front
         ensures { result ≡ record { bytes = []; handles = 0 } }
     {
         Front::bare(alloc, Bytes::new())
     }
 
-    /// A slice without handles. It takes no memory.
+    /// Returns a slice without handles. Allocates nothing.
     pub(crate) fn bare(alloc: Global, bytes: Bytes) -> Front
         ensures { result ≡ record { bytes = bytes; handles = 0 } }
     {
@@ -47,7 +47,7 @@ impl Front {
         }
     }
 
-    /// A slice with so many handles.
+    /// Returns a slice with this many handles.
     pub(crate) fn held(alloc: Global, bytes: Bytes, handles: usize) -> Result<Front, AllocError>
         ensures { IfOk result (λ front. front ≡ record { bytes = bytes; handles = handles }) }
     {
@@ -59,7 +59,7 @@ impl Front {
         })
     }
 
-    /// Makes so many handles, in the place of those that there are.
+    /// Replaces the handles by this many new ones.
     pub(crate) fn hold(&mut self, handles: usize) -> Result<(), AllocError>
         ensures ok { OnOk result (self.new ≡ record self.old { handles = handles }) }
         ensures err { OnErr result (self.new ≡ self.old) }
@@ -81,7 +81,7 @@ impl Front {
         self.bytes.len()
     }
 
-    /// The first `n` bytes stay, without handles. It takes no memory.
+    /// Keeps the first `n` bytes, without handles. Allocates nothing.
     pub(crate) fn truncate(&mut self, n: usize)
         ensures { self.new ≡ record { bytes = take n self.old.bytes; handles = 0 } }
     {
@@ -89,7 +89,7 @@ impl Front {
         self.bytes.truncate(n);
     }
 
-    /// The first `n` bytes go. It takes no memory.
+    /// Removes the first `n` bytes. Allocates nothing.
     pub(crate) fn advance(&mut self, n: usize)
         requires { n ≤ length self.old.bytes }
         ensures { self.new ≡ record self.old { bytes = drop n self.old.bytes } }
@@ -97,8 +97,8 @@ impl Front {
         self.bytes.advance(n);
     }
 
-    /// The first `n` bytes go as a slice, which takes a handle where there are some. It takes no
-    /// memory.
+    /// Removes the first `n` bytes and returns them as a slice, for which it takes a handle if
+    /// there is one. Allocates nothing.
     pub(crate) fn cut(&mut self, n: usize) -> Bytes
         requires within { n ≤ length self.old.bytes }
         requires handle { 0 < n → 0 < self.old.handles }
@@ -116,7 +116,7 @@ impl Front {
     }
 }
 
-/// So many handles of a slice, all of it.
+/// Returns this many handles of a slice, each of all its bytes.
 fn handles_of(alloc: Global, front: &Bytes, n: usize) -> Result<Vec<Bytes>, AllocError>
     ensures ends { IfOk result (λ handles. All (EndsWith front.now) handles.items) }
     ensures len { IfOk result (λ handles. vec_len handles ≡ n) }
@@ -128,7 +128,7 @@ fn handles_of(alloc: Global, front: &Bytes, n: usize) -> Result<Vec<Bytes>, Allo
     Ok(handles)
 }
 
-/// The first `n` of a handle's last `len` bytes.
+/// Returns the first `n` of a handle's last `len` bytes.
 fn part(handle: Bytes, len: usize, n: usize) -> Bytes
     ensures { result ≡ take n (drop (length handle - len) handle) }
 {

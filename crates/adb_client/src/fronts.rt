@@ -1,4 +1,4 @@
-//! The first bytes that are held, cut ahead.
+//! The first held bytes, prepared for cutting.
 
 ghost use Rattle.std.specs.Prelude.{◌≡◌, ◌<◌, ◌≤◌, ◌+◌, ◌-◌, ◌^◌, ◌++◌, [], length, take, drop, IfOk, IfSome, OnOk, OnErr};
 ghost use Rattle.std.specs.Bool.{◌==◌};
@@ -12,14 +12,14 @@ use bytes::Bytes;
 use std::alloc::{AllocError, Global};
 use std::marker::Model;
 
-/// Up to two slices, one behind the other, of which pieces can be cut off: so what reaches over two
-/// memories goes without a copy.
+/// Up to two consecutive slices, of which pieces can be cut off, so that bytes that span two
+/// buffers are sent without a copy.
 #[derive(Drop)]
 pub(crate) struct Fronts {
     alloc: Global,
     first: Front,
     second: Front,
-    /// How many bytes can be cut off without memory, and in how many pieces.
+    /// The number of bytes that can be cut off without an allocation, and the number of pieces.
     ready: usize,
     cuts: usize,
 }
@@ -36,7 +36,7 @@ impl Model for Fronts {
 }
 
 impl Fronts {
-    /// No bytes. It takes no memory.
+    /// Returns slices without bytes. Allocates nothing.
     pub(crate) fn new(alloc: Global) -> Fronts
         ensures { result ≡ record { bytes = []; ready = 0; cuts = 0 } }
     {
@@ -49,7 +49,7 @@ impl Fronts {
         }
     }
 
-    /// A slice that is ready, in so many pieces.
+    /// Returns a slice that is ready, in this many pieces.
     pub(crate) fn whole(alloc: Global, bytes: Bytes, cuts: usize) -> Result<Fronts, AllocError>
         ensures { IfOk result (λ fronts. fronts ≡ record {
           bytes = bytes;
@@ -80,7 +80,7 @@ impl Fronts {
         self.len() == 0
     }
 
-    /// How many bytes can be cut off without memory.
+    /// Returns how many bytes can be cut off without an allocation.
     pub(crate) fn ready(&self) -> usize
         ensures value { result ≡ self.now.ready }
         ensures within { result ≤ length self.now.bytes }
@@ -88,14 +88,14 @@ impl Fronts {
         self.ready
     }
 
-    /// In how many pieces.
+    /// Returns in how many pieces.
     pub(crate) fn cuts(&self) -> usize
         ensures { result ≡ self.now.cuts }
     {
         self.cuts
     }
 
-    /// The bytes, where they lie in one slice.
+    /// Returns the bytes, if they lie in one slice.
     pub(crate) fn as_slice(&self) -> Option<&[u8]>
         ensures { IfSome result (λ bytes. bytes.now ≡ self.now.bytes) }
     {
@@ -106,7 +106,7 @@ impl Fronts {
         }
     }
 
-    /// Puts a copy of the first `n` bytes behind others.
+    /// Appends a copy of the first `n` bytes to `to`.
     pub(crate) fn copy_to(&self, n: usize, to: &mut Vec<u8>) -> Result<(), AllocError>
         requires { n ≤ length self.now.bytes }
         ensures { OnOk result (to.new.items ≡ to.old.items ++ take n self.now.bytes) }
@@ -116,7 +116,7 @@ impl Fronts {
         to.extend_from_slice(first(self.second.as_slice(), n - some))
     }
 
-    /// The first slices of a tail come behind, as long as there are fewer than `n` bytes and not two
+    /// Appends the first slices of a tail, while there are fewer than `n` bytes and fewer than two
     /// slices.
     pub(crate) fn take_from(&mut self, rest: &mut Tail, n: usize) -> Result<(), AllocError>
         requires bound { length self.old.bytes + length rest.old < 2 ^ 63 }
@@ -133,7 +133,7 @@ impl Fronts {
         Ok(())
     }
 
-    /// The first `ready` bytes are ready, in `cuts` pieces.
+    /// Makes the first `ready` bytes ready, in `cuts` pieces.
     pub(crate) fn hold(&mut self, ready: usize, cuts: usize) -> Result<(), AllocError>
         requires within { ready ≤ length self.old.bytes }
         requires more { self.old.cuts ≤ cuts }
@@ -149,7 +149,7 @@ impl Fronts {
         Ok(())
     }
 
-    /// The first `n` bytes stay, and none are ready. It takes no memory.
+    /// Keeps the first `n` bytes, of which none are ready. Allocates nothing.
     pub(crate) fn truncate(&mut self, n: usize)
         ensures { self.new ≡ record { bytes = take n self.old.bytes; ready = 0; cuts = 0 } }
     {
@@ -159,7 +159,7 @@ impl Fronts {
         self.first.truncate(n);
     }
 
-    /// The first `n` bytes go. It takes no memory.
+    /// Removes the first `n` bytes. Allocates nothing.
     pub(crate) fn advance(&mut self, n: usize)
         requires { n ≤ length self.old.bytes }
         ensures rest { self.new ≡ record self.old {
@@ -175,7 +175,7 @@ impl Fronts {
         move_up(self.alloc, &mut self.first, &mut self.second);
     }
 
-    /// The first `n` bytes go, of those that are ready. It takes no memory.
+    /// Removes the first `n` bytes, which are ready, and returns them. Allocates nothing.
     pub(crate) fn cut(&mut self, n: usize) -> SplitBytes
         requires within { n ≤ self.old.ready }
         requires cut { 0 < self.old.cuts }
@@ -197,7 +197,7 @@ impl Fronts {
     }
 }
 
-/// Where the first slice is empty the second takes its place, and its memory is given back.
+/// Replaces the first slice by the second if the first is empty, and frees its memory.
 fn move_up(alloc: Global, front: &mut Front, next: &mut Front)
     ensures bytes { front.new.bytes ++ next.new.bytes ≡ front.old.bytes ++ next.old.bytes }
     ensures none { length front.old.bytes ≡ 0

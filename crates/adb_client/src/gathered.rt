@@ -1,4 +1,4 @@
-//! Bytes that are gathered in one memory.
+//! Bytes that are gathered in one buffer.
 
 ghost use Rattle.std.specs.Prelude.{◌≡◌, ◌<◌, ◌≤◌, ◌^◌, ◌++◌, [], length, take, drop, IfOk, OnOk, OnErr};
 
@@ -9,12 +9,12 @@ use std::alloc::{AllocError, Global};
 use std::marker::Model;
 
 /// The number of held bytes at which a client has no more room: one more than the longest request
-/// with its length. As many bytes are gathered in one buffer, so that what a client sends while a
-/// packet is on its way lies in one.
+/// with its length. Up to this many bytes are gathered in one buffer, so that the bytes that a
+/// client sends while a packet is on its way lie in one buffer.
 pub const MAX_HELD: usize = 65_540;
 
-/// Bytes in one memory, to which others are added, and of which those in front may have gone.
-/// Contracts see the bytes that are left.
+/// A buffer to which bytes are appended, and of which the first may have been removed. Contracts
+/// see the bytes that are left.
 #[derive(Drop)]
 pub(crate) struct Gathered {
     alloc: Global,
@@ -33,7 +33,7 @@ impl Model for Gathered {
 }
 
 impl Gathered {
-    /// No bytes. It takes no memory.
+    /// Returns a buffer without bytes. Allocates nothing.
     pub(crate) fn new(alloc: Global) -> Gathered
         ensures { result ≡ [] }
     {
@@ -57,13 +57,15 @@ impl Gathered {
         behind(self.bytes.as_slice(), self.gone)
     }
 
-    /// Whether so many bytes more are to be gathered with these: where there is room for both, or
-    /// these are the fewer, so that a copy of them costs less than what comes.
+    /// Returns whether this many more bytes are to be gathered with those in the buffer: there is
+    /// room for both, or the buffer holds fewer, so that moving them costs less than copying the
+    /// new ones.
     pub(crate) fn has_room(&self, more: usize) -> bool {
         more <= MAX_HELD.saturating_sub(self.len()) || self.len() < more
     }
 
-    /// Others come behind, in place of those that went where these are as many as are left.
+    /// Appends bytes. Reuses the space of the removed bytes if they are at least as many as those
+    /// left.
     pub(crate) fn push(&mut self, more: &[u8]) -> Result<(), AllocError>
         ensures ok { OnOk result (self.new ≡ self.old ++ more.now) }
         ensures err { OnErr result (self.new ≡ self.old) }
@@ -77,7 +79,7 @@ impl Gathered {
         self.bytes.extend_from_slice(more)
     }
 
-    /// What is left moves to a memory that has so much room behind it.
+    /// Moves the bytes to a buffer that has this much room after them.
     fn renew(&mut self, room: usize) -> Result<(), AllocError>
         ensures { self.new ≡ self.old }
     {
@@ -88,14 +90,14 @@ impl Gathered {
         Ok(())
     }
 
-    /// The first `n` bytes stay. It takes no memory.
+    /// Keeps the first `n` bytes. Allocates nothing.
     pub(crate) fn truncate(&mut self, n: usize)
         ensures { self.new ≡ take n self.old }
     {
         self.bytes.truncate(self.gone.saturating_add(n));
     }
 
-    /// The first `n` bytes go. It takes no memory.
+    /// Removes the first `n` bytes. Allocates nothing.
     pub(crate) fn advance(&mut self, n: usize)
         requires { n ≤ length self.old }
         ensures { self.new ≡ drop n self.old }
@@ -103,7 +105,7 @@ impl Gathered {
         self.gone += n;
     }
 
-    /// All go as a slice; no byte is copied.
+    /// Removes all bytes and returns them as a slice, without a copy.
     pub(crate) fn freeze(&mut self) -> Result<Bytes, AllocError>
         ensures all { IfOk result (λ bytes. bytes ≡ self.old) }
         ensures none { OnOk result (self.new ≡ []) }
@@ -125,8 +127,8 @@ impl Gathered {
     }
 }
 
-/// How much room is made for others behind so many bytes: with the first large ones, room for what
-/// follows them too.
+/// Returns how much room to make for more bytes after `len` bytes: with the first large piece, room
+/// also for the bytes that follow it.
 fn room_for(len: usize, more: usize) -> usize {
     if more < MIN_SHARED {
         return more;

@@ -1,4 +1,4 @@
-//! What a client sent that is held.
+//! The held input of a client.
 
 ghost use Rattle.std.specs.Prelude.{◌≡◌, ◌<◌, ◌≤◌, ◌+◌, ◌-◌, ◌^◌, ◌++◌, [], length, take, drop, max, IsOk, IfOk, OnOk, OnErr};
 ghost use Rattle.adb_client.specs.Ask.{asked_in};
@@ -12,10 +12,10 @@ use bytes::Bytes;
 use std::alloc::{AllocError, Global};
 use std::marker::Model;
 
-/// How many bytes are held at most.
+/// The maximum number of held bytes.
 const MAX_LEN: usize = isize::MAX as usize;
 
-/// The bytes that are held, one after another: the first of them cut ahead, and those behind.
+/// The held bytes, in order: the first of them prepared for cutting, and the rest.
 #[derive(Drop)]
 pub(crate) struct Input {
     alloc: Global,
@@ -39,7 +39,7 @@ impl Model for Input {
 }
 
 impl Input {
-    /// Nothing is held. It takes no memory.
+    /// Returns an input without bytes. Allocates nothing.
     pub(crate) fn new(alloc: Global) -> Input
         ensures { result ≡ record { held = []; ready = 0; cuts = 0 } }
     {
@@ -50,7 +50,7 @@ impl Input {
         }
     }
 
-    /// How many bytes are held.
+    /// Returns how many bytes are held.
     pub(crate) fn len(&self) -> usize
         ensures value { result ≡ length self.now.held }
         ensures bound { result < 2 ^ 63 }
@@ -58,7 +58,8 @@ impl Input {
         self.fronts.len() + self.rest.len()
     }
 
-    /// Bytes came. Where all would be too many to count it is want of memory.
+    /// Appends bytes that came. Fails if an allocation fails, or if all bytes together would be too
+    /// many to count.
     pub(crate) fn take_in(&mut self, piece: &[u8]) -> Result<(), AllocError>
         ensures ok { OnOk result (self.new ≡ record self.old {
           held = self.old.held ++ piece.now;
@@ -72,8 +73,8 @@ impl Input {
         self.rest.push(piece)
     }
 
-    /// What is left of a front is gathered anew where it is short and nothing stands behind it, so
-    /// that it lies in one memory with what comes.
+    /// Gathers the rest of the first slices again if it is short and no bytes follow it, so that it
+    /// lies in one buffer with the bytes that come.
     fn gather_front(&mut self) -> Result<(), AllocError>
         ensures { self.new ≡ self.old }
     {
@@ -90,7 +91,7 @@ impl Input {
         Ok(())
     }
 
-    /// The last `n` bytes are no longer held, and nothing is ready. It takes no memory.
+    /// Removes the last `n` held bytes. None are ready afterwards. Allocates nothing.
     pub(crate) fn take_back(&mut self, n: usize)
         requires { n ≤ length self.old.held }
         ensures { self.new ≡ record {
@@ -104,7 +105,7 @@ impl Input {
         self.fronts.truncate(left);
     }
 
-    /// What the bytes ask from a place on.
+    /// Returns the first request from a place on.
     pub(crate) fn ask_from(&self, at: usize) -> Result<Asked, AllocError>
         requires { at ≤ length self.now.held }
         ensures asked { IfOk result (λ asked. asked ≡ asked_in (drop at self.now.held)) }
@@ -119,7 +120,7 @@ impl Input {
         ask_in(self.alloc, behind(all.as_slice(), at))
     }
 
-    /// The first `n` bytes, copied into a slice.
+    /// Returns a copy of the first `n` bytes, in one slice.
     fn joined(&self, n: usize) -> Result<Bytes, AllocError>
         requires { n ≤ length self.now.held }
         ensures { IfOk result (λ bytes. bytes ≡ take n self.now.held) }
@@ -131,7 +132,7 @@ impl Input {
         Ok(Bytes::from_vec(all)?)
     }
 
-    /// The first `n` bytes go. It takes no memory.
+    /// Removes the first `n` bytes. Allocates nothing.
     pub(crate) fn pass_over(&mut self, n: usize)
         requires { n ≤ length self.old.held }
         ensures { self.new ≡ record self.old {
@@ -145,7 +146,7 @@ impl Input {
         self.give_back();
     }
 
-    /// Gives back memory that only serves bytes that went.
+    /// Frees memory that only holds removed bytes.
     fn give_back(&mut self)
         ensures { self.new ≡ self.old }
     {
@@ -154,7 +155,7 @@ impl Input {
         }
     }
 
-    /// Makes the first `n` bytes ready at least, in `cuts` pieces at least.
+    /// Makes at least the first `n` bytes ready, in at least `cuts` pieces.
     pub(crate) fn prepare_cuts(&mut self, n: usize, cuts: usize) -> Result<(), AllocError>
         requires { n ≤ length self.old.held }
         ensures ok { OnOk result (self.new ≡ record self.old {
@@ -173,8 +174,8 @@ impl Input {
         self.hold_cuts(ready, cuts)
     }
 
-    /// The first `ready` bytes are ready, in `cuts` pieces: those of two slices as they are, and more
-    /// as a copy.
+    /// Makes the first `ready` bytes ready, in `cuts` pieces: up to two slices as they are, and
+    /// more as a copy.
     fn hold_cuts(&mut self, ready: usize, cuts: usize) -> Result<(), AllocError>
         requires within { ready ≤ length self.old.held }
         requires more { self.old.cuts ≤ cuts }
@@ -192,7 +193,7 @@ impl Input {
         Ok(())
     }
 
-    /// The first `n` bytes go, of those that are ready. It takes no memory.
+    /// Removes the first `n` bytes, which are ready, and returns them. Allocates nothing.
     pub(crate) fn cut_ready(&mut self, n: usize) -> SplitBytes
         requires within { n ≤ self.old.ready }
         requires cut { 0 < self.old.cuts }

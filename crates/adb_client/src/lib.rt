@@ -1,4 +1,5 @@
-//! What a server keeps of a client: where it stands, what it sent, and what is due to it.
+//! The record that a server keeps of a client: its phase, its input that is held, and its output
+//! queue.
 #![tactic(auto)]
 
 mod about;

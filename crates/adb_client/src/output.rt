@@ -1,4 +1,4 @@
-//! What is due to a client.
+//! The output queue of a client.
 
 ghost use Rattle.std.specs.Prelude.{◌≡◌, ◌<◌, ◌≤◌, ◌+◌, ◌-◌, ◌++◌, [], length, take, drop, max, IsOk, IfOk, OnOk, OnErr};
 ghost use Rattle.adb_client.specs.declared.gathered.TheConstants.{MAX_HELD};
@@ -11,41 +11,42 @@ use std::alloc::{AllocError, Global};
 use std::collections::VecDeque;
 use std::marker::Model;
 
-/// The most bytes of a slice that becomes due in a reserved place: the most payload of a packet.
+/// The maximum number of bytes of a slice that is queued in a reserved place: the longest payload
+/// of a packet.
 pub const MAX_SLICE: usize = 1_048_576;
 
-/// The numbers that definitions take from the code, written out.
+/// States the numbers that definitions take from the code.
 pub fn limits_are()
     ensures slice { MAX_SLICE ≡ 1048576 }
     ensures held { MAX_HELD ≡ 65540 }
 {}
 
-/// How many bytes the slices hold at most, with those that have a place and come later, so that all
-/// that is due fits a `usize`.
+/// The maximum number of bytes of all slices, including those with a reserved place, so that the
+/// length of the queue fits a `usize`.
 const MAX_DUE: usize = 1 << 63;
 
-/// How many bytes, and how many places of slices, may stay taken where nothing is due.
+/// The number of bytes, and of places for slices, that may stay allocated while the queue is empty.
 const FEW_BYTES: usize = 16 * 1024;
 
 const FEW_SLICES: usize = 64;
 
-/// Up to how many slices there is no room for more than are wanted.
+/// The number of slices up to which room is made for exactly as many as are requested.
 const EXACT: usize = 2;
 
-/// The bytes that are due: bytes of its own, and slices among them, which are shared, with the
-/// places that are reserved for more of both. What was handed out is cut off.
+/// The queued bytes: own bytes, and shared slices among them, with the places that are reserved for
+/// more of both. Bytes that were handed out are removed.
 #[derive(Drop)]
 pub(crate) struct Output {
     alloc: Global,
     slices: VecDeque<Slice>,
-    /// How many bytes the slices hold.
+    /// The number of bytes of the slices.
     shared: usize,
-    /// How many slices more have a place.
+    /// The number of reserved places for slices.
     places: usize,
     own: BytesMut,
-    /// How many of its own bytes stand before the last slice.
+    /// The number of own bytes before the last slice.
     before: usize,
-    /// How many bytes more of its own have a place.
+    /// The number of reserved places for own bytes.
     spare: usize,
 }
 
@@ -62,7 +63,7 @@ impl Model for Output {
 }
 
 impl Output {
-    /// Nothing is due or reserved. It takes no memory.
+    /// Returns an empty queue without reserved places. Allocates nothing.
     pub(crate) fn new(alloc: Global) -> Output
         ensures { result ≡ record { due = []; spare = 0; places = 0 } }
     {
@@ -77,14 +78,14 @@ impl Output {
         }
     }
 
-    /// How many bytes are due.
+    /// Returns how many bytes are queued.
     pub(crate) fn owed(&self) -> usize
         ensures { result ≡ length self.now.due }
     {
         self.shared + self.own.len()
     }
 
-    /// Makes the spare at least `n`.
+    /// Makes the spare capacity at least `n`.
     pub(crate) fn reserve(&mut self, n: usize) -> Result<(), AllocError>
         ensures ok { OnOk result (self.new ≡ record self.old { spare = max n self.old.spare }) }
         ensures err { OnErr result (self.new ≡ self.old) }
@@ -95,8 +96,8 @@ impl Output {
         Ok(())
     }
 
-    /// Makes the places at least `n`. Where so many slices could not be counted it is want of
-    /// memory.
+    /// Makes the reserved places at least `n`. Fails if an allocation fails, or if the bytes of
+    /// that many slices could not be counted.
     pub(crate) fn reserve_slices(&mut self, n: usize) -> Result<(), AllocError>
         ensures ok { OnOk result (self.new ≡ record self.old { places = max n self.old.places }) }
         ensures err { OnErr result (self.new ≡ self.old) }
@@ -113,7 +114,7 @@ impl Output {
         Ok(())
     }
 
-    /// Bytes are due, copied.
+    /// Queues a copy of the bytes.
     pub(crate) fn owe(&mut self, bytes: &[u8]) -> Result<(), AllocError>
         ensures ok { OnOk result (self.new ≡ record self.old { due = self.old.due ++ bytes.now }) }
         ensures err { OnErr result (self.new ≡ self.old) }
@@ -126,7 +127,7 @@ impl Output {
         Ok(())
     }
 
-    /// Bytes are due, in reserved places. It takes no memory.
+    /// Queues bytes in reserved places. Allocates nothing.
     pub(crate) fn owe_spare(&mut self, bytes: &[u8])
         requires { length bytes.now ≤ self.old.spare }
         ensures { self.new ≡ record self.old {
@@ -138,7 +139,7 @@ impl Output {
         self.spare -= bytes.len();
     }
 
-    /// A slice is due, in a reserved place, copied nowhere. It takes no memory.
+    /// Queues a slice in a reserved place, without a copy. Allocates nothing.
     pub(crate) fn owe_slice_spare(&mut self, bytes: Bytes)
         requires place { 0 < self.old.places }
         requires size { length bytes ≤ MAX_SLICE }
@@ -159,8 +160,9 @@ impl Output {
         self.before = self.own.len();
     }
 
-    /// The first `max` bytes that are due, or all where there are fewer. They are shared where the
-    /// first slice alone has them, and else copied; a few without memory, where no slice is due.
+    /// Returns the first `max` queued bytes, or all if there are fewer. They are shared if the
+    /// first slice alone contains them, and otherwise copied; a few bytes are copied without an
+    /// allocation if no slice is queued.
     pub(crate) fn front(&self, max: usize) -> Result<HandOut, AllocError>
         ensures { IfOk result (λ bytes. bytes ≡ take max self.now.due) }
     {
@@ -176,8 +178,9 @@ impl Output {
         Ok(HandOut::own(text))
     }
 
-    /// How many bytes to hand out at once, at most `max`, so that no large slice is copied: its own
-    /// where it is the first, or those before it; `max` where there is none among these.
+    /// Returns how many bytes to hand out at once, at most `max`, so that no large slice is copied:
+    /// those of a large slice that comes first, or otherwise those before it; `max` if there is
+    /// none among these.
     pub(crate) fn front_len(&self, max: usize) -> usize
         requires { 0 < max }
         ensures { (0 < result) × (result ≤ max) }
@@ -198,7 +201,7 @@ impl Output {
         max
     }
 
-    /// The first `n` bytes were handed out. It takes no memory.
+    /// Removes the first `n` bytes, which were handed out. Needs no memory.
     pub(crate) fn hand(&mut self, n: usize)
         requires { n ≤ length self.old.due }
         ensures { self.new ≡ record self.old { due = drop n self.old.due } }
@@ -210,8 +213,8 @@ impl Output {
         self.give_back();
     }
 
-    /// At most the first `n` bytes were handed out, of the first slice alone or of the own bytes
-    /// before it: how many.
+    /// Removes at most the first `n` bytes, of the first slice alone or of the own bytes before it.
+    /// Returns how many it removed.
     fn hand_first(&mut self, n: usize) -> usize
         requires { (0 < n) × (n ≤ length self.old.due) }
         ensures count { (0 < result) × (result ≤ n) }
@@ -236,7 +239,7 @@ impl Output {
         taken
     }
 
-    /// Gives back memory that only serves bytes that were handed out, all but the reserved places.
+    /// Frees memory that only holds bytes that were handed out, but not the reserved places.
     fn give_back(&mut self)
         ensures { self.new ≡ self.old }
     {
@@ -255,7 +258,7 @@ impl Output {
     }
 }
 
-/// Makes room for `n` slices more, where these are few for no others.
+/// Makes room for `n` more slices: for exactly these if they are few and there are few others.
 fn make_room(slices: &mut VecDeque<Slice>, n: usize) -> Result<(), AllocError>
     ensures items { slices.new.items ≡ slices.old.items }
     ensures len { deque_len slices.new ≡ deque_len slices.old }

@@ -1,4 +1,4 @@
-//! Slices of bytes, and those that are due.
+//! Slices of bytes, and those in an output queue.
 
 ghost use Rattle.std.specs.Prelude.{◌≡◌, ◌<◌, ◌≤◌, ◌+◌, ◌-◌, ◌++◌, List, ℕ, [], length, take, drop, IfOk, IfSome, OnOk};
 ghost use Rattle.std.specs.VecDeque.{deque_len, deque_capacity};
@@ -9,22 +9,21 @@ use bytes::Bytes;
 use std::alloc::AllocError;
 use std::collections::VecDeque;
 
-/// A slice that is due, and how many bytes that are no slice's are due between the one before it and
-/// it.
+/// A queued slice, and the number of own bytes between the slice before it and this one.
 #[derive(Drop)]
 pub(crate) struct Slice {
     pub(crate) before: usize,
     pub(crate) bytes: Bytes,
 }
 
-/// Another owner of the same bytes.
+/// Returns another owner of the same bytes.
 pub(crate) fn share(slice: &Bytes) -> Result<Bytes, AllocError>
     ensures { IfOk result (λ shared. shared ≡ slice.now) }
 {
     slice.slice(0..slice.len())
 }
 
-/// The first `n` bytes.
+/// Returns the first `n` bytes.
 pub(crate) fn first(bytes: &[u8], n: usize) -> &[u8]
     requires { n ≤ length bytes.now }
     ensures { result.now ≡ take n bytes.now }
@@ -32,7 +31,7 @@ pub(crate) fn first(bytes: &[u8], n: usize) -> &[u8]
     &bytes[..n]
 }
 
-/// The bytes behind the first `n`.
+/// Returns the bytes after the first `n`.
 pub(crate) fn behind(bytes: &[u8], n: usize) -> &[u8]
     requires { n ≤ length bytes.now }
     ensures { result.now ≡ drop n bytes.now }
@@ -40,7 +39,7 @@ pub(crate) fn behind(bytes: &[u8], n: usize) -> &[u8]
     &bytes[n..]
 }
 
-/// Puts a slice back in front, where no own bytes stand before it, unless it is empty.
+/// Puts a slice back at the start, with no own bytes before it, unless it is empty.
 pub(crate) fn put_back(slices: &mut VecDeque<Slice>, slice: Slice)
     requires room { deque_len slices.old < deque_capacity slices.old }
     requires none { slice.before ≡ 0 }
@@ -56,8 +55,8 @@ pub(crate) fn put_back(slices: &mut VecDeque<Slice>, slice: Slice)
     }
 }
 
-/// The first `n` bytes that are due, shared, where the first slice alone has them. It is `None`
-/// also where there is no memory for another owner.
+/// Returns the first `n` queued bytes, shared, if the first slice alone contains them. It is `None`
+/// also if the allocation for another owner fails.
 pub(crate) fn share_front(slices: &VecDeque<Slice>, n: usize) -> Option<Bytes>
     ensures { IfSome result (λ bytes. (own : List ℕ)
         → bytes ≡ take n (woven slices.now.items own)) }
@@ -69,8 +68,8 @@ pub(crate) fn share_front(slices: &VecDeque<Slice>, n: usize) -> Option<Bytes>
     slice.bytes.slice(0..n).ok()
 }
 
-/// Fills an empty text up to `max` bytes from own bytes with the slices among them, and looks at
-/// none behind these.
+/// Fills an empty text up to `max` bytes from own bytes with the slices among them. Looks at no
+/// slice after these.
 pub(crate) fn fill(
     text: &mut Text,
     slices: &VecDeque<Slice>,
@@ -94,7 +93,7 @@ pub(crate) fn fill(
     fill_up(text, left, max)
 }
 
-/// Fills a text up to `max` bytes from the front of others.
+/// Appends the first of some bytes to a text, up to `max` bytes in all.
 fn fill_up(text: &mut Text, bytes: &[u8], max: usize) -> Result<(), AllocError>
     ensures { OnOk result (text.new ≡ text.old ++ take (max - length text.old) bytes.now) }
 {

@@ -1,4 +1,4 @@
-//! What a client sent that is held behind a front.
+//! The held input of a client after the first slices.
 
 ghost use Rattle.std.specs.Prelude.{◌≡◌, ◌<◌, ◌≤◌, ◌+◌, ◌^◌, ◌++◌, [], ℕ, List, length, take, drop, min, IfOk, IfSome, OnOk, OnErr};
 ghost use Rattle.std.specs.List.{concat};
@@ -13,12 +13,12 @@ use std::alloc::{AllocError, Global};
 use std::collections::VecDeque;
 use std::marker::Model;
 
-/// Bytes one after another: slices, each in memory of its own that is given back when it went, and
-/// behind them what is gathered. Contracts see the bytes.
+/// Consecutive bytes: slices, each in memory of its own that is freed with it, followed by the
+/// bytes that are being gathered. Contracts see the bytes.
 #[derive(Drop)]
 pub(crate) struct Tail {
     pieces: VecDeque<Bytes>,
-    /// How many bytes the pieces have.
+    /// The number of bytes of the slices.
     in_pieces: usize,
     gathered: Gathered,
 }
@@ -35,7 +35,7 @@ impl Model for Tail {
 }
 
 impl Tail {
-    /// No bytes. It takes no memory.
+    /// Returns a tail without bytes. Allocates nothing.
     pub(crate) fn new(alloc: Global) -> Tail
         ensures { result ≡ [] }
     {
@@ -59,7 +59,7 @@ impl Tail {
         self.len() == 0
     }
 
-    /// The bytes, where they lie in one part.
+    /// Returns the bytes, if they lie in one part.
     pub(crate) fn as_slice(&self) -> Option<&[u8]>
         ensures { IfSome result (λ bytes. bytes.now ≡ self.now) }
     {
@@ -70,7 +70,7 @@ impl Tail {
         }
     }
 
-    /// A piece comes behind, in one memory with what is gathered as long as there is room.
+    /// Appends a piece, in one buffer with the gathered bytes as long as there is room.
     pub(crate) fn push(&mut self, piece: &[u8]) -> Result<(), AllocError>
         requires { length self.old + length piece.now < 2 ^ 63 }
         ensures ok { OnOk result (self.new ≡ self.old ++ piece.now) }
@@ -82,7 +82,7 @@ impl Tail {
         self.gathered.push(piece)
     }
 
-    /// What is gathered becomes a slice.
+    /// Turns the gathered bytes into a slice.
     fn end_gathered(&mut self) -> Result<(), AllocError>
         ensures { self.new ≡ self.old }
     {
@@ -93,7 +93,7 @@ impl Tail {
         Ok(())
     }
 
-    /// The first `n` bytes stay. It takes no memory.
+    /// Keeps the first `n` bytes. Allocates nothing.
     pub(crate) fn truncate(&mut self, n: usize)
         ensures { self.new ≡ take n self.old }
     {
@@ -101,7 +101,7 @@ impl Tail {
         self.in_pieces = keep_first(&mut self.pieces, self.in_pieces, n);
     }
 
-    /// The first `n` bytes go. It takes no memory.
+    /// Removes the first `n` bytes. Allocates nothing.
     pub(crate) fn advance(&mut self, n: usize)
         requires { n ≤ length self.old }
         ensures { self.new ≡ drop n self.old }
@@ -112,7 +112,7 @@ impl Tail {
         self.gathered.advance(n - some);
     }
 
-    /// The first slice goes, or where there is none all that is gathered, as a slice.
+    /// Removes and returns the first slice or, if there is none, all gathered bytes as a slice.
     pub(crate) fn take_front(&mut self) -> Result<Bytes, AllocError>
         ensures ok { IfOk result (λ bytes. bytes ++ self.new ≡ self.old) }
         ensures err { OnErr result (self.new ≡ self.old) }
@@ -126,7 +126,7 @@ impl Tail {
         }
     }
 
-    /// Puts a copy of the first `n` bytes behind others.
+    /// Appends a copy of the first `n` bytes to `to`.
     pub(crate) fn copy_to(&self, n: usize, to: &mut Vec<u8>) -> Result<(), AllocError>
         requires { n ≤ length self.now }
         ensures { OnOk result (to.new.items ≡ to.old.items ++ take n self.now) }
@@ -137,7 +137,7 @@ impl Tail {
     }
 }
 
-/// Puts a piece behind others, in a place that is kept.
+/// Appends a piece, in a place that is reserved.
 #[tactic(auto, using(crate::proofs::Pieces::concat_last))]
 fn put_last(pieces: &mut VecDeque<Bytes>, piece: Bytes)
     requires { deque_len pieces.old < deque_capacity pieces.old }
@@ -146,7 +146,7 @@ fn put_last(pieces: &mut VecDeque<Bytes>, piece: Bytes)
     pieces.push_back_reserved(piece);
 }
 
-/// Of pieces with so many bytes the first `n` bytes stay; says how many these are.
+/// Keeps the first `n` of the `len` bytes of the pieces. Returns how many bytes are left.
 fn keep_first(pieces: &mut VecDeque<Bytes>, len: usize, n: usize) -> usize
     requires { len ≡ length (concat pieces.old.items) }
     ensures kept { concat pieces.new.items ≡ take n (concat pieces.old.items) }
@@ -159,7 +159,7 @@ fn keep_first(pieces: &mut VecDeque<Bytes>, len: usize, n: usize) -> usize
     left
 }
 
-/// The last piece goes, or so much of it that `n` bytes stay; says how many bytes stay.
+/// Removes the last piece, or as much of it that `n` bytes stay. Returns how many bytes stay.
 fn drop_last(pieces: &mut VecDeque<Bytes>, len: usize, n: usize) -> usize
     requires counted { len ≡ length (concat pieces.old.items) }
     requires more { n < len }
@@ -180,7 +180,7 @@ fn drop_last(pieces: &mut VecDeque<Bytes>, len: usize, n: usize) -> usize
     before
 }
 
-/// The first `n` bytes of pieces go.
+/// Removes the first `n` bytes of the pieces.
 fn pass_over(pieces: &mut VecDeque<Bytes>, n: usize)
     requires { n ≤ length (concat pieces.old.items) }
     ensures { concat pieces.new.items ≡ drop n (concat pieces.old.items) }
@@ -191,7 +191,8 @@ fn pass_over(pieces: &mut VecDeque<Bytes>, n: usize)
     }
 }
 
-/// The first piece goes, or the first `n` bytes of it; says how many of `n` bytes are still to go.
+/// Removes the first piece, or its first `n` bytes. Returns how many of `n` bytes are still to be
+/// removed.
 fn drop_first(pieces: &mut VecDeque<Bytes>, n: usize) -> usize
     requires within { n ≤ length (concat pieces.old.items) }
     requires some { 0 < n }
@@ -211,7 +212,7 @@ fn drop_first(pieces: &mut VecDeque<Bytes>, n: usize) -> usize
     n - piece.len()
 }
 
-/// Puts a copy of the first `n` bytes of pieces behind others.
+/// Appends a copy of the first `n` bytes of the pieces to `to`.
 fn copy_first(pieces: &VecDeque<Bytes>, n: usize, to: &mut Vec<u8>) -> Result<(), AllocError>
     requires { n ≤ length (concat pieces.now.items) }
     ensures { OnOk result (to.new.items ≡ to.old.items ++ take n (concat pieces.now.items)) }

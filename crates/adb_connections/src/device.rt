@@ -5,15 +5,15 @@ use adb_outside::{Got, Wrote};
 /// Whether a device is plugged in.
 #[derive(Clone, Copy, Debug, PartialEq, Eq, Drop)]
 pub enum Plug {
-    /// It is: bytes may be read.
+    /// The device is plugged in: bytes can be read.
     Here,
-    /// It will not come.
+    /// The device will not come.
     Never,
-    /// That could not be found out.
+    /// The call failed to find out.
     Failed,
 }
 
-/// What a device sends.
+/// The reading half of a device's link.
 pub trait DeviceIn: Drop {
     ghost use Rattle.std.specs.Prelude.{◌≡◌, ◌<◌, ℕ, List, Option, length};
     ghost use Rattle.adb_outside.specs.Outside.{Counts, TellsOneMore};
@@ -21,20 +21,20 @@ pub trait DeviceIn: Drop {
     ghost use Rattle.adb_connections.specs.Device.{is_failed_plug};
     ghost use Rattle.adb_connections.specs.declared.device.Plug.{Plug};
 
-    /// How many of its calls failed. A count at its last value counts as having risen.
+    /// The number of calls that failed. A count at its largest value counts as having risen.
     ghost faults: { Self → ℕ };
 
-    /// The bytes that are still to come, where the device tells them.
+    /// The bytes that are still to come, if the device shows them.
     ghost left: { Self → Option (List ℕ) };
 
-    /// The answers of `plug` in order, where the device tells them.
+    /// The answers of `plug` in order, if the device shows them.
     ghost plugs: { Self → Option (List Plug) };
 
-    /// It never fails.
+    /// No call fails.
     ghost steady: { Self → Type 0 };
 
-    /// Waits until the device is plugged in or will not come. The count of faults rises at `Failed`,
-    /// and stands at every other answer.
+    /// Waits until the device is plugged in, or is known never to come. The count of faults rises
+    /// at `Failed` and is unchanged at every other answer.
     fn plug(&mut self) -> Plug
         ensures plugs { TellsOneMore (plugs self.old) result (plugs self.new) }
         ensures told { left self.new ≡ left self.old }
@@ -49,22 +49,22 @@ pub trait DeviceIn: Drop {
         ensures plugs { plugs self.new ≡ plugs self.old };
 }
 
-/// What a device is sent.
+/// The writing half of a device's link.
 pub trait DeviceOut: Drop {
     ghost use Rattle.std.specs.Prelude.{◌≡◌, ◌<◌, ◌++◌, ℕ, List, Option, Bool, true, false, length};
     ghost use Rattle.adb_outside.specs.Outside.{Counts};
     ghost use Rattle.adb_outside.specs.Sink.{FitsPiece, TellsWrite, is_failed_write};
 
-    /// How many of its writes failed. A count at its last value counts as having risen.
+    /// The number of writes that failed. A count at its largest value counts as having risen.
     ghost faults: { Self → ℕ };
 
-    /// The bytes that went out, where the device tells them.
+    /// The bytes that went out, if the device shows them.
     ghost written: { Self → Option (List ℕ) };
 
-    /// Whether it was unplugged.
+    /// Whether the device was unplugged.
     ghost closed: { Self → Bool };
 
-    /// It never fails.
+    /// No write fails.
     ghost steady: { Self → Type 0 };
 
     /// Writes as a `Sink` does.
@@ -75,8 +75,8 @@ pub trait DeviceOut: Drop {
         ensures counts { Counts steady faults self.old self.new (is_failed_write result) }
         ensures closed { closed self.new ≡ closed self.old };
 
-    /// Writes a piece that lies in two parts, one behind the other, of which either may be empty. The
-    /// trait's own body makes a write of each part that is not.
+    /// Writes a piece that consists of two consecutive parts, of which either may be empty. The
+    /// default body makes one write for each part that is not empty.
     fn write_both(&mut self, start: &[u8], rest: &[u8]) -> Wrote
         requires { 0 < length (start.now ++ rest.now) }
         ensures fits { FitsPiece (start.now ++ rest.now) result }

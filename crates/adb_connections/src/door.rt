@@ -1,17 +1,17 @@
-//! Where clients come in, and what says that no more shall.
+//! The door where clients come in, and the bell that closes it.
 
 use crate::port::{PortIn, PortOut};
 
-/// What a door answers.
+/// The answer of a door.
 #[derive(Drop)]
 pub enum Came<I: Drop, O: Drop> {
     /// A client, by the two halves of its connection.
     Port(I, O),
     /// A connection to the port of a forward, which is not 0.
     Forward(u16, I, O),
-    /// Nobody more comes.
+    /// No more connections come.
     Closed,
-    /// No connection could be had.
+    /// The connection failed.
     Failed,
 }
 
@@ -24,7 +24,7 @@ pub enum Arrival {
     Failed,
 }
 
-/// Where clients come in.
+/// A door where clients come in.
 pub trait Door: Drop {
     ghost use Rattle.std.specs.Prelude.{ℕ, List, Option};
     ghost use Rattle.adb_outside.specs.Outside.{Counts, TellsOneMore};
@@ -35,21 +35,21 @@ pub trait Door: Drop {
 
     type Out: PortOut + Send + Drop + 'static;
 
-    /// How many of its calls failed. A count at its last value counts as having risen.
+    /// The number of calls that failed. A count at its largest value counts as having risen.
     ghost faults: { Self → ℕ };
 
-    /// The kinds of its answers in order, where the door tells them.
+    /// The kinds of the answers in order, if the door shows them.
     ghost came: { Self → Option (List Arrival) };
 
-    /// It never answers `Closed`.
+    /// The door never answers `Closed`.
     ghost lasting: { Self → Type 0 };
 
-    /// It never fails.
+    /// No call fails.
     ghost steady: { Self → Type 0 };
 
-    /// Waits for the next connection. `Closed` comes after the bell of this door rang, or where a
-    /// door in memory has no more connections; no clause ties a bell to its door. The count of faults
-    /// rises at `Failed`, and stands at every other answer.
+    /// Waits for the next connection. Returns `Closed` after the bell of this door was rung, or if
+    /// a door in memory has no more connections; no clause ties a bell to its door. The count of
+    /// faults rises at `Failed` and is unchanged at every other answer.
     fn accept(&mut self) -> Came<Self::In, Self::Out>
         ensures fits { FitsCame result }
         ensures told { TellsOneMore (came self.old) (arrival result) (came self.new) }
@@ -57,17 +57,17 @@ pub trait Door: Drop {
         ensures counts { Counts steady faults self.old self.new (is_failed_came result) };
 }
 
-/// Tells a door that nobody more shall come in. Any thread may ring it.
+/// A handle that asks a door to admit no more connections. Any thread may ring it.
 pub trait Bell: Send + Sync + Drop + 'static {
     fn ring(&self);
 }
 
-/// The bell of a door that closes by itself: nothing comes of ringing it.
+/// The bell of a door that closes by itself. Ringing it has no effect.
 #[derive(Clone, Copy, Drop)]
 pub struct SilentBell {}
 
 impl SilentBell {
-    /// It takes no memory.
+    /// Returns a bell. Allocates nothing.
     pub fn new() -> SilentBell {
         SilentBell {}
     }

@@ -1,6 +1,6 @@
-//! Where a test holds a worker.
+//! Gates at which a test can hold a worker.
 
-/// The place at which a worker passes a gate. Its number is what the gate is told.
+/// The place at which a worker passes a gate. The gate is passed its number.
 #[derive(Clone, Copy, Debug, PartialEq, Eq, Drop)]
 pub enum Place {
     /// A client's reader, before it hands in a piece.
@@ -13,7 +13,7 @@ pub enum Place {
     DeviceWriter = 4,
 }
 
-/// Where a worker may be held.
+/// A gate that may hold a worker.
 pub trait Gate {
     /// Passes at the place of this number, for the client or link of this number.
     fn pass(&self, place: u8, number: u32);
@@ -24,7 +24,7 @@ pub trait Gate {
 pub struct OpenGate {}
 
 impl OpenGate {
-    /// It takes no memory.
+    /// Returns a gate. Allocates nothing.
     pub fn new() -> OpenGate {
         OpenGate {}
     }

@@ -1,5 +1,5 @@
-//! What comes from outside by connections: clients and devices by their two halves, the door where
-//! clients come in, the gates that hold workers, and their fakes in memory.
+//! Connections from outside: clients and devices by their two halves, the door where clients come
+//! in, the gates that hold workers, and their fakes in memory.
 #![tactic(auto)]
 
 mod device;

@@ -1,4 +1,4 @@
-//! A device in memory, which fails where a test wants it.
+//! A device in memory that fails at the calls that a test chooses.
 
 ghost use Rattle.std.specs.Prelude.{◌≡◌, ◌<◌, ◌≤◌, true, false, [], length, Some, option_map};
 ghost use Rattle.adb_outside.specs.Outside.{Counts, TellsOneMore, counted};
@@ -15,8 +15,8 @@ use adb_outside::{Answers, Got, MemorySource, Source, Text, Wrote};
 use std::alloc::Global;
 use std::marker::Model;
 
-/// A device that is plugged in as a test wants it, and sends the bytes of a text. It tells what is
-/// left, and its answers of `plug` as long as it finds memory for them.
+/// A device that is plugged in as a test chooses and sends the bytes of a text. It shows the bytes
+/// that are left, and its answers of `plug` as long as it can allocate memory for them.
 #[derive(Drop)]
 pub struct MemoryDeviceIn {
     plug: Plug,
@@ -37,8 +37,9 @@ impl Model for MemoryDeviceIn {
 }
 
 impl MemoryDeviceIn {
-    /// A device that answers every `plug` by this one, sends at most `piece` bytes a call, and fails
-    /// at the reads whose numbers, counted from 1, are in `failing`. It takes no memory.
+    /// Returns a device that answers every `plug` with the argument `plug`, sends at most `piece`
+    /// bytes a call, and fails at the reads listed in `failing` by number, counted from 1.
+    /// Allocates nothing.
     pub fn new(
         alloc: Global,
         plug: Plug,
@@ -63,7 +64,7 @@ impl MemoryDeviceIn {
         }
     }
 
-    /// Its answers of `plug`, as long as it finds memory for them.
+    /// Returns the answers of `plug`; `None` if an allocation for them has failed.
     pub fn plugs(&self) -> Option<&[Plug]>
         ensures { option_map (λ list. list.now) result ≡ self.now.plugs }
     {
@@ -83,7 +84,7 @@ impl DeviceIn for MemoryDeviceIn {
 
     ghost steady = { IsSteadyDevice };
 
-    /// It answers as it was made.
+    /// Returns the answer that the device was made with.
     fn plug(&mut self) -> Plug
         ensures plugs { TellsOneMore self.old.plugs result self.new.plugs }
         ensures told { Some self.new.source.coming ≡ Some self.old.source.coming }
@@ -102,7 +103,7 @@ impl DeviceIn for MemoryDeviceIn {
         self.plug
     }
 
-    /// It fails at the calls whose numbers are in the list, and gives as much as it may.
+    /// Fails at the listed calls. Otherwise gives as many bytes as allowed.
     fn read(&mut self, into: &mut [u8]) -> Got
         requires { 0 < length into.old }
         ensures fits { FitsBuffer into.old result }
@@ -118,8 +119,8 @@ impl DeviceIn for MemoryDeviceIn {
     }
 }
 
-/// A device that keeps the bytes that it is sent, and whether it was unplugged. It tells them. A
-/// write that finds no memory is a failed write, so it is never steady.
+/// A device that keeps the bytes that it is sent, and whether it was unplugged, and shows both. A
+/// write for which an allocation fails is a failed write, so `steady` never holds.
 #[derive(Drop)]
 pub struct MemoryDeviceOut {
     port: MemoryOut,
@@ -134,9 +135,9 @@ impl Model for MemoryDeviceOut {
 }
 
 impl MemoryDeviceOut {
-    /// A device to which writes fail at the calls whose numbers, counted from 1, are in `failing`; a
-    /// failing write takes nothing. Each part of a piece in two parts is a call, unless it is empty.
-    /// It takes no memory.
+    /// Returns a device that fails at the writes listed in `failing` by number, counted from 1; a
+    /// failed write takes nothing. Each part of a piece in two parts is a write of its own, unless
+    /// it is empty. Allocates nothing.
     pub fn new(alloc: Global, failing: Vec<u64>) -> MemoryDeviceOut
         ensures sink { result.sink
             ≡ record { out = []; failing = failing.items; calls = 0; faults = 0 } }
@@ -147,14 +148,14 @@ impl MemoryDeviceOut {
         }
     }
 
-    /// The bytes that were written.
+    /// Returns the bytes that were written.
     pub fn bytes(&self) -> &[u8]
         ensures { result.now ≡ self.now.sink.out }
     {
         self.port.bytes()
     }
 
-    /// Whether it was unplugged.
+    /// Returns whether the device was unplugged.
     pub fn is_unplugged(&self) -> bool
         ensures { result ≡ self.now.closed }
     {
@@ -173,8 +174,7 @@ impl DeviceOut for MemoryDeviceOut {
 
     ghost steady = { λ device. ⊥ };
 
-    /// It fails at the calls whose numbers are in the list, and where it finds no memory. A write
-    /// that fails takes nothing.
+    /// Fails at the listed calls, and if an allocation fails. A failed write takes nothing.
     fn write(&mut self, piece: &[u8]) -> Wrote
         requires { 0 < length piece.now }
         ensures fits { FitsPiece piece.now result }

@@ -1,4 +1,4 @@
-//! A port in memory, which fails where a test wants it.
+//! A port in memory that fails at the calls that a test chooses.
 
 ghost use Rattle.std.specs.Prelude.{◌≡◌, ◌<◌, ◌≤◌, true, false, [], length, Some};
 ghost use Rattle.adb_outside.specs.Outside.{Counts};
@@ -11,7 +11,7 @@ use adb_outside::{Got, MemorySink, MemorySource, Sink, Source, Text, Wrote};
 use std::alloc::Global;
 use std::marker::Model;
 
-/// A client that sends the bytes of a text. It tells what is left.
+/// A client that sends the bytes of a text. It shows the bytes that are left.
 #[derive(Drop)]
 pub struct MemoryIn {
     source: MemorySource,
@@ -26,8 +26,8 @@ impl Model for MemoryIn {
 }
 
 impl MemoryIn {
-    /// A client that sends at most `piece` bytes a call, and fails at the calls whose numbers,
-    /// counted from 1, are in `failing`. It takes no memory.
+    /// Returns a client that sends at most `piece` bytes a call and fails at the calls listed in
+    /// `failing` by number, counted from 1. Allocates nothing.
     pub fn new(bytes: Text, piece: usize, failing: Vec<u64>) -> MemoryIn
         requires { 1 ≤ piece }
         ensures { result ≡ record {
@@ -53,7 +53,7 @@ impl PortIn for MemoryIn {
 
     ghost steady = { λ port. port.failing ≡ [] };
 
-    /// It fails at the calls whose numbers are in the list, and gives as much as it may.
+    /// Fails at the listed calls. Otherwise gives as many bytes as allowed.
     fn read(&mut self, into: &mut [u8]) -> Got
         requires { 0 < length into.old }
         ensures fits { FitsBuffer into.old result }
@@ -66,8 +66,8 @@ impl PortIn for MemoryIn {
     }
 }
 
-/// A client that keeps the bytes that it is sent, and whether it was closed. It tells them. A write
-/// that finds no memory is a failed write, so it is never steady.
+/// A client that keeps the bytes that it is sent, and whether it was closed, and shows both. A
+/// write for which an allocation fails is a failed write, so `steady` never holds.
 #[derive(Drop)]
 pub struct MemoryOut {
     sink: MemorySink,
@@ -83,9 +83,9 @@ impl Model for MemoryOut {
 }
 
 impl MemoryOut {
-    /// A client to which writes fail at the calls whose numbers, counted from 1, are in `failing`; a
-    /// failing write takes nothing. Each part of a piece in two parts is a call, unless it is empty.
-    /// It takes no memory.
+    /// Returns a client that fails at the writes listed in `failing` by number, counted from 1; a
+    /// failed write takes nothing. Each part of a piece in two parts is a write of its own, unless
+    /// it is empty. Allocates nothing.
     pub fn new(alloc: Global, failing: Vec<u64>) -> MemoryOut
         ensures sink { result.sink
             ≡ record { out = []; failing = failing.items; calls = 0; faults = 0 } }
@@ -97,14 +97,14 @@ impl MemoryOut {
         }
     }
 
-    /// The bytes that were written.
+    /// Returns the bytes that were written.
     pub fn bytes(&self) -> &[u8]
         ensures { result.now ≡ self.now.sink.out }
     {
         self.sink.bytes()
     }
 
-    /// Whether it was closed.
+    /// Returns whether the client was closed.
     pub fn is_closed(&self) -> bool
         ensures { result ≡ self.now.closed }
     {
@@ -123,8 +123,8 @@ impl PortOut for MemoryOut {
 
     ghost steady = { λ port. ⊥ };
 
-    /// It fails at the calls whose numbers are in the list, and where it finds no memory. A write
-    /// that fails takes nothing. A port that was closed is written to as before.
+    /// Fails at the listed calls, and if an allocation fails. A failed write takes nothing. A
+    /// closed port still takes writes as before.
     fn write(&mut self, piece: &[u8]) -> Wrote
         requires { 0 < length piece.now }
         ensures fits { FitsPiece piece.now result }

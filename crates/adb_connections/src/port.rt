@@ -2,19 +2,19 @@
 
 use adb_outside::{Got, Wrote};
 
-/// What a client sends.
+/// The reading half of a client's connection.
 pub trait PortIn {
     ghost use Rattle.std.specs.Prelude.{◌<◌, ℕ, List, Option, length};
     ghost use Rattle.adb_outside.specs.Outside.{Counts};
     ghost use Rattle.adb_outside.specs.Source.{FitsBuffer, TellsRead, is_failed_read};
 
-    /// How many of its reads failed. A count at its last value counts as having risen.
+    /// The number of reads that failed. A count at its largest value counts as having risen.
     ghost faults: { Self → ℕ };
 
-    /// The bytes that are still to come, where the port tells them.
+    /// The bytes that are still to come, if the port shows them.
     ghost left: { Self → Option (List ℕ) };
 
-    /// It never fails.
+    /// No read fails.
     ghost steady: { Self → Type 0 };
 
     /// Reads as a `Source` does.
@@ -25,22 +25,22 @@ pub trait PortIn {
         ensures counts { Counts steady faults self.old self.new (is_failed_read result) };
 }
 
-/// What a client is sent.
+/// The writing half of a client's connection.
 pub trait PortOut {
     ghost use Rattle.std.specs.Prelude.{◌≡◌, ◌<◌, ◌++◌, ℕ, List, Option, Bool, true, false, length};
     ghost use Rattle.adb_outside.specs.Outside.{Counts};
     ghost use Rattle.adb_outside.specs.Sink.{FitsPiece, TellsWrite, is_failed_write};
 
-    /// How many of its writes failed. A count at its last value counts as having risen.
+    /// The number of writes that failed. A count at its largest value counts as having risen.
     ghost faults: { Self → ℕ };
 
-    /// The bytes that went out, where the port tells them.
+    /// The bytes that went out, if the port shows them.
     ghost written: { Self → Option (List ℕ) };
 
-    /// Whether it was closed.
+    /// Whether the connection was closed.
     ghost closed: { Self → Bool };
 
-    /// It never fails.
+    /// No write fails.
     ghost steady: { Self → Type 0 };
 
     /// Writes as a `Sink` does.
@@ -51,8 +51,8 @@ pub trait PortOut {
         ensures counts { Counts steady faults self.old self.new (is_failed_write result) }
         ensures closed { closed self.new ≡ closed self.old };
 
-    /// Writes a piece that lies in two parts, one behind the other, of which either may be empty. The
-    /// trait's own body makes a write of each part that is not.
+    /// Writes a piece that consists of two consecutive parts, of which either may be empty. The
+    /// default body makes one write for each part that is not empty.
     fn write_both(&mut self, start: &[u8], rest: &[u8]) -> Wrote
         requires { 0 < length (start.now ++ rest.now) }
         ensures fits { FitsPiece (start.now ++ rest.now) result }
@@ -76,8 +76,8 @@ pub trait PortOut {
         }
     }
 
-    /// Closes the connection. It is meant to make the half that reads answer `End` or `Failed`,
-    /// which no clause says.
+    /// Closes the connection. The reading half is expected to answer `End` or `Failed` from then
+    /// on, but no clause says so.
     fn close(&mut self)
         ensures closed { closed self.new ≡ true }
         ensures told { written self.new ≡ written self.old }

@@ -18,9 +18,9 @@ use adb_files::Files;
 use adb_wire::{Deframer, WireError};
 use std::alloc::{AllocError, Global};
 
-/// A model of a device in the process, over packets (protocol.txt): its services are `echo:`,
-/// `sync:`, `shell:` and `shell,<words>:`. What comes from the host is fed, in pieces of any
-/// length, and what goes to it is taken.
+/// An in-process model of a device, over packets (protocol.txt). Its services are `echo:`, `sync:`,
+/// `shell:` and `shell,<words>:`. The caller feeds it the bytes of the host, in pieces of any
+/// length, and takes the bytes to the host.
 #[derive(Drop)]
 pub struct Daemon {
     deframer: Deframer,
@@ -29,8 +29,8 @@ pub struct Daemon {
 }
 
 impl Daemon {
-    /// A device with these files that takes payloads of at most `maxdata` bytes, and credit in
-    /// bytes where its host does. Its own CNXN is due.
+    /// Returns a device with these files that accepts payloads of at most `maxdata` bytes, and
+    /// credit in bytes if its host does. Its own CNXN is queued. Fails if an allocation fails.
     pub fn new(alloc: Global, files: Files, maxdata: u32) -> Result<Daemon, AllocError>
         requires least { MIN_MAXDATA ≤ maxdata }
         requires most { maxdata ≤ MAX_PAYLOAD }
@@ -39,7 +39,7 @@ impl Daemon {
         begin(alloc, files, maxdata, true)
     }
 
-    /// The same with one write each way on every link.
+    /// Returns the same with one write each way on every link. Fails if an allocation fails.
     pub fn plain(alloc: Global, files: Files, maxdata: u32) -> Result<Daemon, AllocError>
         requires least { MIN_MAXDATA ≤ maxdata }
         requires most { maxdata ≤ MAX_PAYLOAD }
@@ -48,15 +48,16 @@ impl Daemon {
         begin(alloc, files, maxdata, false)
     }
 
-    /// Takes the next piece of what the host sends. Each whole packet is treated in order.
-    /// `BadCnxn` comes exactly where one of the packets is a CNXN that is refused; else `Broken`
-    /// exactly where the bytes have a fault, which is that of `Deframer`. Both stay, and nothing
-    /// behind them is treated.
+    /// Takes the next piece of the host's bytes. Each whole packet is handled in order.
     ///
+    /// - `BadCnxn`: returned exactly if one of the packets is a CNXN that is refused. The error
+    ///   persists, and nothing after it is handled.
+    /// - `Broken`: otherwise, exactly if the bytes have a fault, which is that of `Deframer`. The
+    ///   error persists, and nothing after the fault is handled.
     /// - `OutOfMemory`: an allocation failed. The device is spent: every later call returns
-    ///   `OutOfMemory` and changes nothing. What the device owes is that of a prefix of the packets.
-    ///   The files are those after all packets of earlier pieces and a prefix of the new ones, or
-    ///   after a prefix of what the next packet asks for.
+    ///   `OutOfMemory` and changes nothing. Its output is that of a prefix of the packets. The
+    ///   files are those after all packets of earlier pieces and a prefix of the new ones, or after
+    ///   a prefix of what the next packet asks for.
     pub fn feed(&mut self, piece: &[u8]) -> Result<(), DaemonError>
         ensures whole { result ≢ Err DaemonError.OutOfMemory → (setting : Setting)
             (fed taken : List ℕ) → HasDone setting fed taken self.old
@@ -80,14 +81,14 @@ impl Daemon {
         result
     }
 
-    /// The bytes that it owes to the host and that were not taken yet.
+    /// Returns the bytes for the host that were not taken yet.
     pub fn out(&self) -> &[u8]
         ensures { result.now ≡ owed self.now }
     {
         self.machine.services.due.as_slice()
     }
 
-    /// The first `n` bytes of what it owes were taken. It takes no memory.
+    /// Removes the first `n` bytes for the host, which were taken. Needs no memory.
     pub fn taken(&mut self, n: usize)
         requires { n ≤ length (owed self.old) }
         ensures done { (setting : Setting) (fed gone : List ℕ)
@@ -104,7 +105,7 @@ impl Daemon {
         self.machine.services.taken(n);
     }
 
-    /// The files of the device.
+    /// Returns the files of the device.
     pub fn files(&self) -> &Files
         ensures { result.now ≡ files_of self.now }
     {
@@ -112,7 +113,7 @@ impl Daemon {
     }
 }
 
-/// A device that was fed nothing.
+/// Returns a device that was fed nothing.
 fn begin(alloc: Global, files: Files, maxdata: u32, credit: bool) -> Result<Daemon, AllocError>
     ensures { IfOk result (λ daemon. HasDone (setting_of maxdata credit files) [] [] daemon) }
 {
@@ -123,14 +124,14 @@ fn begin(alloc: Global, files: Files, maxdata: u32, credit: bool) -> Result<Daem
     })
 }
 
-/// Whether memory ran out.
+/// Returns whether an allocation failed.
 fn ran_out(answer: &Result<(), DaemonError>) -> bool
     ensures { result ≡ ran_out answer.now }
 {
     matches!(answer, Err(DaemonError::OutOfMemory))
 }
 
-/// Takes the next piece where memory did not run out before.
+/// Takes the next piece, if no allocation has failed before.
 fn feed_open(
     deframer: &mut Deframer,
     machine: &mut Machine,
@@ -155,7 +156,7 @@ fn feed_open(
     verdict(machine.refused, fault)
 }
 
-/// Reads the packets of a piece. Gives the fault of all bytes, where they have one.
+/// Reads the packets of a piece. Returns the fault of all bytes, if they have one.
 fn read_piece(deframer: &mut Deframer, piece: &[u8]) -> Result<Option<WireError>, AllocError>
     ensures fault { IfOk result (λ fault. fault ≡ option_map error_of deframer.new.fault) }
     ensures taken { OnOk result (Takes deframer.old piece.now deframer.new) }
@@ -168,7 +169,7 @@ fn read_piece(deframer: &mut Deframer, piece: &[u8]) -> Result<Option<WireError>
     }
 }
 
-/// What feeding answers: the refusal of a CNXN, or else the fault of the bytes.
+/// Returns the result of feeding: the refusal of a CNXN, or otherwise the fault of the bytes.
 fn verdict(refused: bool, fault: Option<WireError>) -> Result<(), DaemonError>
     ensures answer { (read : Option PacketFault) → fault ≡ option_map error_of read
         → result ≡ verdict refused read }
@@ -183,7 +184,7 @@ fn verdict(refused: bool, fault: Option<WireError>) -> Result<(), DaemonError>
     }
 }
 
-/// Treats all packets that are there.
+/// Handles all packets that are there.
 fn treat_all(deframer: &mut Deframer, machine: &mut Machine) -> Result<(), AllocError>
     ensures ok { OnOk result (Treats deframer.old machine.old deframer.new machine.new) }
     ensures front { OnErr result ((files : List Entry) (d : Device) (taken : List ℕ)

@@ -1,4 +1,4 @@
-//! Why a model device took no more.
+//! The errors of a model device.
 
 ghost use Rattle.std.specs.Prelude.{◌≡◌};
 ghost use Rattle.adb_daemon.specs.declared.error.DaemonError.TheVariants.{OutOfMemory};
@@ -6,14 +6,14 @@ ghost use Rattle.adb_daemon.specs.declared.error.DaemonError.TheVariants.{OutOfM
 use adb_wire::WireError;
 use std::alloc::AllocError;
 
-/// Why a piece was not taken, or not to its end.
+/// The reason why a piece was not taken, or not to its end.
 #[derive(Clone, Copy, Debug, PartialEq, Eq, Drop)]
 pub enum DaemonError {
-    /// Memory ran out. The device is spent.
+    /// An allocation failed. The device is spent.
     OutOfMemory,
-    /// A packet is wrong. What came before it was treated.
+    /// A packet is wrong. The packets before it were handled.
     Broken(WireError),
-    /// The host said who it is in a way that is refused. What came before it was treated.
+    /// The host's CNXN is refused. The packets before it were handled.
     BadCnxn,
 }
 

@@ -1,5 +1,5 @@
-//! What holds of a model device behind any packets of its host. Each function does nothing: its
-//! contract is the law.
+//! Laws of a model device after any packets of its host. Each function does nothing: its contract
+//! is the law.
 
 ghost use Rattle.std.specs.Prelude.{◌≡◌, ◌<◌, ◌≤◌, ◌+◌, ◌++◌, ℕ, List, length, Some, Err};
 ghost use Rattle.adb_outside.specs.Tables.{at};
@@ -16,35 +16,35 @@ ghost use Rattle.adb_daemon.specs.Allowed.{let_out};
 ghost use Rattle.adb_daemon.specs.Device.{Setting, device_behind};
 ghost use Rattle.adb_daemon.specs.Streams.{Writes, EndsAtClose, IsAcked, HasSettled, over_at, ExactAt, IsAckedInTime};
 
-/// The joined payloads that a stream wrote are a front of its service's answer to the payloads that
-/// came, and where the device closed it all of the answer. On a plain link it made at most as many
-/// writes as it took OKAYs, its OPEN among them; where the link has credit in bytes it wrote at
-/// most the sum of their credit words.
+/// States that the joined payloads that a stream wrote are a prefix of its service's answer to the
+/// payloads that came, and all of the answer if the device closed the stream. On a plain link it
+/// made at most as many writes as it took OKAYs, including that of its OPEN; if the link has credit
+/// in bytes, it wrote at most the sum of their credit words.
 pub fn streams_write_their_answers()
     ensures { (setting : Setting) (packets : List Packet) (own : ℕ) → 0 < own
         → let s = (device_behind setting packets).serving
         in Writes own s.made s.acks (at own s.rows) (over_at own s.ended) }
 {}
 
-/// The CLSE that the device sends of a stream stands behind all its writes and OKAYs, and it is the
-/// only one: nothing of the stream becomes due behind it.
+/// States that the CLSE that the device sends for a stream comes after all its writes and OKAYs,
+/// and is the only one: nothing of the stream is queued after it.
 #[tactic(auto, using(crate::proofs::Lasts::closes_last))]
 pub fn closes_come_last()
     ensures { (setting : Setting) (packets : List Packet) (own : ℕ) → 0 < own
         → EndsAtClose own (device_behind setting packets).serving.made }
 {}
 
-/// The OPEN of a stream and each write that came for it were acknowledged by one OKAY, in order,
-/// and nothing else was; where the link has credit in bytes the first holds the whole window, and
-/// each other one the number of bytes, and there is none where a write had none.
+/// States that the OPEN of a stream and each write that came for it were acknowledged by one OKAY
+/// each, in order, and nothing else was. If the link has credit in bytes, the first OKAY holds the
+/// whole window, each other one the number of bytes, and an empty write has none.
 pub fn writes_are_acknowledged()
     ensures { (setting : Setting) (packets : List Packet) (own : ℕ)
         → let s = (device_behind setting packets).serving
         in IsAcked own s.made (at own s.rows) (over_at own s.ended) }
 {}
 
-/// A live stream has nothing to write that its window lets go, and is not done: where its service
-/// has ended, all is written and nothing is outstanding, it was closed.
+/// States that a live stream has nothing to write that its window allows, and is not done: once its
+/// service has ended, and all is written with nothing outstanding, a stream is closed.
 pub fn streams_are_settled()
     ensures { (setting : Setting) (packets : List Packet) (link : Link) (own : ℕ) (row : Row)
         → (device_behind setting packets).link ≡ Some link
@@ -52,11 +52,11 @@ pub fn streams_are_settled()
         → HasSettled link.most row }
 {}
 
-/// A device holds no more for its host than that let out, whether it reads or not: all that was
-/// taken and is out is at most the device's own CNXN and what each packet of the host lets become
-/// due. An OPEN and a WRTE are answered; an OPEN and an OKAY let their stream write, on a plain
-/// link one write and else their credit; and each of the three may end its stream. It is so too
-/// after want of memory.
+/// States that a device holds no more for its host than the host's packets allow, whether the host
+/// reads or not: the bytes that were taken and those still queued are at most the device's own CNXN
+/// and the bytes that each packet of the host allows. An OPEN and a WRTE are answered; an OPEN and
+/// an OKAY let their stream write, on a plain link one write and otherwise their credit; and each
+/// of the three may end its stream. This holds also after an allocation failure.
 pub fn what_is_owed_was_let_out()
     ensures due { (setting : Setting) (packets : List Packet)
         → length (sent_bytes (device_behind setting packets).serving.made)
@@ -69,15 +69,15 @@ pub fn what_is_owed_was_let_out()
         → length taken + length (owed daemon) ≤ let_out setting (parts_of fed).packets }
 {}
 
-/// The refusal of a CNXN and a fault of the bytes stay, whatever follows.
+/// States that the refusal of a CNXN and a fault of the bytes persist, whatever follows.
 pub fn refusals_stay()
     ensures { (setting : Setting) (fed more : List ℕ) (error : DaemonError) → IsBytes fed
         → IsBytes more → answer_to setting fed ≡ Err error
         → answer_to setting (fed ++ more) ≡ Err error }
 {}
 
-/// A live stream on a plain link to which no OKAY came before the write that it answers may write
-/// as much as it took OKAYs for.
+/// States that a live stream on a plain link, to which no OKAY came before the write that it
+/// answers, may write as much as it took OKAYs for.
 pub fn windows_are_exact()
     ensures { (setting : Setting) (packets : List Packet) (own : ℕ) → 0 < own
         → IsAckedInTime setting own packets → let s = (device_behind setting packets).serving

@@ -1,5 +1,8 @@
 //! A model of a device, over packets (protocol.txt): its link to the host, its streams, and their
 //! services.
+//!
+//! The caller feeds the bytes of the host to `Daemon::feed`, sends the bytes of `out` to the host,
+//! and reports with `taken` how many it sent.
 #![tactic(auto)]
 
 mod daemon;

@@ -1,4 +1,4 @@
-//! What each packet of the host makes of the device.
+//! The effect of each packet of the host on the device.
 
 ghost use Rattle.std.specs.Prelude.{◌≡◌, ◌≤◌, [], ℕ, List, length, Some, None, IfOk, OnOk, OnErr};
 ghost use Rattle.adb_daemon.specs.Device.{Device, first_device, identity_text, own_cnxn, step, treated, linked_to};
@@ -20,7 +20,8 @@ use bytes::Bytes;
 use std::alloc::{AllocError, Global};
 use std::marker::Model;
 
-/// The link to the host, once that said who it is. No write on it is longer than a payload may be.
+/// The link to the host, once the host sent its identity. No write on it is longer than a payload
+/// may be.
 #[derive(Drop)]
 pub struct Linked {
     link: Option<Link>,
@@ -39,14 +40,14 @@ impl Model for Linked {
 }
 
 impl Linked {
-    /// No link yet.
+    /// Returns the state without a link.
     fn none() -> Linked
         ensures { result ≡ None }
     {
         Linked { link: None }
     }
 
-    /// The link of a CNXN.
+    /// Returns the state with the link of a CNXN.
     fn to(link: Link) -> Linked
         requires { link.most ≤ MAX_PAYLOAD }
         ensures { result ≡ Some link }
@@ -54,7 +55,7 @@ impl Linked {
         Linked { link: Some(link) }
     }
 
-    /// The link.
+    /// Returns the link.
     fn get(&self) -> Option<Link>
         ensures link { result ≡ self.now }
         ensures fits { Fits result }
@@ -63,22 +64,22 @@ impl Linked {
     }
 }
 
-/// The device behind the packets of its host.
+/// The state of the device after the packets of its host.
 #[derive(Drop)]
 pub struct Machine {
     alloc: Global,
-    /// The most bytes of a payload that it takes.
+    /// The maximum number of bytes of a payload that the device accepts.
     most: u32,
-    /// Whether it takes credit in bytes.
+    /// Whether the device accepts credit in bytes.
     credit: bool,
     link: Linked,
     pub services: Services,
-    /// Whether it refused a CNXN.
+    /// Whether the device refused a CNXN.
     pub refused: bool,
 }
 
 impl Machine {
-    /// A device that owes its own CNXN.
+    /// Returns a device with its own CNXN queued.
     pub fn new(alloc: Global, files: Files, most: u32, credit: bool) -> Result<Machine, AllocError>
         ensures stands { IfOk result (λ machine.
             Stands (first_device (setting_of most credit files)) [] machine) }
@@ -100,8 +101,8 @@ impl Machine {
         })
     }
 
-    /// Treats a packet. After want of memory what is due is as before, and the files are those
-    /// behind a front of what the packet asks for.
+    /// Handles a packet. If an allocation fails, the output queue is unchanged, and the files are
+    /// those after a prefix of what the packet asks for.
     pub fn step(&mut self, packet: &Packet) -> Result<(), AllocError>
         requires { length packet.now.payload ≤ MAX_PAYLOAD }
         ensures ok { OnOk result ((files : List Entry) (d : Device) (taken : List ℕ)
@@ -123,7 +124,7 @@ impl Machine {
         result
     }
 
-    /// Treats a packet where no CNXN was refused.
+    /// Handles a packet, if no CNXN was refused.
     fn treat(&mut self, packet: &Packet) -> Result<(), AllocError>
         requires { length packet.now.payload ≤ MAX_PAYLOAD }
         ensures ok { OnOk result ((files : List Entry) (d : Device) (taken : List ℕ)
@@ -143,7 +144,7 @@ impl Machine {
         self.services.serve(self.alloc, link, packet)
     }
 
-    /// A CNXN of the host. After want of memory the files are as before.
+    /// Handles a CNXN of the host. If an allocation fails, the files are unchanged.
     fn connect(&mut self, packet: &Packet) -> Result<(), AllocError>
         ensures ok { OnOk result ((files : List Entry) (d : Device) (taken : List ℕ)
             → Stands d taken self.old → Stands
@@ -163,7 +164,7 @@ impl Machine {
     }
 }
 
-/// The device's own CNXN, as it is due from the start.
+/// Returns the device's own CNXN, which is queued from the start.
 fn first_due(alloc: Global, most: u32, credit: bool) -> Result<ByteQueue, AllocError>
     ensures { IfOk result (λ due. due.bytes ≡ bytes_of (own_cnxn (setting_of most credit []))) }
 {
@@ -178,7 +179,7 @@ fn first_due(alloc: Global, most: u32, credit: bool) -> Result<ByteQueue, AllocE
     Ok(due)
 }
 
-/// Who the device says that it is.
+/// Returns the identity of the device.
 fn identity_text(credit: bool) -> &'static [u8]
     ensures text { result.now ≡ identity_text credit }
     ensures short { length result.now ≤ MAX_PAYLOAD }

@@ -1,4 +1,4 @@
-//! The services of the device, and what each packet of the host makes of them.
+//! The services of the device, and the effect of each packet of the host on them.
 
 ghost use Rattle.std.specs.Prelude.{◌≡◌, ◌≤◌, ◌++◌, ◌⊎◌, ℕ, List, ◌<◌, length, take, drop, Some, None, IsSome, OnOk, OnErr, IfOk};
 ghost use Rattle.adb_outside.specs.Tables.{at};
@@ -23,11 +23,11 @@ use bytes::Bytes;
 use std::alloc::{AllocError, Global};
 use std::collections::BTreeMap;
 
-/// How many bytes of memory are kept where nothing is due: what a stream's credit lets become due at
-/// once, and as much again.
+/// The number of bytes of memory that are kept while the queue is empty: the bytes that a stream's
+/// credit lets be queued at once, and as many again.
 const KEPT: usize = 2 * CREDIT_WINDOW as usize;
 
-/// The live streams with their services, the files, and what is due to the host.
+/// The live streams with their services, the files, and the output queue to the host.
 #[derive(Drop)]
 pub struct Services {
     pub table: Table,
@@ -36,8 +36,8 @@ pub struct Services {
 }
 
 impl Services {
-    /// A packet of the host that speaks of a stream. After want of memory the files are those
-    /// behind a front of what it asks for.
+    /// Handles a packet of the host about a stream. If an allocation fails, the files are those
+    /// after a prefix of what it asks for.
     pub fn serve(&mut self, alloc: Global, link: Link, packet: &Packet) -> Result<(), AllocError>
         requires most { link.most ≤ MAX_PAYLOAD }
         requires payload { length packet.now.payload ≤ MAX_PAYLOAD }
@@ -60,8 +60,8 @@ impl Services {
         }
     }
 
-    /// An OPEN of the host. After want of memory the files are as before, or those that the command
-    /// leaves.
+    /// Handles an OPEN of the host. If an allocation fails, the files are unchanged, or those that
+    /// the command leaves.
     pub fn open(&mut self, alloc: Global, link: Link, packet: &Packet) -> Result<(), AllocError>
         requires { link.most ≤ MAX_PAYLOAD }
         ensures ok { OnOk result ((s : Serving) (taken : List ℕ) → Holds s taken (view_of self.old)
@@ -82,8 +82,7 @@ impl Services {
         }
     }
 
-    /// An OPEN of a service that the device knows, with a host's id that is not that of a live
-    /// stream.
+    /// Handles an OPEN of a known service, with a host's id that is not that of a live stream.
     fn open_as(
         &mut self,
         alloc: Global,
@@ -118,8 +117,8 @@ impl Services {
         self.table.add(own, stream)
     }
 
-    /// A WRTE of the host. After want of memory the files are those behind a front of the sync
-    /// requests that it makes whole.
+    /// Handles a WRTE of the host. If an allocation fails, the files are those after a prefix of
+    /// the sync requests that it completes.
     pub fn write(&mut self, alloc: Global, link: Link, packet: &Packet) -> Result<(), AllocError>
         requires most { link.most ≤ MAX_PAYLOAD }
         requires payload { length packet.now.payload ≤ MAX_PAYLOAD }
@@ -146,7 +145,7 @@ impl Services {
         Ok(())
     }
 
-    /// An OKAY of the host.
+    /// Handles an OKAY of the host.
     pub fn okay(&mut self, alloc: Global, link: Link, packet: &Packet) -> Result<(), AllocError>
         requires { link.most ≤ MAX_PAYLOAD }
         ensures ok { OnOk result ((s : Serving) (taken : List ℕ) → Holds s taken (view_of self.old)
@@ -164,7 +163,7 @@ impl Services {
         Ok(())
     }
 
-    /// A CLSE of the host. It takes no memory.
+    /// Handles a CLSE of the host. Allocates nothing.
     pub fn close(&mut self, packet: &Packet)
         ensures holds { (s : Serving) (taken : List ℕ) → Holds s taken (view_of self.old)
             → Holds (on_close packet.now s) taken (view_of self.new) }
@@ -179,7 +178,7 @@ impl Services {
         }
     }
 
-    /// All streams end, with no CLSE. It takes no memory.
+    /// Ends all streams, without a CLSE. Allocates nothing.
     pub fn clear(&mut self)
         ensures holds { (s : Serving) (taken : List ℕ) → Holds s taken (view_of self.old)
             → Holds (all_gone s) taken (view_of self.new) }
@@ -189,7 +188,7 @@ impl Services {
         self.table.clear();
     }
 
-    /// The first `n` bytes of what is due were taken. It takes no memory.
+    /// Removes the first `n` queued bytes, which were taken. Needs no memory.
     pub fn taken(&mut self, n: usize)
         requires { n ≤ length self.old.due.bytes }
         ensures holds { (s : Serving) (gone : List ℕ) → Holds s gone (view_of self.old)
@@ -202,8 +201,8 @@ impl Services {
     }
 }
 
-/// Gives back memory that only serves bytes that were taken, but for a little of it where none are
-/// left, which serves the next packets. It takes no memory.
+/// Frees memory that only holds bytes that were taken. If none are left, up to `KEPT` bytes stay
+/// for the next packets. Needs no memory.
 fn give_back(due: &mut ByteQueue)
     ensures { due.new.bytes ≡ due.old.bytes }
 {
@@ -212,7 +211,7 @@ fn give_back(due: &mut ByteQueue)
     }
 }
 
-/// How the packets of a stream are spelled on a link.
+/// Returns the parameters of a stream's packets on a link.
 fn outgoing(link: Link, own: u32) -> Outgoing
     ensures { result ≡ record { own = own; most = link.most; sums = link.sums } }
 {
@@ -223,7 +222,7 @@ fn outgoing(link: Link, own: u32) -> Outgoing
     }
 }
 
-/// The credit that an OPEN gives, where the link has credit in bytes.
+/// Returns the credit in an OPEN, if the link has credit in bytes.
 fn credit_of(link: Link, packet: &Packet) -> Option<u32>
     ensures { result ≡ credit_of link packet.now }
 {
@@ -233,7 +232,7 @@ fn credit_of(link: Link, packet: &Packet) -> Option<u32>
     None
 }
 
-/// Tells the host that its stream is refused. After want of memory what is due is as before.
+/// Queues the refusal of a stream. If an allocation fails, the queue is unchanged.
 fn refuse(link: Link, host: u32, due: &mut ByteQueue) -> Result<(), AllocError>
     ensures ok { OnOk result
         (due.new.bytes ≡ due.old.bytes ++ packet_bytes link.sums (clse 0 host)) }
@@ -248,8 +247,8 @@ fn refuse(link: Link, host: u32, due: &mut ByteQueue) -> Result<(), AllocError>
     push_packet(&packet, link.sums, due)
 }
 
-/// A WRTE to a live stream: it is acknowledged and taken, and the stream settles. Says whether the
-/// stream is done.
+/// Handles a WRTE to a live stream: it is acknowledged and taken, and the stream settles. Returns
+/// whether the stream is done.
 fn write_at(
     alloc: Global,
     rows: &mut BTreeMap<u32, Stream>,
@@ -287,8 +286,8 @@ fn write_at(
     )
 }
 
-/// An OKAY for a live stream: it ends a write, or gives credit for more, and the stream settles.
-/// Says whether the stream is done.
+/// Handles an OKAY for a live stream: it acknowledges a write, or gives credit for more, and the
+/// stream settles. Returns whether the stream is done.
 fn okay_at(
     alloc: Global,
     rows: &mut BTreeMap<u32, Stream>,

@@ -8,10 +8,10 @@ use adb_device_streams::Stream;
 use std::alloc::{AllocError, Global};
 use std::collections::BTreeMap;
 
-/// The live streams. No call looks through streams that it is not about.
+/// The live streams. No call looks at streams other than those it is about.
 #[derive(Drop)]
 pub struct Table {
-    /// How many ids of the device were drawn.
+    /// The number of the device's ids that were drawn.
     pub drawn: u32,
     /// The streams, by the device's ids.
     pub rows: BTreeMap<u32, Stream>,
@@ -20,7 +20,7 @@ pub struct Table {
 }
 
 impl Table {
-    /// No streams, and no id is drawn. It takes no memory.
+    /// Returns a table without streams, before any id is drawn. Allocates nothing.
     pub fn new(alloc: Global) -> Table
         ensures drawn { result.drawn ≡ 0 }
         ensures rows { result.rows.entries ≡ [] }
@@ -33,14 +33,14 @@ impl Table {
         }
     }
 
-    /// Whether the host's id is that of a live stream.
+    /// Returns whether the host's id is that of a live stream.
     pub fn is_taken(&self, host: u32) -> bool
         ensures { result ≡ is_some (at host self.now.hosts.entries) }
     {
         self.hosts.contains_key(&host)
     }
 
-    /// The host's id of the stream of the device's id, where that lives.
+    /// Returns the host's id of the stream of the device's id, if it lives.
     pub fn host_of(&self, own: u32) -> Option<u32>
         ensures { result ≡ host_at own self.now.rows.entries }
     {
@@ -50,7 +50,7 @@ impl Table {
         }
     }
 
-    /// Whether a live stream has both ids.
+    /// Returns whether a live stream has both ids.
     pub fn has(&self, own: u32, host: u32) -> bool
         ensures { result ≡ is_named host (host_at own self.now.rows.entries) }
     {
@@ -60,8 +60,8 @@ impl Table {
         }
     }
 
-    /// Adds a stream under the next id. After want of memory it may stand under one of its ids
-    /// alone.
+    /// Adds a stream under the next id. If an allocation fails, it may be in one of the two indices
+    /// only.
     pub fn add(&mut self, own: u32, stream: Stream) -> Result<(), AllocError>
         ensures drawn { OnOk result (self.new.drawn ≡ own) }
         ensures row { OnOk result

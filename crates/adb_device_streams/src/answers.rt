@@ -1,4 +1,4 @@
-//! What the host's packets make due on a stream.
+//! The packets that a stream queues in answer to the host's packets.
 
 ghost use Rattle.std.specs.Prelude.{◌≡◌, ◌≤◌, ◌⊎◌, ◌++◌, [], ℕ, length, IfOk, OnOk, OnErr};
 ghost use Rattle.byteorder.specs.Endian.{little_bytes};
@@ -19,9 +19,9 @@ use byteorder::{ByteOrder, LittleEndian};
 use bytes::Bytes;
 use std::alloc::{AllocError, Global};
 
-/// An OPEN of a known service: the stream is opened and told so, and its service answers. Says whether
-/// the stream is done already, and its CLSE due. After want of memory the files are as before or
-/// those that the command leaves.
+/// Answers an OPEN of a known service: the stream is opened and acknowledged, and its service
+/// answers. Returns whether the stream is done already, with its CLSE queued. If an allocation
+/// fails, the files are unchanged or those that the command leaves.
 pub fn answer_open(
     alloc: Global,
     files: &mut Files,
@@ -47,8 +47,8 @@ pub fn answer_open(
     Ok((stream, done))
 }
 
-/// A write of the host: it is acknowledged, the service takes it, and the stream settles. Says whether
-/// the stream is done.
+/// Answers a write of the host: it is acknowledged, the service takes it, and the stream settles.
+/// Returns whether the stream is done.
 pub fn answer_write(
     alloc: Global,
     files: &mut Files,
@@ -76,8 +76,8 @@ pub fn answer_write(
     Ok(done)
 }
 
-/// An OKAY of the host: it ends a write, or gives credit for more, and the stream settles. Says
-/// whether the stream is done.
+/// Answers an OKAY of the host: it acknowledges a write, or gives credit for more, and the stream
+/// settles. Returns whether the stream is done.
 pub fn answer_okay(
     alloc: Global,
     stream: &mut Stream,
@@ -96,8 +96,8 @@ pub fn answer_okay(
     Ok(done)
 }
 
-/// Makes all the writes that the window of a stream lets go, and where the stream is done then its
-/// CLSE. Says whether it is done.
+/// Queues all the writes that the window of a stream allows, and then its CLSE if the stream is
+/// done. Returns whether it is done.
 fn settle(
     alloc: Global,
     stream: &mut Stream,
@@ -118,7 +118,7 @@ fn settle(
     Ok(true)
 }
 
-/// Tells the host that its stream is open.
+/// Queues the OKAY that opens a stream.
 fn push_opening(
     alloc: Global,
     outgoing: Outgoing,
@@ -159,7 +159,7 @@ fn push_ack(
     }
 }
 
-/// Adds an OKAY to what is due. After want of memory what is due is as before.
+/// Queues an OKAY. If an allocation fails, the queue is unchanged.
 fn push_okay(
     alloc: Global,
     outgoing: Outgoing,
@@ -181,7 +181,7 @@ fn push_okay(
     push_packet(&packet, outgoing.sums, due)
 }
 
-/// Adds a CLSE to what is due. After want of memory what is due is as before.
+/// Queues a CLSE. If an allocation fails, the queue is unchanged.
 fn push_close(outgoing: Outgoing, host: u32, due: &mut ByteQueue) -> Result<(), AllocError>
     ensures ok { OnOk result (due.new.bytes ≡ due.old.bytes
         ++ packet_bytes outgoing.sums (clse outgoing.own host)) }
@@ -196,7 +196,7 @@ fn push_close(outgoing: Outgoing, host: u32, due: &mut ByteQueue) -> Result<(), 
     push_packet(&packet, outgoing.sums, due)
 }
 
-/// A credit word: four bytes, the lowest first.
+/// Returns a credit word: four bytes, the lowest first.
 fn credit_word(n: u32) -> [u8; 4]
     ensures { result ≡ little_bytes 4 n }
 {

@@ -1,4 +1,4 @@
-//! What an OPEN asks for.
+//! The service that an OPEN asks for.
 
 ghost use Rattle.std.specs.Prelude.{◌≡◌, option_map};
 ghost use Rattle.adb_device_streams.specs.Asked.{kind_of, service_of, shell_with, colon_in, has_v2, name_of};
@@ -6,15 +6,15 @@ ghost use Rattle.adb_device_streams.specs.Asked.{kind_of, service_of, shell_with
 /// A service of the device (SERVICES.TXT).
 #[derive(Clone, Copy)]
 pub enum Asked<'a> {
-    /// Writes back what it gets.
+    /// Writes back the bytes that it gets.
     Echo,
     /// The file sync service (SYNC.TXT).
     Sync,
-    /// A command, whose streams are packets of the shell protocol or not.
+    /// A command. `packets` says whether its streams consist of packets of the shell protocol.
     Shell { packets: bool, command: &'a [u8] },
 }
 
-/// The name of the service that the payload of an OPEN asks for: without its last byte where that is a
+/// Returns the name of the service in the payload of an OPEN: without its last byte if that is a
 /// NUL.
 pub fn service_name(payload: &[u8]) -> &[u8]
     ensures { result.now ≡ name_of payload.now }
@@ -25,7 +25,7 @@ pub fn service_name(payload: &[u8]) -> &[u8]
     }
 }
 
-/// The service of a name; `None` exactly where the device knows none of it.
+/// Returns the service of a name; `None` exactly if the device has no such service.
 pub fn read_service(name: &[u8]) -> Option<Asked<'_>>
     ensures { option_map kind_of result ≡ service_of name.now }
 {
@@ -47,7 +47,7 @@ pub fn read_service(name: &[u8]) -> Option<Asked<'_>>
     None
 }
 
-/// The shell service of words, a colon and a command.
+/// Parses a shell service: words, a colon and a command.
 fn shell_with(rest: &[u8]) -> Option<Asked<'_>>
     ensures { option_map kind_of result ≡ shell_with rest.now }
 {
@@ -60,14 +60,14 @@ fn shell_with(rest: &[u8]) -> Option<Asked<'_>>
     }
 }
 
-/// The place of the first colon.
+/// Returns the place of the first colon.
 fn colon_in(rest: &[u8]) -> Option<usize>
     ensures { result ≡ colon_in rest.now }
 {
     rest.iter().position(|byte| *byte == b':')
 }
 
-/// Whether `v2` is among the comma-separated words.
+/// Returns whether `v2` is among the comma-separated words.
 fn has_v2(words: &[u8]) -> bool
     ensures { result ≡ has_v2 words.now }
 {

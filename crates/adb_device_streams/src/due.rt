@@ -1,4 +1,4 @@
-//! What is due to the host.
+//! The queue of packets to the host.
 
 ghost use Rattle.std.specs.Prelude.{◌≡◌, ◌≤◌, ◌++◌, length, OnOk, OnErr};
 ghost use Rattle.adb_wire.specs.Packet.{head_for, check_of};
@@ -9,8 +9,8 @@ use adb_outside::ByteQueue;
 use adb_wire::{HEADER_LEN, Head, MAX_PAYLOAD, Packet, byte_sum, header};
 use std::alloc::AllocError;
 
-/// Adds a packet to what is due, with the sum of its bytes where `sums`. After want of memory what is
-/// due is as before.
+/// Queues a packet, with the sum of its bytes if `sums` is set. If an allocation fails, the queue
+/// is unchanged.
 pub fn push_packet(packet: &Packet, sums: bool, due: &mut ByteQueue) -> Result<(), AllocError>
     requires { length packet.now.payload ≤ MAX_PAYLOAD }
     ensures ok { OnOk result (due.new.bytes ≡ due.old.bytes ++ packet_bytes sums packet.now) }
@@ -26,7 +26,7 @@ pub fn push_packet(packet: &Packet, sums: bool, due: &mut ByteQueue) -> Result<(
     Ok(())
 }
 
-/// The header of a packet.
+/// Returns the header of a packet.
 fn head_of(packet: &Packet, sums: bool) -> Head
     requires { length packet.now.payload ≤ MAX_PAYLOAD }
     ensures { result ≡ head_for packet.now (check_of sums packet.now) }

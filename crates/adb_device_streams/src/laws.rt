@@ -1,4 +1,4 @@
-//! What holds of any CNXN of a host. The function does nothing: its contract is the law.
+//! Laws of any CNXN of a host. The function does nothing: its contract is the law.
 
 ghost use Rattle.std.specs.Prelude.{◌≡◌, ◌||◌, ℕ, Bool, min, nat_lt, is_none, IfSome};
 ghost use Rattle.adb_banner.specs.Banner.{identity_of};
@@ -8,9 +8,9 @@ ghost use Rattle.adb_wire.specs.declared.packets.Packet.{Packet};
 ghost use Rattle.adb_wire.specs.Format.{has_sums};
 ghost use Rattle.adb_device_streams.specs.Link.{link_of};
 
-/// The device refuses a CNXN exactly where a host refuses that of a device: its version is too old,
-/// it takes too little, or it has no identity. Packets on its link carry sums where those of the
-/// version do, and a write is no longer than each end takes.
+/// States that the device refuses a CNXN exactly if a host refuses that of a device: its version is
+/// too old, it accepts too few bytes, or it has no identity. Packets on its link carry sums if
+/// those of the version do, and a write is no longer than each end accepts.
 pub fn links_are_as_a_host_makes_them()
     ensures refused { (own_most : ℕ) (has_credit : Bool) (cnxn : Packet)
         → is_none (link_of own_most has_credit cnxn)

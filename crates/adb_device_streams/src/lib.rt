@@ -1,4 +1,4 @@
-//! A model of a device: its services (SERVICES.TXT, SYNC.TXT).
+//! The services of a model device and their streams (SERVICES.TXT, SYNC.TXT).
 #![tactic(auto)]
 
 mod answers;

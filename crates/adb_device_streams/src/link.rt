@@ -8,10 +8,10 @@ use adb_wire::{MAX_PAYLOAD, MIN_MAXDATA, MIN_VERSION, Packet, VERSION};
 use byteorder::{ByteOrder, LittleEndian};
 use std::alloc::{AllocError, Global};
 
-/// A link to a host that said who it is (protocol.txt, CNXN).
+/// A link to a host that sent its identity (protocol.txt, CNXN).
 #[derive(Clone, Copy, Debug, PartialEq, Eq, Drop)]
 pub struct Link {
-    /// The most bytes of a write.
+    /// The maximum number of bytes of a write.
     pub most: u32,
     /// Whether streams have credit in bytes.
     pub credit: bool,
@@ -19,9 +19,10 @@ pub struct Link {
     pub sums: bool,
 }
 
-/// The link that a host's CNXN makes, where the device takes payloads of at most `own_most` bytes, and
-/// credit in bytes where `has_credit`. `None` exactly where the CNXN is refused: its version is below
-/// 0x01000000, its payloads are shorter than 4,096 bytes, or it has no identity.
+/// Returns the link that a host's CNXN makes, for a device that accepts payloads of at most
+/// `own_most` bytes, and credit in bytes if `has_credit` is set. `None` exactly if the CNXN is
+/// refused: its version is below 0x01000000, its payloads are shorter than 4,096 bytes, or it has
+/// no identity.
 pub fn read_cnxn(
     alloc: Global,
     cnxn: &Packet,
@@ -44,7 +45,7 @@ pub fn read_cnxn(
     }
 }
 
-/// The credit word of an OKAY: its payload, where that has exactly four bytes.
+/// Returns the credit word of an OKAY: its payload, if that has exactly four bytes.
 pub fn credit_word_in(payload: &[u8]) -> Option<u32>
     ensures { result ≡ credit_word_in payload.now }
 {

@@ -15,15 +15,15 @@ use std::alloc::{AllocError, Global};
 /// The service at the device's end of a stream (SERVICES.TXT).
 #[derive(Drop)]
 pub enum Service {
-    /// Its answer is what came.
+    /// A service that answers with its input.
     Echo(ByteQueue),
     Sync(SyncService),
     Shell(ShellService),
 }
 
 impl Service {
-    /// Opens a service over the files of the device; a command is run now. After want of memory the
-    /// files are as before.
+    /// Opens a service over the files of the device; a command is run now. If an allocation fails,
+    /// the files are unchanged.
     pub fn open(alloc: Global, files: &mut Files, asked: Asked<'_>) -> Result<Service, AllocError>
         ensures service { IfOk result (λ service.
             HasAnswered (kind_of asked.entry) files.old [] [] service) }
@@ -40,9 +40,9 @@ impl Service {
         }
     }
 
-    /// Takes the payload of a write. A service that has ended drops it. After want of memory a front
-    /// of its answer was given, and the files are those behind a front of the sync requests that the
-    /// payload makes whole.
+    /// Takes the payload of a write. A service that has ended drops it. If an allocation fails, a
+    /// prefix of its answer was given, and the files are those after a prefix of the sync requests
+    /// that the payload completes.
     pub fn feed(&mut self, files: &mut Files, payload: &[u8]) -> Result<(), AllocError>
         ensures whole { OnOk result
             (Takes (came_over payload.now files.old) self.old self.new files.new) }
@@ -56,7 +56,7 @@ impl Service {
         }
     }
 
-    /// The first bytes of the answer that were not taken yet, at least one where one is left.
+    /// Returns the first bytes of the answer that were not taken yet, at least one if any are left.
     pub fn out(&self) -> &[u8]
         ensures front { StartsWith (out_of self.now) result.now }
         ensures some { out_of self.now ≢ [] → result.now ≢ [] }
@@ -68,7 +68,7 @@ impl Service {
         }
     }
 
-    /// The first `n` bytes of the answer that is left were taken. It takes no memory.
+    /// Removes the first `n` bytes of the answer, which were taken. Needs no memory.
     pub fn taken(&mut self, n: usize)
         requires { n ≤ length (out_of self.old) }
         ensures left { out_of self.new ≡ drop n (out_of self.old) }
@@ -86,7 +86,7 @@ impl Service {
         }
     }
 
-    /// Whether the service has ended, so that nothing is added to its answer.
+    /// Returns whether the service has ended, so that nothing is added to its answer.
     pub fn ended(&self) -> bool
         ensures { result ≡ ended_of self.now }
     {

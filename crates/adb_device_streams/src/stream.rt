@@ -13,8 +13,8 @@ use adb_outside::Text;
 use adb_stream::Flow;
 use std::alloc::{AllocError, Global};
 
-/// A stream at the device's end (protocol.txt, OPEN): the host's id, the service, and what the window
-/// still lets the device write.
+/// A stream at the device's end (protocol.txt, OPEN): the host's id, the service, and the window
+/// for the device's writes.
 #[derive(Drop)]
 pub struct Stream {
     pub host: u32,
@@ -23,8 +23,8 @@ pub struct Stream {
 }
 
 impl Stream {
-    /// Opens the stream of a host's id. The credit of its OPEN is told where the link has credit in
-    /// bytes. After want of memory the files are as before.
+    /// Opens the stream of a host's id. `credit` is the credit in its OPEN, if the link has credit
+    /// in bytes. If an allocation fails, the files are unchanged.
     pub fn open(
         alloc: Global,
         files: &mut Files,
@@ -45,7 +45,8 @@ impl Stream {
         })
     }
 
-    /// Takes the payload of a write that came. After want of memory a front of the answer was given.
+    /// Takes the payload of a write that came. If an allocation fails, a prefix of the answer was
+    /// given.
     pub fn take_write(&mut self, files: &mut Files, payload: &[u8]) -> Result<(), AllocError>
         ensures ok { OnOk result ((row : Row) → StandsFor row self.old
             → TakesWrite (came_over payload.now files.old) row self.new files.new) }
@@ -55,15 +56,15 @@ impl Stream {
         self.service.feed(files, payload)
     }
 
-    /// An OKAY came, with a credit word or without.
+    /// Records an OKAY, with or without a credit word.
     pub fn acked(&mut self, word: Option<u32>)
         ensures { (row : Row) → StandsFor row self.old → StandsFor (row_acked word row) self.new }
     {
         self.flow.acked(word);
     }
 
-    /// The payload of the next write, of at most `most` bytes; `None` where the window lets none go or
-    /// nothing is left to write. After want of memory what is left of the answer is lost.
+    /// Returns the payload of the next write, of at most `most` bytes; `None` if the window allows
+    /// none or nothing is left to write. If an allocation fails, the rest of the answer is lost.
     pub fn next_write(&mut self, alloc: Global, most: usize) -> Result<Option<Text>, AllocError>
         ensures write { IfOk result (λ payload. (row : Row) → StandsFor row self.old
             → MakesWrite most row self.new payload) }
@@ -80,7 +81,7 @@ impl Stream {
         Ok(Some(payload))
     }
 
-    /// Whether the service has ended, all is written, and no write is outstanding.
+    /// Returns whether the service has ended, all is written, and no write is outstanding.
     pub fn is_done(&self) -> bool
         ensures { (row : Row) → StandsFor row self.now → result ≡ is_done row }
     {
@@ -88,8 +89,8 @@ impl Stream {
     }
 }
 
-/// What a stream may write at first: one write, or where the link has credit in bytes the credit that
-/// its OPEN gives.
+/// Returns the initial flow state of a stream: one write, or the credit in its OPEN if the link has
+/// credit in bytes.
 fn first_flow(credit: Option<u32>) -> Flow
     ensures { result ≡ first_flow credit }
 {
@@ -98,8 +99,8 @@ fn first_flow(credit: Option<u32>) -> Flow
     flow
 }
 
-/// Takes the first bytes of an answer, at most `room` of them: all of these that are there. After want
-/// of memory some of them are lost.
+/// Takes the first bytes of an answer: all of the first `room` bytes that exist. If an allocation
+/// fails, some of them are lost.
 fn take_first(alloc: Global, service: &mut Service, room: usize) -> Result<Text, AllocError>
     ensures { IfOk result (λ payload. TakesFirst room service.old service.new payload) }
 {

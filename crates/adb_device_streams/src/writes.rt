@@ -11,8 +11,8 @@ use adb_wire::{Command, MAX_PAYLOAD, Packet};
 use bytes::Bytes;
 use std::alloc::{AllocError, Global};
 
-/// How the packets of a stream are spelled: the device's id, the most bytes of a write, and whether
-/// packets carry the sum of their bytes.
+/// The parameters of a stream's packets: the device's id, the maximum number of bytes of a write,
+/// and whether packets carry the sum of their bytes.
 #[derive(Clone, Copy)]
 pub struct Outgoing {
     pub own: u32,
@@ -20,8 +20,8 @@ pub struct Outgoing {
     pub sums: bool,
 }
 
-/// Adds all the writes that the window of a stream lets go to what is due. After want of memory the
-/// first of them may stand there.
+/// Queues all the writes that the window of a stream allows. If an allocation fails, the first of
+/// them may have been queued.
 pub fn push_writes(
     alloc: Global,
     stream: &mut Stream,
@@ -40,7 +40,7 @@ pub fn push_writes(
     Ok(())
 }
 
-/// Adds a write to what is due. After want of memory what is due is as before.
+/// Queues a write. If an allocation fails, the queue is unchanged.
 fn push_write(
     outgoing: Outgoing,
     host: u32,

@@ -1,4 +1,4 @@
-//! Making an entry.
+//! Applying an entry.
 
 ghost use Rattle.std.specs.Prelude.{◌≡◌, ◌+◌, nat_eq, false, OnErr, OnOk};
 ghost use Rattle.adb_outside.specs.declared.kinds.Kind.{Kind};
@@ -15,8 +15,8 @@ use adb_history::Reason;
 use adb_hub::{Endings, Hub, HubError, Life, others_end_no_stream};
 use adb_outside::Kind;
 
-/// Makes the next entry of the history that a hub holds; its bytes are lent. A hand-out that was
-/// recorded is passed over. After a refusal, and after want of memory, the hub is as before.
+/// Applies the next entry of the history that a hub holds; its bytes are borrowed. A hand-out that
+/// was recorded is skipped. After a refusal, and after an allocation failure, the hub is unchanged.
 pub fn apply(hub: &mut Hub, entry: Lent<'_>) -> Result<(), Refused>
     requires { hub.old.stopped ≡ false }
     ensures applied { (h : History) → IsLawful hub.old h
@@ -36,9 +36,8 @@ pub fn apply(hub: &mut Hub, entry: Lent<'_>) -> Result<(), Refused>
     }
 }
 
-/// Makes the next entry as `apply` does, and appends the streams that end at it to the log, in
-/// order.
-/// After an error the log has what it had.
+/// Applies the next entry as `apply` does, and appends the streams that end at it to the log, in
+/// order. After an error the log is unchanged.
 pub fn apply_reporting(hub: &mut Hub, entry: Lent<'_>, ends: &mut Endings) -> Result<(), Refused>
     requires { hub.old.stopped ≡ false }
     ensures applied { (h : History) → IsLawful hub.old h
@@ -62,7 +61,7 @@ pub fn apply_reporting(hub: &mut Hub, entry: Lent<'_>, ends: &mut Endings) -> Re
     }
 }
 
-/// A client comes, under the number that its record names.
+/// Adds a client, under the number that its record names.
 fn join(hub: &mut Hub, client: u32) -> Result<(), Refused>
     requires { hub.old.stopped ≡ false }
     ensures applied { (h : History) → IsLawful hub.old h
@@ -75,7 +74,7 @@ fn join(hub: &mut Hub, client: u32) -> Result<(), Refused>
     came(hub.join())
 }
 
-/// A client comes through the forward of a port, under the number that its record names.
+/// Adds a client that comes through the forward of a port, under the number that its record names.
 fn enter(hub: &mut Hub, client: u32, port: u16) -> Result<(), Refused>
     requires { hub.old.stopped ≡ false }
     ensures applied { (h : History) → IsLawful hub.old h
@@ -88,7 +87,7 @@ fn enter(hub: &mut Hub, client: u32, port: u16) -> Result<(), Refused>
     came(hub.enter(port))
 }
 
-/// A device is plugged in, under the number that its record names.
+/// Attaches a device, under the number that its record names.
 fn attach(hub: &mut Hub, link: u32, kind: Kind, serial: &[u8]) -> Result<(), Refused>
     requires { hub.old.stopped ≡ false }
     ensures applied { (h : History) → IsLawful hub.old h
@@ -101,14 +100,14 @@ fn attach(hub: &mut Hub, link: u32, kind: Kind, serial: &[u8]) -> Result<(), Ref
     came(hub.attach(kind, serial))
 }
 
-/// Whether a number is the next after those that were drawn.
+/// Returns whether a number is the next after those that were drawn.
 fn is_next(drawn: u32, number: u32) -> bool
     ensures { result ≡ nat_eq number (drawn + 1) }
 {
     drawn.checked_add(1) == Some(number)
 }
 
-/// What a call about a client or a link that came before answers of its entry.
+/// Converts the answer of a call about an existing client or link.
 fn lived(answer: Result<Life, HubError>) -> Result<(), Refused>
     ensures { result ≡ applied_as answer }
 {
@@ -116,7 +115,7 @@ fn lived(answer: Result<Life, HubError>) -> Result<(), Refused>
     Ok(())
 }
 
-/// What a call that draws a number answers of its entry.
+/// Converts the answer of a call that draws a number.
 fn came(answer: Result<u32, HubError>) -> Result<(), Refused>
     ensures { result ≡ applied_as answer }
 {

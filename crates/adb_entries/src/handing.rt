@@ -16,8 +16,9 @@ use adb_hub::{Handed, Hub, HubError, Owner};
 use std::alloc::AllocError;
 
 /// Makes the next hand-out of the history that a hub holds: at most 65,536 bytes, to the first link
-/// to which bytes are due, or else to the first client; `None` where nothing is due. Each hand-out
-/// makes those that are still to come one less. After want of memory the history is as before.
+/// with output, or otherwise to the first client. Returns `None` if no output is queued. Each
+/// hand-out reduces the number of those that remain. If an allocation fails, the history is
+/// unchanged.
 pub fn hand_next(hub: &mut Hub) -> Result<Option<Entry>, AllocError>
     requires { IsHeld hub.old }
     ensures next { IfOk result (λ out. (h : History) → IsLawful hub.old h
@@ -36,7 +37,7 @@ pub fn hand_next(hub: &mut Hub) -> Result<Option<Entry>, AllocError>
     }
 }
 
-/// Puts the first bytes that are due to a client.
+/// Puts the first bytes of a client's output queue.
 fn put(hub: &mut Hub, client: u32) -> Result<Option<Entry>, AllocError>
     requires held { IsHeld hub.old }
     requires drawn { is_drawn hub.old.joined client ≡ true }
@@ -52,7 +53,7 @@ fn put(hub: &mut Hub, client: u32) -> Result<Option<Entry>, AllocError>
     }
 }
 
-/// Sends the first bytes that are due on a link.
+/// Sends the first bytes of a link's output queue.
 fn send(hub: &mut Hub, link: u32) -> Result<Option<Entry>, AllocError>
     requires held { IsHeld hub.old }
     requires drawn { is_drawn hub.old.devices.drawn link ≡ true }
@@ -68,7 +69,7 @@ fn send(hub: &mut Hub, link: u32) -> Result<Option<Entry>, AllocError>
     }
 }
 
-/// The entry of what was put to a client, where anything was.
+/// Returns the entry of the bytes that were put to a client, if there were any.
 fn put_of(client: u32, handed: Handed) -> Option<Entry>
     ensures { result ≡ option_map (Entry.Put client) (bytes_of handed) }
 {
@@ -78,7 +79,7 @@ fn put_of(client: u32, handed: Handed) -> Option<Entry>
     }
 }
 
-/// The entry of what was sent on a link, where anything was.
+/// Returns the entry of the bytes that were sent on a link, if there were any.
 fn send_of(link: u32, handed: Handed) -> Option<Entry>
     ensures { result ≡ option_map (Entry.Send link) (bytes_of handed) }
 {

@@ -1,5 +1,5 @@
-//! The machine over a hub: what the entries of a history make of it, one after another, and what is
-//! to be handed out next.
+//! The machine over a hub. `apply` makes the next entry of a history in the hub, and `hand_next`
+//! makes its next hand-out.
 #![tactic(auto)]
 
 mod applying;

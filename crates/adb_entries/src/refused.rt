@@ -1,14 +1,14 @@
-//! Why an entry is not made.
+//! The reasons why an entry is not made.
 
 use adb_history::Reason;
 use adb_hub::HubError;
 
-/// Why an entry is not made.
+/// The reason why an entry is not made.
 #[derive(Clone, Copy, Debug, PartialEq, Eq, Drop)]
 pub enum Refused {
-    /// Its record is refused.
+    /// The entry's record is refused.
     Because(Reason),
-    /// Memory ran out. The hub is as before.
+    /// An allocation failed. The hub is unchanged.
     OutOfMemory,
 }
 

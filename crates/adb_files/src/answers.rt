@@ -1,4 +1,4 @@
-//! What a whole request is answered.
+//! The answers to whole requests.
 
 ghost use Rattle.std.specs.Prelude.{◌≡◌, ◌≤◌, ◌<◌, ◌++◌, length, OnOk, OnErr};
 ghost use Rattle.adb_files.specs.Served.{fault_text, fail_bytes, stat_in, stat_bytes_of, list_bytes, recv_bytes};
@@ -11,7 +11,7 @@ use adb_outside::Text;
 use adb_sync::{SyncAnswer, SyncFault, SyncRule};
 use std::alloc::{AllocError, Global};
 
-/// The text of a fault.
+/// Returns the text of a fault.
 pub fn fault_text(fault: SyncFault) -> &'static [u8]
     ensures text { result.now ≡ fault_text fault }
     ensures short { length result.now ≤ 20 }
@@ -25,7 +25,7 @@ pub fn fault_text(fault: SyncFault) -> &'static [u8]
     }
 }
 
-/// Adds a FAIL. After want of memory the answers are as before.
+/// Appends a FAIL. If an allocation fails, the answers are unchanged.
 pub fn fail(alloc: Global, text: &[u8], out: &mut Outbox) -> Result<(), AllocError>
     requires { length text.now ≤ 20 }
     ensures ok { OnOk result (out.new ≡ out.old ++ fail_bytes text.now) }
@@ -34,7 +34,7 @@ pub fn fail(alloc: Global, text: &[u8], out: &mut Outbox) -> Result<(), AllocErr
     out.push(&SyncAnswer::Fail(Text::from_slice(alloc, text)?))
 }
 
-/// Adds the answer of a STAT. After want of memory the answers are as before.
+/// Appends the answer to a STAT. If an allocation fails, the answers are unchanged.
 pub fn answer_stat(files: &Files, path: &[u8], out: &mut Outbox) -> Result<(), AllocError>
     ensures ok { OnOk result (out.new ≡ out.old ++ stat_bytes_of (stat_in files.now path.now)) }
     ensures err { OnErr result (out.new ≡ out.old) }
@@ -47,7 +47,7 @@ pub fn answer_stat(files: &Files, path: &[u8], out: &mut Outbox) -> Result<(), A
     })
 }
 
-/// Adds the answer of a LIST. After want of memory a front of it may stand there.
+/// Appends the answer to a LIST. If an allocation fails, a prefix of it may have been appended.
 pub fn answer_list(files: &Files, path: &[u8], out: &mut Outbox) -> Result<(), AllocError>
     ensures ok { OnOk result (out.new ≡ out.old ++ list_bytes (listing path.now files.now)) }
     ensures err { OnErr result
@@ -64,7 +64,7 @@ pub fn answer_list(files: &Files, path: &[u8], out: &mut Outbox) -> Result<(), A
     out.push(&SyncAnswer::ListEnd)
 }
 
-/// Adds the answer of a RECV. After want of memory the answers are as before.
+/// Appends the answer to a RECV. If an allocation fails, the answers are unchanged.
 pub fn answer_recv(
     alloc: Global,
     files: &Files,

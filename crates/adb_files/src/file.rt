@@ -1,4 +1,4 @@
-//! One file, and why one may be refused.
+//! One file, and the reasons why one may be refused.
 
 ghost use Rattle.adb_files.specs.declared.file.FileError.TheVariants.{OutOfMemory};
 ghost use Rattle.std.specs.Prelude.{◌≡◌, ◌^◌, ◌<◌, ◌≤◌, length};
@@ -10,30 +10,30 @@ use std::alloc::AllocError;
 /// A file of the device.
 #[derive(Drop)]
 pub struct File {
-    /// The mode, as `stat(2)` has it.
+    /// The mode, as in `stat(2)`.
     pub mode: u32,
-    /// When it was changed, in seconds since 1970.
+    /// The time of the last change, in seconds since 1970.
     pub mtime: u32,
     pub bytes: Text,
 }
 
-/// A mode and a time of a file have 32 bits each.
+/// States that a mode and a time of a file have 32 bits each.
 pub(crate) fn have_32_bits(mode: u32, mtime: u32)
     ensures mode { mode < 2 ^ 32 }
     ensures mtime { mtime < 2 ^ 32 }
 {}
 
-/// Why a file was not put or removed. The files are then as before.
+/// The reason why a file was not put or removed. The files are unchanged then.
 #[derive(Clone, Copy, Debug, PartialEq, Eq, Drop)]
 pub enum FileError {
-    /// The path is neither `/` nor one or more parts of a slash and a name. A name is not empty, not
-    /// `.` and not `..`, and has no NUL.
+    /// The path is neither `/` nor one or more parts of a slash and a name. A name is not empty,
+    /// not `.` and not `..`, and has no NUL.
     BadPath,
     /// The path is `/`, or a file lies below it.
     IsDirectory,
     /// The path lies below a file.
     NotDirectory,
-    /// All files, with the new one in place, have more than 268,435,456 bytes.
+    /// All files, including the new one, would have more than 268,435,456 bytes.
     NoSpace,
     /// No file has the path.
     NoFile,
@@ -41,7 +41,7 @@ pub enum FileError {
 }
 
 impl FileError {
-    /// The refusal in words, as a FAIL says it.
+    /// Returns the refusal in words, as in a FAIL.
     pub fn text(self) -> &'static [u8]
         ensures text { result.now ≡ refusal_text self }
         ensures short { length result.now ≤ 20 }

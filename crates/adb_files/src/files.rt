@@ -22,11 +22,12 @@ use std::alloc::{AllocError, Global};
 use std::marker::Model;
 use std::sync::Arc;
 
-/// The most bytes that all files may have.
+/// The maximum number of bytes of all files.
 pub const MAX_STORED: usize = 268_435_456;
 
 /// The files of a device, a map from path to file. Contracts see it as the list of its entries in
-/// rising order of the bytes of their paths. A directory is `/`, or a proper leading path of a file.
+/// rising order of the bytes of their paths. A directory is `/`, or a proper leading path of a
+/// file.
 #[derive(Drop)]
 pub struct Files {
     alloc: Global,
@@ -48,7 +49,7 @@ impl Model for Files {
 }
 
 impl Files {
-    /// No files. It takes no memory.
+    /// Returns a map without files. Allocates nothing.
     pub fn new(alloc: Global) -> Files
         ensures { result ≡ [] }
     {
@@ -59,7 +60,7 @@ impl Files {
         }
     }
 
-    /// The file of the path; `None` exactly where no file has it.
+    /// Returns the file at the path; `None` exactly if there is none.
     pub fn get(&self, path: &[u8]) -> Option<&File>
         ensures file { option_copied result ≡ file_at path.now self.now }
         ensures files { IsFileMap self.now }
@@ -70,9 +71,9 @@ impl Files {
         }
     }
 
-    /// Puts a file at the path, in the place of the one that is there. The refusals are looked for in
-    /// this order: `BadPath`, `IsDirectory`, `NotDirectory`, `NoSpace`. After an error the files are as
-    /// before, and the new one is dropped.
+    /// Puts a file at the path, in place of the one that is there. Refusals are checked in this
+    /// order: `BadPath`, `IsDirectory`, `NotDirectory`, `NoSpace`. After an error the files are
+    /// unchanged, and the new one is dropped.
     pub fn put(&mut self, path: &[u8], file: File) -> Result<(), FileError>
         requires { length path.now < 2 ^ 32 }
         ensures ok { OnOk result (ChangesAt path.now (Some file) self.old self.new) }
@@ -95,8 +96,8 @@ impl Files {
         Ok(())
     }
 
-    /// Removes the file of the path. The refusals are looked for in this order: `BadPath`,
-    /// `IsDirectory`, `NoFile`. After an error the files are as before. It takes no memory.
+    /// Removes the file at the path. Refusals are checked in this order: `BadPath`, `IsDirectory`,
+    /// `NoFile`. After an error the files are unchanged. Allocates nothing.
     pub fn remove(&mut self, path: &[u8]) -> Result<(), FileError>
         ensures ok { OnOk result (ChangesAt path.now None self.old self.new) }
         ensures list { OnOk result (self.new ≡ without path.now self.old) }
@@ -113,8 +114,8 @@ impl Files {
         Ok(())
     }
 
-    /// The least path of a file that is greater than `after` in the order of bytes; `None` exactly
-    /// where no file has a greater one.
+    /// Returns the least path of a file that is greater than `after` in the order of bytes; `None`
+    /// exactly if no file has a greater one.
     pub fn next_path(&self, after: &[u8]) -> Option<&[u8]>
         ensures path { option_copied result ≡ next_path after.now self.now }
     {
@@ -129,9 +130,9 @@ impl Files {
         Some(slots[next].path())
     }
 
-    /// The entries of a directory, the directories in it among them, in the order of the bytes of
-    /// their names. A directory has the mode 16,877, no bytes and the time 0. Of a bad path, a file or
-    /// nothing there are none.
+    /// Returns the entries of a directory, including its subdirectories, in the order of the bytes
+    /// of their names. A directory has the mode 16,877, no bytes and the time 0. A bad path, a
+    /// file, or a path with nothing there has no entries. Fails if an allocation fails.
     pub fn list(&self, path: &[u8]) -> Result<Vec<Dirent>, AllocError>
         ensures list { IfOk result (λ entries. entries.items ≡ listing path.now self.now) }
         ensures names { All (λ entry. length entry.name < 2 ^ 32) (listing path.now self.now) }
@@ -146,7 +147,8 @@ impl Files {
         Ok(entries)
     }
 
-    /// What the path shows: a directory, a file, or nothing, which is all zeros.
+    /// Returns the attributes of the path: those of a directory, of a file, or all zeros if nothing
+    /// is there.
     pub(crate) fn stat(&self, path: &[u8]) -> Stat
         ensures { result ≡ stat_in self.now path.now }
     {
@@ -159,23 +161,24 @@ impl Files {
         }
     }
 
-    /// Whether the path is that of a directory.
+    /// Returns whether the path is that of a directory.
     pub fn is_directory(&self, path: &[u8]) -> bool
         ensures { result ≡ is_directory self.now path.now }
     {
         is_path(path) && (path == ROOT || self.has_below(path))
     }
 
-    /// Why no file is read or removed at the path: the first that holds of `BadPath`, `IsDirectory`
-    /// and `NoFile`. `None` exactly where a file has it.
+    /// Returns the reason why no file is read or removed at the path: the first of `BadPath`,
+    /// `IsDirectory` and `NoFile` that applies. `None` exactly if there is a file at the path.
     pub fn read_refusal(&self, path: &[u8]) -> Option<FileError>
         ensures { result ≡ read_refusal self.now path.now }
     {
         self.place_of_file(path).err()
     }
 
-    /// The file of the path, for who keeps it past the next change of the map, or why none is read. It
-    /// takes no memory, and fails where the count of the file's owners is full.
+    /// Returns the file at the path as a shared owner, which stays valid when the map changes, or
+    /// the reason why none is read. Allocates nothing. Fails if the count of the file's owners is
+    /// at its maximum.
     pub(crate) fn share(
         &self,
         path: &[u8],
@@ -191,7 +194,7 @@ impl Files {
         }
     }
 
-    /// Why a file of so many bytes is not put at the path.
+    /// Returns the reason why a file of this many bytes is not put at the path.
     pub(crate) fn put_refusal(&self, path: &[u8], size: usize) -> Option<FileError>
         ensures { result ≡ put_refusal self.now path.now size }
     {
@@ -207,7 +210,8 @@ impl Files {
         (size > MAX_STORED - self.used_without(path)).then_some(FileError::NoSpace)
     }
 
-    /// Where the file of the path stands among the entries, or why none is read there.
+    /// Returns the place of the file at the path among the entries, or the reason why none is read
+    /// there.
     fn place_of_file(&self, path: &[u8]) -> Result<usize, FileError>
         ensures { MatchResult result
             (λ i. StandsAt path.now self.now i × (read_refusal self.now path.now ≡ None))
@@ -225,7 +229,7 @@ impl Files {
         }
     }
 
-    /// Where the path stands among the entries.
+    /// Returns the place of the path among the entries.
     fn place(&self, path: &[u8]) -> Result<usize, usize>
         ensures { MatchResult result
             (λ i. StandsAt path.now self.now i)
@@ -234,7 +238,7 @@ impl Files {
         place_at(self.slots.as_slice(), path)
     }
 
-    /// Whether a file lies below a directory of the path.
+    /// Returns whether a file lies below a directory of the path.
     fn has_below(&self, path: &[u8]) -> bool
         ensures { result ≡ list_any (λ entry. is_below path.now entry.path) self.now }
     {
@@ -243,7 +247,7 @@ impl Files {
         first < slots.len() && is_below(path, slots[first].path())
     }
 
-    /// Whether the path goes on below a file.
+    /// Returns whether the path continues below a file.
     fn is_under_file(&self, path: &[u8]) -> bool
         ensures { result ≡ is_under_file self.now path.now }
     {
@@ -255,7 +259,7 @@ impl Files {
         false
     }
 
-    /// How many bytes the files at other paths have.
+    /// Returns how many bytes the files at other paths have.
     fn used_without(&self, path: &[u8]) -> usize
         ensures used { result ≡ total (without path.now self.now) }
         ensures files { IsFileMap self.now }

@@ -1,9 +1,9 @@
-//! What the definitions rest on.
+//! The limits on which the definitions rest.
 
 ghost use Rattle.std.specs.Prelude.{◌≡◌};
 ghost use Rattle.adb_files.specs.declared.files.TheConstants.{MAX_STORED};
 
-/// The number of the definitions that is read here.
+/// States the number that the definitions take from the code.
 pub fn limits_are()
     ensures stored { MAX_STORED ≡ 268435456 }
 {}

@@ -1,4 +1,4 @@
-//! What a directory holds.
+//! The entries of a directory.
 
 ghost use Rattle.std.specs.Prelude.{◌≡◌, ◌<◌, ℕ, true, length, slice_index_or, IfOk};
 ghost use Rattle.adb_files.specs.Entries.{Entry};
@@ -15,14 +15,14 @@ use adb_sync::Dirent;
 use std::alloc::{AllocError, Global};
 use std::collections::BTreeMap;
 
-/// What the names of a directory show.
+/// The attributes of the names in a directory.
 type Shown = BTreeMap<Vec<u8>, Stat>;
 
-/// The first byte behind a slash in the order of bytes.
+/// The byte after a slash in the order of bytes.
 const BEHIND_SLASH: &[u8] = b"0";
 
-/// What the files below a directory show there, by the names in it. Of the files below a further
-/// directory only the first is looked at.
+/// Returns the names in a directory with the attributes that the files below it give them. Only the
+/// first file below a subdirectory is looked at.
 pub fn shown_in(alloc: Global, slots: &[Slot], directory: &[u8]) -> Result<Shown, AllocError>
     requires { IsFileMap slots.now }
     ensures { IfOk result (λ found. named found.entries ≡ shown_in directory.now slots.now) }
@@ -35,8 +35,8 @@ pub fn shown_in(alloc: Global, slots: &[Slot], directory: &[u8]) -> Result<Shown
     Ok(found)
 }
 
-/// Adds what the file at a place shows of the directory that it lies below, and gives the place of
-/// the next file that may show another name.
+/// Adds the name and attributes that the file at a place gives the directory above it. Returns the
+/// place of the next file that may give another name.
 fn show(
     alloc: Global,
     slots: &[Slot],
@@ -67,14 +67,14 @@ fn show(
     }
 }
 
-/// The place of the first slash.
+/// Returns the place of the first slash.
 fn slash_in(rest: &[u8]) -> Option<usize>
     ensures { result ≡ slash_in rest.now }
 {
     rest.iter().position(|byte| *byte == b'/')
 }
 
-/// An entry of a directory, of a name and what it shows.
+/// Returns the directory entry of a name and its attributes.
 pub fn dirent_of(name: Vec<u8>, stat: Stat) -> Dirent
     ensures { result ≡ dirent_of (name.items, stat) }
 {

@@ -5,13 +5,13 @@ ghost use Rattle.adb_files.specs.Served.{stored_mode};
 
 use adb_outside::read_number;
 
-/// The most digits of a mode.
+/// The maximum number of digits of a mode.
 const MODE_DIGITS: usize = 10;
 
-/// What a file's mode has beside its lowest nine bits.
+/// The bits of a file's mode above its lowest nine.
 const REGULAR_FILE: u32 = 32_768;
 
-/// The mode that a file keeps, of the digits of a SEND; `None` where they are no mode.
+/// Returns the mode that a file keeps, from the digits of a SEND; `None` if they are no mode.
 pub fn stored_mode(digits: &[u8]) -> Option<u32>
     ensures { result ≡ stored_mode digits.now }
 {

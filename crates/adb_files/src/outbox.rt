@@ -1,4 +1,4 @@
-//! The answers that were not taken yet.
+//! The queue of answers.
 
 ghost use Rattle.std.specs.Prelude.{◌≡◌, ◌≢◌, ◌<◌, ◌≤◌, ◌+◌, ◌++◌, [], List, ℕ, length, drop, Some, OnOk, OnErr};
 ghost use Rattle.std.specs.Arc.{arc_value};
@@ -19,8 +19,8 @@ use std::marker::Model;
 use std::mem;
 use std::sync::Arc;
 
-/// The bytes of answers that were not taken yet. A file among them is shared, and its chunks are made
-/// as they are taken.
+/// The bytes of answers that were not taken yet. A file among them is shared, and its chunks are
+/// made as they are taken.
 #[derive(Drop)]
 pub struct Outbox {
     alloc: Global,
@@ -41,7 +41,7 @@ impl Model for Outbox {
 }
 
 impl Outbox {
-    /// No bytes. It takes no memory.
+    /// Returns an empty queue. Allocates nothing.
     pub fn new(alloc: Global) -> Outbox
         ensures { result ≡ [] }
     {
@@ -52,7 +52,7 @@ impl Outbox {
         }
     }
 
-    /// The first bytes that were not taken yet: at least one where one is left.
+    /// Returns the first bytes that were not taken yet: at least one if any are left.
     pub fn front(&self) -> &[u8]
         ensures front { StartsWith self.now result.now }
         ensures some { self.now ≢ [] → result.now ≢ [] }
@@ -63,7 +63,7 @@ impl Outbox {
         }
     }
 
-    /// The first `n` bytes were taken. It takes no memory.
+    /// Removes the first `n` bytes, which were taken. Needs no memory.
     pub fn taken(&mut self, n: usize)
         requires { n ≤ length self.old }
         ensures { self.new ≡ drop n self.old }
@@ -74,8 +74,8 @@ impl Outbox {
         }
     }
 
-    /// Takes at most the first `n` bytes, of the first part alone, and gives how many: at least one
-    /// where one is left.
+    /// Removes at most the first `n` bytes, of the first part alone. Returns how many: at least one
+    /// if any are left.
     fn take_front(&mut self, n: usize) -> usize
         ensures most { result ≤ n }
         ensures here { result ≤ length self.old }
@@ -95,7 +95,7 @@ impl Outbox {
         taken
     }
 
-    /// Adds an answer at the end. After want of memory the bytes are as before.
+    /// Appends an answer. If an allocation fails, the bytes are unchanged.
     pub fn push(&mut self, answer: &SyncAnswer) -> Result<(), AllocError>
         requires { IsAnswer answer.now }
         ensures ok { OnOk result (self.new ≡ self.old ++ answer_bytes answer.now) }
@@ -106,8 +106,8 @@ impl Outbox {
         self.last.push(bytes.as_slice())
     }
 
-    /// Adds the chunks of a file and their end at the end. The file is shared until all its bytes were
-    /// taken. After want of memory the bytes are as before.
+    /// Appends the chunks of a file and their end. The file is shared until all its bytes were
+    /// taken. If an allocation fails, the bytes are unchanged.
     pub fn push_file(&mut self, file: Arc<File>) -> Result<(), AllocError>
         ensures ok { OnOk result (self.new ≡ self.old ++ file_bytes (Some (arc_value file))) }
         ensures err { OnErr result (self.new ≡ self.old) }
@@ -126,7 +126,7 @@ impl Outbox {
     }
 }
 
-/// Adds a part at the end, where something is left of it. There is room for it.
+/// Appends a part, unless it is empty. There is room for it.
 fn add(parts: &mut VecDeque<Part>, part: Part)
     requires { deque_len parts.old < deque_capacity parts.old }
     ensures bytes { (last : List ℕ)
@@ -140,7 +140,7 @@ fn add(parts: &mut VecDeque<Part>, part: Part)
     }
 }
 
-/// Drops the first part, where there is one.
+/// Drops the first part, if there is one.
 fn drop_first(parts: &mut VecDeque<Part>)
     ensures { parts.new.items ≡ drop 1 parts.old.items }
 {

@@ -7,7 +7,7 @@ ghost use Rattle.adb_files.specs.Part.{part_bytes};
 use crate::pull::Pull;
 use adb_outside::ByteQueue;
 
-/// Answers that are handed out in one way.
+/// Answers that are handed out in the same way.
 #[derive(Drop)]
 pub enum Part {
     Spelled(ByteQueue),
@@ -15,7 +15,7 @@ pub enum Part {
 }
 
 impl Part {
-    /// The first bytes that were not taken yet: at least one where one is left.
+    /// Returns the first bytes that were not taken yet: at least one if any are left.
     pub fn front(&self) -> &[u8]
         ensures front { StartsWith (part_bytes self.now) result.now }
         ensures some { part_bytes self.now ≢ [] → result.now ≢ [] }
@@ -26,7 +26,7 @@ impl Part {
         }
     }
 
-    /// Takes at most the first `n` bytes, and gives how many: at least one where one is left. It takes
+    /// Removes at most the first `n` bytes. Returns how many: at least one if any are left. Needs
     /// no memory.
     pub fn take_front(&mut self, n: usize) -> usize
         ensures most { result ≤ n }
@@ -45,7 +45,7 @@ impl Part {
         }
     }
 
-    /// Whether no byte is left.
+    /// Returns whether no byte is left.
     pub fn is_empty(&self) -> bool
         ensures { result ≡ (length (part_bytes self.now) == 0) }
     {

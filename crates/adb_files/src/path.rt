@@ -5,17 +5,17 @@ ghost use Rattle.adb_files.specs.Paths.{path_cmp, is_name, is_path, slash_behind
 
 use std::cmp::Ordering;
 
-/// The path of the directory that holds all others.
+/// The path of the root directory.
 pub const ROOT: &[u8] = b"/";
 
-/// Whether bytes between slashes are a name.
+/// Returns whether bytes between slashes are a name.
 fn is_name(name: &[u8]) -> bool
     ensures { result ≡ is_name name.now }
 {
     !name.is_empty() && name != b".".as_slice() && name != b"..".as_slice() && !name.contains(&0)
 }
 
-/// Whether bytes are a path: `/`, or one or more parts of a slash and a name.
+/// Returns whether bytes are a path: `/`, or one or more parts of a slash and a name.
 pub fn is_path(path: &[u8]) -> bool
     ensures { result ≡ is_path path.now }
 {
@@ -26,21 +26,21 @@ pub fn is_path(path: &[u8]) -> bool
                 .all(|part| is_name(part))
 }
 
-/// What follows a directory's path where a path below it goes on.
+/// Returns the bytes between a directory's path and the rest of a path below it.
 pub fn slash_behind(directory: &[u8]) -> &'static [u8]
     ensures { result.now ≡ slash_behind directory.now }
 {
     if directory == ROOT { b"" } else { b"/" }
 }
 
-/// Whether a path lies below a directory.
+/// Returns whether a path lies below a directory.
 pub fn is_below(directory: &[u8], path: &[u8]) -> bool
     ensures { result ≡ is_below directory.now path.now }
 {
     path.starts_with(directory) && path[directory.len()..].starts_with(slash_behind(directory))
 }
 
-/// How a path compares to one that is given in two parts.
+/// Compares a path to one that is given in two parts.
 pub fn compare(path: &[u8], front: &[u8], back: &[u8]) -> Ordering
     ensures { result ≡ path_cmp path.now (front.now ++ back.now) }
 {

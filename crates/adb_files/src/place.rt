@@ -1,4 +1,4 @@
-//! Where a path stands among the files.
+//! The place of a path among the files.
 
 ghost use Rattle.std.specs.Prelude.{◌≡◌, ◌++◌, MatchResult, OnOk, OnErr};
 ghost use Rattle.adb_files.specs.Files.{IsRising, ChangesAt, with_file};
@@ -11,7 +11,8 @@ use adb_outside::Text;
 use std::alloc::{AllocError, Global};
 use std::sync::Arc;
 
-/// The place of the slot whose path is `front` and `back`, or the place where it would stand.
+/// Returns the place of the slot of the path `front` and `back`, or the place where it would be
+/// inserted.
 pub fn place_of(slots: &[Slot], front: &[u8], back: &[u8]) -> Result<usize, usize>
     requires { IsRising slots.now }
     ensures { MatchResult result
@@ -21,7 +22,7 @@ pub fn place_of(slots: &[Slot], front: &[u8], back: &[u8]) -> Result<usize, usiz
     slots.binary_search_by(|slot| compare(slot.path(), front, back))
 }
 
-/// The place of the slot of the path, or the place where it would stand.
+/// Returns the place of the slot of the path, or the place where it would be inserted.
 pub fn place_at(slots: &[Slot], path: &[u8]) -> Result<usize, usize>
     requires { IsRising slots.now }
     ensures { MatchResult result
@@ -31,7 +32,7 @@ pub fn place_at(slots: &[Slot], path: &[u8]) -> Result<usize, usize>
     place_of(slots, path, b"")
 }
 
-/// The place of the first slot whose path is not before `front` and `back`.
+/// Returns the place of the first slot with a path that is not before `front` and `back`.
 pub fn first_from(slots: &[Slot], front: &[u8], back: &[u8]) -> usize
     requires { IsRising slots.now }
     ensures { BeginsAt (front.now ++ back.now) slots.now result }
@@ -41,8 +42,8 @@ pub fn first_from(slots: &[Slot], front: &[u8], back: &[u8]) -> usize
     }
 }
 
-/// Puts a file at the path, in the place of the one that is there. After want of memory the slots
-/// are as before.
+/// Puts a file at the path, in place of the one that is there. If an allocation fails, the slots
+/// are unchanged.
 pub fn store(
     alloc: Global,
     slots: &mut Vec<Slot>,

@@ -32,7 +32,7 @@ impl Model for Pull {
 }
 
 impl Pull {
-    /// All chunks of a file. It takes no memory.
+    /// Returns all chunks of a file. Allocates nothing.
     pub fn new(file: Arc<File>) -> Pull
         ensures { result ≡ chunk_bytes (arc_value file).bytes }
     {
@@ -40,7 +40,7 @@ impl Pull {
         Pull { file, chunk }
     }
 
-    /// The first bytes that were not taken yet: at least one where one is left.
+    /// Returns the first bytes that were not taken yet: at least one if any are left.
     pub fn front(&self) -> &[u8]
         ensures front { StartsWith self.now result.now }
         ensures some { self.now ≢ [] → result.now ≢ [] }
@@ -48,8 +48,8 @@ impl Pull {
         self.chunk.front(self.file.bytes.as_slice())
     }
 
-    /// Takes at most the first `n` bytes, and gives how many: at least one where one is left. It takes
-    /// no memory.
+    /// Removes at most the first `n` bytes. Returns how many: at least one if any are left.
+    /// Allocates nothing.
     pub fn take_front(&mut self, n: usize) -> usize
         ensures most { result ≤ n }
         ensures here { result ≤ length self.old }
@@ -59,7 +59,7 @@ impl Pull {
         self.chunk.take_front(self.file.bytes.as_slice(), n)
     }
 
-    /// Whether no byte is left.
+    /// Returns whether no byte is left.
     pub fn is_empty(&self) -> bool
         ensures { result ≡ (length self.now == 0) }
     {

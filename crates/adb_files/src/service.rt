@@ -15,9 +15,9 @@ use adb_sync::{AskReader, SyncError, SyncFault};
 use std::alloc::{AllocError, Global};
 use std::marker::Model;
 
-/// The file sync service of a device (SYNC.TXT). Contracts see what its reader of requests holds, the
-/// SEND that is open, the answers that were not taken yet, whether it has ended, and whether it is
-/// spent by want of memory.
+/// The file sync service of a device (SYNC.TXT). Contracts see the bytes that its reader of
+/// requests holds, the SEND that is open, the answers that were not taken yet, whether it has
+/// ended, and whether it is spent by an allocation failure.
 #[derive(Drop)]
 pub struct SyncService {
     reader: AskReader,
@@ -38,7 +38,7 @@ impl Model for SyncService {
 }
 
 impl SyncService {
-    /// A service that was asked nothing yet. It takes no memory.
+    /// Returns a service that was fed nothing. Allocates nothing.
     pub fn new(alloc: Global) -> SyncService
         ensures stands { StandsFor [] result }
         ensures out { result.out ≡ [] }
@@ -54,13 +54,14 @@ impl SyncService {
     }
 
     /// Takes the next piece of the stream, of any length. The whole requests that it completes are
-    /// served in order over these files, a SEND with its DONE as one: the file changes at its DONE
-    /// alone, as a whole. A fault is answered by one FAIL, and ends the service as a QUIT does; what
-    /// follows is dropped. After want of memory a front of these requests was served, of
-    /// whose answers all but the last are whole, and the service is spent: every call answers want of
-    /// memory and changes nothing. It has ended then only where it had before. Where nobody else changes
-    /// the files between the calls, all that the service did is what `served` says of all the bytes
-    /// fed.
+    /// served in order over these files, a SEND with its DONE as one: the file changes only at its
+    /// DONE, as a whole. A fault is answered by one FAIL and ends the service, as a QUIT does; the
+    /// bytes that follow are dropped. As long as no other caller changes the files between the
+    /// calls, everything that the service did is given by `served` of all the bytes fed.
+    ///
+    /// If an allocation fails, a prefix of these requests was served, and all of its answers but
+    /// the last are whole. The service is spent: every later call returns the error and changes
+    /// nothing. It has ended only if it had before.
     pub fn feed(&mut self, files: &mut Files, piece: &[u8]) -> Result<(), AllocError>
         ensures ok { OnOk result ((self.old.spent ≡ false) × (self.new.spent ≡ false)) }
         ensures served { OnOk result (self.old.ended ≡ false → (fed : List ℕ)
@@ -95,9 +96,9 @@ impl SyncService {
         result
     }
 
-    /// The first of the answers that were not taken yet, at least one byte where one is left. The bytes
-    /// of a file that is pulled are not copied: its chunks, and the header of each, come one by one as
-    /// those before are taken.
+    /// Returns the first of the answers that were not taken yet, at least one byte if any are left.
+    /// The bytes of a file that is pulled are not copied: its chunks, and the header of each, come
+    /// one by one as the bytes before are taken.
     pub fn out(&self) -> &[u8]
         ensures front { StartsWith self.now.out result.now }
         ensures some { self.now.out ≢ [] → result.now ≢ [] }
@@ -105,7 +106,7 @@ impl SyncService {
         self.session.out.front()
     }
 
-    /// The first `n` bytes of the answers that are left were taken. It takes no memory.
+    /// Removes the first `n` bytes of the answers, which were taken. Needs no memory.
     pub fn taken(&mut self, n: usize)
         requires { n ≤ length self.old.out }
         ensures left { self.new ≡ record self.old { out = drop n self.old.out } }
@@ -116,7 +117,7 @@ impl SyncService {
         self.session.out.taken(n);
     }
 
-    /// Whether a QUIT or a fault ended the service.
+    /// Returns whether a QUIT or a fault ended the service.
     pub fn ended(&self) -> bool
         ensures { result ≡ self.now.ended }
     {
@@ -157,7 +158,7 @@ fn feed_open(
     }
 }
 
-/// The fault that a reader told; want of memory is none.
+/// Returns the fault that a reader reported. An allocation failure is passed on as an error.
 fn told_fault(answer: Result<(), SyncError>) -> Result<Option<SyncFault>, AllocError>
     ensures ok { IfOk result (λ fault. (answer ≢ Err SyncError.OutOfMemory)
         × (answer ≡ answer_of error_of fault)) }

@@ -18,19 +18,20 @@ use adb_outside::Text;
 use adb_sync::{AskReader, SyncAnswer, SyncAsk, SyncFault};
 use std::alloc::{AllocError, Global};
 
-/// A SEND whose DONE has not come yet.
+/// An open SEND: its DONE has not come yet.
 #[derive(Drop)]
 pub struct Sending {
     pub path: Text,
     pub mode: Text,
-    /// Its bytes, as long as they are no more than all files may have.
+    /// The bytes of the file, while they are no more than all files may have.
     pub bytes: Text,
-    /// How many bytes came; it stops at the first number that is more than all files may have.
+    /// The number of bytes that came; it stops at the first number that exceeds the maximum of all
+    /// files.
     pub size: usize,
 }
 
 impl Sending {
-    /// A SEND of which no bytes have come.
+    /// Returns a SEND of which no bytes have come.
     fn new(alloc: Global, path: Text, mode: Text) -> Sending
         ensures kept { IsKept (record { path = path; mode = mode; bytes = [] }) result }
         ensures path { result.path ≡ path }
@@ -43,7 +44,7 @@ impl Sending {
         }
     }
 
-    /// Takes the next bytes. Past what all files may have no more is kept.
+    /// Takes the next bytes. Bytes beyond the maximum of all files are not kept.
     fn push(&mut self, chunk: &[u8]) -> Result<(), AllocError>
         ensures kept { OnOk result ((send : OpenSend) → IsKept send self.old
             → IsKept (record send { bytes = send.bytes ++ chunk.now }) self.new) }
@@ -96,7 +97,7 @@ fn serve_send(
     out.push(&SyncAnswer::Okay)
 }
 
-/// The SEND that is open, the answers, and whether the service has ended.
+/// The open SEND, the answers, and whether the service has ended.
 #[derive(Drop)]
 pub struct Session {
     alloc: Global,
@@ -106,7 +107,7 @@ pub struct Session {
 }
 
 impl Session {
-    /// Nothing was asked yet. It takes no memory.
+    /// Returns a session before the first request. Allocates nothing.
     pub fn new(alloc: Global) -> Session
         ensures sending { result.sending ≡ None }
         ensures out { result.out ≡ [] }
@@ -120,7 +121,7 @@ impl Session {
         }
     }
 
-    /// Serves the request that a message makes whole, where it makes one.
+    /// Serves the request that a message completes, if it completes one.
     pub fn take(&mut self, files: &mut Files, ask: SyncAsk) -> Result<(), AllocError>
         requires short { HasShortPath ask }
         requires kept { HasShortSend self.old.sending }
@@ -158,7 +159,7 @@ impl Session {
         }
     }
 
-    /// Serves a fault: a FAIL with its text, and the end.
+    /// Serves a fault: appends a FAIL with its text, and ends the session.
     pub fn take_fault(&mut self, fault: SyncFault) -> Result<(), AllocError>
         ensures ok { OnOk result ((self.new.out ≡ self.old.out ++ fail_bytes (fault_text fault))
             × (self.new.ended ≡ true)) }
@@ -172,7 +173,7 @@ impl Session {
     }
 }
 
-/// Serves the requests that a reader gives, in order, until one ends the service.
+/// Serves the requests that a reader returns, in order, until one ends the service.
 pub fn serve_given(
     reader: &mut AskReader,
     session: &mut Session,

@@ -1,4 +1,4 @@
-//! A file at its path, as the map keeps it.
+//! A file at its path, as stored in the map.
 
 ghost use Rattle.std.specs.Prelude.{◌≡◌, IfOk};
 ghost use Rattle.std.specs.Arc.{arc_value};
@@ -10,8 +10,8 @@ use std::alloc::{AllocError, Global};
 use std::marker::Model;
 use std::sync::Arc;
 
-/// A file at its path. The file is shared with the pulls of it that are still to be handed out, so that
-/// these don't copy it, and keep what it was when another is put in its place.
+/// A file at its path. The file is shared with the pulls of it that are still being handed out.
+/// They need no copy, and keep the old file when another is put in its place.
 #[derive(Drop)]
 pub struct Slot {
     path: Text,
@@ -28,36 +28,36 @@ impl Model for Slot {
 }
 
 impl Slot {
-    /// A file at a path.
+    /// Returns a file at a path.
     pub fn new(path: Text, file: Arc<File, Global>) -> Slot
         ensures { result ≡ record { path = path; file = arc_value file } }
     {
         Slot { path, file }
     }
 
-    /// The path.
+    /// Returns the path.
     pub fn path(&self) -> &[u8]
         ensures { result.now ≡ self.now.path }
     {
         self.path.as_slice()
     }
 
-    /// The file.
+    /// Returns the file.
     pub fn file(&self) -> &File
         ensures { result.now ≡ self.now.file }
     {
         &self.file
     }
 
-    /// The file, for who keeps it past the next change of the map. It takes no memory, and fails where
-    /// the count of owners is full.
+    /// Returns another owner of the file, which stays valid when the map changes. Allocates
+    /// nothing. Fails if the count of owners is at its maximum.
     pub fn share(&self) -> Result<Arc<File, Global>, AllocError>
         ensures { IfOk result (λ file. arc_value file ≡ self.now.file) }
     {
         Arc::try_clone(&self.file)
     }
 
-    /// Another file at the same path.
+    /// Puts another file at the same path.
     pub fn replace(&mut self, file: Arc<File, Global>)
         ensures { self.new ≡ record self.old { file = arc_value file } }
     {

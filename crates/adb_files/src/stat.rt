@@ -1,4 +1,4 @@
-//! What a listing says of a name.
+//! The attributes of a name in a listing.
 
 ghost use Rattle.std.specs.Prelude.{◌≡◌, ◌^◌, ◌<◌, length};
 ghost use Rattle.adb_files.specs.Listing.{stat_of, directory_stat};
@@ -9,7 +9,7 @@ use crate::file::File;
 /// The mode of a directory.
 const DIRECTORY_MODE: u32 = 16_877;
 
-/// A mode, a number of bytes and a time, as STAT and LIST tell them.
+/// A mode, a number of bytes and a time, as in STAT and LIST.
 #[derive(Clone, Copy, Drop)]
 pub struct Stat {
     pub mode: u32,
@@ -18,7 +18,7 @@ pub struct Stat {
 }
 
 impl Stat {
-    /// What a file shows.
+    /// Returns the attributes of a file.
     pub fn of(file: &File) -> Stat
         requires { length file.now.bytes < 2 ^ 32 }
         ensures { result ≡ stat_of file.now }
@@ -30,7 +30,7 @@ impl Stat {
         }
     }
 
-    /// What a directory shows.
+    /// Returns the attributes of a directory.
     pub fn directory() -> Stat
         ensures { result ≡ directory_stat }
     {
@@ -41,7 +41,7 @@ impl Stat {
         }
     }
 
-    /// What a path without a file shows.
+    /// Returns the attributes of a path without a file.
     pub fn nothing() -> Stat
         ensures { result ≡ nothing_stat }
     {

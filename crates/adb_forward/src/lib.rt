@@ -1,4 +1,4 @@
-//! The forwards of a host server: which local port leads to which service of which device
+//! The forwards of a host server: the local port, and the service and device to which it leads
 //! (SERVICES.TXT, `<host-prefix>:forward`).
 #![tactic(auto)]
 

@@ -1,4 +1,4 @@
-//! One forward, and why one may be refused.
+//! One forward, and the reasons why one may be refused.
 
 ghost use Rattle.adb_forward.specs.declared.row.ForwardError.TheVariants.{OutOfMemory};
 ghost use Rattle.std.specs.Prelude.{◌≡◌};
@@ -6,7 +6,7 @@ ghost use Rattle.std.specs.Prelude.{◌≡◌};
 use adb_outside::Text;
 use std::alloc::{AllocError, AllocFailed};
 
-/// One forward: what comes to the local port goes to the service `remote` of the device of that
+/// A forward: a connection to the local port goes to the service `remote` of the device of that
 /// transport.
 #[derive(Drop)]
 pub struct ForwardRow {
@@ -16,18 +16,18 @@ pub struct ForwardRow {
     pub transport: u32,
     /// The serial of the device, at most 64 bytes.
     pub serial: Text,
-    /// The service that the device is asked for, 1 to 512 bytes of 0x21 to 0x7e.
+    /// The service that is requested from the device, 1 to 512 bytes of 0x21 to 0x7e.
     pub remote: Text,
 }
 
-/// Why a forward was not put into the table, which then is as before.
+/// The reason why a forward was not put into the table, which is unchanged then.
 #[derive(Clone, Copy, Debug, PartialEq, Eq, Drop)]
 pub enum ForwardError {
     /// The local port is 0, or the remote end is not 1 to 512 bytes of 0x21 to 0x7e.
     BadSpec,
-    /// The local port has a row, and the request asked not to replace one.
+    /// The local port has a row, and the request asked not to replace it.
     Exists,
-    /// The local port has no row, and the table holds as many as it may.
+    /// The local port has no row, and the table is full.
     Full,
     OutOfMemory,
 }

@@ -13,10 +13,10 @@ use std::alloc::{AllocError, Global};
 use std::collections::BTreeMap;
 use std::marker::Model;
 
-/// How many forwards there may be.
+/// The maximum number of forwards.
 pub const MAX_FORWARDS: usize = 64;
 
-/// The numbers that definitions take from the code, written out.
+/// States the numbers that definitions take from the code.
 pub fn limits_are()
     ensures forwards { MAX_FORWARDS ≡ 64 }
 {}
@@ -43,7 +43,7 @@ impl Model for Forwards {
 }
 
 impl Forwards {
-    /// The table without a row. It takes no memory.
+    /// Returns a table without rows. Allocates nothing.
     pub fn new(alloc: Global) -> Forwards
         ensures { result ≡ [] }
     {
@@ -53,11 +53,12 @@ impl Forwards {
         }
     }
 
-    /// Puts a row at the local port, in the place of the one that is there. The refusals are
-    /// looked for in the order of `ForwardError`: `BadSpec` comes exactly where the port is 0 or
-    /// the remote end is not 1 to 512 bytes of 0x21 to 0x7e, `Exists` exactly where the port has a
-    /// row and `norebind` asks to keep it, `Full` exactly where it has none and 64 rows are held.
-    /// After an error the table is as before.
+    /// Puts a row at the local port, in place of the one that is there. After an error the table is
+    /// unchanged. Refusals are checked in the order of `ForwardError`.
+    ///
+    /// `BadSpec`: returned exactly if the port is 0 or the remote end is not 1 to 512 bytes of 0x21
+    /// to 0x7e. `Exists`: exactly if the port has a row and `norebind` asks to keep it. `Full`:
+    /// exactly if the port has no row and the table holds 64 rows.
     pub fn put(
         &mut self,
         local: u16,
@@ -103,7 +104,7 @@ impl Forwards {
         Ok(())
     }
 
-    /// Removes the row of the local port, and says whether there was one.
+    /// Removes the row of the local port. Returns whether there was one.
     pub fn remove(&mut self, local: u16) -> bool
         ensures found { result ≡ is_some (at local self.old) }
         ensures after { self.new ≡ without local self.old }
@@ -121,7 +122,7 @@ impl Forwards {
         self.rows.clear();
     }
 
-    /// Removes every row of that transport, and no other.
+    /// Removes the rows of that transport, and no others.
     pub fn remove_of(&mut self, transport: u32)
         ensures after { self.new ≡ filter (λ entry. not (entry.1.transport == transport)) self.old }
         ensures table { IsForwardTable self.new }
@@ -129,7 +130,7 @@ impl Forwards {
         self.rows.retain(|_, row| row.transport != transport);
     }
 
-    /// Whether a port without a row can get none.
+    /// Returns whether no port without a row can get one.
     pub fn is_full(&self) -> bool
         ensures full { IsTrue result ↔ (length self.now ≡ MAX_FORWARDS) }
         ensures table { IsForwardTable self.now }
@@ -137,7 +138,7 @@ impl Forwards {
         self.rows.len() == MAX_FORWARDS
     }
 
-    /// The row of the local port, or `None` where there is none.
+    /// Returns the row of the local port, if there is one.
     pub fn find(&self, local: u16) -> Option<&ForwardRow>
         ensures row { option_copied result ≡ at local self.now }
         ensures table { IsForwardTable self.now }
@@ -145,7 +146,8 @@ impl Forwards {
         self.rows.get(&local)
     }
 
-    /// A line `<serial> tcp:<local> <remote>` for each row, each with its newline, in rising port.
+    /// Returns a line `<serial> tcp:<local> <remote>` for each row, each with its newline, in
+    /// rising port. Fails if an allocation fails.
     pub fn list(&self) -> Result<Text, AllocError>
         ensures text { IfOk result (λ text. text ≡ forward_list self.now) }
         ensures fits { IfOk result (λ text. length text < 2 ^ 16) }
@@ -159,14 +161,14 @@ impl Forwards {
     }
 }
 
-/// Whether a local port and a remote end can be a forward.
+/// Returns whether a local port and a remote end can be a forward.
 fn is_specification(local: u16, remote: &[u8]) -> bool
     ensures { IsTrue result ↔ IsSpecification local remote.now }
 {
     local != 0 && !remote.is_empty() && remote.len() <= MAX_REMOTE && is_graphic(remote)
 }
 
-/// Adds the line of a row at the end of a text.
+/// Appends the line of a row.
 fn push_line(text: &mut Text, row: &ForwardRow) -> Result<(), AllocError>
     ensures { OnOk result (text.new ≡ text.old ++ forward_line row.now) }
 {

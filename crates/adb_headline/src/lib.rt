@@ -1,5 +1,6 @@
-//! The headline: every legal history is fifo, has its causes and is answered; and what a user asks
-//! for first, of the bytes of streams. Each function does nothing: its contract is the law.
+//! The headline: every legal history is fifo, has its causes and is answered; and the properties of
+//! the bytes of streams that users ask for first. Each function does nothing: its contract is the
+//! law.
 #![tactic(auto)]
 
 mod bytes;

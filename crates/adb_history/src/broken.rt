@@ -1,4 +1,5 @@
-//! No promise is empty: each is broken by a history of `specs/Broken.antt`, which no server may make.
+//! The promises are not vacuous: each is broken by a history of `specs/Broken.antt`, which no
+//! server can produce.
 
 ghost use Rattle.adb_history.specs.Fifo.{SendsPackets, HasBirths, CarriesRest, CarriesWholeRest};
 ghost use Rattle.adb_history.specs.Fifo.{TellsClose};
@@ -10,7 +11,8 @@ ghost use Rattle.adb_history.specs.Answered.{RepliesFirst, RepliesWhenBound, Rep
 ghost use Rattle.adb_history.specs.Answered.{HasPresentList, SaysNothingMore, HasStreamAlone};
 ghost use Rattle.adb_history.specs.Broken as broken;
 
-/// What each stream hands over in order and once can be broken: each field of `IsFifo`.
+/// States that the order and uniqueness of the bytes of a stream can be broken: each field of
+/// `IsFifo`.
 pub fn fifo_can_be_broken()
     ensures packets { SendsPackets broken.sends_no_packet → ⊥ }
     ensures birth { HasBirths broken.draws_a_number_twice → ⊥ }
@@ -25,7 +27,7 @@ pub fn fifo_can_be_broken()
     ensures no_crossing { HasNoCrossing broken.writes_to_another_link → ⊥ }
 {}
 
-/// That a stream ends for its cause alone can be broken: each field of `HasCauses`.
+/// States that the cause of a stream's end can be broken: each field of `HasCauses`.
 pub fn causes_can_be_broken()
     ensures by_client { EndsByClient broken.ends_with_a_write_outstanding → ⊥ }
     ensures by_peer { EndsByPeer broken.ends_without_a_close → ⊥ }
@@ -37,8 +39,9 @@ pub fn causes_can_be_broken()
     ensures no_other { HasNoOtherCause broken.outlives_its_client → ⊥ }
 {}
 
-/// That each client is answered can be broken: each field of `IsAnsweredAt`, and what a client that
-/// came through a forward is handed. A device's write that does not become due breaks it too.
+/// States that the answer to each client can be broken: each field of `IsAnsweredAt`, and the bytes
+/// handed to a client that came through a forward. A device's write that is not queued breaks it
+/// too.
 pub fn answers_can_be_broken()
     ensures replies { RepliesFirst broken.stale_device_list 1 → ⊥ }
     ensures bound_reply { RepliesWhenBound broken.keeps_a_listener_secret 1 → ⊥ }

@@ -1,4 +1,4 @@
-//! Why a stream ended.
+//! The reason why a stream ended.
 
 ghost use Rattle.std.specs.Prelude.{◌≡◌};
 ghost use Rattle.adb_history.specs.Ending.{ending_text};
@@ -9,13 +9,13 @@ use std::fmt;
 /// The cause by which a stream ended. `Display` prints it as a user of adb would say it.
 #[derive(Clone, Copy, Debug, PartialEq, Eq, Drop)]
 pub enum Ending {
-    /// The client closed its connection, and all that it wrote has gone to the device.
+    /// The client closed its connection, and all that it wrote was sent to the device.
     ClientClosed,
     /// The device closed the stream, or refused to open it.
     PeerClosed,
-    /// The device wrote although the server had not acknowledged its last write.
+    /// The device wrote before the server had acknowledged its last write.
     OutOfTurn,
-    /// The link to the device was lost, or the device began it anew.
+    /// The link to the device was lost, or the device started it anew.
     Lost,
     /// The device broke the protocol, so its link was closed.
     Broken,
@@ -42,7 +42,7 @@ impl Ending {
     }
 }
 
-/// Returns what happened to a client whose connection failed.
+/// Returns the text for a client with a failed connection.
 fn failure_text(cause: Cause) -> &'static [u8]
     ensures { result.now ≡ ending_text (Ending.ClientFailed cause) }
 {

@@ -1,11 +1,11 @@
-//! How much is handed out at once.
+//! The maximum length of a hand-out.
 
 ghost use Rattle.std.specs.Prelude.{◌≡◌};
 
-/// The most bytes of one hand-out.
+/// The maximum number of bytes of one hand-out.
 pub const MAX_HAND_OUT: usize = 65_536;
 
-/// The number that definitions take from the code, written out.
+/// States the number that definitions take from the code.
 pub fn limits_are()
     ensures hand_out { MAX_HAND_OUT ≡ 65536 }
 {}

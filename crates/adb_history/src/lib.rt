@@ -1,6 +1,6 @@
-//! Histories: what a list of entries means for the clients, devices and streams of the server, which lists are
-//! legal, what handing out all that is due makes of the entries that came, and what the server promises of every
-//! legal history.
+//! Histories: the state of the clients, devices and streams of the server after a list of entries,
+//! the lists that are legal, the result of handing out all queued bytes after the entries that
+//! came, and the promises of the server about every legal history.
 #![tactic(auto)]
 
 mod broken;

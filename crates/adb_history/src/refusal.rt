@@ -1,42 +1,42 @@
-//! Why the rest of a capture is not replayed.
+//! The reasons why the rest of a capture is not replayed.
 
 ghost use Rattle.std.specs.Prelude.{◌≡◌};
 ghost use Rattle.adb_history.specs.Refusal.{reason_text, reason_of, refusal_by};
 
 use adb_capture::{CaptureError, Why};
 
-/// Why a capture is refused, at the offset of the first byte of the record that is.
+/// The reason why a capture is refused, with the offset of the first byte of the refused record.
 #[derive(Clone, Copy, Debug, PartialEq, Eq, Drop)]
 pub struct Refusal {
     pub offset: u64,
     pub reason: Reason,
 }
 
-/// What is wrong with a capture.
+/// The fault of a capture.
 #[derive(Clone, Copy, Debug, PartialEq, Eq, Drop)]
 pub enum Reason {
-    /// It does not begin with the magic.
+    /// The capture does not begin with the magic.
     BadMagic,
-    /// It ends within the record.
+    /// The capture ends within the record.
     Truncated,
-    /// No record's kind is that byte.
+    /// The byte is no record's kind.
     UnknownKind,
-    /// The record's data are longer than a record's may be.
+    /// The record's data are longer than the maximum.
     RecordTooLong,
-    /// The record ends past the last byte that a capture may have.
+    /// The record ends past the maximum length of a capture.
     CaptureTooLarge,
-    /// The record's data are not of its kind's form.
+    /// The record's data do not have the form that its kind requires.
     BadForm,
-    /// The record names a number that was never drawn, or draws another than the next one.
+    /// The record names a number that was never drawn, or draws another number than the next one.
     NotDrawn,
-    /// The record plugs in a device, and as many as there may be are plugged in.
+    /// The record plugs in a device while the maximum number of devices is plugged in.
     TooManyDevices,
-    /// The record plugs in a device whose serial is not lawful.
+    /// The record plugs in a device with a serial that is not allowed.
     BadSerial,
 }
 
 impl Reason {
-    /// Its text.
+    /// Returns the text of the reason.
     pub fn text(self) -> &'static [u8]
         ensures { result.now ≡ reason_text self }
     {
@@ -55,8 +55,8 @@ impl Reason {
 }
 
 impl Refusal {
-    /// Why a capture is refused whose reader answers that error; `None` where it is not: its
-    /// source failed, or memory ran out.
+    /// Returns the refusal of a capture, given the error of its reader; `None` if the source failed
+    /// or an allocation failed, which refuses nothing.
     pub fn by(error: CaptureError) -> Option<Refusal>
         ensures { result ≡ refusal_by error }
     {

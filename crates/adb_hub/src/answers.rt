@@ -1,38 +1,37 @@
-//! What the hub's calls answer.
+//! The answers of the hub's calls.
 
 use adb_outside::HandOut;
 
-/// Whether the client or link that a call was about lives after it.
+/// Whether the client or link of a call is still alive after it.
 #[derive(Clone, Copy, Debug, PartialEq, Eq, Drop)]
 pub enum Life {
     Live,
     Gone,
 }
 
-/// What is handed out to a client or on a link.
+/// The output that is handed out to a client or on a link.
 #[derive(Drop)]
 pub enum Handed {
-    /// Some of the first bytes that were due, at least one.
+    /// Some of the first bytes of the output queue, at least one.
     Bytes(HandOut),
-    /// Nothing is due.
+    /// The output queue is empty.
     Nothing,
-    /// It is gone, and nothing will be due to it any more.
+    /// The client or link is gone, and nothing will be queued for it.
     Done,
 }
 
-/// How much more a client may send.
+/// The number of bytes that a client may still send.
 #[derive(Clone, Copy, Debug, PartialEq, Eq, Drop)]
 pub enum Room {
-    /// So many bytes.
+    /// This many bytes.
     Bytes(usize),
-    /// Nothing until some of what is held was sent on.
+    /// None until some of the held bytes were sent.
     Later,
-    /// Nothing: its input ended, or it is read no more.
+    /// None: the client's input ended, or the server no longer reads it.
     Shut,
 }
 
-/// What a hub holds, in numbers: the clients, links and streams that live, and whether a kill was
-/// made.
+/// The counts of a hub: the live clients, links and streams, and whether a kill was requested.
 #[derive(Clone, Copy, Debug, PartialEq, Eq, Drop)]
 pub struct Summary {
     pub clients: u32,

@@ -1,4 +1,4 @@
-//! Clients: how they come, what comes from them, and how they end.
+//! Clients: how they come, their bytes, and how they end.
 
 ghost use Rattle.std.specs.Prelude.{◌≡◌, ◌≢◌, ◌+◌, ◌^◌, ◌<◌, List, IfOk, OnErr, OnOk, Err, Some};
 ghost use Rattle.std.specs.Prelude.{if◌then◌else◌};
@@ -21,7 +21,10 @@ use adb_hub_tables::{Endings, Tables};
 use adb_outside::Cause;
 
 impl Hub {
-    /// The next client comes, and asks. An error is `Stopped`, `Numbers` or want of memory.
+    /// Adds the next client, which asks, and returns its number.
+    ///
+    /// `Stopped`: a kill was requested. `Numbers`: all numbers were drawn. `OutOfMemory`: an
+    /// allocation failed.
     pub fn join(&mut self) -> Result<u32, HubError>
         ensures joined { (h : List Entry) → IsLawful self.old h
             → let next = (state h).joined + 1 in
@@ -33,8 +36,9 @@ impl Hub {
         Ok(client)
     }
 
-    /// The next client comes through the forward of a local port; where that leads nowhere it is
-    /// gone at once. An error is `Stopped`, `Numbers` or want of memory.
+    /// Adds the next client, which comes through the forward of a local port, and returns its
+    /// number. If the forward leads nowhere, the client is gone at once. The errors are those of
+    /// `join`.
     pub fn enter(&mut self, port: u16) -> Result<u32, HubError>
         ensures entered { (h : List Entry) → IsLawful self.old h
             → let next = (state h).joined + 1 in
@@ -46,7 +50,10 @@ impl Hub {
         Ok(client)
     }
 
-    /// Bytes come from a client. An error is `Stopped`, `NoClient` or want of memory.
+    /// Submits bytes of a client.
+    ///
+    /// `Stopped`: a kill was requested. `NoClient`: no client has had that number. `OutOfMemory`:
+    /// an allocation failed.
     pub fn read(&mut self, client: u32, piece: &[u8]) -> Result<Life, HubError>
         ensures read { (h : List Entry) → IsLawful self.old h
             → AnswersClient client (Entry.Read client piece.now) result h self.new }
@@ -59,7 +66,7 @@ impl Hub {
     }
 
     /// Submits bytes of a client as `read` does, and appends the streams that end to the log, in
-    /// order. After an error the log has what it had.
+    /// order. After an error the log is unchanged.
     pub fn read_reporting(
         &mut self,
         client: u32,
@@ -79,8 +86,9 @@ impl Hub {
         Ok(self.client_life(client))
     }
 
-    /// A client's input ended, in order or by a failure. An error is `Stopped` or `NoClient`; it
-    /// takes no memory.
+    /// Ends a client's input, in order or by a failure. Allocates nothing.
+    ///
+    /// `Stopped`: a kill was requested. `NoClient`: no client has had that number.
     pub fn end(&mut self, client: u32, cause: Cause) -> Result<Life, HubError>
         ensures ended { (h : List Entry) → IsLawful self.old h
             → AnswersClient client (Entry.End client cause) result h self.new }
@@ -94,7 +102,7 @@ impl Hub {
     }
 
     /// Ends a client's input as `end` does, and appends the stream that ends, if any, to the log.
-    /// It fails too if the log's memory can't be allocated. After an error the log has what it had.
+    /// Fails too if an allocation for the log fails. After an error the log is unchanged.
     pub fn end_reporting(
         &mut self,
         client: u32,
@@ -114,8 +122,8 @@ impl Hub {
         Ok(self.client_life(client))
     }
 
-    /// The listener for the forward that a client waits for stands at a port, or, at 0, could not
-    /// be made. An error is `Stopped`, `NoClient` or want of memory.
+    /// Reports that the listener for the forward that a client waits for is bound to a port or, if
+    /// the port is 0, could not be made. The errors are those of `read`.
     pub fn bound(&mut self, client: u32, port: u16) -> Result<Life, HubError>
         ensures bound { (h : List Entry) → IsLawful self.old h
             → AnswersClient client (Entry.Bound client port) result h self.new }
@@ -126,7 +134,8 @@ impl Hub {
         Ok(self.client_life(client))
     }
 
-    /// How much more a client may send before some of it was sent on. It takes no memory.
+    /// Returns how many more bytes a client may send before some of them were sent on. Allocates
+    /// nothing.
     pub fn room(&self, client: u32) -> Room
         ensures { (h : List Entry) → IsLawful self.now h
             → result ≡ room_of ((state h).clients client) }
@@ -134,7 +143,7 @@ impl Hub {
         room(&self.tables, client)
     }
 
-    /// How many bytes of a client are held. It takes no memory.
+    /// Returns how many bytes of a client are held. Allocates nothing.
     pub fn held(&self, client: u32) -> usize
         ensures { (h : List Entry) → IsLawful self.now h
             → result ≡ held_of ((state h).clients client) }
@@ -142,7 +151,7 @@ impl Hub {
         held(&self.tables, client)
     }
 
-    /// The port that a client waits for: 0 where any port serves. It takes no memory.
+    /// Returns the port that a client waits for: 0 for any port. Allocates nothing.
     pub fn waiting_port(&self, client: u32) -> Option<u16>
         ensures { (h : List Entry) → IsLawful self.now h
             → result ≡ port_of ((state h).clients client) }
@@ -150,7 +159,7 @@ impl Hub {
         waiting_port(&self.tables, client)
     }
 
-    /// The next client's number.
+    /// Returns the next client's number.
     fn next_client(&self) -> Result<u32, HubError>
         ensures next { result ≡ next_client self.now.stopped self.now.joined }
         ensures fits { IfOk result (λ client. client < 2 ^ 32) }
@@ -161,7 +170,7 @@ impl Hub {
         self.joined().checked_add(1).ok_or(HubError::Numbers)
     }
 
-    /// Whether something may come from a client.
+    /// Returns an error unless an entry about this client is possible.
     fn look_for_client(&self, client: u32) -> Result<(), HubError>
         ensures { result ≡ err_if (unless_stopped self.now.stopped
             (unless_drawn (is_drawn self.now.joined client) (HubError.NoClient client))) }
@@ -172,7 +181,7 @@ impl Hub {
         self.find_client(client)
     }
 
-    /// Whether a client's number was drawn.
+    /// Returns an error unless a client's number was drawn.
     pub(crate) fn find_client(&self, client: u32) -> Result<(), HubError>
         ensures { result ≡ err_if
             (unless_drawn (is_drawn self.now.joined client) (HubError.NoClient client)) }
@@ -184,7 +193,7 @@ impl Hub {
         }
     }
 
-    /// Whether a client lives.
+    /// Returns whether a client lives.
     pub(crate) fn client_life(&self, client: u32) -> Life
         ensures { (h : List Entry) → IsLawful self.now h
             → result ≡ life_of ((state h).clients client) }
@@ -193,7 +202,7 @@ impl Hub {
     }
 }
 
-/// How much more a client may send.
+/// Returns how many more bytes a client may send.
 fn room(tables: &Tables, client: u32) -> Room
     ensures { result ≡ room_of ((state_of tables.now).clients client) }
 {
@@ -213,7 +222,7 @@ fn room_in(row: &Client) -> Room
     }
 }
 
-/// How many bytes of a client are held.
+/// Returns how many bytes of a client are held.
 fn held(tables: &Tables, client: u32) -> usize
     ensures { result ≡ held_of ((state_of tables.now).clients client) }
 {
@@ -229,7 +238,7 @@ fn held_in(row: &Client) -> usize
     row.held()
 }
 
-/// The port that a client waits for.
+/// Returns the port that a client waits for.
 fn waiting_port(tables: &Tables, client: u32) -> Option<u16>
     ensures { result ≡ port_of ((state_of tables.now).clients client) }
 {
@@ -248,7 +257,7 @@ fn port_in(row: &Client) -> Option<u16>
     }
 }
 
-/// How much more may be held, of so much that is.
+/// Returns how many more bytes may be held after `held` bytes.
 fn room_past(held: usize) -> Room
     ensures { result ≡ room_past held }
 {
@@ -259,7 +268,7 @@ fn room_past(held: usize) -> Room
     }
 }
 
-/// Whether who is there lives.
+/// Returns whether a client or link lives, by whether it has a row.
 pub(crate) fn life_if(there: bool) -> Life
     ensures { result ≡ (if there then Life.Live else Life.Gone) }
 {

@@ -1,20 +1,20 @@
-//! Why a call makes no entry.
+//! The reasons why a call makes no entry.
 
 use adb_registry::AttachError;
 use std::alloc::AllocError;
 
-/// Why a call makes no entry. The hub is then as before.
+/// The reason why a call makes no entry. The hub is unchanged then.
 #[derive(Clone, Copy, Debug, PartialEq, Eq, Drop)]
 pub enum HubError {
-    /// A kill was made: only what is due is still handed out.
+    /// A kill was requested: only the output queue is still handed out.
     Stopped,
     /// No client ever had that number.
     NoClient(u32),
     /// No link ever had that number.
     NoLink(u32),
-    /// All numbers were drawn.
+    /// All numbers are used.
     Numbers,
-    /// As many devices are plugged in as there may be.
+    /// The maximum number of devices is plugged in.
     Full,
     /// The serial is not 1 to 64 bytes of 0x21 to 0x7e.
     BadSerial,

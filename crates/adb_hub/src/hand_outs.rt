@@ -1,4 +1,4 @@
-//! Handing out what is due.
+//! Handing out output.
 
 ghost use Rattle.std.specs.Prelude.{◌≡◌, ◌<◌, ◌≤◌, List, All, None, IfOk, OnErr, option_and_then};
 ghost use Rattle.adb_capture.specs.declared.entry.Entry.{Entry};
@@ -16,9 +16,10 @@ use adb_capture::Owner;
 use adb_outside::{HandOut, Parts};
 
 impl Hub {
-    /// Hands out the first bytes that are due to a client, at most `max`; a tracker whose list is
-    /// stale is owed the present one where nothing else is due. An error is `NoClient` or want of
-    /// memory.
+    /// Hands out the first bytes of a client's output queue, at most `max`. If the queue of a
+    /// tracker is empty and its list is stale, the current list is queued first.
+    ///
+    /// `NoClient`: no client has had that number. `OutOfMemory`: an allocation failed.
     pub fn put(&mut self, client: u32, max: usize) -> Result<Handed, HubError>
         requires { 0 < max }
         ensures put { (h : List Entry) → IsLawful self.old h → Hands (Entry.Put client) max
@@ -36,8 +37,9 @@ impl Hub {
         }
     }
 
-    /// Hands out the first bytes that are due on a link, at most `max`. An error is `NoLink` or
-    /// want of memory.
+    /// Hands out the first bytes of a link's output queue, at most `max`.
+    ///
+    /// `NoLink`: no link has had that number. `OutOfMemory`: an allocation failed.
     pub fn send(&mut self, link: u32, max: usize) -> Result<Handed, HubError>
         requires { 0 < max }
         ensures sent { (h : List Entry) → IsLawful self.old h → Hands (Entry.Send link) max
@@ -55,9 +57,9 @@ impl Hub {
         }
     }
 
-    /// How many bytes to hand out to a client or on a link at once, at most `max`, so that no payload
-    /// of 4 KiB or more is copied: such a payload, with its header, or what is due before it; `max`
-    /// where none is due. It takes no memory.
+    /// Returns how many bytes to hand out to a client or on a link at once, at most `max`, so that
+    /// no payload of 4 KiB or more is copied: such a payload, with its header, or the bytes before
+    /// it; `max` if none is queued. Allocates nothing.
     pub fn front_len(&self, owner: Owner, max: usize) -> usize
         requires { 0 < max }
         ensures { (0 < result) × (result ≤ max) }
@@ -65,9 +67,10 @@ impl Hub {
         adb_hub_hand_outs::front_len(&self.tables, owner, max)
     }
 
-    /// Who is handed something next when all that is due is handed out: the least link to which
-    /// something is due, or else the least client. Nothing changes that contracts see, and it takes
-    /// no memory. Its cost is that of those that may have come to be owed since the last call.
+    /// Returns the client or link that is handed output next if everything is handed out: the least
+    /// link with output, or otherwise the least client. Nothing that contracts see changes.
+    /// Allocates nothing. The cost is proportional to the number of those that may have got output
+    /// since the last call.
     pub fn next_due(&mut self) -> Option<Owner>
         ensures owner { (h : List Entry) → IsLawful self.old h
             → result ≡ option_and_then owner_of (next_out (state h)) }
@@ -78,17 +81,18 @@ impl Hub {
         adb_hub_hand_outs::next_due(&mut self.tables)
     }
 
-    /// Whom to wake: somebody to whom something may have come due, for whom room may have been
-    /// made, or who is gone, and who was not named since; each is named once. Nothing changes that
-    /// contracts see, and it takes no memory. Its cost is that of those who are named. After a kill
-    /// all are gone, and not all of them are named.
+    /// Returns the next client or link whose state changed since the last call: output may be
+    /// queued for it, its input may have room again, or it may be gone. Each is returned once.
+    /// Nothing that contracts see changes. Allocates nothing. The cost is proportional to the
+    /// number of those that are returned. After a kill all are gone, and not all of them are
+    /// returned.
     pub fn next_touched(&mut self) -> Option<Owner>
         ensures same { self.new ≡ self.old }
     {
         adb_hub_hand_outs::next_touched(&mut self.tables)
     }
 
-    /// Whether something is due to a client or on a link, or it is gone. It takes no memory.
+    /// Returns whether a client or link has output, or is gone. Allocates nothing.
     pub fn is_owed(&self, owner: Owner) -> bool
         ensures { (h : List Entry) → IsLawful self.now h → result ≡ is_owed owner (state h) }
     {
@@ -96,7 +100,7 @@ impl Hub {
     }
 }
 
-/// What is handed out of nothing.
+/// Returns the answer if there is nothing to hand out.
 fn nothing(life: Life) -> Handed
     ensures { result ≡ handed_as None life }
 {
@@ -106,7 +110,8 @@ fn nothing(life: Life) -> Handed
     }
 }
 
-/// What is handed out is bytes.
+/// States that output that is handed out consists of bytes. It does nothing: its contract is the
+/// law.
 fn has_bytes(handed: &HandOut)
     ensures { All (λ b. b < 256) handed.now }
 {
@@ -115,7 +120,7 @@ fn has_bytes(handed: &HandOut)
     are_bytes(rest);
 }
 
-/// A slice of bytes has bytes.
+/// States that a slice consists of bytes. It does nothing: its contract is the law.
 pub(crate) fn are_bytes(bytes: &[u8])
     ensures { All (λ b. b < 256) bytes.now }
 {}

@@ -13,16 +13,17 @@ use std::alloc::Global;
 use std::collections::BTreeSet;
 use std::marker::Model;
 
-/// How many bytes of a client are held at most before it has no room.
+/// The number of held bytes of a client at which it has no more room.
 pub const MAX_HELD: usize = adb_client::MAX_HELD;
 
-/// The number that definitions take from the code, written out.
+/// States the number that definitions take from the code.
 pub fn limits_are()
     ensures held { MAX_HELD ≡ 65540 }
 {}
 
-/// The hub: the clients, links and streams that live, the devices and the forwards. Contracts see
-/// what a history leaves of them. After a refusal, and after want of memory, it is as before.
+/// The hub: the live clients, links and streams, the devices and the forwards. Contracts see the
+/// state that a history leaves of them. After a refusal, and after an allocation failure, the hub
+/// is unchanged.
 #[derive(Drop)]
 pub struct Hub {
     pub(crate) tables: Tables,
@@ -42,7 +43,7 @@ impl Model for Hub {
 }
 
 impl Hub {
-    /// Nobody came yet. It takes no memory.
+    /// Returns a hub to which no client or device came yet. Allocates nothing.
     pub fn new(alloc: Global) -> Hub
         ensures { IsLawful result [] }
     {
@@ -61,42 +62,42 @@ impl Hub {
         }
     }
 
-    /// Whether a kill was made.
+    /// Returns whether a kill was requested.
     pub fn is_stopped(&self) -> bool
         ensures { result ≡ self.now.stopped }
     {
         self.tables.stopped
     }
 
-    /// How many clients came.
+    /// Returns how many clients came.
     pub fn joined(&self) -> u32
         ensures { result ≡ self.now.joined }
     {
         self.tables.joined
     }
 
-    /// How many devices were plugged in.
+    /// Returns how many devices were plugged in.
     pub fn plugged(&self) -> u32
         ensures { result ≡ self.now.devices.drawn }
     {
         self.tables.devices.drawn()
     }
 
-    /// Whether a client's number was drawn.
+    /// Returns whether a client's number was drawn.
     pub(crate) fn is_client(&self, client: u32) -> bool
         ensures { result ≡ is_drawn self.now.joined client }
     {
         0 < client && client <= self.joined()
     }
 
-    /// Whether a link's number was drawn.
+    /// Returns whether a link's number was drawn.
     pub(crate) fn is_link(&self, link: u32) -> bool
         ensures { result ≡ is_drawn self.now.devices.drawn link }
     {
         0 < link && link <= self.plugged()
     }
 
-    /// What it holds, in numbers. It takes no memory.
+    /// Returns the counts of the hub. Allocates nothing.
     pub fn summary(&self) -> Summary
         ensures { result ≡ record {
           clients = length self.now.clients;
@@ -114,7 +115,7 @@ impl Hub {
     }
 }
 
-/// A number that is at most another one.
+/// Returns a count that is at most `most`.
 fn count(n: usize, most: u32) -> u32
     requires { n ≤ most }
     ensures { result ≡ n }

@@ -1,5 +1,9 @@
-//! The hub: the machine between many clients and many devices (OVERVIEW.TXT). Each call makes one
-//! entry of a history, or none, and contracts speak of the history so far.
+//! The hub: the state machine between many clients and many devices (OVERVIEW.TXT).
+//!
+//! The caller reports each event by a call: `join`, `enter`, `read`, `end` and `bound` for clients,
+//! `attach`, `recv` and `detach` for links. It fetches the output with `put` and `send`; `next_due`
+//! returns a client or link that has some, and `next_touched` one whose state may have changed.
+//! Each call makes one entry of a history, or none, and contracts speak of the history so far.
 #![tactic(auto)]
 
 mod answers;

@@ -1,4 +1,4 @@
-//! Links to devices: how they come, what comes on them, and how they go.
+//! Links to devices: how they come, their bytes, and how they go.
 
 ghost use Rattle.std.specs.Prelude.{◌≡◌, ◌≢◌, ◌+◌, List, OnErr, OnOk, Err};
 ghost use Rattle.adb_outside.specs.declared.kinds.Kind.{Kind};
@@ -20,8 +20,11 @@ use adb_hub_tables::Endings;
 use adb_outside::{Cause, Kind};
 
 impl Hub {
-    /// A device is plugged in; the number of its link is its transport id. An error is `Stopped`,
-    /// `Numbers`, `Full`, `BadSerial` or want of memory.
+    /// Attaches a device; the number of its link is its transport id.
+    ///
+    /// `Stopped`: a kill was requested. `Numbers`: all ids were drawn. `Full`: the maximum number
+    /// of devices is plugged in. `BadSerial`: the serial is not 1 to 64 bytes of 0x21 to 0x7e.
+    /// `OutOfMemory`: an allocation failed.
     pub fn attach(&mut self, kind: Kind, serial: &[u8]) -> Result<u32, HubError>
         ensures attached { (h : List Entry) → IsLawful self.old h
             → let next = (state h).devices.drawn + 1 in
@@ -34,7 +37,10 @@ impl Hub {
         Ok(adb_hub_links::attach(&mut self.tables, kind, serial)?)
     }
 
-    /// Bytes come on a link. An error is `Stopped`, `NoLink` or want of memory.
+    /// Submits bytes of a link.
+    ///
+    /// `Stopped`: a kill was requested. `NoLink`: no link has had that number. `OutOfMemory`: an
+    /// allocation failed.
     pub fn recv(&mut self, link: u32, piece: &[u8]) -> Result<Life, HubError>
         ensures received { (h : List Entry) → IsLawful self.old h
             → AnswersLink link (Entry.Recv link piece.now) result h self.new }
@@ -47,7 +53,7 @@ impl Hub {
     }
 
     /// Submits bytes of a link as `recv` does, and appends the streams that end to the log, in
-    /// order. After an error the log has what it had.
+    /// order. After an error the log is unchanged.
     pub fn recv_reporting(
         &mut self,
         link: u32,
@@ -67,8 +73,9 @@ impl Hub {
         Ok(self.link_life(link))
     }
 
-    /// A whole packet comes on a link, as `recv` of its bytes. Where a link's packets all come whole
-    /// and it looks at no check words, a header is not read again, and no payload is copied.
+    /// Submits a whole packet of a link, like `recv` with its bytes. If a link's packets all come
+    /// whole and it verifies no check words, no header is parsed again, and no payload is copied.
+    /// The errors are those of `recv`.
     pub fn recv_whole(&mut self, link: u32, packet: &Whole) -> Result<Life, HubError>
         ensures received { (h : List Entry) → IsLawful self.old h
             → AnswersLink link (Entry.Recv link packet.now) result h self.new }
@@ -81,8 +88,9 @@ impl Hub {
         Ok(self.link_life(link))
     }
 
-    /// A device is unplugged, or its connection failed. An error is `Stopped` or `NoLink`; it takes
-    /// no memory.
+    /// Detaches a device after it was unplugged, or after its connection failed. Allocates nothing.
+    ///
+    /// `Stopped`: a kill was requested. `NoLink`: no link has had that number.
     pub fn detach(&mut self, link: u32, cause: Cause) -> Result<Life, HubError>
         ensures detached { (h : List Entry) → IsLawful self.old h
             → AnswersLink link (Entry.Detach link cause) result h self.new }
@@ -95,8 +103,8 @@ impl Hub {
         Ok(self.link_life(link))
     }
 
-    /// Unplugs a device as `detach` does, and appends the streams that end to the log, in order. It
-    /// fails too if the log's memory can't be allocated. After an error the log has what it had.
+    /// Detaches a device as `detach` does, and appends the streams that end to the log, in order.
+    /// Fails too if an allocation for the log fails. After an error the log is unchanged.
     pub fn detach_reporting(
         &mut self,
         link: u32,
@@ -116,7 +124,7 @@ impl Hub {
         Ok(self.link_life(link))
     }
 
-    /// Whether something may come on a link.
+    /// Returns an error unless an entry about this link is possible.
     fn look_for_link(&self, link: u32) -> Result<(), HubError>
         ensures { result ≡ err_if (unless_stopped self.now.stopped
             (unless_drawn (is_drawn self.now.devices.drawn link) (HubError.NoLink link))) }
@@ -127,7 +135,7 @@ impl Hub {
         self.find_link(link)
     }
 
-    /// Whether a link's number was drawn.
+    /// Returns an error unless a link's number was drawn.
     pub(crate) fn find_link(&self, link: u32) -> Result<(), HubError>
         ensures { result ≡ err_if
             (unless_drawn (is_drawn self.now.devices.drawn link) (HubError.NoLink link)) }
@@ -139,7 +147,7 @@ impl Hub {
         }
     }
 
-    /// Whether a link lives.
+    /// Returns whether a link lives.
     pub(crate) fn link_life(&self, link: u32) -> Life
         ensures { (h : List Entry) → IsLawful self.now h
             → result ≡ life_of ((state h).links link) }

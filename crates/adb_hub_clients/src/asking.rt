@@ -23,8 +23,8 @@ use adb_hub_tables::{Endings, Tables};
 use adb_reply::Next;
 use std::alloc::AllocError;
 
-/// A piece came from a client that asks: its whole requests are answered. A piece that is a whole
-/// request, the usual one, is not held before.
+/// Submits a piece of a client that asks: its whole requests are answered. A piece that is one
+/// whole request, the usual case, is not held first.
 pub(crate) fn ask(
     tables: &mut Tables,
     ends: &mut Endings,
@@ -54,7 +54,8 @@ pub(crate) fn ask(
     }
 }
 
-/// What a client asks by a piece that is a whole request, where it holds nothing. Nothing changes.
+/// Returns the plan for a piece that is one whole request, if the client holds nothing. Nothing
+/// changes.
 fn whole_plan(tables: &Tables, client: u32, piece: &[u8]) -> Result<Option<Plan>, AllocError>
     ensures { IfOk result (λ plan. IfSome plan (λ plan.
         PlansWhole tables.now (at client tables.now.clients.entries) piece.now plan)) }
@@ -67,7 +68,7 @@ fn whole_plan(tables: &Tables, client: u32, piece: &[u8]) -> Result<Option<Plan>
     }
 }
 
-/// A piece is held behind what a client sent, and the whole requests are answered.
+/// Holds a piece after the client's earlier bytes, and answers the whole requests.
 fn hold_and_answer(
     tables: &mut Tables,
     ends: &mut Endings,
@@ -94,7 +95,7 @@ fn hold_and_answer(
     }
 }
 
-/// The whole requests that a client holds are answered.
+/// Answers the whole requests that a client holds.
 fn answer(tables: &mut Tables, ends: &mut Endings, client: u32) -> Result<(), AllocError>
     requires fit { IsFit tables.old }
     requires sized { IsSized tables.old }
@@ -119,7 +120,7 @@ fn answer(tables: &mut Tables, ends: &mut Endings, client: u32) -> Result<(), Al
     }
 }
 
-/// What a client asks, where anything is kept of it. Nothing changes.
+/// Returns the plan for the requests that a client holds, if it has a row. Nothing changes.
 fn plan_of(tables: &Tables, client: u32) -> Result<Option<Plan>, AllocError>
     ensures { IfOk result (λ plan.
         PlansAt tables.now (at client tables.now.clients.entries) plan) }
@@ -133,7 +134,8 @@ fn plan_of(tables: &Tables, client: u32) -> Result<Option<Plan>, AllocError>
     }
 }
 
-/// Requests are heard, in places that are made for the replies, and what follows is done.
+/// Queues the replies to requests, in places that are reserved first, and performs the action that
+/// follows.
 fn make(
     tables: &mut Tables,
     ends: &mut Endings,

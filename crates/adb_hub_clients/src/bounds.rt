@@ -1,4 +1,4 @@
-//! Listeners that stand, or could not be made.
+//! Listeners that were bound, or could not be.
 
 ghost use Rattle.std.specs.Prelude.{◌≡◌, ◌≤◌, ◌<◌, ◌++◌, codes, true, length, Some};
 ghost use Rattle.std.specs.Prelude.{IfOk, OnOk, OnErr};
@@ -20,8 +20,9 @@ use bytes::Bytes;
 use itoa::Buffer;
 use std::alloc::{AllocError, Global};
 
-/// The listener of a client that waits for one stands at a port, or could not be made where that is
-/// 0: the client is told so, and is closing. After want of memory nothing has changed.
+/// Reports the listener of a waiting client: it is bound to a port, or could not be if the port is
+/// 0. The answer is queued for the client, which is closing then. If an allocation fails, nothing
+/// has changed.
 pub fn bound(tables: &mut Tables, client: u32, port: u16) -> Result<(), AllocError>
     requires fit { IsFit tables.old }
     requires reached { IsReached (state_of tables.old) }
@@ -31,7 +32,7 @@ pub fn bound(tables: &mut Tables, client: u32, port: u16) -> Result<(), AllocErr
     bind_client(tables, client, port)
 }
 
-/// The same of a client that wants a forward that there may be, if it wants one.
+/// Does the same for a client that wants an allowed forward, if it wants one.
 fn bind_client(tables: &mut Tables, client: u32, port: u16) -> Result<(), AllocError>
     requires fit { IsFit tables.old }
     requires reached { IsReached (state_of tables.old) }
@@ -49,7 +50,7 @@ fn bind_client(tables: &mut Tables, client: u32, port: u16) -> Result<(), AllocE
     Ok(())
 }
 
-/// Whether a client waits for the listener of a forward.
+/// Returns whether a client waits for the listener of a forward.
 fn waits(tables: &Tables, client: u32) -> bool
     ensures { result ≡ waits ((state_of tables.now).clients client) }
 {
@@ -59,8 +60,8 @@ fn waits(tables: &Tables, client: u32) -> bool
     }
 }
 
-/// The forward that a client wants is put, where its listener stands; gives what the client is told
-/// of it.
+/// Puts the forward that a client wants, if its listener is bound. Returns the answer to the
+/// client.
 fn bind(tables: &mut Tables, client: u32, port: u16) -> Result<Bytes, AllocError>
     requires waits { waits ((state_of tables.old).clients client) ≡ true }
     requires wants { WantsForward ((state_of tables.old).clients client) }
@@ -86,7 +87,7 @@ fn bind(tables: &mut Tables, client: u32, port: u16) -> Result<Bytes, AllocError
     }
 }
 
-/// A forward that is wanted is put, where its listener stands; gives what the client is told of it.
+/// Puts a forward that is wanted, if its listener is bound. Returns the answer to the client.
 fn forward(
     alloc: Global,
     forwards: &mut Forwards,
@@ -120,14 +121,14 @@ fn forward(
     }
 }
 
-/// Whether a listener that stands at a port, or at none, can't serve who asked for a port.
+/// Returns whether a listener at a port, or at none, can't serve a client that asked for a port.
 fn is_unbound(asked: u16, port: u16, forwards: &Forwards) -> bool
     ensures { result ≡ is_unbound asked port forwards.now }
 {
     port == 0 || (asked != 0 && asked != port) || forwards.find(port).is_some()
 }
 
-/// A client is told that its listener stands, and at which port, where any served.
+/// Returns the answer that the listener is bound, with its port if any port was asked for.
 fn told(alloc: Global, asked: u16, port: u16) -> Result<Bytes, AllocError>
     ensures reply { IfOk result (λ reply. reply ≡ codes "OKAYOKAY" ++ told_port asked port) }
     ensures short { IfOk result (λ reply. length reply ≤ 64) }
@@ -140,7 +141,7 @@ fn told(alloc: Global, asked: u16, port: u16) -> Result<Bytes, AllocError>
     share(text)
 }
 
-/// The bytes of a text, to be shared.
+/// Returns the bytes of a text, to be shared.
 fn share(text: Text) -> Result<Bytes, AllocError>
     ensures { IfOk result (λ bytes. bytes ≡ text) }
 {

@@ -1,4 +1,4 @@
-//! Clients whose input ends.
+//! The end of a client's input.
 
 ghost use Rattle.adb_outside.specs.declared.kinds.Cause.TheVariants.{Eof};
 ghost use Rattle.adb_capture.specs.declared.entry.Entry.TheVariants.{End};
@@ -27,7 +27,7 @@ pub fn end(tables: &mut Tables, ends: &mut Endings, client: u32, cause: Cause)
     }
 }
 
-/// A client's input ends in order.
+/// Ends a client's input in order.
 fn end_input(tables: &mut Tables, ends: &mut Endings, client: u32)
     requires fit { IsFit tables.old }
     requires reached { IsReached (state_of tables.old) }
@@ -40,8 +40,8 @@ fn end_input(tables: &mut Tables, ends: &mut Endings, client: u32)
     }
 }
 
-/// The input of a client that has its stream open ends in order: where nothing of it is left, the
-/// stream ends. Nothing more can be sent then, since nothing could before.
+/// Ends the input of a client that has its stream open, in order. If none of its bytes are held,
+/// the stream ends. No bytes can be sent by this, since none could before.
 fn end_open(tables: &mut Tables, ends: &mut Endings, client: u32, stream: u32)
     requires fit { IsFit tables.old }
     requires reached { IsReached (state_of tables.old) }

@@ -1,4 +1,4 @@
-//! How clients come through forwards (SERVICES.TXT, `<host-prefix>:forward`).
+//! Clients that come through forwards (SERVICES.TXT, `<host-prefix>:forward`).
 
 ghost use Rattle.std.specs.Prelude.{◌≡◌, ◌≤◌, ◌<◌, ◌+◌, ◌++◌, ◌∷◌, [], ℕ, List, length, true};
 ghost use Rattle.std.specs.Prelude.{None, Some, IfOk, OnOk, OnErr};
@@ -18,15 +18,15 @@ use adb_hub_tables::{Tables, TouchedMap};
 use bytes::Bytes;
 use std::alloc::{AllocError, Global};
 
-/// The way to a device: its link, and the payload of the OPEN that asks for a service there.
+/// The way to a device: its link, and the payload of the OPEN for a service there.
 #[derive(Drop)]
 struct Way {
     link: u32,
     payload: Bytes,
 }
 
-/// A client comes through the forward of a port: it asks for that forward's stream. Where the
-/// forward leads nowhere, nothing is kept of the client.
+/// Adds a client that comes through the forward of a port, and asks for that forward's stream. If
+/// the forward leads nowhere, no row is kept for the client.
 pub(crate) fn come(tables: &mut Tables, client: u32, port: u16) -> Result<(), AllocError>
     requires fit { IsFit tables.old }
     requires next { client ≡ tables.old.joined + 1 }
@@ -44,7 +44,7 @@ pub(crate) fn come(tables: &mut Tables, client: u32, port: u16) -> Result<(), Al
     }
 }
 
-/// The way to the device of a port's forward, where that is connected.
+/// Returns the way to the device of a port's forward, if the device is connected.
 fn way_of(tables: &Tables, port: u16) -> Result<Option<Way>, AllocError>
     ensures { IfOk result (λ way. Leads way (at port tables.now.forwards) tables.now.devices) }
 {
@@ -60,7 +60,7 @@ fn way_of(tables: &Tables, port: u16) -> Result<Option<Way>, AllocError>
     }))
 }
 
-/// A client comes, and asks for a stream.
+/// Adds a client that asks for a stream.
 fn come_by(tables: &mut Tables, client: u32, way: Way) -> Result<(), AllocError>
     requires fit { IsFit tables.old }
     requires next { client ≡ tables.old.joined + 1 }
@@ -86,7 +86,7 @@ fn come_by(tables: &mut Tables, client: u32, way: Way) -> Result<(), AllocError>
     }
 }
 
-/// The next client is there.
+/// Adds the next client.
 fn add_client(tables: &mut Tables, client: u32) -> Result<(), AllocError>
     requires fit { IsFit tables.old }
     requires next { client ≡ tables.old.joined + 1 }
@@ -98,7 +98,7 @@ fn add_client(tables: &mut Tables, client: u32) -> Result<(), AllocError>
     Ok(())
 }
 
-/// A client is among these that came through a forward.
+/// Inserts a client that came through a forward.
 fn insert(clients: &mut TouchedMap<Client>, alloc: Global, client: u32) -> Result<(), AllocError>
     ensures ok { OnOk result (Puts client (Some (new_entrant client))
         clients.old.entries clients.new.entries) }
@@ -108,7 +108,7 @@ fn insert(clients: &mut TouchedMap<Client>, alloc: Global, client: u32) -> Resul
     Ok(())
 }
 
-/// The client that came last goes again, and its number is not drawn.
+/// Removes the client that came last, and takes back its number.
 fn take_out(tables: &mut Tables, client: u32)
     requires fit { IsFit tables.old }
     requires drawn { 0 < client }

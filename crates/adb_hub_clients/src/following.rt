@@ -1,5 +1,5 @@
-//! What follows the last request of a client, each case a function: memory first, then the replies,
-//! and then what follows.
+//! The actions after the last request of a client, each a function: memory is allocated first, then
+//! the replies are queued, and then the action is performed.
 
 ghost use Rattle.std.specs.Prelude.{◌≡◌, ◌+◌, ◌≤◌, [], List, ℕ, length, Some, None};
 ghost use Rattle.std.specs.Prelude.{false, option_and_then, OnOk, OnErr};
@@ -28,7 +28,7 @@ use adb_reply::Next;
 use std::alloc::AllocError;
 use std::collections::BTreeSet;
 
-/// Requests of a client are heard, and then what follows the last of them.
+/// Queues the replies to a client's requests, and then performs the action after the last of them.
 pub(crate) fn follow(
     tables: &mut Tables,
     client: u32,
@@ -100,7 +100,7 @@ fn follow_next(
     Ok(())
 }
 
-/// The client is read no more.
+/// Stops reading from the client.
 fn close(tables: &mut Tables, client: u32, heard: &Heard)
     requires fit { IsFit tables.old }
     requires ready { CanHearAt heard.now (at client tables.old.clients.entries) }
@@ -110,7 +110,7 @@ fn close(tables: &mut Tables, client: u32, heard: &Heard)
     shut(tables, client);
 }
 
-/// A client is read no more; where nothing is due to it, nothing of it is kept.
+/// Stops reading from a client; if its output queue is empty, its row is removed.
 fn shut(tables: &mut Tables, client: u32)
     requires { IsFit tables.old }
     ensures { Leaves (closes client (state_of tables.old)) tables.new }
@@ -118,7 +118,7 @@ fn shut(tables: &mut Tables, client: u32)
     tables.close_client(client);
 }
 
-/// The client tracks the list of the devices.
+/// Makes the client a tracker of the list of devices.
 fn track(tables: &mut Tables, client: u32, heard: &Heard, long: bool) -> Result<(), AllocError>
     requires fit { IsFit tables.old }
     requires ready { CanHearAt heard.now (at client tables.old.clients.entries) }
@@ -132,7 +132,7 @@ fn track(tables: &mut Tables, client: u32, heard: &Heard, long: bool) -> Result<
     Ok(())
 }
 
-/// A client is listed among those that track.
+/// Adds a client to the set of trackers.
 fn list(tables: &mut Tables, client: u32) -> Result<(), AllocError>
     requires { IsFit tables.old }
     ensures made { Leaves (state_of tables.old) tables.new }
@@ -181,7 +181,7 @@ fn track_row(row: &mut Client, long: bool)
     about.mark = false;
 }
 
-/// What a client holds is dropped.
+/// Drops the held bytes of a client.
 fn drop_held(row: &mut Client)
     ensures row { client_row row.new ≡ record (client_row row.old) { held = [] } }
     ensures places { row.new.places ≡ row.old.places }
@@ -190,7 +190,7 @@ fn drop_held(row: &mut Client)
     row.pass_over(n);
 }
 
-/// The client asks for a stream to a service of a device.
+/// Asks for a stream to a service of a device, for the client.
 fn open(
     tables: &mut Tables,
     client: u32,
@@ -214,7 +214,7 @@ fn open(
     open_behind(tables, &asker, heard, payload)
 }
 
-/// The client waits for the listener of a forward.
+/// Makes the client wait for the listener of a forward.
 fn bind(tables: &mut Tables, client: u32, heard: &Heard, want: Want)
     requires fit { IsFit tables.old }
     requires ready { CanHearAt heard.now (at client tables.old.clients.entries) }
@@ -253,7 +253,7 @@ fn wait_row(row: &mut Client, want: Want)
     about.want = Some(want);
 }
 
-/// The forward of a port leads to another device and end, and the client is read no more.
+/// Gives the forward of a port another device and end, and stops reading from the client.
 fn rebind(
     tables: &mut Tables,
     client: u32,
@@ -274,8 +274,7 @@ fn rebind(
     Ok(())
 }
 
-/// The forward of a port leads to a device and an end from now on; a device that is gone gives
-/// none.
+/// Gives the forward of a port a device and an end; if the device is gone, it does nothing.
 fn put_forward(
     tables: &mut Tables,
     transport: u32,
@@ -307,7 +306,7 @@ fn put_forward(
     }
 }
 
-/// The forward of a port ends, and the client is read no more.
+/// Ends the forward of a port, and stops reading from the client.
 fn unbind(tables: &mut Tables, client: u32, heard: &Heard, local: u16)
     requires fit { IsFit tables.old }
     requires ready { CanHearAt heard.now (at client tables.old.clients.entries) }
@@ -328,7 +327,7 @@ fn remove_forward(tables: &mut Tables, local: u16)
     tables.forwards.remove(local);
 }
 
-/// All forwards end, and the client is read no more.
+/// Ends all forwards, and stops reading from the client.
 fn unbind_all(tables: &mut Tables, client: u32, heard: &Heard)
     requires fit { IsFit tables.old }
     requires ready { CanHearAt heard.now (at client tables.old.clients.entries) }
@@ -347,7 +346,7 @@ fn remove_forwards(tables: &mut Tables)
     tables.forwards.remove_all();
 }
 
-/// The server stops.
+/// Stops the server.
 pub(crate) fn end(tables: &mut Tables, client: u32, heard: &Heard)
     requires fit { IsFit tables.old }
     requires ready { CanHearAt heard.now (at client tables.old.clients.entries) }

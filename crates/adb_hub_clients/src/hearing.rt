@@ -1,4 +1,4 @@
-//! Requests that a client asked: the replies to them become due.
+//! The requests that a client asked: the replies to them are queued.
 
 ghost use Rattle.std.specs.Prelude.{◌≡◌, List, ℕ, Some, option_and_then, OnOk};
 ghost use Rattle.adb_outside.specs.Tables.{at, change_row};
@@ -14,7 +14,7 @@ use adb_hub_tables::{Tables, TouchedMap};
 use adb_outside::Text;
 use std::alloc::AllocError;
 
-/// Requests that were heard: the replies to them, how many bytes they have, and the transport that
+/// Requests that were parsed: the replies to them, how many bytes they have, and the transport that
 /// they selected.
 #[derive(Drop)]
 pub(crate) struct Heard {
@@ -23,7 +23,7 @@ pub(crate) struct Heard {
     pub(crate) selected: Option<u32>,
 }
 
-/// Requests of a client are heard, in places that were kept. It takes no memory.
+/// Queues the replies to requests of a client, in places that were reserved. Allocates nothing.
 pub(crate) fn hear(tables: &mut Tables, client: u32, heard: &Heard)
     requires fit { IsFit tables.old }
     requires ready { CanHearAt heard.now (at client tables.old.clients.entries) }
@@ -60,7 +60,7 @@ fn hear_row(row: &mut Client, heard: &Heard)
     row.about_mut().selected = heard.selected;
 }
 
-/// Makes places for replies to a client, and leaves it else as it was.
+/// Reserves places for replies to a client, which is otherwise unchanged.
 pub(crate) fn reserve_replies(
     tables: &mut Tables,
     client: u32,

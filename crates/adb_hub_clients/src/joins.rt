@@ -10,7 +10,7 @@ use adb_client::Client;
 use adb_hub_tables::{Tables, TouchedMap};
 use std::alloc::AllocError;
 
-/// A client comes, under the next number. After want of memory nothing has changed.
+/// Adds a client, under the next number. If an allocation fails, nothing has changed.
 pub fn join(tables: &mut Tables, client: u32) -> Result<(), AllocError>
     requires fit { IsFit tables.old }
     requires reached { IsReached (state_of tables.old) }
@@ -24,7 +24,7 @@ pub fn join(tables: &mut Tables, client: u32) -> Result<(), AllocError>
     Ok(())
 }
 
-/// A client's row stands under its number.
+/// Inserts a client's row under its number.
 fn put_client(clients: &mut TouchedMap<Client>, id: u32, client: Client) -> Result<(), AllocError>
     ensures put { OnOk result (Puts id (Some client) clients.old.entries clients.new.entries) }
     ensures err { OnErr result (clients.new.entries ≡ clients.old.entries) }

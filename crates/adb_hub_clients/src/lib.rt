@@ -1,6 +1,6 @@
-//! What entries about a client make of the tables that a hub keeps: how it comes, by itself or
-//! through a forward, what it asks, its bytes, its listener, its end, and the kill. Memory comes
-//! first: after want of it nothing has changed.
+//! Entries about a client: how it comes, by itself or through a forward, its requests, its bytes,
+//! its listener, its end, and the kill. Memory is allocated first: if an allocation fails, nothing
+//! has changed.
 #![tactic(auto)]
 
 mod asking;

@@ -1,4 +1,4 @@
-//! How streams are asked for (protocol.txt, OPEN).
+//! Requests for streams (protocol.txt, OPEN).
 
 ghost use Rattle.std.specs.Prelude.{◌≡◌, ◌≢◌, ◌≤◌, ◌<◌, ◌++◌, ◌∷◌, [], ◌+◌, ◌-◌, ℕ, List, length};
 ghost use Rattle.std.specs.Prelude.{codes, Err, IfOk, OnOk, OnErr, option_map};
@@ -31,7 +31,7 @@ use bytes::Bytes;
 use std::alloc::{AllocError, Global};
 use std::vec::Vec;
 
-/// Who asks for a stream, and on which link.
+/// The client that asks for a stream, and the link.
 #[derive(Clone, Copy, Drop)]
 pub struct Asker {
     pub client: u32,
@@ -40,7 +40,7 @@ pub struct Asker {
     pub link: u32,
 }
 
-/// The payload of the OPEN that asks for a service: the service, and a NUL.
+/// Returns the payload of the OPEN for a service: the service, and a NUL.
 pub fn open_payload(alloc: Global, service: &[u8]) -> Result<Bytes, AllocError>
     ensures { IfOk result (λ payload. payload ≡ service.now ++ 0 ∷ []) }
 {
@@ -50,9 +50,9 @@ pub fn open_payload(alloc: Global, service: &[u8]) -> Result<Bytes, AllocError>
     Ok(Bytes::from_vec(payload)?)
 }
 
-/// A stream is asked for: the next id is drawn, the OPEN with that payload becomes due to the link,
-/// and the client waits for the device's answer. Where no id is left, a client is told so, unless
-/// it came through a forward.
+/// Asks for a stream: draws the next id, queues the OPEN with that payload for the link, and lets
+/// the client wait for the device's answer. If no id is left, a refusal is queued for the client,
+/// unless it came through a forward.
 pub fn open(tables: &mut Tables, asker: &Asker, payload: Bytes) -> Result<(), AllocError>
     requires fit { IsFit tables.old }
     requires size { length payload ≤ MAX_PAYLOAD }
@@ -66,7 +66,7 @@ pub fn open(tables: &mut Tables, asker: &Asker, payload: Bytes) -> Result<(), Al
     Ok(())
 }
 
-/// A stream is asked for by the last of requests that are heard.
+/// Asks for a stream, as the last of some requests demands, after the replies to them.
 pub(crate) fn open_behind(
     tables: &mut Tables,
     asker: &Asker,
@@ -87,7 +87,7 @@ pub(crate) fn open_behind(
     Ok(())
 }
 
-/// Memory is taken for a stream, and its id drawn, where one is left.
+/// Allocates memory for a stream, and draws its id, if one is left.
 fn draw_for(tables: &mut Tables, asker: &Asker) -> Result<Option<u32>, AllocError>
     requires { IsFit tables.old }
     ensures next { IfOk result (λ id. IsNextId id (state_of tables.old)) }
@@ -109,7 +109,7 @@ fn draw_for(tables: &mut Tables, asker: &Asker) -> Result<Option<u32>, AllocErro
     }
 }
 
-/// The device is asked for the stream that was drawn; where none was, the client is told so.
+/// Asks the device for the stream that was drawn. If none was, a refusal is queued for the client.
 fn ask_device(tables: &mut Tables, asker: &Asker, id: Option<u32>, payload: Bytes)
     requires fit { IsFit tables.old }
     requires size { length payload ≤ MAX_PAYLOAD }
@@ -124,7 +124,7 @@ fn ask_device(tables: &mut Tables, asker: &Asker, id: Option<u32>, payload: Byte
     }
 }
 
-/// The next stream is drawn for a client and a link, which counts it.
+/// Draws the next stream for a client and a link, which counts it.
 fn add_stream(tables: &mut Tables, asker: &Asker) -> Result<u32, DrawError>
     requires fit { IsFit tables.old }
     requires room { HasPlaces 2 (at asker.now.link tables.old.links.entries) }
@@ -144,7 +144,7 @@ fn add_stream(tables: &mut Tables, asker: &Asker) -> Result<u32, DrawError>
     Ok(id)
 }
 
-/// A stream more is counted on a link.
+/// Increments the number of a link's streams.
 fn count_stream(tables: &mut Tables, link: u32)
     requires { HasPlaces 2 (at link tables.old.links.entries) }
     ensures state { state_of tables.new ≡ state_of tables.old }
@@ -159,7 +159,7 @@ fn count_stream(tables: &mut Tables, link: u32)
     }
 }
 
-/// The device is asked for the stream of an id, and the client waits for its answer.
+/// Asks the device for the stream of an id, and lets the client wait for the answer.
 fn begin(tables: &mut Tables, asker: &Asker, id: u32, payload: Bytes)
     requires fit { IsFit tables.old }
     requires size { length payload ≤ MAX_PAYLOAD }
@@ -174,7 +174,7 @@ fn begin(tables: &mut Tables, asker: &Asker, id: u32, payload: Bytes)
     owe_open(tables, asker.link, id, payload);
 }
 
-/// A client waits for its stream.
+/// Lets a client wait for its stream.
 fn wait(tables: &mut Tables, client: u32, id: u32)
     requires { HasSlices 1 (at client tables.old.clients.entries) }
     ensures state { state_of tables.new
@@ -187,7 +187,7 @@ fn wait(tables: &mut Tables, client: u32, id: u32)
     }
 }
 
-/// The OPEN of the stream of an id, with that payload, becomes due to a link.
+/// Queues the OPEN of the stream of an id, with that payload, for a link.
 fn owe_open(tables: &mut Tables, link: u32, id: u32, payload: Bytes)
     requires fit { IsFit tables.old }
     requires size { length payload ≤ MAX_PAYLOAD }
@@ -201,7 +201,8 @@ fn owe_open(tables: &mut Tables, link: u32, id: u32, payload: Bytes)
     put_packet(tables, link, &head, payload);
 }
 
-/// The header of an OPEN: the device has a whole window of credit where the link has credit.
+/// Returns the header of an OPEN: it gives the device a whole window of credit if the link has
+/// credit.
 fn open_head(id: u32, credit: bool, payload: &Bytes) -> Head
     requires { length payload.now ≤ MAX_PAYLOAD }
     ensures of { IsHeadOf result payload.now }
@@ -217,7 +218,7 @@ fn open_head(id: u32, credit: bool, payload: &Bytes) -> Head
     }
 }
 
-/// A packet is put behind what is due to a link.
+/// Appends a packet to the output queue of a link.
 fn put_packet(tables: &mut Tables, link: u32, head: &Head, payload: Bytes)
     requires room { LinkRoom 1 (at link tables.old.links.entries) }
     requires head { IsHeadOf head.now payload }
@@ -230,7 +231,7 @@ fn put_packet(tables: &mut Tables, link: u32, head: &Head, payload: Bytes)
     }
 }
 
-/// A packet is put behind what is due to a link.
+/// Appends a packet to the output queue of a link.
 fn put_on(port: &mut Port, head: &Head, payload: Bytes)
     requires place { 0 < port.old.link.spare }
     requires head { IsHeadOf head.now payload }
@@ -244,7 +245,8 @@ fn put_on(port: &mut Port, head: &Head, payload: Bytes)
     port.link.owe_slice_spare(head, SplitBytes::whole(payload));
 }
 
-/// No stream can be drawn for a client: it is told so, unless it came through a forward.
+/// Refuses a stream because none can be drawn: the refusal is queued for the client, unless it came
+/// through a forward.
 fn refuse(tables: &mut Tables, asker: &Asker)
     requires fit { IsFit tables.old }
     requires client { HasSlices 2 (at asker.now.client tables.old.clients.entries) }
@@ -258,7 +260,7 @@ fn refuse(tables: &mut Tables, asker: &Asker)
     }
 }
 
-/// A client is told that no stream can be drawn.
+/// Queues the refusal that no stream can be drawn for a client.
 fn tell_no_ids(tables: &mut Tables, client: u32)
     requires fit { IsFit tables.old }
     requires client { HasSlices 2 (at client tables.old.clients.entries) }

@@ -1,4 +1,4 @@
-//! Places that are made before anything changes.
+//! Places that are reserved before anything changes.
 
 ghost use Rattle.std.specs.Prelude.{◌≡◌, OnOk};
 ghost use Rattle.adb_outside.specs.Tables.{at};
@@ -12,7 +12,8 @@ ghost use Rattle.adb_hub_clients.specs.declared.hearing.Heard.{Heard};
 use adb_hub_tables::{Tables, reserve_packets, reserve_slices};
 use std::alloc::AllocError;
 
-/// Makes places on a link for so many packets, beside those that its streams' ends want.
+/// Reserves places on a link for `packets` packets, in addition to those for the ends of its
+/// streams.
 pub(crate) fn make_packets(tables: &mut Tables, link: u32, packets: usize) -> Result<(), AllocError>
     requires { IsFit tables.old }
     ensures made { Leaves (state_of tables.old) tables.new }
@@ -22,7 +23,7 @@ pub(crate) fn make_packets(tables: &mut Tables, link: u32, packets: usize) -> Re
     reserve_packets(&mut tables.links, link, packets)
 }
 
-/// Makes places for so many slices that become due to a client.
+/// Reserves places for `slices` slices queued for a client.
 pub(crate) fn make_slices(tables: &mut Tables, client: u32, slices: usize) -> Result<(), AllocError>
     requires { IsFit tables.old }
     ensures made { Leaves (state_of tables.old) tables.new }

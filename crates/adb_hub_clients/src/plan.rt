@@ -1,4 +1,4 @@
-//! What a client that asks has asked.
+//! The plan for the requests of a client.
 
 ghost use Rattle.std.specs.Prelude.{◌≡◌, ◌≤◌, length, IfOk, IfSome};
 ghost use Rattle.adb_history.specs.Asking.{reads_on};
@@ -14,9 +14,9 @@ use adb_reply::Next;
 use adb_request::Request;
 use std::alloc::{AllocError, Global};
 
-/// What a client that asks has asked: the replies to its whole requests, in order; how many bytes
-/// these requests have; the transport that they selected; and what follows the last of them, where
-/// no further one is read (OVERVIEW.TXT, "Protocol details").
+/// The plan for the requests of a client: the replies to its whole requests, in order; how many
+/// bytes these requests have; the transport that they selected; and the action after the last of
+/// them, if no further one is read (OVERVIEW.TXT, "Protocol details").
 #[derive(Drop)]
 pub struct Plan {
     pub replies: Text,
@@ -25,8 +25,8 @@ pub struct Plan {
     pub next: Option<Next>,
 }
 
-/// What the bytes held of a client ask, with these devices and forwards. It changes nothing; an
-/// error is want of memory.
+/// Returns the plan for the held bytes of a client, with these devices and forwards. It changes
+/// nothing. Fails only if an allocation fails.
 pub fn make_plan(
     alloc: Global,
     client: &Client,
@@ -49,7 +49,7 @@ pub fn make_plan(
     Ok(planned(reading, None))
 }
 
-/// What a piece asks of a client that holds nothing, where it is one whole request.
+/// Returns the plan for a piece of a client that holds nothing, if the piece is one whole request.
 pub(crate) fn plan_piece(
     alloc: Global,
     client: &Client,
@@ -70,7 +70,7 @@ pub(crate) fn plan_piece(
     }
 }
 
-/// The request that a piece is, where it is one whole.
+/// Parses a piece that is one whole request.
 fn whole_request(alloc: Global, piece: &[u8]) -> Result<Option<Request>, AllocError>
     ensures { IfOk result (λ request. IfSome request (λ request.
         IsAskedBehind 0 (record { ask = Ask.Whole request; len = length piece.now }) piece.now)) }
@@ -82,7 +82,7 @@ fn whole_request(alloc: Global, piece: &[u8]) -> Result<Option<Request>, AllocEr
     }
 }
 
-/// What was read, with what follows it.
+/// Returns the plan for the requests that were read, with the action that follows.
 fn planned(reading: Reading, next: Option<Next>) -> Plan
     ensures { result ≡ record {
       replies = reading.replies;

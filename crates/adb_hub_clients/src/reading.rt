@@ -1,4 +1,4 @@
-//! Bytes that come from clients, and clients that come through forwards.
+//! Bytes of clients, and clients that come through forwards.
 
 ghost use Rattle.std.specs.Prelude.{◌≡◌, ◌+◌, OnOk, OnErr};
 ghost use Rattle.adb_capture.specs.declared.entry.Entry.TheVariants.{Enter, Read};
@@ -15,9 +15,9 @@ use adb_hub_rules::phase_of;
 use adb_hub_tables::{Endings, Tables};
 use std::alloc::AllocError;
 
-/// A client came through the forward of a port: a stream is asked for on the device that the
-/// forward leads to. Where it leads nowhere, nothing is kept of the client. After want of memory
-/// all is as before.
+/// Adds a client that came through the forward of a port: a stream is asked for on the device to
+/// which the forward leads. If it leads nowhere, no row is kept for the client. If an allocation
+/// fails, nothing has changed.
 pub fn enter(tables: &mut Tables, client: u32, port: u16) -> Result<(), AllocError>
     requires fit { IsFit tables.old }
     requires reached { IsReached (state_of tables.old) }
@@ -28,9 +28,9 @@ pub fn enter(tables: &mut Tables, client: u32, port: u16) -> Result<(), AllocErr
     come(tables, client, port)
 }
 
-/// Bytes came from a client: they are its requests, or go up its stream, or are held until its
-/// stream is there. After want of memory all is as before. The streams that end are recorded, in
-/// the log's spare places.
+/// Submits bytes of a client: they are its requests, are sent on its stream, or are held until its
+/// stream is open. If an allocation fails, nothing has changed. The streams that end are recorded,
+/// in the log's spare places.
 pub fn read(
     tables: &mut Tables,
     ends: &mut Endings,

@@ -1,4 +1,4 @@
-//! One request after another.
+//! Reading one request after another.
 
 ghost use Rattle.std.specs.Prelude.{◌≡◌, ◌≤◌, ◌+◌, List, ℕ, [], length, IfOk, OnOk};
 ghost use Rattle.adb_hub_clients.specs.Requests.{step_after, selected_after, IsAskedBehind, TakesAnswer, ReadsOne};
@@ -20,7 +20,7 @@ pub(crate) struct Reading {
     pub(crate) selected: Option<u32>,
 }
 
-/// Whether the next request is read, or what follows the last.
+/// The next step: to read another request, or to perform the action after the last.
 #[derive(Drop)]
 pub(crate) enum Step {
     Again,
@@ -28,7 +28,7 @@ pub(crate) enum Step {
 }
 
 impl Reading {
-    /// Nothing is read yet. It takes no memory.
+    /// Returns the state before any request was read. Allocates nothing.
     pub(crate) fn new(alloc: Global, selected: Option<u32>) -> Reading
         ensures { result ≡ record { replies = []; used = 0; selected = selected } }
     {
@@ -39,7 +39,7 @@ impl Reading {
         }
     }
 
-    /// Reads what the client asks behind what was read, and answers it.
+    /// Reads and answers the request after those read so far.
     pub(crate) fn read_one(
         &mut self,
         alloc: Global,
@@ -60,7 +60,7 @@ impl Reading {
         }
     }
 
-    /// Answers the request behind what was read, of so many bytes.
+    /// Answers the request after those read so far, which has `len` bytes.
     pub(crate) fn answer(
         &mut self,
         alloc: Global,
@@ -79,7 +79,7 @@ impl Reading {
         self.take_in(answer, len)
     }
 
-    /// A request of so many bytes was answered.
+    /// Adds the answer to a request of `len` bytes.
     fn take_in(&mut self, answer: Answer, len: usize) -> Result<Step, AllocError>
         requires { self.old.used + len ≤ usize.MAX }
         ensures asked { IfOk result (λ step. TakesAnswer answer len self.old step self.new) }
@@ -95,7 +95,7 @@ impl Reading {
         Ok(self.follow(next))
     }
 
-    /// Where the answer selects a transport, the next request is read.
+    /// Returns the next step: if the answer selects a transport, another request is read.
     fn follow(&mut self, next: Next) -> Step
         ensures step { result ≡ step_after next }
         ensures selected { self.new ≡ record self.old {

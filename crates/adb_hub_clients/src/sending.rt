@@ -1,4 +1,4 @@
-//! Bytes of a client that has its stream open: they go up.
+//! Bytes of a client that has its stream open: they are sent on it.
 
 ghost use Rattle.std.specs.Prelude.{◌≡◌, ℕ, IfOk, OnOk, OnErr, Some, false};
 ghost use Rattle.adb_outside.specs.Tables.{at};
@@ -18,8 +18,8 @@ use adb_hub_tables::{Endings, Tables, make_ready};
 use adb_stream::Stream;
 use std::alloc::AllocError;
 
-/// A piece came from a client that has the stream of an id open: it goes up, as far as the stream
-/// lets it.
+/// Submits a piece of a client that has the stream of an id open: it is sent as far as the stream
+/// allows.
 pub(crate) fn send(
     tables: &mut Tables,
     ends: &mut Endings,
@@ -47,8 +47,8 @@ pub(crate) fn send(
     }
 }
 
-/// What is held of the client of a stream goes up, as far as the stream lets it. No more is made
-/// ready, and nothing where it lets nothing go now.
+/// Sends the held bytes of a stream's client as far as the stream allows. No more than that is
+/// prepared, and nothing if the stream allows nothing now.
 fn advance(tables: &mut Tables, ends: &mut Endings, id: u32) -> Result<(), AllocError>
     requires fit { IsFit tables.old }
     requires sized { IsSized tables.old }
@@ -69,7 +69,7 @@ fn advance(tables: &mut Tables, ends: &mut Endings, id: u32) -> Result<(), Alloc
     Ok(())
 }
 
-/// Whether the stream of an id lets anything be sent now.
+/// Returns whether the stream of an id may send now.
 fn can_send(tables: &Tables, id: u32) -> bool
     ensures { result ≡ can_send_at (at id tables.now.streams.streams) }
 {
@@ -79,7 +79,7 @@ fn can_send(tables: &Tables, id: u32) -> bool
     }
 }
 
-/// The up rule for a stream that lets nothing be sent now.
+/// Applies the up rule to a stream that may not send now.
 fn rest(tables: &mut Tables, ends: &mut Endings, id: u32)
     requires fit { IsFit tables.old }
     requires idle { can_send_at (at id tables.old.streams.streams) ≡ false }
@@ -89,7 +89,7 @@ fn rest(tables: &mut Tables, ends: &mut Endings, id: u32)
     close_idle(tables, ends, id);
 }
 
-/// What is held of the client of a stream goes up, as far as the stream lets it.
+/// Sends the held bytes of a stream's client as far as the stream allows.
 fn go_up(tables: &mut Tables, ends: &mut Endings, id: u32)
     requires fit { IsFit tables.old }
     requires ready { IsReadyUp id tables.old }
@@ -100,7 +100,8 @@ fn go_up(tables: &mut Tables, ends: &mut Endings, id: u32)
     up(tables, ends, id);
 }
 
-/// Makes ready what is held of the client of a stream, and places on its link for what it may send.
+/// Prepares the held bytes of a stream's client, and reserves places on its link for the writes
+/// that it may send.
 fn make_up_ready(tables: &mut Tables, id: u32) -> Result<(), AllocError>
     requires { IsFit tables.old }
     ensures made { Leaves (state_of tables.old) tables.new }
@@ -129,7 +130,8 @@ fn make_stream_ready(tables: &mut Tables, id: u32, stream: &Stream) -> Result<()
     make_packets(tables, stream.link, writes)
 }
 
-/// Makes ready what the client of a stream holds; says in how many writes at most it can go up.
+/// Prepares the held bytes of a stream's client. Returns in how many writes at most they can be
+/// sent.
 fn prepare(tables: &mut Tables, stream: &Stream, maxdata: usize) -> Result<usize, AllocError>
     requires { IsFit tables.old }
     ensures made { Leaves (state_of tables.old) tables.new }

@@ -1,4 +1,4 @@
-//! How the server stops (SERVICES.TXT, `host:kill`).
+//! The stop of the server (SERVICES.TXT, `host:kill`).
 
 ghost use Rattle.std.specs.Prelude.{◌≡◌, ◌+◌, ℕ, length, nat_lt};
 ghost use Rattle.adb_outside.specs.Tables.{at};
@@ -14,8 +14,8 @@ use adb_history::Ending;
 use adb_hub_tables::{Ended, Endings, Tables};
 use adb_stream::Streams;
 
-/// The server stops: nothing is kept but the client that asked for it, which is handed what is due
-/// to it. It takes no memory.
+/// Stops the server: all rows are removed but that of the client that asked for it. That client's
+/// output queue is still handed out. Allocates nothing.
 pub fn stop(tables: &mut Tables, client: u32)
     requires { IsFit tables.old }
     ensures { Leaves (stops client (state_of tables.old)).state tables.new }
@@ -60,7 +60,7 @@ fn record_at(streams: &Streams, ends: &mut Endings, id: u32, left: usize) -> usi
     }
 }
 
-/// Of all that is kept one client alone stays.
+/// Removes all rows but that of one client.
 fn forget_others(tables: &mut Tables, client: u32)
     requires fit { IsFit tables.old }
     requires listed { IsOnAny client (at client tables.old.clients.entries) }

@@ -1,4 +1,4 @@
-//! Bytes that come from a client, and are held.
+//! Bytes of a client that are held.
 
 ghost use Rattle.std.specs.Prelude.{◌≡◌, List, ℕ, length, option_and_then, OnOk, OnErr};
 ghost use Rattle.adb_outside.specs.Tables.{at, change_row};
@@ -13,7 +13,7 @@ use adb_client::Client;
 use adb_hub_tables::{Tables, TouchedMap};
 use std::alloc::AllocError;
 
-/// A piece is held of a client, behind what was.
+/// Holds a piece of a client after its earlier bytes.
 pub(crate) fn take_in(tables: &mut Tables, client: u32, piece: &[u8]) -> Result<(), AllocError>
     requires { IsFit tables.old }
     ensures made { OnOk result
@@ -41,7 +41,7 @@ fn add_to(clients: &mut TouchedMap<Client>, client: u32, piece: &[u8]) -> Result
     }
 }
 
-/// The piece that came last from a client, of so many bytes, is held no more. It takes no memory.
+/// Removes the last piece, of `n` bytes, from the held bytes of a client. Allocates nothing.
 pub(crate) fn take_back(tables: &mut Tables, client: u32, n: usize)
     requires fit { IsFit tables.old }
     requires holds { HoldsAtLeast n (at client tables.old.clients.entries) }

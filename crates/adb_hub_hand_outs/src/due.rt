@@ -1,4 +1,5 @@
-//! To whom something is due: the least link, or else the least client; and whom to wake.
+//! The clients and links with output: the least link, or otherwise the least client; and those that
+//! have a worker to notify.
 
 ghost use Rattle.std.specs.Prelude.{◌≡◌, ◌<◌, ◌≤◌, option_and_then, option_map};
 ghost use Rattle.adb_outside.specs.Tables.{IsRising};
@@ -12,9 +13,9 @@ use adb_capture::Owner;
 use adb_client::Client;
 use adb_hub_tables::{Owes, Port, Tables, TouchedMap};
 
-/// Who is handed something next when all that is due is handed out: the least link to which
-/// something is due, or else the least client. Nothing changes that contracts see, and it takes no
-/// memory: it looks at those alone that may have come to be owed since the last call.
+/// Returns the client or link that is handed output next if everything is handed out: the least
+/// link with output, or otherwise the least client. Nothing that contracts see changes. Allocates
+/// nothing: it looks only at those that may have got output since the last call.
 pub fn next_due(tables: &mut Tables) -> Option<Owner>
     requires links { let s = state_of tables.old in IsDrawnOnly s.devices.drawn s.links }
     requires clients { let s = state_of tables.old in IsDrawnOnly s.joined s.clients }
@@ -28,8 +29,9 @@ pub fn next_due(tables: &mut Tables) -> Option<Owner>
     }
 }
 
-/// Somebody to whom something may have come due, for whom room may have been made, or who is gone,
-/// and who was not named since. Nothing changes that contracts see, and it takes no memory.
+/// Returns the next client or link whose state changed since it was last returned: output may be
+/// queued for it, its input may have room again, or it may be gone. Nothing that contracts see
+/// changes. Allocates nothing.
 pub fn next_touched(tables: &mut Tables) -> Option<Owner>
     ensures same { tables.new ≡ tables.old }
 {
@@ -39,7 +41,7 @@ pub fn next_touched(tables: &mut Tables) -> Option<Owner>
     }
 }
 
-/// Whether something is due to somebody, or who it is is gone.
+/// Returns whether a client or link has output, or is gone.
 pub fn is_owed(tables: &Tables, owner: Owner) -> bool
     ensures { result ≡ is_owed owner (state_of tables.now) }
 {
@@ -67,8 +69,8 @@ fn is_client_owed(tables: &Tables, client: u32) -> bool
     }
 }
 
-/// How many bytes to hand out at once, at most `max`, so that no large payload is copied: see
-/// `Client::front_len` and `Link::front_len`. It is `max` where nothing is due.
+/// Returns how many bytes to hand out at once, at most `max`, so that no large payload is copied:
+/// see `Client::front_len` and `Link::front_len`. It is `max` if nothing is queued.
 pub fn front_len(tables: &Tables, owner: Owner, max: usize) -> usize
     requires { 0 < max }
     ensures { (0 < result) × (result ≤ max) }
@@ -99,7 +101,7 @@ fn client_front_len(tables: &Tables, client: u32, max: usize) -> usize
     }
 }
 
-/// The least link to which something is due.
+/// Returns the least link with output.
 fn link_due(links: &mut TouchedMap<Port>) -> Option<u32>
     ensures first { result ≡ first_number owes_link links.old.entries }
     ensures rises { IsRising links.old.entries }
@@ -108,7 +110,7 @@ fn link_due(links: &mut TouchedMap<Port>) -> Option<u32>
     links.first_owed()
 }
 
-/// The least client to which something is due, where no link comes before it.
+/// Returns the least client with output, if no link has any.
 fn client_due(clients: &mut TouchedMap<Client>) -> Option<Owner>
     ensures first { result
         ≡ option_map Owner.Client (first_number owes_client clients.old.entries) }

@@ -1,5 +1,5 @@
-//! What is handed out to clients and on links, and to whom next. Memory comes first: after want of
-//! it nothing has changed.
+//! Handing out output to clients and links, and choosing the next one. Memory is allocated first:
+//! if an allocation fails, nothing has changed.
 #![tactic(auto)]
 
 mod due;

@@ -1,5 +1,4 @@
-//! The list of the devices, as a client that tracks it is handed it (SERVICES.TXT,
-//! `host:track-devices`).
+//! The list of the devices for a client that tracks it (SERVICES.TXT, `host:track-devices`).
 
 ghost use Rattle.std.specs.Prelude.{◌≡◌, ◌<◌, ◌^◌, length, IfOk};
 ghost use Rattle.adb_reply.specs.Answer.{device_list};
@@ -13,7 +12,7 @@ use adb_registry::Registry;
 use adb_reply::push_string;
 use std::alloc::{AllocError, Global};
 
-/// The present list, where the one that a client has is stale and nothing else is due to it.
+/// Returns the current list, if the client's list is stale and its output queue is empty.
 pub(crate) fn list_for(tables: &Tables, client: u32) -> Result<Option<Text>, AllocError>
     ensures { let s = state_of tables.now in
         IfOk result (λ list. list ≡ list_to s.devices (s.clients client)) }
@@ -28,7 +27,7 @@ pub(crate) fn list_for(tables: &Tables, client: u32) -> Result<Option<Text>, All
     Ok(Some(list))
 }
 
-/// The list, behind its length.
+/// Returns the list after its length.
 fn tracked_list(alloc: Global, devices: &Registry, long: bool) -> Result<Text, AllocError>
     ensures { IfOk result (λ list. list ≡ tracked_list devices.now long) }
 {

@@ -1,4 +1,4 @@
-//! Places that are reserved for what a device is told.
+//! Places that are reserved for acknowledgements to devices.
 
 ghost use Rattle.std.specs.Prelude.{◌≡◌, option_map, OnOk};
 ghost use Rattle.adb_outside.specs.Tables.{at};
@@ -9,7 +9,7 @@ use adb_client::Phase;
 use adb_hub_tables::{Tables, reserve_packets};
 use std::alloc::AllocError;
 
-/// A place is reserved for what the device of a client's open stream is told.
+/// Reserves a place for the acknowledgement to the device of a client's open stream.
 pub(crate) fn keep_answer(tables: &mut Tables, client: u32) -> Result<(), AllocError>
     ensures room { OnOk result
         (HasRoom 1 (open_stream (at client tables.new.clients.entries) tables.new) tables.new) }
@@ -21,7 +21,7 @@ pub(crate) fn keep_answer(tables: &mut Tables, client: u32) -> Result<(), AllocE
     }
 }
 
-/// The link of the stream that a client has open.
+/// Returns the link of the stream that a client has open.
 fn open_link(tables: &Tables, client: u32) -> Option<u32>
     ensures { result ≡ option_map (λ stream. stream.link)
         (open_stream (at client tables.now.clients.entries) tables.now) }
@@ -33,7 +33,7 @@ fn open_link(tables: &Tables, client: u32) -> Option<u32>
     }
 }
 
-/// The link of a stream.
+/// Returns the link of a stream.
 fn link_of(tables: &Tables, id: u32) -> Option<u32>
     ensures { result ≡ option_map (λ stream. stream.link) (at id tables.now.streams.streams) }
 {

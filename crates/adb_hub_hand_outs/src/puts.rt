@@ -1,4 +1,4 @@
-//! Bytes that are handed out to clients.
+//! Handing out output to clients.
 
 ghost use Rattle.std.specs.Prelude.{◌≡◌, ◌<◌, ℕ, None, Some, take, IfOk, OnOk, OnErr};
 ghost use Rattle.adb_outside.specs.Tables.{at};
@@ -16,9 +16,9 @@ use adb_hub_tables::{Tables, TouchedMap};
 use adb_outside::{HandOut, Text};
 use std::alloc::AllocError;
 
-/// The first bytes that may be handed out to a client, at most `max`, are: of what is due, or where
-/// nothing is, of the present list of the devices, where the one that the client has is stale. It
-/// is `None` exactly where the client is not there or there are no such bytes. After want of memory
+/// Hands out the first bytes for a client, at most `max`: those of its output queue or, if the
+/// queue is empty, of the current list of the devices, if the client's list is stale. Returns
+/// `None` exactly if the client does not exist or there are no such bytes. If an allocation fails,
 /// nothing has changed.
 pub fn put(tables: &mut Tables, client: u32, max: usize) -> Result<Option<HandOut>, AllocError>
     requires fit { IsFit tables.old }
@@ -35,7 +35,7 @@ pub fn put(tables: &mut Tables, client: u32, max: usize) -> Result<Option<HandOu
     }
 }
 
-/// The first bytes that are due to a client are handed out, where its list need not be.
+/// Hands out the first bytes of a client's output queue, without a list.
 fn put_due(tables: &mut Tables, client: u32, max: usize) -> Result<Option<HandOut>, AllocError>
     requires fit { IsFit tables.old }
     requires reached { IsReached (state_of tables.old) }
@@ -56,7 +56,7 @@ fn put_due(tables: &mut Tables, client: u32, max: usize) -> Result<Option<HandOu
     Ok(Some(bytes))
 }
 
-/// The first bytes that are due to a client, at most `max`.
+/// Returns the first bytes of a client's output queue, at most `max`.
 fn front_of(tables: &Tables, client: u32, max: usize) -> Result<HandOut, AllocError>
     ensures { IfOk result (λ bytes.
         bytes ≡ take max (due_to ((state_of tables.now).clients client))) }
@@ -67,7 +67,7 @@ fn front_of(tables: &Tables, client: u32, max: usize) -> Result<HandOut, AllocEr
     }
 }
 
-/// The whole list becomes due to a client whose list is stale, and its first bytes are handed out.
+/// Queues the whole list for a client with a stale list, and hands out its first bytes.
 fn put_list(
     tables: &mut Tables,
     client: u32,
@@ -90,14 +90,14 @@ fn put_list(
     Ok(Some(bytes))
 }
 
-/// The first bytes of a text, at most `max`.
+/// Returns the first bytes of a text, at most `max`.
 fn first(text: &[u8], max: usize) -> &[u8]
     ensures { result.now ≡ take max text.now }
 {
     &text[..max.min(text.len())]
 }
 
-/// The list becomes due to a client of these, whose list is stale no longer.
+/// Queues the list for a client of these. The client's list is no longer stale then.
 fn owe_list(clients: &mut TouchedMap<Client>, id: u32, list: &Text) -> Result<(), AllocError>
     ensures ok { OnOk result (Lists id list.now clients.old.entries clients.new.entries) }
     ensures err { OnErr result ((c : ℕ) → at c clients.new.entries ≡ at c clients.old.entries) }

@@ -1,4 +1,4 @@
-//! Bytes that are handed out to links.
+//! Handing out output to links.
 
 ghost use Rattle.std.specs.Prelude.{◌≡◌, ◌<◌, take, IfOk, OnErr};
 ghost use Rattle.adb_capture.specs.declared.entry.Entry.TheVariants.{Send};
@@ -11,8 +11,8 @@ use adb_hub_tables::Tables;
 use adb_outside::{HandOut, Text};
 use std::alloc::AllocError;
 
-/// The first bytes that are due to a link, at most `max`, are handed out; `None` exactly where the
-/// link is not there or nothing is due to it. After want of memory nothing has changed.
+/// Hands out the first bytes of a link's output queue, at most `max`. Returns `None` exactly if the
+/// link does not exist or its queue is empty. If an allocation fails, nothing has changed.
 pub fn send(tables: &mut Tables, link: u32, max: usize) -> Result<Option<HandOut>, AllocError>
     requires fit { IsFit tables.old }
     requires reached { IsReached (state_of tables.old) }
@@ -29,7 +29,7 @@ pub fn send(tables: &mut Tables, link: u32, max: usize) -> Result<Option<HandOut
     Ok(Some(bytes))
 }
 
-/// The first bytes that are due to a link, at most `max`.
+/// Returns the first bytes of a link's output queue, at most `max`.
 fn front_of(tables: &Tables, link: u32, max: usize) -> Result<HandOut, AllocError>
     ensures { IfOk result (λ bytes.
         bytes ≡ take max (due_on ((state_of tables.now).links link))) }

@@ -18,9 +18,9 @@ use adb_wire::{Command, Head, MAX_PAYLOAD, VERSION};
 use bytes::Bytes;
 use std::alloc::{AllocError, Global};
 
-/// A device is plugged in, under the next id, which it gives; the server says to it who it is, and
-/// each tracker's list is stale. The registry's refusals come in its order, whatever memory there
-/// is. After an error nothing has changed.
+/// Attaches a device that was plugged in, under the next id, and returns the id. The server's own
+/// identity is queued for it, and each tracker's list is stale. The registry's refusals are checked
+/// first, in its order. After an error nothing has changed.
 pub fn attach(tables: &mut Tables, kind: Kind, serial: &[u8]) -> Result<u32, AttachError>
     requires fit { IsFit tables.old }
     requires reached { IsReached (state_of tables.old) }
@@ -37,7 +37,7 @@ pub fn attach(tables: &mut Tables, kind: Kind, serial: &[u8]) -> Result<u32, Att
     }
 }
 
-/// A device that is not refused is plugged in.
+/// Attaches a device that is not refused.
 fn plug_in(tables: &mut Tables, kind: Kind, serial: &[u8]) -> Result<u32, AttachError>
     requires fit { IsFit tables.old }
     requires reached { IsReached (state_of tables.old) }
@@ -63,7 +63,7 @@ fn plug_in(tables: &mut Tables, kind: Kind, serial: &[u8]) -> Result<u32, Attach
     }
 }
 
-/// The id that the next device gets; no stream is one of its link yet.
+/// Returns the id that the next device gets; no stream is on its link yet.
 fn next_id(tables: &Tables) -> u32
     requires { tables.now.devices.drawn ≢ u32.MAX }
     ensures id { result ≡ tables.now.devices.drawn + 1 }
@@ -73,7 +73,7 @@ fn next_id(tables: &Tables) -> u32
     tables.devices.drawn() + 1
 }
 
-/// A link to which the server has to say who it is.
+/// Returns a link with the server's identity queued.
 fn greeted(alloc: Global) -> Result<Port, AllocError>
     ensures { IfOk result (λ port. port ≡ greeted) }
 {
@@ -85,7 +85,7 @@ fn greeted(alloc: Global) -> Result<Port, AllocError>
     Ok(Port { link, kept: 0 })
 }
 
-/// The header of what the server says of itself.
+/// Returns the header of the server's identity.
 fn greeting() -> Head
     ensures { result ≡ greeting }
 {
@@ -98,7 +98,7 @@ fn greeting() -> Head
     }
 }
 
-/// A link stands under its id.
+/// Inserts a link under its id.
 fn put_port(links: &mut TouchedMap<Port>, id: u32, port: Port) -> Result<(), AllocError>
     ensures put { OnOk result (Puts id (Some port) links.old.entries links.new.entries) }
     ensures err { OnErr result (links.new.entries ≡ links.old.entries) }
@@ -107,7 +107,7 @@ fn put_port(links: &mut TouchedMap<Port>, id: u32, port: Port) -> Result<(), All
     Ok(())
 }
 
-/// No link stands under that id.
+/// Removes the link of an id.
 fn take_port(links: &mut TouchedMap<Port>, id: u32)
     ensures { Puts id None links.old.entries links.new.entries }
 {

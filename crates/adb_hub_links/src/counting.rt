@@ -1,4 +1,4 @@
-//! How many slices become due to each client, at most, by packets.
+//! Counting the slices that packets queue for each client, at most.
 
 ghost use Rattle.std.specs.Prelude.{◌≡◌, ◌+◌, ℕ, if◌then◌else◌, nat_eq, IfOk, OnOk};
 ghost use Rattle.adb_outside.specs.Tables.{at};
@@ -11,7 +11,7 @@ use adb_wire::Command;
 use std::alloc::{AllocError, Global};
 use std::collections::{BTreeMap, VecDeque};
 
-/// How many slices become due to each client, at most, by packets.
+/// Returns how many slices the packets queue for each client, at most.
 pub(crate) fn count(
     alloc: Global,
     streams: &Streams,
@@ -27,7 +27,7 @@ pub(crate) fn count(
     Ok(counts)
 }
 
-/// A packet is counted too.
+/// Counts one more packet.
 fn count_also(
     counts: &mut BTreeMap<u32, usize>,
     streams: &Streams,
@@ -43,7 +43,7 @@ fn count_also(
     }
 }
 
-/// The client to which a packet may make something due.
+/// Returns the client for which a packet may queue bytes.
 pub(crate) fn fed_client(streams: &Streams, came: &Came) -> Option<u32>
     ensures { result ≡ fed_client (packet_of came.now) streams.now.streams }
 {
@@ -53,7 +53,7 @@ pub(crate) fn fed_client(streams: &Streams, came: &Came) -> Option<u32>
     }
 }
 
-/// So many more are counted for a number.
+/// Adds `n` to the count of a number.
 pub(crate) fn add(
     counts: &mut BTreeMap<u32, usize>,
     number: u32,
@@ -67,14 +67,15 @@ pub(crate) fn add(
     Ok(())
 }
 
-/// How many were counted for a number.
+/// Returns the count of a number.
 pub(crate) fn counted(counts: &BTreeMap<u32, usize>, number: u32) -> usize
     ensures { result ≡ count_at (at number counts.now.entries) }
 {
     counts.get(&number).copied().unwrap_or(0)
 }
 
-/// The sum of two counts. What can't be counted would not have memory either.
+/// Returns the sum of two counts. An overflow counts as an allocation failure, since that many
+/// could not be allocated either.
 pub(crate) fn sum(a: usize, b: usize) -> Result<usize, AllocError>
     ensures { IfOk result (λ sum. sum ≡ a + b) }
 {

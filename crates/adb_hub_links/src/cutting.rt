@@ -1,4 +1,4 @@
-//! What comes in on a link, cut to packets (protocol.txt).
+//! The input of a link, cut to packets (protocol.txt).
 
 ghost use Rattle.std.specs.Prelude.{◌≡◌, ◌≤◌, [], ℕ, All, Some, IfOk, OnOk, IfSome, length};
 ghost use Rattle.adb_outside.specs.Tables.{at};
@@ -18,7 +18,7 @@ use adb_wire::{Command, Deframer, Head, Packet};
 use std::alloc::{AllocError, Global};
 use std::collections::VecDeque;
 
-/// What came in on a link with a piece: the packets, what is held behind them, and whether a byte
+/// The input of a link after a piece: the packets, the bytes held after them, and whether a byte
 /// there was wrong.
 #[derive(Drop)]
 pub(crate) struct Cutting {
@@ -28,7 +28,7 @@ pub(crate) struct Cutting {
 }
 
 impl Cutting {
-    /// Takes the packets out of what came in.
+    /// Takes the packets out of the input.
     pub(crate) fn of(alloc: Global, mut incoming: Deframer) -> Result<Cutting, AllocError>
         ensures { IfOk result (IsCutTo incoming) }
     {
@@ -42,7 +42,7 @@ impl Cutting {
     }
 }
 
-/// What comes in on a link with a further piece; of the link nothing changes.
+/// Returns the input of a link with a further piece; the link is unchanged.
 pub(crate) fn with_piece(
     alloc: Global,
     links: &mut TouchedMap<Port>,
@@ -61,7 +61,7 @@ pub(crate) fn with_piece(
     }
 }
 
-/// Takes all packets that are whole.
+/// Takes all whole packets.
 fn take_all(alloc: Global, incoming: &mut Deframer) -> Result<VecDeque<Came>, AllocError>
     ensures came { IfOk result (λ packets. All IsCame packets.items) }
     ensures packets { IfOk result (λ packets.
@@ -75,7 +75,7 @@ fn take_all(alloc: Global, incoming: &mut Deframer) -> Result<VecDeque<Came>, Al
     Ok(packets)
 }
 
-/// Takes the next packet that is whole, if there is one.
+/// Takes the next whole packet, if there is one.
 fn next_came(alloc: Global, incoming: &mut Deframer) -> Result<Option<Came>, AllocError>
     ensures { IfOk result (TakesNext incoming.old incoming.new) }
 {
@@ -85,7 +85,7 @@ fn next_came(alloc: Global, incoming: &mut Deframer) -> Result<Option<Came>, All
     }
 }
 
-/// A packet that came; its check word was looked at.
+/// Returns a packet that came. Its check word was verified.
 pub(crate) fn came(alloc: Global, packet: Packet) -> Result<Came, AllocError>
     requires { length packet.payload ≤ MAX_PAYLOAD }
     ensures came { IfOk result IsCame }
@@ -106,7 +106,7 @@ pub(crate) fn came(alloc: Global, packet: Packet) -> Result<Came, AllocError>
     })
 }
 
-/// Who a device says that it is, by a CNXN; `None` where that is no identity, or it is no CNXN.
+/// Returns the identity in a CNXN; `None` if the payload is no identity, or the packet is no CNXN.
 fn identity_in(alloc: Global, head: &Head, payload: &[u8]) -> Result<Option<Identity>, AllocError>
     ensures identity { head.now.command ≡ Cnxn
         → IfOk result (λ identity. identity_of payload.now ≡ identity) }
@@ -119,7 +119,7 @@ fn identity_in(alloc: Global, head: &Head, payload: &[u8]) -> Result<Option<Iden
     }
 }
 
-/// Who a device says that it is; `None` where that is no identity.
+/// Returns the identity of a device; `None` if the banner is none.
 fn read(alloc: Global, banner: &[u8]) -> Result<Option<Identity>, AllocError>
     ensures identity { IfOk result (λ identity. identity_of banner.now ≡ identity) }
     ensures features { IfOk result (λ identity. IfSome identity (λ identity.

@@ -24,7 +24,7 @@ pub fn detach(tables: &mut Tables, ends: &mut Endings, link: u32)
     }
 }
 
-/// Whether a link is there.
+/// Returns whether a link exists.
 fn has_link(tables: &Tables, link: u32) -> bool
     ensures { result ≡ is_some ((state_of tables.now).links link) }
 {

@@ -1,4 +1,4 @@
-//! How much credit packets give (protocol.txt, READY).
+//! The credit that packets give (protocol.txt, READY).
 
 ghost use Rattle.std.specs.Prelude.{◌≡◌, ◌+◌, ℕ, IfOk, OnOk};
 ghost use Rattle.adb_outside.specs.Tables.{at};
@@ -12,7 +12,7 @@ use adb_wire::Command;
 use std::alloc::{AllocError, Global};
 use std::collections::{BTreeMap, VecDeque};
 
-/// How much credit the OKAYs among packets give the stream of each id, together.
+/// Returns how much credit the OKAYs among packets give the stream of each id, in total.
 pub(crate) fn granted(
     alloc: Global,
     packets: &VecDeque<Came>,
@@ -27,7 +27,7 @@ pub(crate) fn granted(
     Ok(words)
 }
 
-/// A packet gives credit too.
+/// Adds the credit of one more packet.
 fn grant_also(words: &mut BTreeMap<u32, usize>, came: &Came) -> Result<(), AllocError>
     ensures { OnOk result ((l : ℕ) → count_at (at l words.new.entries)
         ≡ count_at (at l words.old.entries)

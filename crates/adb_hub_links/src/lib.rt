@@ -1,5 +1,5 @@
-//! What entries about a device's link make of the tables that a hub keeps: how it comes, the bytes
-//! that come on it, and how it goes. Memory comes first: after want of it nothing has changed.
+//! Entries about a device's link: how it comes, the bytes that come on it, and how it goes. Memory
+//! is allocated first: if an allocation fails, nothing has changed.
 #![tactic(auto)]
 
 mod attaches;

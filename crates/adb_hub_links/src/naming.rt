@@ -10,7 +10,7 @@ use adb_wire::Command;
 use std::alloc::{AllocError, Global};
 use std::collections::{BTreeSet, VecDeque};
 
-/// The ids of the streams of a link that live and that OKAYs among packets name.
+/// Returns the ids of the live streams of a link that OKAYs among packets name.
 pub(crate) fn named(
     alloc: Global,
     streams: &Streams,
@@ -27,7 +27,7 @@ pub(crate) fn named(
     Ok(ids)
 }
 
-/// The stream that a packet names, too, where there is one.
+/// Adds the stream that a packet names, if there is one.
 fn name_also(
     ids: &mut BTreeSet<u32>,
     streams: &Streams,
@@ -43,7 +43,8 @@ fn name_also(
     Ok(())
 }
 
-/// The stream that a packet names, where it is an OKAY, and that lives and is one of that link.
+/// Returns the stream that a packet names, if the packet is an OKAY and the stream lives and is one
+/// of that link.
 pub(crate) fn named_on(streams: &Streams, link: u32, came: &Came) -> Option<u32>
     ensures { result ≡ named_on link (packet_of came.now) streams.now.streams }
 {

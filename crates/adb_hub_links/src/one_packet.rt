@@ -1,4 +1,4 @@
-//! A packet that comes alone: it goes without a queue, and without sets and maps of numbers.
+//! Packets that come alone. They need no queue, and no sets or maps of numbers.
 
 ghost use Rattle.std.specs.Prelude.{◌≡◌, ◌∷◌, [], ℕ, IfOk, OnOk, option_to_list};
 ghost use Rattle.adb_outside.specs.Tables.{at};
@@ -30,8 +30,8 @@ use adb_stream::Streams;
 use adb_wire::Command;
 use std::alloc::AllocError;
 
-/// Takes the memory with which a packet of a link can be treated, and the stream sent up that it
-/// names, where it is an OKAY; gives the id of that.
+/// Allocates the memory to handle a packet of a link, and to send the held bytes of the stream that
+/// it names, if it is an OKAY. Returns the id of that stream.
 pub(crate) fn reserve_one(
     tables: &mut Tables,
     link: u32,
@@ -52,7 +52,8 @@ pub(crate) fn reserve_one(
     Ok(id)
 }
 
-/// Makes a place for a slice for a client, if there is one, with those that each keeps.
+/// Reserves a place for a slice for a client, if there is one, in addition to those that each
+/// keeps.
 fn reserve_fed(clients: &mut TouchedMap<Client>, client: Option<u32>) -> Result<(), AllocError>
     requires { (c : ℕ) → ClientRoom 0 (at c clients.old.entries) }
     ensures widens { WidensClients clients.old.entries clients.new.entries }
@@ -65,9 +66,9 @@ fn reserve_fed(clients: &mut TouchedMap<Client>, client: Option<u32>) -> Result<
     }
 }
 
-/// Makes ready what the client of a stream holds, if there is one, as much as the stream may write
-/// behind the credit that a packet gives it; says in how many writes at most. Its device takes
-/// `maxdata` bytes in one packet.
+/// Prepares the held bytes of a stream's client, if there is one: as many as the stream may write
+/// after the credit that a packet gives it. Returns the maximum number of writes. Its device
+/// accepts `maxdata` bytes in one packet.
 fn prepare_named(
     clients: &mut TouchedMap<Client>,
     streams: &Streams,
@@ -92,7 +93,7 @@ fn prepare_named(
     }
 }
 
-/// How much credit a packet gives the stream of an id.
+/// Returns how much credit a packet gives the stream of an id.
 fn granted_by(came: &Came, id: u32) -> usize
     ensures { result ≡ granted_by came.now.head.command (packet_of came.now) id }
 {
@@ -104,8 +105,8 @@ fn granted_by(came: &Came, id: u32) -> usize
     }
 }
 
-/// A packet of a link that holds nothing is treated, and the stream of this id, if there is one, is
-/// sent up. It takes no memory.
+/// Handles a packet of a link that holds nothing, and sends the held bytes of the stream of this
+/// id, if there is one. Allocates nothing.
 pub(crate) fn settle_one(
     tables: &mut Tables,
     ends: &mut Endings,
@@ -126,8 +127,8 @@ pub(crate) fn settle_one(
     up_named(tables, ends, id);
 }
 
-/// The up rule for the stream of an id, if there is one. Where nothing goes up any other stream, it
-/// is the up rule for all.
+/// Applies the up rule to the stream of an id, if there is one. If no other stream has bytes to
+/// send, this is the up rule for all streams.
 fn up_named(tables: &mut Tables, ends: &mut Endings, id: Option<u32>)
     requires ready { IsReadyEach (option_to_list id) tables.old }
     requires sized { IsSized tables.old }

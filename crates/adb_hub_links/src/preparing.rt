@@ -1,4 +1,4 @@
-//! Clients, with places for what becomes due to them, and with what they hold ready to go up.
+//! Preparing clients: places for their output, and their held bytes for sending.
 
 ghost use Rattle.std.specs.Prelude.{◌≡◌, ◌+◌, ℕ, IfOk, OnOk};
 ghost use Rattle.adb_outside.specs.Tables.{at};
@@ -15,7 +15,7 @@ use adb_stream::{Stream, Streams};
 use std::alloc::AllocError;
 use std::collections::{BTreeMap, BTreeSet};
 
-/// Makes places for so many slices for each client, with those that it keeps.
+/// Reserves places for this many slices for each client, in addition to those that it keeps.
 pub(crate) fn reserve_each(
     clients: &mut TouchedMap<Client>,
     counts: &BTreeMap<u32, usize>,
@@ -31,8 +31,8 @@ pub(crate) fn reserve_each(
     Ok(())
 }
 
-/// Makes ready what the clients of these streams hold, as much as each stream may write behind the
-/// credit that it is given; says in how many writes at most. The device of all of them takes
+/// Prepares the held bytes of these streams' clients: as many as each stream may write after the
+/// credit that it is given. Returns the maximum number of writes. The device of all of them accepts
 /// `maxdata` bytes in one packet.
 pub(crate) fn prepare_each(
     clients: &mut TouchedMap<Client>,
@@ -56,7 +56,7 @@ pub(crate) fn prepare_each(
     Ok(writes)
 }
 
-/// Makes ready what the client of a stream holds; adds its writes to those of others.
+/// Prepares the held bytes of a stream's client, and adds its writes to those of others.
 pub(crate) fn prepare_also(
     clients: &mut TouchedMap<Client>,
     stream: Option<Stream>,

@@ -1,4 +1,4 @@
-//! Bytes that come on a device's link.
+//! Bytes of a device's link.
 
 ghost use Rattle.std.specs.Prelude.{◌≡◌, ◌≤◌, true, length, OnOk, OnErr};
 ghost use Rattle.adb_outside.specs.Tables.{at};
@@ -23,10 +23,11 @@ use adb_hub_tables::{Endings, Port, Tables, TouchedMap};
 use adb_wire::Packet;
 use std::alloc::AllocError;
 
-/// Bytes came on a link: the packets that are whole now are treated, in order, a byte that is wrong
-/// breaks the link, and what clients hold goes up the streams of which an OKAY came. Of a link that
-/// is gone nothing is made. After want of memory only places and pieces that are ready may have
-/// become more. The streams that end are recorded, in the log's spare places.
+/// Submits bytes of a link: the packets that are whole now are handled, in order, a wrong byte
+/// breaks the link, and the held bytes of clients are sent on the streams for which an OKAY came.
+/// If the link is gone, nothing happens. If an allocation fails, only the numbers of reserved
+/// places and of prepared pieces may have grown. The streams that end are recorded, in the log's
+/// spare places.
 pub fn recv(
     tables: &mut Tables,
     ends: &mut Endings,
@@ -49,7 +50,7 @@ pub fn recv(
     recv_piece(tables, ends, link, piece)
 }
 
-/// Bytes came on a link, whatever they are: they are cut behind what is held.
+/// Submits bytes of a link, whatever they are: they are cut after the held bytes.
 fn recv_piece(
     tables: &mut Tables,
     ends: &mut Endings,
@@ -75,8 +76,8 @@ fn recv_piece(
     take(tables, ends, link, cutting)
 }
 
-/// A whole packet came on a link, as `recv` of its bytes. Where nothing is known to be held of the
-/// link, and no check words are looked at, its header is not read again, and its payload is shared.
+/// Submits a whole packet of a link, like `recv` with its bytes. If the link is known to hold
+/// nothing, and verifies no check words, the header is not parsed again, and the payload is shared.
 pub fn recv_whole(
     tables: &mut Tables,
     ends: &mut Endings,
@@ -98,7 +99,7 @@ pub fn recv_whole(
     recv_piece(tables, ends, link, packet.as_slice())
 }
 
-/// Whether a link lives of which nothing is known to be held, and no check words are looked at.
+/// Returns whether a link lives that is known to hold nothing and that verifies no check words.
 fn is_fresh(links: &TouchedMap<Port>, link: u32) -> bool
     ensures { result ≡ true → IsFreshAt (at link links.now.entries) }
 {
@@ -108,7 +109,7 @@ fn is_fresh(links: &TouchedMap<Port>, link: u32) -> bool
     }
 }
 
-/// A packet alone is treated, on a link to which nothing was fed.
+/// Handles a single packet, on a link to which nothing was fed.
 fn take_alone(
     tables: &mut Tables,
     ends: &mut Endings,
@@ -132,7 +133,7 @@ fn take_alone(
     Ok(())
 }
 
-/// The packets of a link are treated, with all memory taken before.
+/// Handles the packets of a link, after all memory was allocated.
 fn take(
     tables: &mut Tables,
     ends: &mut Endings,

@@ -1,4 +1,4 @@
-//! The memory that the packets of a link take, before they are treated.
+//! The memory for the packets of a link, which is allocated before they are handled.
 
 ghost use Rattle.std.specs.Prelude.{IfOk};
 ghost use Rattle.adb_hub_tables.specs.Fit.{IsFit};
@@ -14,8 +14,8 @@ use adb_hub_tables::{Tables, reserve_packets};
 use std::alloc::AllocError;
 use std::collections::{BTreeSet, VecDeque};
 
-/// Takes the memory with which packets of a link can be treated, and the streams sent up that
-/// OKAYs among them name; gives the ids of these.
+/// Allocates the memory to handle packets of a link, and to send the held bytes of the streams that
+/// OKAYs among them name. Returns the ids of these streams.
 pub(crate) fn reserve(
     tables: &mut Tables,
     link: u32,

@@ -1,4 +1,5 @@
-//! The packets of a link are treated, and the streams that they name go up. It takes no memory.
+//! Handling the packets of a link, and sending on the streams that they name, without an
+//! allocation.
 
 ghost use Rattle.std.specs.Prelude.{◌≡◌, ◌≢◌, ℕ, Some, All, length, is_some, option_map};
 ghost use Rattle.adb_outside.specs.Tables.{at};
@@ -20,8 +21,8 @@ use adb_hub_tables::{Endings, Port, Tables, TouchedMap};
 use adb_wire::Deframer;
 use std::collections::{BTreeSet, VecDeque};
 
-/// The packets of a link are treated, a byte that was wrong breaks it, and the streams of these
-/// ids are sent up.
+/// Handles the packets of a link, breaks it if a byte was wrong, and sends the held bytes of the
+/// streams of these ids.
 pub(crate) fn settle(
     tables: &mut Tables,
     ends: &mut Endings,
@@ -46,7 +47,7 @@ pub(crate) fn settle(
     up_each(tables, ends, ids);
 }
 
-/// Something else came in on a link.
+/// Replaces the input of a link.
 fn put_incoming(links: &mut TouchedMap<Port>, link: u32, incoming: Deframer)
     ensures here { at link links.new.entries
         ≡ option_map (reading incoming) (at link links.old.entries) }
@@ -57,7 +58,7 @@ fn put_incoming(links: &mut TouchedMap<Port>, link: u32, incoming: Deframer)
     }
 }
 
-/// The packets of a link are treated, and a byte that was wrong breaks it.
+/// Handles the packets of a link, and breaks it if a byte was wrong.
 fn treat(tables: &mut Tables, ends: &mut Endings, link: u32, packets: VecDeque<Came>, broken: bool)
     requires came { All IsCame packets.items }
     requires provided { IsProvided tables.old }
@@ -82,7 +83,7 @@ fn treat(tables: &mut Tables, ends: &mut Endings, link: u32, packets: VecDeque<C
     }
 }
 
-/// A byte of a link was wrong, which may be gone.
+/// Breaks a link, which may be gone, because a byte of it was wrong.
 fn break_off(tables: &mut Tables, ends: &mut Endings, link: u32)
     requires { IsProvided tables.old }
     ensures state { (fault : PacketFault) → state_of tables.new

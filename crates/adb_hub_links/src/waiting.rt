@@ -1,4 +1,4 @@
-//! A piece that completes no packet.
+//! Pieces that complete no packet.
 
 ghost use Rattle.std.specs.Prelude.{◌≡◌, ◌≢◌, ◌++◌, ℕ, Some, OnOk, OnErr, option_map};
 ghost use Rattle.adb_outside.specs.Tables.{at};
@@ -11,7 +11,7 @@ use adb_hub_tables::{Port, TouchedMap};
 use adb_link::Link;
 use std::alloc::AllocError;
 
-/// A piece that completes no packet is held behind what is held of a link.
+/// Holds a piece that completes no packet after the held bytes of a link.
 pub(crate) fn wait(links: &mut TouchedMap<Port>, link: u32, piece: &[u8]) -> Result<(), AllocError>
     requires clear { (port : Port) → at link links.old.entries ≡ Some port
         → IsClear port.link.incoming }

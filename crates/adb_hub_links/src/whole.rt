@@ -1,4 +1,4 @@
-//! Packets that came whole.
+//! Packets that come whole.
 
 ghost use Rattle.std.specs.Prelude.{◌≡◌, ◌≤◌, true, length, IfOk, IfSome};
 ghost use Rattle.adb_wire.specs.Format.{packet_of};
@@ -11,7 +11,7 @@ use bytes::Bytes;
 use std::alloc::{AllocError, Global};
 use std::marker::Model;
 
-/// A packet that came whole: its bytes, which are shared, and the header that was read of them.
+/// A packet that came whole: its bytes, which are shared, and the header that was parsed from them.
 /// Contracts see it as its bytes.
 #[derive(Drop)]
 pub struct Whole {
@@ -31,7 +31,7 @@ impl Model for Whole {
 }
 
 impl Whole {
-    /// A packet in its bytes, of the header that they begin with. It takes no memory.
+    /// Returns a packet in its bytes, with the header that they begin with. Allocates nothing.
     pub fn new(head: Head, bytes: Bytes) -> Whole
         requires { IsWhole head bytes }
         ensures { result ≡ bytes }
@@ -39,14 +39,14 @@ impl Whole {
         Whole { head, bytes }
     }
 
-    /// Its bytes.
+    /// Returns the bytes.
     pub fn as_slice(&self) -> &[u8]
         ensures { result.now ≡ self.now }
     {
         self.bytes.as_slice()
     }
 
-    /// The packet, which shares the payload.
+    /// Returns the packet, which shares the payload.
     pub(crate) fn packet(&self) -> Result<Packet, AllocError>
         ensures packet { IfOk result (λ packet. packet ≡ packet_of self.now) }
         ensures size { IfOk result (λ packet. length packet.payload ≤ MAX_PAYLOAD) }
@@ -61,7 +61,8 @@ impl Whole {
         })
     }
 
-    /// Whether it is good where no check words are looked at, and asks for none behind it.
+    /// Returns whether the packet is valid on a link that verifies no check words, and does not
+    /// make the link verify them afterwards.
     pub(crate) fn stands_alone(&self) -> bool
         ensures alone { result ≡ true → StandsAlone self.now (packet_of self.now) }
         ensures bytes { IsBytes self.now }
@@ -72,8 +73,8 @@ impl Whole {
     }
 }
 
-/// The packet that a piece is, where it is one packet, good where no check words are looked at, and
-/// asks for none behind it.
+/// Returns the packet that a piece is, if it is one packet that is valid on a link that verifies no
+/// check words, and does not make the link verify them afterwards.
 pub(crate) fn packet_alone(alloc: Global, piece: &[u8]) -> Result<Option<Packet>, AllocError>
     ensures { IfOk result (λ packet. IfSome packet (IsAlone piece.now)) }
 {
@@ -92,8 +93,8 @@ pub(crate) fn packet_alone(alloc: Global, piece: &[u8]) -> Result<Option<Packet>
     }
 }
 
-/// The header of a piece that is one packet, good where no check words are looked at, and asks for
-/// none behind it.
+/// Returns the header of a piece that is such a packet: valid on a link that verifies no check
+/// words, without making the link verify them afterwards.
 fn head_alone(piece: &[u8]) -> Option<Head>
     ensures { IfSome result (λ head. IsPlain head piece.now) }
 {
@@ -106,7 +107,8 @@ fn head_alone(piece: &[u8]) -> Option<Head>
     }
 }
 
-/// Whether a packet is good where no check words are looked at, and asks for none behind it.
+/// Returns whether a packet is valid on a link that verifies no check words, and does not make the
+/// link verify them afterwards.
 fn is_plain(head: &Head, payload: &[u8]) -> bool
     ensures { result ≡ is_plain head.now payload.now }
 {
@@ -118,7 +120,7 @@ fn is_plain(head: &Head, payload: &[u8]) -> bool
     }
 }
 
-/// A slice of bytes has bytes.
+/// States that a slice consists of bytes. It does nothing: its contract is the law.
 fn are_bytes(bytes: &[u8])
     ensures { IsBytes bytes.now }
 {}

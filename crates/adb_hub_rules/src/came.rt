@@ -4,8 +4,8 @@ use adb_outside::Identity;
 use adb_wire::Head;
 use bytes::Bytes;
 
-/// A packet that came on a link: its header, its payload, and of a CNXN who the device says that it
-/// is, where that is an identity.
+/// A packet that came on a link: its header, its payload, and, for a CNXN, the device's identity if
+/// the payload is one.
 #[derive(Drop)]
 pub struct Came {
     pub head: Head,

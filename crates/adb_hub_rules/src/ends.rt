@@ -13,7 +13,8 @@ use adb_history::Ending;
 use adb_hub_tables::{Ended, Endings, Tables};
 use adb_stream::Stream;
 
-/// A client's stream ended: it is told so where it waits for the stream, and is closing.
+/// Closes a client after the end of its stream. If the client waits for the stream, the refusal is
+/// queued for it.
 fn client_loses(tables: &mut Tables, client: u32)
     requires { ClientRoom 0 (at client tables.old.clients.entries) }
     ensures state { let s = state_of tables.old in

@@ -1,4 +1,4 @@
-//! Handing out what is due (protocol.txt, READY).
+//! Handing out queued bytes (protocol.txt, READY).
 
 ghost use Rattle.std.specs.Prelude.{◌≡◌, ◌<◌, ℕ, Some, length, drop};
 ghost use Rattle.adb_outside.specs.Tables.{at};
@@ -17,8 +17,9 @@ use adb_client::Phase;
 use adb_hub_tables::Tables;
 use adb_stream::{Flow, Part, Stream};
 
-/// So many of the bytes that are due to a client were handed out. A client that is closing is
-/// gone when nothing is left; on a stream the device is told where its bytes were handed out.
+/// Removes the first `n` bytes of a client's output queue, which were handed out. If the queue of a
+/// closing client is empty then, the client is removed. On a stream the device is acknowledged the
+/// bytes that were handed out.
 pub fn hand_client(tables: &mut Tables, client: u32, n: usize)
     requires due { AreDue n (at client tables.old.clients.entries) }
     requires place { HasRoom 1 (open_stream (at client tables.old.clients.entries) tables.old)
@@ -40,7 +41,7 @@ pub fn hand_client(tables: &mut Tables, client: u32, n: usize)
     }
 }
 
-/// A client that is closing is gone when nothing is left.
+/// Removes a closing client once its output queue is empty.
 fn hand_closing(tables: &mut Tables, client: u32, n: usize)
     requires due { AreDue n (at client tables.old.clients.entries) }
     ensures state { state_of tables.new
@@ -51,7 +52,8 @@ fn hand_closing(tables: &mut Tables, client: u32, n: usize)
     tables.close_client(client);
 }
 
-/// The bytes that a stream has accepted are the last of those that are due to its client.
+/// Accounts for bytes handed out on a stream: the bytes that it has accepted are the last in its
+/// client's output queue.
 fn hand_streaming(tables: &mut Tables, client: u32, id: u32, n: usize)
     requires due { AreDue n (at client tables.old.clients.entries) }
     requires place { HasRoom 1 (at id tables.old.streams.streams) tables.old }
@@ -65,7 +67,7 @@ fn hand_streaming(tables: &mut Tables, client: u32, id: u32, n: usize)
     hand_stream(tables, id, left);
 }
 
-/// Bytes that are due to a client were handed out; says how many are left.
+/// Removes bytes of a client's output queue, which were handed out. Returns how many are left.
 fn hand_row(tables: &mut Tables, client: u32, n: usize) -> usize
     requires { AreDue n (at client tables.old.clients.entries) }
     ensures state { state_of tables.new ≡ to_client client (handed n) (state_of tables.old) }
@@ -84,7 +86,7 @@ fn hand_row(tables: &mut Tables, client: u32, n: usize) -> usize
     }
 }
 
-/// So many bytes are due to the client of a stream.
+/// Accounts for the stream of a client that has `due` bytes in its output queue.
 fn hand_stream(tables: &mut Tables, id: u32, due: usize)
     requires { HasRoom 1 (at id tables.old.streams.streams) tables.old }
     ensures state { let s = state_of tables.old in
@@ -100,7 +102,7 @@ fn hand_stream(tables: &mut Tables, id: u32, due: usize)
     }
 }
 
-/// So many of the bytes that a stream has accepted are left, fewer than before.
+/// Records that `left` of the bytes that a stream has accepted are left, fewer than before.
 fn leave(tables: &mut Tables, id: u32, stream: &Stream, left: usize)
     requires here { at id tables.old.streams.streams ≡ Some stream.now }
     requires fewer { left < to_hand stream.now.part.flow }
@@ -115,7 +117,7 @@ fn leave(tables: &mut Tables, id: u32, stream: &Stream, left: usize)
     tell_handed(tables, id, stream, left, back);
 }
 
-/// A device is told of its write that it was handed out whole, of its credit how much more it has.
+/// Acknowledges a device's write that was handed out whole, or gives it back credit.
 fn tell_handed(tables: &mut Tables, id: u32, stream: &Stream, left: usize, back: u32)
     requires back { back ≡ flow_back left stream.now.part.flow }
     requires place { LinkRoom 1 (at stream.now.link tables.old.links.entries) }
@@ -130,7 +132,7 @@ fn tell_handed(tables: &mut Tables, id: u32, stream: &Stream, left: usize, back:
     }
 }
 
-/// A device is told when its write was handed out whole.
+/// Acknowledges a device's write once it was handed out whole.
 fn tell_left(tables: &mut Tables, id: u32, stream: &Stream, left: usize)
     requires { LinkRoom 1 (at stream.now.link tables.old.links.entries) }
     ensures state { (window : OneWrite) → state_of tables.new
@@ -142,7 +144,7 @@ fn tell_left(tables: &mut Tables, id: u32, stream: &Stream, left: usize)
     }
 }
 
-/// A device is told how much credit it has more.
+/// Queues an OKAY with more credit for a device.
 fn tell_credit(tables: &mut Tables, id: u32, stream: &Stream, credit: u32)
     requires { LinkRoom 1 (at stream.now.link tables.old.links.entries) }
     ensures state { state_of tables.new
@@ -154,7 +156,7 @@ fn tell_credit(tables: &mut Tables, id: u32, stream: &Stream, credit: u32)
     }
 }
 
-/// What each end of a stream may send is another.
+/// Replaces the flow state of a stream.
 pub(crate) fn set_flow(tables: &mut Tables, id: u32, stream: &Stream, flow: &Flow)
     requires { at id tables.old.streams.streams ≡ Some stream.now }
     ensures state { state_of tables.new
@@ -171,7 +173,7 @@ pub(crate) fn set_flow(tables: &mut Tables, id: u32, stream: &Stream, flow: &Flo
     tables.set_part(id, stream, part);
 }
 
-/// So many of the bytes that are due to a link were handed out.
+/// Removes the first `n` bytes of a link's output queue, which were handed out.
 pub fn hand_link(tables: &mut Tables, link: u32, n: usize)
     requires { AreDueOn n (at link tables.old.links.entries) }
     ensures state { state_of tables.new ≡ sends link n (state_of tables.old) }

@@ -1,5 +1,5 @@
-//! The rules of the hub: what entries make of the tables that it keeps. None of them takes memory;
-//! places for what becomes due are kept before.
+//! The rules of the hub: the changes that entries make to its tables. No rule allocates; places for
+//! output are reserved beforehand.
 #![tactic(auto)]
 
 mod came;

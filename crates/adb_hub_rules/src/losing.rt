@@ -1,4 +1,4 @@
-//! How links are lost and broken, how clients fail, and how the server stops.
+//! Lost and broken links, failed clients, and the stop of the server.
 
 ghost use Rattle.std.specs.Prelude.{◌≡◌, ℕ, is_some};
 ghost use Rattle.adb_outside.specs.Tables.{Puts};
@@ -16,7 +16,7 @@ use adb_hub_tables::{Ended, Endings, Tables};
 use adb_outside::Cause;
 use adb_stream::Stream;
 
-/// A link is gone: its device, its forwards and what is due to it go, and its streams end.
+/// Removes a link with its device, its forwards and its output queue, and ends its streams.
 pub fn end_link(tables: &mut Tables, ends: &mut Endings, link: u32, ending: Ending)
     requires { IsProvided tables.old }
     ensures state { state_of tables.new ≡ (link_ends link ending (state_of tables.old)).state }
@@ -29,7 +29,7 @@ pub fn end_link(tables: &mut Tables, ends: &mut Endings, link: u32, ending: Endi
     tables.mark_all();
 }
 
-/// Of a link nothing is kept.
+/// Removes the row of a link.
 fn forget_link(tables: &mut Tables, link: u32)
     ensures state { state_of tables.new ≡ forgets link (state_of tables.old) }
     ensures uses { (t c : ℕ) → Uses t 0 c 0 tables.old tables.new }
@@ -50,7 +50,7 @@ fn remove_link(tables: &mut Tables, link: u32)
     tables.forwards.remove_of(link);
 }
 
-/// A client's input ended, in order or by a failure.
+/// Ends a client's input, in order or by a failure.
 pub fn end_client(tables: &mut Tables, ends: &mut Endings, client: u32, cause: Cause)
     requires { IsProvided tables.old }
     ensures state { let s = state_of tables.old in
@@ -68,14 +68,14 @@ pub fn end_client(tables: &mut Tables, ends: &mut Endings, client: u32, cause: C
     }
 }
 
-/// Whether anything of a client is kept.
+/// Returns whether a client has a row.
 fn has_client(tables: &Tables, client: u32) -> bool
     ensures { result ≡ is_some ((state_of tables.now).clients client) }
 {
     tables.clients.contains_key(&client)
 }
 
-/// The phase of a client, of which nothing may be kept.
+/// Returns the phase of a client, which may have no row.
 pub fn phase_of(tables: &Tables, client: u32) -> Phase
     ensures { result ≡ phase_in ((state_of tables.now).clients client) }
 {
@@ -85,7 +85,8 @@ pub fn phase_of(tables: &Tables, client: u32) -> Phase
     }
 }
 
-/// What a client holds still goes up, and what is due to it is handed out.
+/// Ends a client's input in order: its held bytes are still sent, and its output queue is handed
+/// out.
 fn end_input(tables: &mut Tables, client: u32)
     ensures state { let s = state_of tables.old in
         state_of tables.new ≡ input_ends (phase_in (s.clients client)) client s }
@@ -98,7 +99,7 @@ fn end_input(tables: &mut Tables, client: u32)
     }
 }
 
-/// A client's connection failed: what is due to it is dropped.
+/// Fails a client's connection: its output queue is dropped.
 fn fail_client(tables: &mut Tables, ends: &mut Endings, client: u32, cause: Cause)
     requires { IsProvided tables.old }
     ensures state { let s = state_of tables.old in state_of tables.new
@@ -113,8 +114,8 @@ fn fail_client(tables: &mut Tables, ends: &mut Endings, client: u32, cause: Caus
     fail_stream(tables, ends, phase, cause);
 }
 
-/// The device of an open stream is told that it ends; a stream that its device has not opened
-/// yet stays, as an orphan.
+/// Sends the device of an open stream its end. A stream that its device has not opened yet stays,
+/// as an orphan.
 fn fail_stream(tables: &mut Tables, ends: &mut Endings, phase: Phase, cause: Cause)
     requires { IsProvided tables.old }
     ensures state { let s = state_of tables.old in
@@ -131,7 +132,7 @@ fn fail_stream(tables: &mut Tables, ends: &mut Endings, phase: Phase, cause: Cau
     }
 }
 
-/// The device of an open stream is told that it ends.
+/// Sends the device of an open stream its end.
 fn fail_open(tables: &mut Tables, ends: &mut Endings, id: u32, cause: Cause)
     requires { IsProvided tables.old }
     ensures state { let s = state_of tables.old in state_of tables.new
@@ -148,7 +149,7 @@ fn fail_open(tables: &mut Tables, ends: &mut Endings, id: u32, cause: Cause)
     }
 }
 
-/// A stream that its device has not opened yet stays, as an orphan.
+/// Keeps a stream that its device has not opened yet, as an orphan.
 fn fail_opening(tables: &mut Tables, ends: &mut Endings, id: u32, cause: Cause)
     ensures state { let s = state_of tables.old in state_of tables.new
         ≡ (stream_fails (Phase.Opening id) cause (s.streams id) s).state }

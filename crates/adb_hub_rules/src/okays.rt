@@ -1,4 +1,4 @@
-//! OKAY: a stream is open, or there is room for more (protocol.txt, READY).
+//! OKAY: a stream is open, or may send more (protocol.txt, READY).
 
 ghost use Rattle.std.specs.Prelude.{◌≡◌, ℕ, Some};
 ghost use Rattle.adb_outside.specs.Tables.{at};
@@ -36,7 +36,7 @@ pub(crate) fn take_okay(
     }
 }
 
-/// The write that is outstanding has ended, or there is more credit.
+/// Acknowledges the outstanding write, or adds credit.
 fn acknowledge(tables: &mut Tables, id: u32, word: Option<u32>, stream: &Stream)
     requires { at id tables.old.streams.streams ≡ Some stream.now }
     ensures state { state_of tables.new
@@ -63,7 +63,7 @@ fn take_first(tables: &mut Tables, id: u32, remote: u32, word: Option<u32>, stre
     }
 }
 
-/// An orphan is closed as soon as the device has told its id.
+/// Closes an orphan once the device has sent its id.
 fn close_orphan(tables: &mut Tables, id: u32, remote: u32, stream: &Stream)
     requires here { at id tables.old.streams.streams ≡ Some stream.now }
     requires provided { IsProvided tables.old }
@@ -75,7 +75,7 @@ fn close_orphan(tables: &mut Tables, id: u32, remote: u32, stream: &Stream)
     tables.owe_close(stream.link, id, remote);
 }
 
-/// The device opens a stream: its client sends from now on.
+/// Opens a stream by its device: its client may send from now on.
 fn open(tables: &mut Tables, id: u32, remote: u32, word: Option<u32>, stream: &Stream)
     requires here { at id tables.old.streams.streams ≡ Some stream.now }
     requires place { ClientRoom 1 (at stream.now.client tables.old.clients.entries) }
@@ -89,7 +89,7 @@ fn open(tables: &mut Tables, id: u32, remote: u32, word: Option<u32>, stream: &S
     tables.open_client(stream.client, id);
 }
 
-/// The client hears that its stream is open, unless it came through a forward.
+/// Queues `OKAY` for the client of an opened stream, unless the client came through a forward.
 fn hear_okay(tables: &mut Tables, client: u32)
     requires { ClientRoom 1 (at client tables.old.clients.entries) }
     ensures state { let s = state_of tables.old in
@@ -104,7 +104,7 @@ fn hear_okay(tables: &mut Tables, client: u32)
     tables.owe_client(client, Bytes::from_static(b"OKAY"));
 }
 
-/// Whether a client came through a forward, or nothing of it is kept.
+/// Returns whether a client came through a forward, or has no row.
 fn is_forwarded(tables: &Tables, client: u32) -> bool
     ensures { result ≡ forwarded_in ((state_of tables.now).clients client) }
 {
@@ -114,7 +114,7 @@ fn is_forwarded(tables: &Tables, client: u32) -> bool
     }
 }
 
-/// What changes of a stream that its device opens.
+/// Returns the mutable part of a stream that its device opens.
 fn opened_part(remote: u32, word: Option<u32>, part: &Part) -> Part
     ensures { result ≡ with_remote remote
         (with_flow (first_credit word part.now.flow) part.now) }

@@ -1,4 +1,4 @@
-//! What the packets of a device make (protocol.txt).
+//! The packets of a device (protocol.txt).
 
 ghost use Rattle.std.specs.Prelude.{◌≡◌, ◌≤◌, ℕ, List, Some, is_some, IsSome, IfSome, length};
 ghost use Rattle.adb_outside.specs.Tables.{at};
@@ -23,7 +23,8 @@ use adb_outside::{Identity, State};
 use adb_stream::Stream;
 use adb_wire::{Command, Head, MAX_PAYLOAD, MIN_MAXDATA, MIN_VERSION, VERSION};
 
-/// A device that is too old, takes too little or does not say who it is breaks its link.
+/// Handles a CNXN. A device breaks its link if its version is too old, if it accepts too few bytes
+/// or if it sends no identity.
 pub(crate) fn take_cnxn(
     tables: &mut Tables,
     ends: &mut Endings,
@@ -71,7 +72,7 @@ fn take_identity(
     }
 }
 
-/// On a link that had a CNXN, its streams end first; then the device is who it says.
+/// Connects a device under its identity. On a link that already had a CNXN, its streams end first.
 fn connect(tables: &mut Tables, ends: &mut Endings, link: u32, head: &Head, identity: Identity)
     requires version { least_version ≤ head.now.arg0 }
     requires cnxn { head.now.command ≡ Command.Cnxn }
@@ -87,7 +88,7 @@ fn connect(tables: &mut Tables, ends: &mut Endings, link: u32, head: &Head, iden
     go_online(tables, link, head, identity);
 }
 
-/// On a link that had a CNXN, its streams end.
+/// Ends the streams of a link that already had a CNXN.
 fn end_first_streams(tables: &mut Tables, ends: &mut Endings, link: u32)
     requires { IsProvided tables.old }
     ensures state { let s = state_of tables.old in state_of tables.new
@@ -102,7 +103,7 @@ fn end_first_streams(tables: &mut Tables, ends: &mut Endings, link: u32)
     }
 }
 
-/// The link has that version and maxdata from now on.
+/// Sets the version and maxdata of a link.
 fn go_online(tables: &mut Tables, link: u32, head: &Head, identity: Identity)
     requires version { least_version ≤ head.now.arg0 }
     requires cnxn { head.now.command ≡ Command.Cnxn }
@@ -117,7 +118,7 @@ fn go_online(tables: &mut Tables, link: u32, head: &Head, identity: Identity)
     tables.mark_all();
 }
 
-/// The version of a CNXN is the link's from now on.
+/// Sets the version of a link to that of a CNXN.
 fn set_version(tables: &mut Tables, link: u32, head: &Head)
     requires version { least_version ≤ head.now.arg0 }
     requires cnxn { head.now.command ≡ Command.Cnxn }
@@ -130,7 +131,7 @@ fn set_version(tables: &mut Tables, link: u32, head: &Head)
     }
 }
 
-/// A device is who it says, with the lesser version and maxdata.
+/// Sets the identity of a device, with the smaller version and maxdata.
 fn name_device(tables: &mut Tables, link: u32, head: &Head, identity: Identity)
     requires features { length identity.features ≤ MAX_FEATURES }
     ensures state { state_of tables.new
@@ -151,7 +152,7 @@ fn has_device(tables: &Tables, link: u32) -> bool
     tables.devices.row(link).is_some()
 }
 
-/// Before its first CNXN a device that asks for what is not answered is unauthorized.
+/// Handles a request to log in: before its first CNXN, the device is unauthorized from now on.
 pub(crate) fn take_login(tables: &mut Tables, link: u32)
     requires { IsProvided tables.old }
     ensures state { let s = state_of tables.old in
@@ -173,7 +174,7 @@ fn set_unauthorized(tables: &mut Tables, link: u32)
     tables.devices.unauthorized(link);
 }
 
-/// Whether a device was plugged in and has not said who it is.
+/// Returns whether a device was plugged in and has not sent its identity.
 fn is_offline(tables: &Tables, link: u32) -> bool
     ensures { result ≡ offline_in (at link tables.now.devices.rows) }
 {
@@ -183,7 +184,7 @@ fn is_offline(tables: &Tables, link: u32) -> bool
     }
 }
 
-/// A stream that a device opens is refused.
+/// Refuses a stream that a device opens.
 pub(crate) fn refuse_open(tables: &mut Tables, link: u32, id: u32)
     requires { LinkRoom 1 (at link tables.old.links.entries) }
     ensures state { state_of tables.new ≡ (refuses_open link id (state_of tables.old)).state }

@@ -12,8 +12,8 @@ use crate::up_rule::up;
 use adb_hub_tables::{Endings, Tables};
 use std::collections::BTreeSet;
 
-/// The up rule for the streams of these ids, one after another. Where nothing goes up any
-/// other stream, it is the up rule for all.
+/// Applies the up rule to the streams of these ids, one after another. If no other stream has bytes
+/// to send, this is the up rule for all streams.
 pub fn up_each(tables: &mut Tables, ends: &mut Endings, ids: &BTreeSet<u32>)
     requires ready { IsReadyEach ids.now.keys tables.old }
     requires sized { IsSized tables.old }

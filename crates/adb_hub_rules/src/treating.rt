@@ -22,7 +22,7 @@ use adb_wire::{Command, Head};
 use bytes::Bytes;
 use std::collections::VecDeque;
 
-/// Packets come on a link, one after another.
+/// Handles packets of a link, one after another.
 pub fn treat_all(tables: &mut Tables, ends: &mut Endings, link: u32, mut packets: VecDeque<Came>)
     requires came { All IsCame packets.items }
     requires provided { IsProvided tables.old }
@@ -43,7 +43,7 @@ pub fn treat_all(tables: &mut Tables, ends: &mut Endings, link: u32, mut packets
     }
 }
 
-/// A packet comes on a link, which may be gone.
+/// Handles a packet of a link, which may be gone.
 pub fn treat(tables: &mut Tables, ends: &mut Endings, link: u32, came: Came)
     requires came { IsCame came }
     requires provided { IsProvided tables.old }
@@ -63,7 +63,7 @@ pub fn treat(tables: &mut Tables, ends: &mut Endings, link: u32, came: Came)
     }
 }
 
-/// A packet says who the device is, or asks for what is not answered; others are for a link
+/// Handles a packet: an identity, a request to log in, or any other packet, which is for a link
 /// that had a CNXN.
 fn treat_any(tables: &mut Tables, ends: &mut Endings, link: u32, came: Came)
     requires came { IsCame came }
@@ -93,7 +93,7 @@ fn treat_any(tables: &mut Tables, ends: &mut Endings, link: u32, came: Came)
     }
 }
 
-/// A packet of a link that had a CNXN, which is no CNXN.
+/// Handles a packet, other than a CNXN, of a link that had a CNXN.
 fn treat_open(tables: &mut Tables, ends: &mut Endings, link: u32, head: &Head, payload: Bytes)
     requires provided { IsProvided tables.old }
     requires link { LinkRoom 1 (at link tables.old.links.entries) }
@@ -119,7 +119,7 @@ fn treat_open(tables: &mut Tables, ends: &mut Endings, link: u32, head: &Head, p
     }
 }
 
-/// The stream of an id, if it is one of that link.
+/// Returns the stream of an id, if it is one of that link.
 fn stream_on(tables: &Tables, link: u32, id: u32) -> Option<Stream>
     ensures { result ≡ of_link link (at id tables.now.streams.streams) }
 {
@@ -172,7 +172,7 @@ fn treat_close(tables: &mut Tables, ends: &mut Endings, link: u32, head: &Head)
     }
 }
 
-/// The next packet, if there is one.
+/// Returns the next packet, if there is one.
 fn next_of(packets: &mut VecDeque<Came>) -> Option<Came>
     ensures { MatchOption result (packets.old.items ≡ [])
         (λ came. packets.old.items ≡ came ∷ packets.new.items) }
@@ -180,7 +180,7 @@ fn next_of(packets: &mut VecDeque<Came>) -> Option<Came>
     packets.pop_front()
 }
 
-/// The credit that the payload of an OKAY gives, where it is a credit word.
+/// Returns the credit in the payload of an OKAY, if it is a credit word.
 pub fn credit_word(payload: &[u8]) -> Option<u32>
     ensures { result ≡ credit_word payload.now }
 {

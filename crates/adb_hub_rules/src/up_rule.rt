@@ -1,4 +1,5 @@
-//! What a stream may send up, by its window or its credit (protocol.txt, WRITE and READY).
+//! The bytes that a stream may send to its device, by its window or its credit (protocol.txt, WRITE
+//! and READY).
 
 ghost use Rattle.std.specs.Prelude.{◌≡◌, ◌≢◌, ◌≤◌, ◌<◌, ℕ, true, false, [], Some, None, length, take, drop, option_map};
 ghost use Rattle.adb_outside.specs.Tables.{at};
@@ -22,8 +23,8 @@ use adb_hub_tables::{Endings, Tables};
 use adb_outside::SplitBytes;
 use adb_stream::{Flow, Part, Stream};
 
-/// The up rule, for the stream of an id: what its client holds goes up in writes, and then its
-/// end, where its input ended and all went up.
+/// Applies the up rule to the stream of an id: its client's held bytes are sent in writes, followed
+/// by its end, if the client's input ended and all bytes were sent.
 pub fn up(tables: &mut Tables, ends: &mut Endings, id: u32)
     requires ready { IsReadyUp id tables.old }
     requires sized { IsSized tables.old }
@@ -43,8 +44,7 @@ pub fn up(tables: &mut Tables, ends: &mut Endings, id: u32)
     }
 }
 
-/// The up rule for a stream of which nothing can be sent: it takes no places but that of its
-/// end.
+/// Applies the up rule to a stream that cannot send: it takes no places but that of its end.
 pub fn close_idle(tables: &mut Tables, ends: &mut Endings, id: u32)
     requires provided { IsProvided tables.old }
     requires idle { (stream : Stream) → at id tables.old.streams.streams ≡ Some stream
@@ -61,7 +61,7 @@ pub fn close_idle(tables: &mut Tables, ends: &mut Endings, id: u32)
     }
 }
 
-/// Whether a client has the stream of an id open.
+/// Returns whether a client has the stream of an id open.
 fn has_open(tables: &Tables, client: u32, id: u32) -> bool
     ensures { result ≡ has_open id (at client tables.now.clients.entries) }
 {
@@ -74,7 +74,7 @@ fn has_open(tables: &Tables, client: u32, id: u32) -> bool
     }
 }
 
-/// What a client holds goes up the stream that it has open.
+/// Sends a client's held bytes on the stream that it has open.
 fn send_up(tables: &mut Tables, ends: &mut Endings, id: u32, stream: &Stream)
     requires here { at id tables.old.streams.streams ≡ Some stream.now }
     requires open { has_open id (at stream.now.client tables.old.clients.entries) ≡ true }
@@ -103,8 +103,8 @@ fn send_up(tables: &mut Tables, ends: &mut Endings, id: u32, stream: &Stream)
     close_over(tables, ends, id, &Stream { part, ..*stream });
 }
 
-/// What a client holds goes up, as much as the flow of its stream lets go; says what the flow
-/// is then.
+/// Sends as many of a client's held bytes as the flow of its stream allows. Returns the flow
+/// afterwards.
 fn send_held(tables: &mut Tables, id: u32, stream: &Stream) -> Flow
     requires here { at id tables.old.streams.streams ≡ Some stream.now }
     requires ready { IsReadyToSend stream.now tables.old }
@@ -126,7 +126,7 @@ fn send_held(tables: &mut Tables, id: u32, stream: &Stream) -> Flow
     flow
 }
 
-/// A stream that is over for its client ends.
+/// Ends a stream that is over for its client.
 fn close_over(tables: &mut Tables, ends: &mut Endings, id: u32, stream: &Stream)
     requires here { at id tables.old.streams.streams ≡ Some stream.now }
     requires open { has_open id (at stream.now.client tables.old.clients.entries) ≡ true }
@@ -151,8 +151,8 @@ fn close_over(tables: &mut Tables, ends: &mut Endings, id: u32, stream: &Stream)
     }
 }
 
-/// Whether a stream is over for its client: its input ended, nothing of it is held, and no
-/// write waits.
+/// Returns whether a stream is over for its client: the client's input ended, none of it is held,
+/// and no write is outstanding.
 fn is_over(tables: &Tables, client: u32, flow: &Flow) -> bool
     ensures { (row : SeenClient) → at client tables.now.clients.entries ≡ Some row
         → result ≡ is_over row.about.ended row.held flow.now }
@@ -163,7 +163,7 @@ fn is_over(tables: &Tables, client: u32, flow: &Flow) -> bool
     }
 }
 
-/// Writes go up, as many as the flow of a stream lets go; says what the flow is then.
+/// Sends as many writes as the flow of a stream allows. Returns the flow afterwards.
 fn write_up(tables: &mut Tables, id: u32, stream: &Stream, maxdata: usize) -> Flow
     requires size { maxdata ≤ MAX_PAYLOAD }
     requires cut { CanSend stream.now maxdata (stream.now.part.flow, tables.old) }
@@ -178,7 +178,7 @@ fn write_up(tables: &mut Tables, id: u32, stream: &Stream, maxdata: usize) -> Fl
     flow
 }
 
-/// A write goes up, where the flow of a stream lets one go; says whether one did.
+/// Sends one write, if the flow of a stream allows it. Returns whether it did.
 fn write_next(
     tables: &mut Tables,
     id: u32,
@@ -206,7 +206,7 @@ fn write_next(
     true
 }
 
-/// How many bytes go up in the next write.
+/// Returns how many bytes the next write has.
 fn next_len(tables: &Tables, client: u32, flow: &Flow, maxdata: usize) -> usize
     ensures { result ≡ write_len maxdata (may_send flow.now maxdata)
         (held_at (at client tables.now.clients.entries)) }
@@ -217,7 +217,7 @@ fn next_len(tables: &Tables, client: u32, flow: &Flow, maxdata: usize) -> usize
     }
 }
 
-/// So many bytes go up in a write.
+/// Sends `n` bytes in one write.
 fn write_one(tables: &mut Tables, id: u32, stream: &Stream, n: usize)
     requires size { n ≤ MAX_PAYLOAD }
     requires cut { CanCut n (at stream.now.client tables.old.clients.entries) }
@@ -239,7 +239,7 @@ fn write_one(tables: &mut Tables, id: u32, stream: &Stream, n: usize)
     }
 }
 
-/// The first bytes that a client holds, which are held no more.
+/// Cuts off the first bytes that a client holds.
 fn cut(tables: &mut Tables, client: u32, n: usize) -> Option<SplitBytes>
     requires cut { CanCut n (at client tables.old.clients.entries) }
     requires some { 0 < n }

@@ -1,4 +1,4 @@
-//! WRTE: bytes of a stream come from its device (protocol.txt, WRITE).
+//! WRTE: bytes of a stream from its device (protocol.txt, WRITE).
 
 ghost use Rattle.std.specs.Prelude.{◌≡◌, ◌≤◌, ℕ, Some, length};
 ghost use Rattle.adb_outside.specs.Tables.{at};
@@ -48,7 +48,7 @@ pub(crate) fn take_write(
     }
 }
 
-/// A write in turn becomes due to the client.
+/// Queues a write in turn for the client.
 fn accept_write(tables: &mut Tables, id: u32, payload: Bytes, flow: Flow, stream: &Stream)
     requires here { at id tables.old.streams.streams ≡ Some stream.now }
     requires flow { flow ≡ accepted (length payload) stream.now.part.flow }
@@ -66,7 +66,7 @@ fn accept_write(tables: &mut Tables, id: u32, payload: Bytes, flow: Flow, stream
     }
 }
 
-/// A write without bytes: one write each way answers it at once.
+/// Handles a write without bytes: with one write each way it is acknowledged at once.
 fn accept_none(tables: &mut Tables, id: u32, stream: &Stream)
     requires { LinkRoom 1 (at stream.now.link tables.old.links.entries) }
     ensures state { state_of tables.new

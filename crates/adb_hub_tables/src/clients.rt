@@ -1,4 +1,4 @@
-//! Clients: what becomes due to them, and how they close.
+//! Clients: their output, and how they close.
 
 ghost use Rattle.std.specs.Prelude.{◌≡◌, ◌≢◌, ◌≤◌, ◌+◌, ℕ, codes, [], true, false, Some, None, List, length, option_and_then, if◌then◌else◌};
 ghost use Rattle.std.specs.BTreeMap.{is_at};
@@ -20,8 +20,8 @@ use adb_client::{Client, Phase};
 use bytes::Bytes;
 
 impl Tables {
-    /// Bytes become due to a client, in a place that was kept: one place for a slice of that
-    /// client is taken, and none of a link.
+    /// Queues bytes for a client in a place that was reserved. It takes one place for a slice of
+    /// that client, and none of a link.
     pub fn owe_client(&mut self, client: u32, bytes: Bytes)
         requires place { ClientRoom 1 (at client self.old.clients.entries) }
         requires size { length bytes ≤ MAX_SLICE }
@@ -35,7 +35,7 @@ impl Tables {
         }
     }
 
-    /// The stream of a client is open.
+    /// Marks a client as having its stream open.
     pub fn open_client(&mut self, client: u32, stream: u32)
         ensures state { state_of self.new
             ≡ to_client client (in_phase (Phase.Streaming stream)) (state_of self.old) }
@@ -48,7 +48,7 @@ impl Tables {
         }
     }
 
-    /// A client's input ended in order.
+    /// Records that a client's input ended in order.
     pub fn note_end(&mut self, client: u32)
         ensures state { state_of self.new ≡ to_client client input_ended (state_of self.old) }
         ensures streams { self.new.streams ≡ self.old.streams }
@@ -60,8 +60,8 @@ impl Tables {
         }
     }
 
-    /// A client is read no more; where nothing is due to it, nothing of it is kept. No place is
-    /// taken.
+    /// Stops reading from a client. If its output queue is empty, its row is removed. Takes no
+    /// place.
     pub fn close_client(&mut self, client: u32)
         ensures state { state_of self.new ≡ closes client (state_of self.old) }
         ensures streams { self.new.streams ≡ self.old.streams }
@@ -75,8 +75,8 @@ impl Tables {
         }
     }
 
-    /// A client that waits for its stream is told that there is none, in the place that it has kept
-    /// for that.
+    /// Queues the refusal of a stream for a client that waits for one, in the place that the client
+    /// reserved for it.
     pub fn refuse_client(&mut self, client: u32)
         requires { IsWaiting (at client self.old.clients.entries) }
         ensures state { state_of self.new
@@ -90,7 +90,7 @@ impl Tables {
         refuse_in(&mut self.clients, client);
     }
 
-    /// A client is read no more; says whether nothing of it is to be kept.
+    /// Stops reading from a client. Returns whether its row is to be removed.
     fn close_row(&mut self, client: u32) -> bool
         ensures stays { result ≡ false → state_of self.new ≡ closes client (state_of self.old) }
         ensures goes { result ≡ true → to_client client none_kept (state_of self.new)
@@ -104,7 +104,7 @@ impl Tables {
         close_in(&mut self.clients, client)
     }
 
-    /// Of a client nothing is kept. No place is taken.
+    /// Removes the row of a client. Takes no place.
     pub fn drop_client(&mut self, client: u32)
         ensures state { state_of self.new ≡ to_client client none_kept (state_of self.old) }
         ensures streams { self.new.streams ≡ self.old.streams }
@@ -130,7 +130,7 @@ impl Tables {
     }
 }
 
-/// A client of these is read no more; says whether nothing of it is to be kept.
+/// Stops reading from a client of these. Returns whether its row is to be removed.
 fn close_in(clients: &mut TouchedMap<Client>, id: u32) -> bool
     ensures stays { result ≡ false → clients_of clients.new.entries
         ≡ change_row id (option_and_then closing) (clients_of clients.old.entries) }
@@ -150,7 +150,7 @@ fn close_in(clients: &mut TouchedMap<Client>, id: u32) -> bool
     }
 }
 
-/// A client of these that waits for its stream is told that there is none.
+/// Queues the refusal of a stream for a client of these that waits for one.
 fn refuse_in(clients: &mut TouchedMap<Client>, id: u32)
     requires { IsWaiting (at id clients.old.entries) }
     ensures rows { clients_of clients.new.entries
@@ -167,7 +167,7 @@ fn refuse_in(clients: &mut TouchedMap<Client>, id: u32)
     }
 }
 
-/// A client that waits for its stream is told that there is none.
+/// Queues the refusal of a stream for a client that waits for one.
 fn refuse(client: &mut Client)
     requires { IsWaiting (Some client.old) }
     ensures row { refused (client_row client.old) ≡ Some (client_row client.new) }
@@ -182,8 +182,8 @@ fn refuse(client: &mut Client)
     shut(client);
 }
 
-/// A client is read no more: what it holds is dropped. Says whether anything is due to it; where
-/// nothing is, it is as it was.
+/// Stops reading from a client: its held bytes are dropped. Returns whether its output queue holds
+/// bytes; if not, the client is unchanged.
 fn close(client: &mut Client) -> bool
     ensures kept { closing (client_row client.old)
         ≡ (if result then Some (client_row client.new) else None) }
@@ -201,7 +201,7 @@ fn close(client: &mut Client) -> bool
     true
 }
 
-/// A client to which something is due is read no more.
+/// Stops reading from a client with a non-empty output queue.
 fn shut(client: &mut Client)
     ensures row { client_row client.new ≡ shut_row (client_row client.old) }
     ensures places { client.new.places ≡ client.old.places }
@@ -214,7 +214,7 @@ fn shut(client: &mut Client)
     about.want = None;
 }
 
-/// What a client holds is dropped.
+/// Drops the held bytes of a client.
 fn drop_held(client: &mut Client)
     ensures row { client_row client.new ≡ record (client_row client.old) { held = [] } }
     ensures places { client.new.places ≡ client.old.places }

@@ -1,4 +1,4 @@
-//! What is known of devices.
+//! Properties of devices.
 
 ghost use Rattle.std.specs.Prelude.{◌≡◌, Some, None};
 ghost use Rattle.adb_history.specs.Links.{is_connected_state, is_connected, names_credit, is_credit, maxdata_of};
@@ -8,7 +8,7 @@ use adb_banner::has_feature;
 use adb_outside::{Identity, State};
 
 impl Tables {
-    /// Whether a transport is connected: its device said who it is.
+    /// Returns whether a transport is connected: its device has sent its identity.
     pub fn is_connected(&self, link: u32) -> bool
         ensures { result ≡ is_connected link self.now.devices }
     {
@@ -18,7 +18,7 @@ impl Tables {
         }
     }
 
-    /// Whether a link is a credit link: its last CNXN names the feature.
+    /// Returns whether a link is a credit link: its last CNXN names the feature.
     pub fn is_credit(&self, link: u32) -> bool
         ensures { result ≡ is_credit link self.now.devices }
     {
@@ -31,7 +31,7 @@ impl Tables {
         }
     }
 
-    /// How many payload bytes a device takes in one packet.
+    /// Returns how many payload bytes a device accepts in one packet.
     pub fn maxdata_of(&self, link: u32) -> usize
         ensures { result ≡ maxdata_of link self.now.devices }
     {

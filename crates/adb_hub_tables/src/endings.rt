@@ -47,7 +47,7 @@ impl Endings {
         }
     }
 
-    /// Makes `n` places spare. After an allocation failure the log is as before.
+    /// Makes `n` places spare. If an allocation fails, the log is unchanged.
     pub fn reserve(&mut self, n: usize) -> Result<(), AllocError>
         ensures list { self.new.list ≡ self.old.list }
         ensures ok { OnOk result (n ≤ self.new.spare) }
@@ -76,8 +76,8 @@ impl Endings {
         self.spare -= 1;
     }
 
-    /// Records a stream that ended, unless it was an orphan, whose end was recorded when its client
-    /// failed.
+    /// Records a stream that ended, unless it was an orphan: the end of an orphan was recorded when
+    /// its client failed.
     pub fn push_unless(&mut self, orphan: bool, ended: Ended)
         ensures { self.new ≡ add_unless orphan ended self.old }
     {

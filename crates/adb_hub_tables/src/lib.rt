@@ -1,6 +1,6 @@
-//! What a hub keeps: clients, links and streams by number, the devices and the forwards, with the
-//! places that are kept for what becomes due; and what changes of a row. A map of rows knows which
-//! were touched since they were last seen with nothing due.
+//! The tables of a hub: clients, links and streams by number, the devices and the forwards, with
+//! the places that are reserved for output, and the mutable parts of rows. A map of rows knows
+//! which rows were touched since they were last seen with an empty output queue.
 #![tactic(auto)]
 
 mod clients;

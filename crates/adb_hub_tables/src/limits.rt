@@ -1,4 +1,4 @@
-//! How the limits of packets, records and clients follow each other.
+//! The dependencies between the limits of packets, records and clients.
 
 ghost use Rattle.std.specs.Prelude.{◌≡◌, ◌≤◌, ◌+◌, ◌*◌};
 ghost use Rattle.adb_capture.specs.declared.limits.TheConstants.{MAX_DATA};
@@ -8,7 +8,7 @@ ghost use Rattle.adb_history.specs.declared.hand_out.TheConstants.{MAX_HAND_OUT}
 ghost use Rattle.adb_wire.specs.declared.headers.TheConstants.{HEADER_LEN, MAX_PAYLOAD};
 ghost use Rattle.adb_wire.specs.declared.slicer.TheConstants.{MAX_PACKET};
 
-/// Says which limits follow from the longest payload: a payload becomes due to a client as one
+/// States which limits follow from the longest payload: a payload is queued for a client as one
 /// slice, a packet is a header and a payload, and a record of a capture has room for the bytes of a
 /// packet and for all that a client sends or is handed at once.
 pub fn limits_follow_the_payload()

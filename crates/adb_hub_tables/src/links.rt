@@ -1,4 +1,4 @@
-//! Links to devices, and what the server writes to them (protocol.txt).
+//! Links to devices, and the packets that the server writes to them (protocol.txt).
 
 ghost use Rattle.std.specs.Prelude.{◌≡◌, ◌≤◌, ℕ, length};
 ghost use Rattle.adb_outside.specs.Tables.{at};
@@ -17,7 +17,7 @@ use adb_wire::{Command, Head};
 use byteorder::{ByteOrder, LittleEndian};
 
 impl Tables {
-    /// A packet with a payload of at most eight bytes is put behind what is due to a link.
+    /// Appends a packet with a payload of at most eight bytes to the output queue of a link.
     fn put_short(&mut self, link: u32, head: &Head, payload: &[u8])
         requires place { LinkRoom 1 (at link self.old.links.entries) }
         requires head { IsHeadOf head.now payload.now }
@@ -33,7 +33,7 @@ impl Tables {
         }
     }
 
-    /// A packet is put behind what is due to a link.
+    /// Appends a packet to the output queue of a link.
     fn put_slice(&mut self, link: u32, head: &Head, payload: SplitBytes)
         requires place { LinkRoom 1 (at link self.old.links.entries) }
         requires head { IsHeadOf head.now payload }
@@ -48,7 +48,7 @@ impl Tables {
         }
     }
 
-    /// A packet with a payload of at most eight bytes becomes due, in a place that was kept.
+    /// Queues a packet with a payload of at most eight bytes, in a place that was reserved.
     fn owe_short(&mut self, link: u32, head: &Head, payload: &[u8])
         requires place { LinkRoom 1 (at link self.old.links.entries) }
         requires head { IsHeadOf head.now payload.now }
@@ -62,7 +62,7 @@ impl Tables {
         self.put_short(link, head, payload);
     }
 
-    /// A packet becomes due, in a place that was kept.
+    /// Queues a packet, in a place that was reserved.
     fn owe_slice(&mut self, link: u32, head: &Head, payload: SplitBytes)
         requires place { LinkRoom 1 (at link self.old.links.entries) }
         requires head { IsHeadOf head.now payload }
@@ -75,7 +75,7 @@ impl Tables {
         self.put_slice(link, head, payload);
     }
 
-    /// What came on a stream was handed out, or was nothing.
+    /// Queues an OKAY: the bytes that came on a stream were handed out, or there were none.
     pub fn owe_okay(&mut self, link: u32, id: u32, remote: u32)
         requires { LinkRoom 1 (at link self.old.links.entries) }
         ensures state { state_of self.new
@@ -87,7 +87,7 @@ impl Tables {
         self.owe_short(link, &head(Command::Okay, id, remote, 0), &[]);
     }
 
-    /// A device has so much more credit on a stream.
+    /// Queues an OKAY that gives a device more credit on a stream.
     pub fn owe_credit(&mut self, link: u32, id: u32, remote: u32, credit: u32)
         requires { LinkRoom 1 (at link self.old.links.entries) }
         ensures state { state_of self.new
@@ -101,7 +101,7 @@ impl Tables {
         self.owe_short(link, &head(Command::Okay, id, remote, 4), &word);
     }
 
-    /// A stream ends, or none is opened.
+    /// Queues a CLSE: a stream ends, or is not opened.
     pub fn owe_close(&mut self, link: u32, id: u32, remote: u32)
         requires { LinkRoom 1 (at link self.old.links.entries) }
         ensures state { state_of self.new
@@ -113,7 +113,7 @@ impl Tables {
         self.owe_short(link, &head(Command::Clse, id, remote, 0), &[]);
     }
 
-    /// Bytes go up a stream, in a place that was kept.
+    /// Queues a WRTE with bytes of a stream's client, in a place that was reserved.
     pub fn owe_write(&mut self, link: u32, id: u32, remote: u32, payload: SplitBytes)
         requires place { LinkRoom 1 (at link self.old.links.entries) }
         requires size { length payload ≤ MAX_PAYLOAD }
@@ -128,7 +128,7 @@ impl Tables {
     }
 }
 
-/// The header of a packet, whose check word is not looked at.
+/// Returns the header of a packet. Its check word is ignored.
 pub fn head(command: Command, arg0: u32, arg1: u32, length: u32) -> Head
     ensures { result ≡ record {
       command = command;
@@ -147,7 +147,7 @@ pub fn head(command: Command, arg0: u32, arg1: u32, length: u32) -> Head
     }
 }
 
-/// The header of bytes that go up a stream.
+/// Returns the header of a WRTE with bytes of a stream's client.
 fn write_head(id: u32, remote: u32, payload: &SplitBytes) -> Head
     requires { length payload.now ≤ MAX_PAYLOAD }
     ensures of { IsHeadOf result payload.now }

@@ -12,16 +12,16 @@ use std::collections::BTreeMap;
 use std::marker::Model;
 use std::mem;
 
-/// What was seen last, so that nobody looks twice.
+/// A cache of the last result, which saves a second search.
 #[derive(Clone, Copy, Drop)]
 enum Seen {
-    /// Nothing that still holds.
+    /// Nothing is cached.
     Nothing,
-    /// That a number, if it is known, has all marks.
+    /// This number, if it is known, has all marks.
     Marked(u32),
-    /// That no number has a mark.
+    /// No number has this mark.
     Lack(Kind),
-    /// That of all numbers this one alone has a mark, and has all marks.
+    /// Only this number has this mark, and it has all marks.
     Alone(Kind, u32),
 }
 
@@ -32,7 +32,7 @@ pub(crate) struct Marks {
     blocks: Words,
     groups: Words,
     seen: Seen,
-    /// The block that was left without numbers last. It is kept for those who come next.
+    /// The last block that was left without numbers. It is kept for reuse.
     spare: Option<u32>,
 }
 
@@ -50,7 +50,7 @@ impl Model for Marks {
 }
 
 impl Marks {
-    /// No numbers. It takes no memory.
+    /// Returns an empty set. Allocates nothing.
     pub(crate) fn new(alloc: Global) -> Marks
         ensures { result.entries ≡ [] }
     {
@@ -62,7 +62,7 @@ impl Marks {
         }
     }
 
-    /// A number is known, with all marks. After want of memory all is as before.
+    /// Adds a number, with all marks. If an allocation fails, nothing changes.
     pub(crate) fn know(&mut self, number: u32) -> Result<(), AllocError>
         ensures ok { let high = number / 64 in OnOk result (Puts high
             (Some (known (number % 64) (at high self.old.entries)))
@@ -83,7 +83,7 @@ impl Marks {
         }
     }
 
-    /// A number that is known has all marks. It takes no memory.
+    /// Sets all marks of a number, if it is known. Allocates nothing.
     pub(crate) fn mark(&mut self, number: u32)
         ensures fits { number < 2 ^ 32 }
         ensures block { let high = number / 64 in Puts high
@@ -98,7 +98,7 @@ impl Marks {
         }
     }
 
-    /// Takes a mark of a number away. It takes no memory.
+    /// Removes a mark of a number. Allocates nothing.
     pub(crate) fn unmark(&mut self, which: Kind, number: u32)
         ensures fits { number < 2 ^ 32 }
         ensures block { let high = number / 64 in Puts high
@@ -111,8 +111,8 @@ impl Marks {
         words::unmark(&mut self.blocks, which, number);
     }
 
-    /// A number is not known and has no mark. A block in which none is known goes when another one
-    /// is left so. It takes no memory.
+    /// Removes a number and its marks. A block without known numbers is freed when another one is
+    /// left so. Allocates nothing.
     pub(crate) fn forget(&mut self, number: u32)
         ensures fits { number < 2 ^ 32 }
         ensures forgets { Forgets number self.old.entries self.new.entries }
@@ -124,7 +124,7 @@ impl Marks {
         }
     }
 
-    /// No numbers stay.
+    /// Removes all numbers.
     pub(crate) fn clear(&mut self)
         ensures { self.new.entries ≡ [] }
     {
@@ -134,7 +134,7 @@ impl Marks {
         self.groups.clear();
     }
 
-    /// No block stays but that of one number.
+    /// Removes all blocks but that of one number.
     pub(crate) fn keep_only(&mut self, number: u32)
         ensures { let high = number / 64 in
             self.new.entries ≡ filter (λ block. nat_eq block.0 high) self.old.entries }
@@ -145,7 +145,7 @@ impl Marks {
         words::keep_only(&mut self.groups, number / 64);
     }
 
-    /// The least number that has a mark. It takes no memory.
+    /// Returns the least number that has a mark. Allocates nothing.
     pub(crate) fn first(&mut self, which: Kind) -> Option<u32>
         requires { AreBlocks self.old.entries }
         ensures first { result ≡ first_mark which self.old.entries }
@@ -172,7 +172,8 @@ impl Marks {
     }
 }
 
-/// A number that is known has all marks, and its block among the groups. Whether it is known.
+/// Sets all marks of a number, if it is known, and those of its block among the groups. Returns
+/// whether the number is known.
 fn mark_grouped(groups: &mut Words, blocks: &mut Words, number: u32) -> bool
     requires { AreGrouped groups.old.entries blocks.old.entries }
     ensures fits { number < 2 ^ 32 }
@@ -193,7 +194,7 @@ fn mark_grouped(groups: &mut Words, blocks: &mut Words, number: u32) -> bool
     true
 }
 
-/// A block in which no number is known goes, but one.
+/// Frees a block without known numbers, unless it is the block `but`.
 fn drop_empty(groups: &mut Words, blocks: &mut Words, before: Option<u32>, but: u32)
     requires { AreGrouped groups.old.entries blocks.old.entries }
     ensures thins { Thins blocks.old.entries blocks.new.entries }
@@ -207,7 +208,7 @@ fn drop_empty(groups: &mut Words, blocks: &mut Words, before: Option<u32>, but: 
     }
 }
 
-/// A block goes in which no number is known.
+/// Frees a block without known numbers.
 fn drop_block(groups: &mut Words, blocks: &mut Words, high: u32)
     requires grouped { AreGrouped groups.old.entries blocks.old.entries }
     requires empty { is_empty (at high blocks.old.entries) ≡ true }
@@ -218,7 +219,7 @@ fn drop_block(groups: &mut Words, blocks: &mut Words, high: u32)
     words::forget(groups, high);
 }
 
-/// The mark that no number has but perhaps this one, where one was seen.
+/// Returns the mark that no number other than this one has, if the cache shows one.
 fn lacking(seen: Seen, number: u32) -> Option<Kind>
     ensures { (blocks : List (ℕ × Block)) → Holds seen blocks
         → IfSome result (λ which. LacksBut which number blocks) }
@@ -230,7 +231,7 @@ fn lacking(seen: Seen, number: u32) -> Option<Kind>
     }
 }
 
-/// What is seen once a number has all marks.
+/// Returns the cache after a number got all marks.
 fn once_marked(seen: Seen, number: u32) -> Seen
     ensures { (blocks others : List (ℕ × Block)) → Holds seen blocks
         → IsMarkedIn number blocks others → Holds result others }
@@ -241,7 +242,7 @@ fn once_marked(seen: Seen, number: u32) -> Seen
     }
 }
 
-/// What is seen once a number has lost a mark.
+/// Returns the cache after a number lost a mark.
 fn once_unmarked(seen: Seen, which: Kind, number: u32) -> Seen
     ensures { (blocks others : List (ℕ × Block)) → Holds seen blocks
         → Unmarks which number blocks others → Holds result others }
@@ -252,7 +253,7 @@ fn once_unmarked(seen: Seen, which: Kind, number: u32) -> Seen
     }
 }
 
-/// What is seen once a number has lost all marks.
+/// Returns the cache after a number lost all marks.
 fn once_forgotten(seen: Seen, number: u32) -> Seen
     ensures { (blocks others : List (ℕ × Block)) → Holds seen blocks
         → ((which : Kind) → Unmarks which number blocks others) → Holds result others }
@@ -263,7 +264,7 @@ fn once_forgotten(seen: Seen, number: u32) -> Seen
     }
 }
 
-/// Whether it was seen that a number has all marks, if it is known.
+/// Returns whether the cache shows that a number has all marks, if it is known.
 fn is_marked(seen: Seen, number: u32) -> bool
     ensures { result ≡ true → (blocks : List (ℕ × Block)) → Holds seen blocks
         → Holds (Seen.Marked number) blocks }

@@ -1,22 +1,22 @@
-//! To whom something is due.
+//! Rows with output queues.
 
 ghost use Rattle.std.specs.Prelude.{◌≡◌, nat_lt, ◌||◌, length};
 
 use adb_client::Client;
 
-/// What something may be due to.
+/// A row that may have output to hand out.
 pub trait Owes {
     ghost use Rattle.std.specs.Prelude.{◌≡◌, Bool};
 
-    /// Whether something is due to it.
+    /// Whether there is output to hand out.
     ghost owed: { Self → Bool };
 
-    /// Whether something is due to it.
+    /// Returns whether there is output to hand out.
     fn owes(&self) -> bool
         ensures { result ≡ owed self.now };
 }
 
-/// Bytes are due to a client, or it tracks the devices and its list is stale.
+/// A client has output if its queue holds bytes, or if it tracks the devices and its list is stale.
 impl Owes for Client {
     ghost owed = { λ client. nat_lt 0 (length client.due) || client.about.mark };
 

@@ -1,4 +1,4 @@
-//! Places that are reserved for what becomes due.
+//! Places that are reserved for output.
 
 ghost use Rattle.std.specs.Prelude.{◌≡◌, ◌+◌, ◌≤◌, Some, OnOk};
 ghost use Rattle.adb_outside.specs.Tables.{at};
@@ -10,8 +10,8 @@ use crate::touched_map::TouchedMap;
 use adb_client::{Client, Phase};
 use std::alloc::AllocError;
 
-/// Places are reserved on a link for so many packets, beside those that are kept for the ends of
-/// its streams.
+/// Reserves places on a link for `packets` packets, in addition to those for the ends of its
+/// streams.
 pub fn reserve_packets(
     links: &mut TouchedMap<Port>,
     link: u32,
@@ -38,8 +38,8 @@ fn reserve_on(port: &mut Port, packets: usize) -> Result<(), AllocError>
     }
 }
 
-/// Places are reserved for so many slices that become due to a client, beside the one that is kept
-/// for the answer to it.
+/// Reserves places for `slices` slices queued for a client, in addition to the one for the answer
+/// to it.
 pub fn reserve_slices(
     clients: &mut TouchedMap<Client>,
     client: u32,
@@ -65,7 +65,7 @@ fn reserve_for(client: &mut Client, slices: usize) -> Result<(), AllocError>
     }
 }
 
-/// How many places a client keeps for the answer that it waits for.
+/// Returns how many places a client keeps for the answer that it waits for.
 fn kept_places(phase: Phase) -> usize
     ensures { result ≡ kept_places phase }
 {

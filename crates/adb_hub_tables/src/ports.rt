@@ -1,4 +1,4 @@
-//! A device's link, with the places that are kept for the ends of its streams.
+//! A device's link, with the places that are reserved for the ends of its streams.
 
 ghost use Rattle.std.specs.Prelude.{◌≡◌, ◌<◌, ◌≤◌, ◌-◌, length, nat_lt};
 ghost use Rattle.adb_wire.specs.Format.{packet_under};
@@ -10,7 +10,8 @@ use adb_link::{Link, MAX_SHORT};
 use adb_outside::SplitBytes;
 use adb_wire::Head;
 
-/// A device's link, and how many places are kept on it for the packets that end its streams.
+/// A device's link, and the number of places that are reserved on it for the packets that end its
+/// streams.
 #[derive(Drop)]
 pub struct Port {
     pub link: Link,
@@ -18,7 +19,7 @@ pub struct Port {
 }
 
 impl Port {
-    /// A packet with a payload of at most eight bytes becomes due, in a place that was kept.
+    /// Queues a packet with a payload of at most eight bytes, in a place that was reserved.
     pub fn owe_short(&mut self, head: &Head, payload: &[u8])
         requires place { 0 < self.old.link.spare }
         requires head { IsHeadOf head.now payload.now }
@@ -32,7 +33,7 @@ impl Port {
         self.link.owe_short_spare(head, payload);
     }
 
-    /// A packet becomes due, in a place that was kept.
+    /// Queues a packet, in a place that was reserved.
     pub fn owe_slice(&mut self, head: &Head, payload: SplitBytes)
         requires place { 0 < self.old.link.spare }
         requires head { IsHeadOf head.now payload }
@@ -46,7 +47,7 @@ impl Port {
     }
 }
 
-/// Bytes are due to a link.
+/// A link has output if its queue holds bytes.
 impl Owes for Port {
     ghost owed = { λ port. nat_lt 0 (length port.link.due) };
 

@@ -1,4 +1,4 @@
-//! What clients hold, made ready to go up.
+//! Preparing the held bytes of clients for sending.
 
 ghost use Rattle.std.specs.Prelude.{◌≡◌, ◌≤◌, length, IfOk, IfSome, OnOk};
 ghost use Rattle.adb_outside.specs.Tables.{at};
@@ -10,8 +10,9 @@ use adb_client::Client;
 use adb_stream::Flow;
 use std::alloc::AllocError;
 
-/// Makes ready what a client holds, as much as a stream of that flow may write behind credit for so
-/// many bytes more, in packets of at most `maxdata` bytes; says in how many writes at most.
+/// Prepares the held bytes of a client for sending: as many as a stream of that flow may write
+/// after credit for `more` more bytes, in packets of at most `maxdata` bytes. Returns the maximum
+/// number of writes.
 pub fn make_ready(
     clients: &mut TouchedMap<Client>,
     client: u32,
@@ -48,8 +49,7 @@ fn make_row_ready(
     Ok(writes)
 }
 
-/// How many of so many bytes that are held a stream may send up at once, at most, behind credit
-/// for so many bytes more.
+/// Returns how many of `held` bytes a stream may send at most, after credit for `more` more bytes.
 fn up_bytes(flow: &Flow, more: usize, maxdata: usize, held: usize) -> usize
     ensures bytes { result ≡ up_bytes flow.now more maxdata held }
     ensures within { result ≤ held }
@@ -60,7 +60,7 @@ fn up_bytes(flow: &Flow, more: usize, maxdata: usize, held: usize) -> usize
     }
 }
 
-/// In how many writes at most, where that can be counted.
+/// Returns the maximum number of writes, if it can be counted.
 fn up_writes(flow: &Flow, more: usize, maxdata: usize, held: usize) -> Option<usize>
     ensures { IfSome result (λ writes. writes ≡ up_writes flow.now more maxdata held) }
 {

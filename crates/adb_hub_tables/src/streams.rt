@@ -11,7 +11,7 @@ use crate::tables::Tables;
 use adb_stream::{Part, Stream};
 
 impl Tables {
-    /// What changes of a stream is another.
+    /// Replaces the mutable part of a stream.
     pub fn set_part(&mut self, id: u32, stream: &Stream, part: Part)
         requires { at id self.old.streams.streams ≡ Some stream.now }
         ensures state { state_of self.new
@@ -34,7 +34,7 @@ impl Tables {
         }
     }
 
-    /// A stream's row goes, and with it the place that was kept for its end.
+    /// Removes a stream's row, and frees the place that was reserved for its end.
     pub fn drop_stream(&mut self, id: u32, stream: &Stream)
         requires { at id self.old.streams.streams ≡ Some stream.now }
         ensures state { state_of self.new ≡ to_stream id none_kept (state_of self.old) }
@@ -63,7 +63,7 @@ impl Tables {
         self.streams.close(id);
     }
 
-    /// Of a link a stream less is counted.
+    /// Decrements the number of a link's streams.
     fn free_place(&mut self, link: u32)
         ensures state { state_of self.new ≡ state_of self.old }
         ensures clients { self.new.clients ≡ self.old.clients }

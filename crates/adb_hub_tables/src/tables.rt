@@ -1,4 +1,4 @@
-//! What the server keeps.
+//! The tables of the server.
 
 use crate::ports::Port;
 use crate::touched_map::TouchedMap;
@@ -9,19 +9,19 @@ use adb_stream::Streams;
 use std::alloc::Global;
 use std::collections::BTreeSet;
 
-/// What the server keeps: the clients, links and streams that live, the devices and the forwards.
+/// The tables of the server: the live clients, links and streams, the devices and the forwards.
 #[derive(Drop)]
 pub struct Tables {
     pub alloc: Global,
-    /// How many client numbers were drawn.
+    /// The number of client numbers that were drawn.
     pub joined: u32,
     pub clients: TouchedMap<Client>,
-    /// The clients that track the list of the devices, and some that did.
+    /// The clients that track the list of the devices, and possibly some that did.
     pub trackers: BTreeSet<u32>,
     pub links: TouchedMap<Port>,
     pub streams: Streams,
     pub devices: Registry,
     pub forwards: Forwards,
-    /// Whether a kill was made.
+    /// Whether a kill was requested.
     pub stopped: bool,
 }

@@ -1,4 +1,4 @@
-//! Rows under numbers, of which it is known which may be owed something.
+//! Rows under numbers, with an index of those that may have output to hand out.
 
 ghost use Rattle.std.specs.Prelude.{◌≡◌, ◌^◌, ◌<◌, [], length, Some, None, filter, nat_eq, is_some, IfOk, IfNone, IfSome, OnOk, OnErr};
 ghost use Rattle.std.specs.Option.{option_copied, option_copied_mut};
@@ -16,18 +16,18 @@ use adb_rows::RowMap;
 use std::alloc::{AllocError, Global};
 use std::marker::Model;
 
-/// Rows under numbers. Contracts see it as std's map of them. A row that was not touched, that is,
-/// lent or put, since it was last seen with nothing due is known to have nothing due, so that the
-/// least to which something is due is found among the others.
+/// Rows under numbers. Contracts see it as std's map of them. A row is touched when it is lent or
+/// inserted. A row that was not touched since it was last seen with an empty output queue still has
+/// an empty one, so the least row with output is searched among the touched rows only.
 ///
-/// Of the numbers that were touched it is known, too, which were not named since. The number of a
-/// row that is gone is kept for that only once somebody asked for a name: where nobody does, those
-/// who went cost nothing.
+/// The map also knows which of the touched numbers were not named by `next_touched` since. The
+/// number of a removed row is kept for that purpose only after the first call of `next_touched`, so
+/// removed rows cost nothing if it is never called.
 #[derive(Drop)]
 pub struct TouchedMap<V: Owes> {
     rows: RowMap<V>,
     marks: Marks,
-    /// Whether anybody asked whom to name.
+    /// Whether `next_touched` was ever called.
     watched: bool,
 }
 
@@ -48,7 +48,7 @@ impl<V: Owes> Model for TouchedMap<V> {
 impl<V: Owes> TouchedMap<V> {
     ghost use Rattle.adb_hub_tables.specs.Lending.{lends_row};
 
-    /// No rows. It takes no memory.
+    /// Returns a map without rows. Allocates nothing.
     pub fn new(alloc: Global) -> TouchedMap<V>
         ensures empty { result.entries ≡ [] }
     {
@@ -59,7 +59,7 @@ impl<V: Owes> TouchedMap<V> {
         }
     }
 
-    /// How many rows there are.
+    /// Returns the number of rows.
     pub fn len(&self) -> usize
         ensures len { result ≡ length self.now.entries }
         ensures small { result < 2 ^ 63 }
@@ -68,21 +68,21 @@ impl<V: Owes> TouchedMap<V> {
         self.rows.len()
     }
 
-    /// The row of a number.
+    /// Returns the row of a number.
     pub fn get(&self, id: &u32) -> Option<&V>
         ensures value { option_copied result ≡ at id.now self.now.entries }
     {
         self.rows.get(id)
     }
 
-    /// Whether a number has a row.
+    /// Returns whether a number has a row.
     pub fn contains_key(&self, id: &u32) -> bool
         ensures { result ≡ is_some (at id.now self.now.entries) }
     {
         self.rows.contains_key(id)
     }
 
-    /// The row of a number, to be written. It takes no memory.
+    /// Returns the row of a number for writing. Allocates nothing.
     pub fn get_mut(&mut self, id: &u32) -> Option<&mut V>
         ensures* writes_back { sem 𝓛 (lends_row V.row V.Owes self.entry (nat_cmp id.now) result) }
         ensures value { option_copied_mut result ≡ at id.now self.old.entries }
@@ -92,8 +92,8 @@ impl<V: Owes> TouchedMap<V> {
         self.rows.get_mut(id)
     }
 
-    /// The least number of a row to which something is due. It takes no memory, and looks at no row
-    /// but those lent since they were last seen with nothing due.
+    /// Returns the least number of a row with output to hand out. Allocates nothing. Looks only at
+    /// rows that were lent since they were last seen with an empty output queue.
     pub fn first_owed(&mut self) -> Option<u32>
         ensures first { result ≡ first_number V.owed self.old.entries }
         ensures rises { IsRising self.old.entries }
@@ -113,9 +113,10 @@ impl<V: Owes> TouchedMap<V> {
 }
 
 impl<V: Owes + Drop> TouchedMap<V> {
-    /// The least number whose row was lent, put or removed, and that was not named since. Those
-    /// whose rows were removed before the first call are not named, nor need those be that `clear`
-    /// or `keep_only` took. It takes no memory, and looks at no row but that of whom it names.
+    /// Returns the least number of a row that was lent, inserted or removed, and that was not
+    /// returned since. Rows that were removed before the first call are not returned, and those
+    /// that `clear` or `keep_only` removed need not be. Allocates nothing. Looks only at the row of
+    /// the number that it returns.
     pub fn next_touched(&mut self) -> Option<u32>
         ensures same { self.new ≡ self.old }
     {
@@ -123,8 +124,8 @@ impl<V: Owes + Drop> TouchedMap<V> {
         name_first(&self.rows, &mut self.marks)
     }
 
-    /// A row stands under a number, in place of the one there, which is answered. After want of
-    /// memory the rows are as before, and the new one is dropped.
+    /// Inserts a row under a number and returns the row that it replaces. If an allocation fails,
+    /// the rows are unchanged, and the new row is dropped.
     pub fn insert(&mut self, id: u32, row: V) -> Result<Option<V>, AllocError>
         ensures old { IfOk result (λ old. old ≡ at id self.old.entries) }
         ensures puts { OnOk result (Puts id (Some row) self.old.entries self.new.entries) }
@@ -141,7 +142,7 @@ impl<V: Owes + Drop> TouchedMap<V> {
         }
     }
 
-    /// No row stands under a number. The one that did is answered.
+    /// Removes the row of a number and returns it.
     pub fn remove(&mut self, id: &u32) -> Option<V>
         ensures value { result ≡ at id.now self.old.entries }
         ensures puts { Puts id.now None self.old.entries self.new.entries }
@@ -152,7 +153,7 @@ impl<V: Owes + Drop> TouchedMap<V> {
         row
     }
 
-    /// No row stays.
+    /// Removes all rows.
     pub fn clear(&mut self)
         ensures empty { self.new.entries ≡ [] }
     {
@@ -160,7 +161,7 @@ impl<V: Owes + Drop> TouchedMap<V> {
         self.marks.clear();
     }
 
-    /// No row stays but that of one number.
+    /// Removes all rows but that of one number.
     pub fn keep_only(&mut self, id: u32)
         ensures { self.new.entries ≡ filter (λ row. nat_eq row.0 id) self.old.entries }
     {
@@ -169,7 +170,7 @@ impl<V: Owes + Drop> TouchedMap<V> {
     }
 }
 
-/// Whether there is a row to which something is due.
+/// Returns whether a number has a row with output to hand out.
 fn is_owed<V: Owes>(rows: &RowMap<V>, id: u32) -> bool
     ensures { result ≡ owes_at V.owed id rows.now.entries }
 {
@@ -179,8 +180,8 @@ fn is_owed<V: Owes>(rows: &RowMap<V>, id: u32) -> bool
     }
 }
 
-/// Names the least number that is news, which it is no more. Where it has no row it is not known
-/// any more.
+/// Returns the least number with a `News` mark, and removes the mark. If the number has no row, it
+/// is forgotten.
 fn name_first<V>(rows: &RowMap<V>, marks: &mut Marks) -> Option<u32>
     requires { AreBlocks marks.old.entries }
     ensures first { result ≡ first_mark News marks.old.entries }
@@ -198,7 +199,8 @@ fn name_first<V>(rows: &RowMap<V>, marks: &mut Marks) -> Option<u32>
     Some(id)
 }
 
-/// A number whose row is gone is news if anybody wants names, and else not known any more.
+/// Keeps the number of a removed row for `next_touched` if `watched` is set, and forgets it
+/// otherwise.
 fn leave(marks: &mut Marks, watched: bool, id: u32)
     ensures fits { id < 2 ^ 32 }
     ensures left { Loses watched id marks.old.entries marks.new.entries }
@@ -210,7 +212,7 @@ fn leave(marks: &mut Marks, watched: bool, id: u32)
     }
 }
 
-/// A row stands under a number, in place of the one there.
+/// Inserts a row under a number, in place of the one there.
 fn put_row<V: Drop>(rows: &mut RowMap<V>, id: u32, row: V) -> Result<Option<V>, AllocError>
     ensures old { IfOk result (λ old. old ≡ at id rows.old.entries) }
     ensures puts { OnOk result (Puts id (Some row) rows.old.entries rows.new.entries) }
@@ -222,7 +224,7 @@ fn put_row<V: Drop>(rows: &mut RowMap<V>, id: u32, row: V) -> Result<Option<V>, 
     Ok(old)
 }
 
-/// No row stands under a number.
+/// Removes the row of a number.
 fn take_row<V: Drop>(rows: &mut RowMap<V>, id: u32) -> Option<V>
     ensures value { result ≡ at id rows.old.entries }
     ensures puts { Puts id None rows.old.entries rows.new.entries }
@@ -231,7 +233,7 @@ fn take_row<V: Drop>(rows: &mut RowMap<V>, id: u32) -> Option<V>
     rows.remove(&id)
 }
 
-/// Of these rows one alone stays.
+/// Removes all of these rows but one.
 fn keep_row<V: Drop>(rows: &mut RowMap<V>, id: u32)
     ensures { rows.new.entries ≡ filter (λ row. nat_eq row.0 id) rows.old.entries }
 {

@@ -13,7 +13,7 @@ use adb_client::{Client, Phase};
 use std::collections::BTreeSet;
 
 impl Tables {
-    /// The devices changed: each tracker's list is stale. No place is taken.
+    /// Marks each tracker's list as stale, because the devices changed. Takes no place.
     pub fn mark_all(&mut self)
         ensures state { IsTracked self.old
             → state_of self.new ≡ mark_all (state_of self.old) }
@@ -25,7 +25,7 @@ impl Tables {
     }
 }
 
-/// These clients are marked.
+/// Marks these clients.
 fn mark_each(clients: &mut TouchedMap<Client>, trackers: &BTreeSet<u32>)
     ensures rows { clients_of clients.new.entries
         ≡ marked_each trackers.now.keys (clients_of clients.old.entries) }

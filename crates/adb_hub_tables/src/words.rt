@@ -8,16 +8,16 @@ ghost use Rattle.adb_hub_tables.specs.Marked.{AreBlocks, IsKnownIn, first_at, la
 use std::alloc::AllocError;
 use std::collections::BTreeMap;
 
-/// Which marks are meant.
+/// The kind of a mark.
 #[derive(Clone, Copy, PartialEq, Drop)]
 pub(crate) enum Kind {
-    /// Of those to whom something may be due.
+    /// The number's row may have output to hand out.
     Due,
-    /// Of those who are to be named.
+    /// The number is to be named.
     News,
 }
 
-/// Of the 64 numbers of a block those that are known, and those that are marked, as bits.
+/// The known and the marked ones of a block's 64 numbers, as bits.
 #[derive(Clone, Copy, Drop)]
 pub(crate) struct Block {
     places: u64,
@@ -26,7 +26,7 @@ pub(crate) struct Block {
 }
 
 impl Block {
-    /// One number is known, with all marks.
+    /// Returns a block in which one number is known, with all marks.
     fn new(i: u32) -> Block
         requires { i < 64 }
         ensures { result ≡ new_block i }
@@ -39,7 +39,7 @@ impl Block {
         }
     }
 
-    /// A number is known, with all marks.
+    /// Adds a number, with all marks.
     fn know(&mut self, i: u32)
         requires { i < 64 }
         ensures { self.new ≡ with_place i self.old }
@@ -50,8 +50,8 @@ impl Block {
         self.news |= bit;
     }
 
-    /// A number that is known has all marks. Whether a word of marks was empty before; `None` where
-    /// it is not known.
+    /// Sets all marks of a number. Returns whether a word of marks was empty before; `None` if the
+    /// number is not known.
     fn mark(&mut self, i: u32) -> Option<bool>
         requires { i < 64 }
         ensures lacked { IfSome result (λ lacked. lacked ≡ lacks_marks self.old) }
@@ -69,7 +69,7 @@ impl Block {
         Some(lacked)
     }
 
-    /// A number does not have a mark.
+    /// Removes a mark of a number.
     fn unmark(&mut self, which: Kind, i: u32)
         requires { i < 64 }
         ensures { self.new ≡ without_mark which i self.old }
@@ -81,7 +81,7 @@ impl Block {
         }
     }
 
-    /// A number is not known, and has no mark. Whether none is known then.
+    /// Removes a number and its marks. Returns whether none is known afterwards.
     fn forget(&mut self, i: u32) -> bool
         requires { i < 64 }
         ensures empty { result ≡ eqb self.new.places 0 }
@@ -94,7 +94,7 @@ impl Block {
         self.places == 0
     }
 
-    /// A word of marks.
+    /// Returns a word of marks.
     fn marks(&self, which: Kind) -> u64
         ensures { result ≡ marks_of which self.now }
     {
@@ -105,11 +105,11 @@ impl Block {
     }
 }
 
-/// Numbers, of which some are marked. They are kept in blocks, so that to mark one that is known
-/// takes no memory.
+/// Numbers, some of which are marked. They are kept in blocks, so that marking a known number
+/// allocates nothing.
 pub(crate) type Words = BTreeMap<u32, Block>;
 
-/// A number is known, with all marks. After want of memory all is as before.
+/// Adds a number, with all marks. If an allocation fails, nothing changes.
 pub(crate) fn know(marks: &mut Words, number: u32) -> Result<(), AllocError>
     ensures ok { let high = number / 64 in OnOk result (Puts high
         (Some (known (number % 64) (at high marks.old.entries)))
@@ -125,8 +125,8 @@ pub(crate) fn know(marks: &mut Words, number: u32) -> Result<(), AllocError>
     Ok(())
 }
 
-/// A number that is known has all marks. Whether a word of marks of its block was empty before;
-/// `None` where it is not known. It takes no memory.
+/// Sets all marks of a number. Returns whether a word of marks of its block was empty before;
+/// `None` if the number is not known. Allocates nothing.
 pub(crate) fn mark(marks: &mut Words, number: u32) -> Option<bool>
     ensures fits { number < 2 ^ 32 }
     ensures lacked { IfSome result (λ lacked.
@@ -145,7 +145,7 @@ pub(crate) fn mark(marks: &mut Words, number: u32) -> Option<bool>
     }
 }
 
-/// Takes a mark of a number away. It takes no memory.
+/// Removes a mark of a number. Allocates nothing.
 pub(crate) fn unmark(marks: &mut Words, which: Kind, number: u32)
     ensures fits { number < 2 ^ 32 }
     ensures block { let high = number / 64 in Puts high
@@ -159,8 +159,8 @@ pub(crate) fn unmark(marks: &mut Words, which: Kind, number: u32)
     }
 }
 
-/// A number is not known and has no mark, and a block in which none is known goes. It takes no
-/// memory.
+/// Removes a number and its marks, and the block if none of its numbers is known then. Allocates
+/// nothing.
 pub(crate) fn forget(marks: &mut Words, number: u32)
     ensures fits { number < 2 ^ 32 }
     ensures block { let high = number / 64 in Puts high
@@ -172,8 +172,8 @@ pub(crate) fn forget(marks: &mut Words, number: u32)
     }
 }
 
-/// A number is not known and has no mark. Whether none of its block is known then. It takes no
-/// memory.
+/// Removes a number and its marks. Returns whether no number of its block is known then. Allocates
+/// nothing.
 pub(crate) fn forget_in(marks: &mut Words, number: u32) -> bool
     ensures block { let high = number / 64 in Puts high
         (option_map (without_place (number % 64)) (at high marks.old.entries))
@@ -187,14 +187,14 @@ pub(crate) fn forget_in(marks: &mut Words, number: u32) -> bool
     }
 }
 
-/// A block goes. It takes no memory.
+/// Removes a block. Allocates nothing.
 pub(crate) fn remove(marks: &mut Words, high: u32)
     ensures { Puts high None marks.old.entries marks.new.entries }
 {
     marks.remove(&high);
 }
 
-/// Whether there is a block that knows no number.
+/// Returns whether there is a block without known numbers.
 pub(crate) fn is_empty(marks: &Words, high: u32) -> bool
     ensures { result ≡ is_empty (at high marks.now.entries) }
 {
@@ -204,7 +204,7 @@ pub(crate) fn is_empty(marks: &Words, high: u32) -> bool
     }
 }
 
-/// No block stays but that of one number.
+/// Removes all blocks but that of one number.
 pub(crate) fn keep_only(marks: &mut Words, number: u32)
     ensures { let high = number / 64 in
         marks.new.entries ≡ filter (λ block. nat_eq block.0 high) marks.old.entries }
@@ -212,7 +212,7 @@ pub(crate) fn keep_only(marks: &mut Words, number: u32)
     marks.retain(|high, _| *high == number / 64);
 }
 
-/// The least number that has a mark.
+/// Returns the least number that has a mark.
 pub(crate) fn first(marks: &Words, which: Kind) -> Option<u32>
     requires { AreBlocks marks.now.entries }
     ensures first { result ≡ first_mark which marks.now.entries }
@@ -227,7 +227,7 @@ pub(crate) fn first(marks: &Words, which: Kind) -> Option<u32>
     None
 }
 
-/// The least number that has a mark in a block.
+/// Returns the least number that has a mark in a block.
 pub(crate) fn first_in(marks: &Words, which: Kind, high: u32) -> Option<u32>
     requires { AreBlocks marks.now.entries }
     ensures { result ≡ first_at which high (at high marks.now.entries) }

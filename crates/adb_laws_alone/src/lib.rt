@@ -1,5 +1,5 @@
-//! What a model device makes of the streams of one client alone, and of echoes. Each function does
-//! nothing: its contract is the law.
+//! The streams of a single client at a model device, and echoes. Each function does nothing: its
+//! contract is the law.
 #![tactic(auto)]
 
 mod laws;

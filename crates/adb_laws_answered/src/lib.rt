@@ -1,6 +1,6 @@
-//! The third promise: each whole request of a client is answered from what the server knew then,
-//! and nothing else is said. Each function does nothing: its contract is a law of every legal
-//! history.
+//! The third promise: each whole request of a client is answered from the state of the server at
+//! that time, and nothing else is sent. Each function does nothing: its contract is a law of every
+//! legal history.
 #![tactic(auto)]
 
 mod answered;

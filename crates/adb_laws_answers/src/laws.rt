@@ -1,4 +1,4 @@
-//! Laws of what clients were handed.
+//! Laws of the bytes that clients were handed.
 
 ghost use Rattle.std.specs.Prelude.{◌^◌, ◌<◌, ◌≡◌, false};
 ghost use Rattle.adb_history.specs.Machine.{History, IsLegal};
@@ -13,9 +13,10 @@ use adb_laws_worlds::{
     streams_of_known_services_are_opened, streams_outlive_a_link_that_stays,
 };
 
-/// At rest each client that asked its device for a service that the device knows, and whose input
-/// did not end, was put the replies to its requests, an `OKAY`, and all that its service answers to
-/// what the client wrote behind them: to all of it, or to a front where the service has ended.
+/// States that at rest each client that asked its device for a service that the device knows, and
+/// whose input did not end, was put the replies to its requests, an `OKAY`, and the whole answer of
+/// its service to the bytes that the client wrote after the requests: to all of them, or to a
+/// prefix if the service has ended.
 pub fn clients_are_answered()
     ensures { (setting : Setting) (history : History) → setting.most < 2 ^ 32 → 0 < setting.most
         → setting.credit ≡ false → IsLegal history → IsJoined setting history

@@ -1,5 +1,5 @@
-//! What the clients of a server with one model device were handed, where nothing is on its way.
-//! Each function does nothing: its contract is the law.
+//! The bytes that the clients of a server with one model device were handed, when nothing is in
+//! transit. Each function does nothing: its contract is the law.
 #![tactic(auto)]
 
 mod laws;

@@ -1,5 +1,5 @@
-//! Births: which streams a legal history has, how they end, what their links bring, and what is
-//! sent for them.
+//! Births: the streams of a legal history, how they end, the packets that their links bring, and
+//! the packets that are sent for them.
 #![tactic(auto)]
 
 mod clients;

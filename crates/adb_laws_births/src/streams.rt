@@ -9,32 +9,32 @@ ghost use Rattle.adb_laws_births.specs.Born.{AreBorn};
 ghost use Rattle.adb_laws_births.specs.Laws.{DrawsAtMostOne};
 ghost use Rattle.adb_laws_births.specs.Ending.{EndingsAreRows};
 
-/// In every legal history the streams are those that were asked for, in that order, and each that
-/// lives is its client's, on its link, under the id that its device told.
+/// States that in every legal history the streams are those that were asked for, in that order, and
+/// that each live stream is its client's, on its link, under the id that its device reported.
 pub fn streams_are_born()
     ensures { (history : List Entry) → IsLegal history → HasBirths history }
 {}
 
-/// And each that lives has heard what its link brought since: nothing of an opening while the id
-/// of its device is not known, and else its opening.
+/// States that each live stream has seen the packets that its link brought since its birth: no
+/// opening while the id of its device is unknown, and its opening otherwise.
 pub fn streams_hear_their_links()
     ensures { (history : List Entry) → IsLegal history → AreBorn history }
 {}
 
-/// Each entry draws at most one stream, that of its birth; each other that is there after it was
-/// there before, and heard what the entry brought.
+/// States that each entry draws at most one stream, that of its birth; every other stream after the
+/// entry existed before it, and has seen the packets that the entry brought.
 pub fn entries_draw_at_most_one()
     ensures { (e : Entry) (older : List Entry) → IsLegal (e ∷ older) → DrawsAtMostOne e older }
 {}
 
-/// In every legal history a stream is asked for at once: its OPEN becomes due to its device by the
-/// very entry by which it is born.
+/// States that in every legal history a stream is asked for at once: its OPEN is queued for its
+/// device by the entry of its birth.
 pub fn streams_are_asked_for_at_once()
     ensures { (history : List Entry) → IsLegal history → AsksAtOnce history }
 {}
 
-/// A stream that was drawn and is kept no more has ended; one that is kept has not, unless it is an
-/// orphan, whose client failed.
+/// States that a stream that was drawn and is no longer kept has ended, and that one that is kept
+/// has not, unless it is an orphan after its client's failure.
 pub fn streams_live_or_end()
     ensures { (history : List Entry) → IsLegal history → EndingsAreRows history }
 {}

@@ -1,5 +1,5 @@
-//! Why streams end: in every legal history a stream ends only for a cause that the history has, at
-//! the very entry by which it ends.
+//! The causes of the ends of streams: in every legal history a stream ends only for a cause that
+//! the history contains, at the entry by which it ends.
 #![tactic(auto)]
 
 pub mod ends;

@@ -1,23 +1,24 @@
-//! What the client of a stream is handed.
+//! Laws of the bytes that the client of a stream is handed.
 
 ghost use Rattle.std.specs.Prelude.{List};
 ghost use Rattle.adb_capture.specs.declared.entry.Entry.{Entry};
 ghost use Rattle.adb_history.specs.Machine.{IsLegal};
 ghost use Rattle.adb_history.specs.Fifo.{HandsTold, HandsWholeTold, KeepsDownWindow};
 
-/// In every legal history each client is handed what the device of its stream wrote, in order and
-/// once.
+/// States that in every legal history each client is handed the bytes that the device of its stream
+/// wrote, in order and once.
 pub fn what_is_handed_was_told()
     ensures { (history : List Entry) → IsLegal history → HandsTold history }
 {}
 
-/// And all of it, where the device closed the stream and its client was handed all that became
-/// due to it.
+/// States that the client is handed all of them if the device closed the stream and the client was
+/// handed all that was queued for it.
 pub fn all_is_handed_up_to_the_close()
     ensures { (history : List Entry) → IsLegal history → HandsWholeTold history }
 {}
 
-/// In every legal history what a device is told that its client was handed, it was.
+/// States that in every legal history all bytes that are acknowledged to a device were handed to
+/// its client.
 pub fn what_is_acknowledged_was_handed()
     ensures { (history : List Entry) → IsLegal history → KeepsDownWindow history }
 {}

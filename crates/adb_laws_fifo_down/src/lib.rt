@@ -1,5 +1,5 @@
-//! What is handed down: in every legal history the client of a stream is handed what its device
-//! wrote. Each function does nothing: its contract is the law.
+//! The direction from device to client: in every legal history the client of a stream is handed the
+//! bytes that its device wrote. Each function does nothing: its contract is the law.
 #![tactic(auto)]
 
 mod down;

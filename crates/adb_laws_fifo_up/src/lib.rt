@@ -1,5 +1,5 @@
-//! What goes up: a device is written what the client of a stream wrote, in order and once. Each
-//! function does nothing: its contract is the law.
+//! The direction from client to device: a device receives the bytes that the client of a stream
+//! wrote, in order and once. Each function does nothing: its contract is the law.
 #![tactic(auto)]
 
 mod up;

@@ -3,8 +3,8 @@
 ghost use Rattle.adb_history.specs.Machine.{History, IsLegal};
 ghost use Rattle.adb_laws_gone.specs.Gone.{PutsAllOfClosed};
 
-/// A client that is gone though its connection did not fail, and no kill stands, was put all that
-/// became due to it, where its device closed its stream.
+/// States that if a client is gone though its connection did not fail, and no kill was requested,
+/// then all bytes queued for it were put to it, if its device closed its stream.
 pub fn clients_that_go_were_put_all()
     ensures { (history : History) → IsLegal history → PutsAllOfClosed history }
 {}

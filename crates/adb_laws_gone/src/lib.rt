@@ -1,5 +1,5 @@
-//! Clients that are gone: what became due to a client whose stream its device closed was put to it.
-//! Each function does nothing: its contract is the law.
+//! Clients that are gone: if a client's stream was closed by its device, all bytes queued for the
+//! client were put to it. Each function does nothing: its contract is the law.
 #![tactic(auto)]
 
 mod laws;

@@ -1,4 +1,4 @@
-//! What holds of every load, entry after entry, with all that is due handed out after each.
+//! Laws of every load, entry by entry, with all output handed out after each.
 
 ghost use Rattle.std.specs.Prelude.{◌≡◌, ◌<◌, ◌≤◌, ◌^◌, ◌∷◌, ◌++◌, ℕ, List, [], length, None};
 ghost use Rattle.adb_capture.specs.declared.entry.Entry.{Entry};
@@ -11,15 +11,16 @@ ghost use Rattle.adb_load.specs.Load.{load};
 ghost use Rattle.adb_laws_loads.specs.Taken.{IsTaken};
 ghost use Rattle.adb_laws_loads.specs.Totals.{down_of, past_leads};
 
-/// Each entry of a load may come when it comes, and none of them stops the server.
+/// States that each entry of a load is allowed at its place, and that none of them stops the
+/// server.
 pub fn loads_are_accepted()
     ensures { (seed streams : ℕ) (front rest : List Entry) (e : Entry)
         → load seed streams ≡ front ++ e ∷ rest
         → IsLegal (drained_from [] front) → IsTaken (drained_from [] front) e }
 {}
 
-/// What a server makes of a load, with all that is due handed out after each entry, is a legal
-/// history, and so is what it makes of any of its first entries.
+/// States that a load, with all output handed out after each entry, makes a legal history, and so
+/// do any first entries of it.
 pub fn loads_are_legal()
     ensures whole { (seed streams : ℕ) → streams < 2 ^ 32
         → IsLegal (drained_from [] (load seed streams)) }
@@ -27,17 +28,17 @@ pub fn loads_are_legal()
         → load seed streams ≡ front ++ rest → IsLegal (drained_from [] front) }
 {}
 
-/// The capture of a load is read to its end by whoever replays it: each of its records gives an
-/// entry that comes, and none is refused. A capture has at most `MAX_CAPTURE` bytes.
+/// States that the capture of a load is replayed to its end: each of its records gives an entry
+/// that is allowed, and none is refused. A capture has at most `MAX_CAPTURE` bytes.
 pub fn captures_of_loads_are_accepted()
     ensures { (seed streams : ℕ) → streams < 2 ^ 32
         → let capture = magic ++ records_of (load seed streams) in length capture ≤ MAX_CAPTURE
         → accepted capture ≡ record { inputs = load seed streams; refused = None } }
 {}
 
-/// What is put to the clients of a load past the two replies that lead it is what their devices
-/// wrote to their streams. A load has fewer than 65,536 streams, which whoever makes one has to see
-/// to.
+/// States that the bytes put to the clients of a load after the two leading replies are those that
+/// their devices wrote to their streams. A load has fewer than 65,536 streams, which its caller has
+/// to ensure.
 pub fn totals_of_loads()
     ensures { (seed streams : ℕ) → streams < 2 ^ 16
         → let h = drained_from [] (load seed streams) in down_of h ≡ past_leads h }

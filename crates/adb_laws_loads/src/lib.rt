@@ -1,5 +1,5 @@
-//! What a server makes of a load: it takes in all of it, entry by entry and from its capture; what
-//! comes of it is a legal history; and what is put to a client past two replies came from its
+//! Laws of a server under a load: it accepts all of the load, entry by entry and from its capture;
+//! the result is a legal history; and the bytes put to a client after two replies came from its
 //! device. Each function does nothing: its contract is the law.
 #![tactic(auto)]
 

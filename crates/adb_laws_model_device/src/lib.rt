@@ -1,6 +1,6 @@
-//! The model device as the device of a paired history: it is a device on a plain link, and so what
-//! holds of any holds of it, from the bytes up. Each function does nothing: its contract is the
-//! law.
+//! The model device as the device of a paired history: it is a device on a plain link, so the laws
+//! of any such device hold for it, from the bytes up. Each function does nothing: its contract is
+//! the law.
 #![tactic(auto)]
 
 mod laws;

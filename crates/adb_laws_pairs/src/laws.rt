@@ -10,28 +10,29 @@ ghost use Rattle.adb_laws_pairs.specs.InTime.{AllPlain, IsToldInTime};
 ghost use Rattle.adb_laws_pairs.specs.InTurn.{SentInTurn};
 ghost use Rattle.adb_laws_pairs.specs.Paired.{IsPaired, NoWriteWaits};
 
-/// No acknowledgement of a device on a plain link comes before the write that it answers.
+/// States that no acknowledgement of a device on a plain link comes before the write that it
+/// answers.
 pub fn acknowledgements_come_in_time()
     ensures { (owes : RemoteEnd) (history : History) → IsPlain owes → IsLegal history
         → IsPaired owes history → (l : ℕ) (b : Birth) → b.link ≡ 1 → IsTimely l b history }
 {}
 
-/// Nor does an acknowledgement of the server come to such a device before the write that it
-/// answers, where no stream has credit.
+/// States that no acknowledgement of the server comes to such a device before the write that it
+/// answers, if no stream has credit.
 pub fn the_device_is_told_in_time()
     ensures { (owes : RemoteEnd) (history : History) → IsPlain owes → IsLegal history
         → IsPaired owes history → AllPlain history → IsToldInTime owes (sent 1 history) }
 {}
 
-/// What the server sent of a stream came in its turn: its OPEN once, and its writes behind that,
-/// to the id that the device told.
+/// States that the packets that the server sent for a stream came in turn: its OPEN once, and its
+/// writes after that, to the id that the device reported.
 pub fn streams_are_sent_in_turn()
     ensures { (owes : RemoteEnd) (history : History) → IsPlain owes → IsLegal history
         → IsPaired owes history → SentInTurn history }
 {}
 
-/// Where nothing is on its way between the server and such a device, no write of a live stream
-/// waits that the device acknowledged.
+/// States that if nothing is in transit between the server and such a device, the device has
+/// acknowledged no write of a live stream that is still outstanding.
 pub fn no_write_waits_at_rest()
     ensures { (owes : RemoteEnd) (history : History) → IsPlain owes → IsLegal history
         → IsPaired owes history → NoWriteWaits owes history }

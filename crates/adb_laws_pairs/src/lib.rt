@@ -1,6 +1,6 @@
-//! A server and one device on its first link, paired: what holds of a history whose link brings
-//! what any device on a plain link owes for what it was sent. Each function does nothing: its
-//! contract is the law.
+//! A server and one device on its first link, paired: laws of a history with a link that brings the
+//! packets that any device on a plain link sends in answer to the packets that it was sent. Each
+//! function does nothing: its contract is the law.
 #![tactic(auto)]
 
 mod laws;

@@ -6,14 +6,14 @@ ghost use Rattle.adb_device_streams.specs.Asked.{Kind};
 ghost use Rattle.adb_device_streams.specs.Service.{Came, came_over, service_answer};
 ghost use Rattle.adb_laws_payloads.specs.Payloads.{AreEnough, AreOne, ComeInTurn};
 
-/// Payloads that each come over the files that those before them left are answered as one payload
-/// is that has all their bytes, and leave the files that this leaves.
+/// States that payloads that each come over the files that those before them left are answered like
+/// one payload of all their bytes, and leave the files that this payload leaves.
 pub fn payloads_in_turn_are_one()
     ensures { (kind : Kind) (first opened : List Entry) (past : List Came)
         → ComeInTurn kind opened past → AreOne kind first opened past }
 {}
 
-/// What comes behind the end of a service changes neither its answer nor the files.
+/// States that payloads after the end of a service change neither its answer nor the files.
 pub fn an_ended_service_takes_no_more()
     ensures { (kind : Kind) (first opened : List Entry) (bytes more : List ℕ)
         → (service_answer kind first (came_over bytes opened ∷ [])).ended ≡ true

@@ -1,5 +1,5 @@
-//! What a service makes of payloads that come one behind the other. Each function does nothing: its
-//! contract is the law.
+//! The answer of a service to consecutive payloads. Each function does nothing: its contract is the
+//! law.
 #![tactic(auto)]
 
 mod laws;

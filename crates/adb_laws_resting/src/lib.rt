@@ -1,7 +1,7 @@
-//! What the steps of entries are at rest: where the up rule makes nothing behind the rule of an
-//! entry, which streams can send at all behind what a client or a device sends, and what stays of
-//! the others. And what follows a request can be done. Each function does nothing: its contract is
-//! the law.
+//! The steps of entries at rest: the entries that leave the up rule nothing to do, the streams that
+//! can send at all after bytes of a client or a device, and the streams that stay as they are; and
+//! that the action after a request can be done. Each function does nothing: its contract is the
+//! law.
 #![tactic(auto)]
 
 mod named;

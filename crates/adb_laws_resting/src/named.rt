@@ -1,4 +1,4 @@
-//! What the packets of a piece leave of the streams that they do not name. Each function does
+//! The effect of a piece's packets on the streams that they do not name. Each function does
 //! nothing: its contract is the law.
 
 ghost use Rattle.std.specs.Prelude.{ℕ, ◌≡◌, List, ◌∷◌, Some};
@@ -11,13 +11,13 @@ ghost use Rattle.adb_wire.specs.declared.packets.Packet.{Packet};
 ghost use Rattle.adb_hub_rules.specs.Sweep.{IsStill};
 ghost use Rattle.adb_laws_resting.specs.Named.{KeepsRest, KeepsStreams, LeavesStill};
 
-/// In every state that a legal history leaves no stream has anything to send up.
+/// States that in every state that a legal history reaches no stream has bytes to send.
 pub fn streams_are_still_at_rest()
     ensures { (h : List Entry) → IsLegal h → (l : ℕ) → IsStill l (state h) }
 {}
 
-/// Whatever packets a link brings, each stream that is there behind them was there before; and
-/// of one that had nothing to send up nothing can be sent, where no OKAY among them names it.
+/// States that, whatever packets a link brings, each stream after them existed before, and that one
+/// that had nothing to send still has nothing, if no OKAY among the packets names it.
 pub fn packets_keep_streams()
     ensures treated { (h : List Entry) → IsLegal h → (t : ℕ) (packets : List Packet)
         → KeepsStreams packets (state h) (treat_all t packets (state h)).state }
@@ -26,14 +26,14 @@ pub fn packets_keep_streams()
         (treat_all t packets (to_link t (with_rest rest) (state h))).state }
 {}
 
-/// Behind more bytes of a link that lives only its streams that an OKAY among their packets names
-/// may have something to send up; and every stream that is still there was there before.
+/// States that after more bytes of a live link, only those of its streams that an OKAY among the
+/// packets names may have bytes to send, and that every stream that still exists existed before.
 pub fn named_streams_alone_may_send()
     ensures { (h : List Entry) → IsLegal h → (t : ℕ) (link : Link)
         → (state h).links t ≡ Some link → (bytes : List ℕ) → LeavesStill t bytes link (state h) }
 {}
 
-/// A link that still lives behind more bytes keeps what their packets left.
+/// States that a link that still lives after more bytes holds the bytes that their packets left.
 pub fn links_keep_what_is_cut()
     ensures { (h : List Entry) (t : ℕ) (bytes : List ℕ) → IsLegal (Recv t bytes ∷ h)
         → (link : Link) → (state h).links t ≡ Some link → KeepsRest t bytes link (state h) }

@@ -1,6 +1,6 @@
-//! What follows a request can be done: a service fits its OPEN, the ends of a forward can be those
-//! of one, and a forward that is to lead elsewhere is there. Each function does nothing: its contract
-//! is the law.
+//! The action after a request can be done: a service fits its OPEN, the ends of a forward are
+//! allowed, and a forward that is to lead elsewhere exists. Each function does nothing: its
+//! contract is the law.
 
 ghost use Rattle.std.specs.Prelude.{ℕ, ◌≡◌, ◌<◌, List, None};
 ghost use Rattle.adb_outside.specs.Tables.{at};
@@ -14,8 +14,8 @@ ghost use Rattle.adb_history.specs.Reading.{asked_before};
 ghost use Rattle.adb_history.specs.Machine.{IsLegal, state};
 ghost use Rattle.adb_laws_resting.specs.Wanted.{CanBeDone, IsRemote, IsSoundNext};
 
-/// What follows the requests of a client can be done, where no forward stands at port 0; so it is
-/// over every table of forwards.
+/// States that the action after the requests of a client can be done if there is no forward of port
+/// 0, as is the case in every table of forwards.
 pub fn what_follows_can_be_done()
     ensures read { (devices : DeviceTable) (forwards : List (ℕ × ForwardRow))
         → at 0 forwards ≡ None → (k : ℕ) (q : Asked) → IsSoundNext forwards q.next
@@ -25,13 +25,13 @@ pub fn what_follows_can_be_done()
         → IsSoundNext forwards (asks_with devices forwards bytes (asked_before client)).next }
 {}
 
-/// After any legal history the forward that a client waits for is one that can stand, and what it
-/// may ask next can be done.
+/// States that after any legal history the forward that a client waits for is allowed, and the
+/// action after its next request can be done.
 pub fn what_clients_want_can_be_done()
     ensures { (history : List Entry) → IsLegal history → CanBeDone (state history) }
 {}
 
-/// A forward can lead from any port that is not 0 to any remote end that can be one.
+/// States that a forward can lead from any port other than 0 to any remote end that is allowed.
 pub fn a_remote_end_and_a_port_are_a_forward()
     ensures { (local : ℕ) (remote : List ℕ) → 0 < local → IsRemote remote
         → IsSpecification local remote }

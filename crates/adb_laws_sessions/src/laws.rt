@@ -11,8 +11,8 @@ ghost use Rattle.adb_laws_sessions.specs.Sessions.{AsksForServices, IsOfSessions
 
 use adb_request::spelled_is_read;
 
-/// A front of what a session writes asks for nothing but the device, as long as its requests are
-/// not whole; and then for its service.
+/// States that a prefix of the bytes that a session writes asks for nothing but the device, as long
+/// as its requests are not whole, and then for its service.
 pub fn requests_open_their_service()
     ensures { (service text front : List ℕ) → IsKnown service
         → IsPrefixOf front (words_of service text)
@@ -21,9 +21,10 @@ pub fn requests_open_their_service()
     spelled_is_read();
 }
 
-/// In every legal history of sessions no kill was made and no forward is there; each client asked
-/// what a front of its bytes asks, which are all of them until it asked for a service, and one that
-/// ended asked for its service; and as many streams were born as clients asked for one.
+/// States that in every legal history of sessions no kill was requested and there is no forward;
+/// each client asked for the same as a prefix of its bytes, which is all of them until it asked for
+/// a service, and one that ended asked for its service; and as many streams were born as clients
+/// asked for one.
 pub fn sessions_ask_for_services()
     ensures { (history : History) → IsLegal history → IsOfSessions history
         → AsksForServices history }

@@ -1,6 +1,5 @@
-//! What sessions ask: clients of which each selects the model device, asks for a service of it,
-//! writes a text and may end, and does nothing else. Each function does nothing: its contract is the
-//! law.
+//! Sessions: clients of which each selects the model device, asks for a service of it, writes a
+//! text and may end, and does nothing else. Each function does nothing: its contract is the law.
 #![tactic(auto)]
 
 mod laws;

@@ -1,4 +1,4 @@
-//! Laws of what moves between a server and its model device.
+//! Laws of the traffic between a server and its model device.
 
 ghost use Rattle.std.specs.Prelude.{◌≤◌, ◌<◌, ◌^◌, ◌≡◌, ◌++◌, false, length};
 ghost use Rattle.adb_history.specs.Book.{plugged_count};
@@ -17,22 +17,24 @@ use adb_laws_fifo_up::each_stream_is_carried;
 use adb_laws_model_device::{joined_bytes_are_paired_packets, streams_have_one_id};
 use adb_laws_worlds::ids_were_asked_for;
 
-/// Behind a legal history, where no device opens a stream or writes without bytes, the CNXNs, OKAYs
-/// and CLSEs that the server owes cost at most a CNXN for each link that is plugged in, an OKAY for
-/// each time that bytes are put to a client, and a CLSE for each stream that lived or is drawn.
+/// States that after a legal history, if no device opens a stream or writes without bytes, the
+/// CNXNs, OKAYs and CLSEs of the server cost at most a CNXN for each link that is plugged in, an
+/// OKAY for each time that bytes are put to a client, and a CLSE for each stream that lived or is
+/// drawn.
 pub fn tolls_are_paid()
     ensures { (before more : History) → IsLegal (more ++ before) → BringWorth (more ++ before)
         → TollsArePaid before more }
 {}
 
-/// What more a model device owes behind more packets is answers to its host, CLSEs of rows that
-/// lived, and writes of at least a byte. It opens no stream, and writes only to ids of the host by
-/// which more was asked.
+/// States that the additional output of a model device after more packets is answers to its host,
+/// CLSEs of rows that lived, and writes of at least a byte. It opens no stream, and writes only to
+/// ids of the host by which more was asked.
 pub fn the_device_answers_alone()
     ensures { (setting : Setting) → DeviceAnswersAlone setting }
 {}
 
-/// Where a model device is the only one, no device opens a stream or writes without bytes.
+/// States that if a model device is the only device, no device opens a stream or writes without
+/// bytes.
 pub fn a_device_brings_what_is_worth_its_answer()
     ensures { (setting : Setting) (history : History) → setting.most < 2 ^ 32 → IsLegal history
         → IsJoined setting history → plugged_count history ≤ 1 → BringWorth history }
@@ -40,13 +42,14 @@ pub fn a_device_brings_what_is_worth_its_answer()
     joined_bytes_are_paired_packets();
 }
 
-/// Each step moves a byte at least.
+/// States that each step moves at least one byte.
 pub fn steps_move_bytes()
     ensures { (before more : History) → AreSteps before more → length more ≤ moved more }
 {}
 
-/// All that moves from a time at which nothing is on its way to the next is paid by the clients
-/// whose input had not ended: each pays for its stream, and for each byte that it wrote or was put.
+/// States that all bytes that move from one time when nothing is in transit to the next are paid
+/// for by the clients whose input had not ended: each pays for its stream, and for each byte that
+/// it wrote or was put.
 pub fn clients_pay_for_all_that_moves()
     ensures { (setting : Setting) (before more : History) → Settles setting before more
         → ClientsPay before more }
@@ -56,7 +59,8 @@ pub fn clients_pay_for_all_that_moves()
     streams_have_one_id();
 }
 
-/// At rest each client whose input did not end was put all that the device wrote to its stream.
+/// States that at rest each client whose input did not end was put all that the device wrote to its
+/// stream.
 pub fn writes_were_put_at_rest()
     ensures { (setting : Setting) (history : History) → setting.most < 2 ^ 32 → 0 < setting.most
         → setting.credit ≡ false → IsLegal history → IsJoined setting history

@@ -1,5 +1,5 @@
-//! How much moves in a world at most: what a server and its model device owe for what clients write
-//! and are handed. Each function does nothing: its contract is the law.
+//! Bounds on the traffic in a world: the packets that a server and its model device send for the
+//! bytes that clients write and are handed. Each function does nothing: its contract is the law.
 #![tactic(auto)]
 
 mod laws;

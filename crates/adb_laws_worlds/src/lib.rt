@@ -1,5 +1,5 @@
-//! A server and its model device as one: what the laws of both ends give together, at each time and
-//! where nothing is on its way. Each function does nothing: its contract is the law.
+//! A server and its model device together: the combined laws of both ends, at each time and when
+//! nothing is in transit. Each function does nothing: its contract is the law.
 #![tactic(auto)]
 
 mod device;

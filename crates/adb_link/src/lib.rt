@@ -1,4 +1,4 @@
-//! A device's link: the packets that come in on it, and the bytes that are due to it.
+//! A device's link: the packets that come in on it, and its output queue.
 #![tactic(auto)]
 
 mod link;

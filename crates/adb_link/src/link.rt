@@ -16,13 +16,14 @@ use bytes::Bytes;
 use std::alloc::{AllocError, Global};
 use std::marker::Model;
 
-/// A device's link: what comes in on it is cut into packets, and packets become due on it, with the
-/// check word that protocol.txt has for its version ("MESSAGES"). A packet that becomes due keeps
-/// its check word: a CNXN goes out with its sum, and another packet does where the last CNXN that
-/// the link was told of had the version 0x01000000.
+/// A device's link. Incoming bytes are cut into packets, and outgoing packets are queued with the
+/// check word that protocol.txt requires for the link's version ("MESSAGES"). A queued packet keeps
+/// its check word: a CNXN goes out with its sum, and so does every other packet if the last CNXN
+/// that was passed to `took` had the version 0x01000000.
 ///
-/// Places for packets can be reserved, to owe them later without memory; a place holds one packet,
-/// whatever its payload. Only the calls that take a place lower their number.
+/// Places for packets can be reserved, so that packets can be queued later without an allocation; a
+/// place holds one packet, whatever its payload. Only the calls that take a place lower their
+/// number.
 #[derive(Drop)]
 pub struct Link {
     alloc: Global,
@@ -48,7 +49,8 @@ impl Link {
     ghost use Rattle.adb_wire.specs.Deframing.{StandsFor, Takes, Waits, no_bytes};
     ghost use Rattle.adb_link.specs.Linked.{new_link, owing, placing};
 
-    /// Nothing was fed yet, nothing is due, and no place is reserved. It takes no memory.
+    /// Returns a link to which nothing was fed, with an empty queue and no reserved places.
+    /// Allocates nothing.
     pub fn new(alloc: Global) -> Link
         ensures value { result ≡ new_link }
         ensures stands { StandsFor [] [] result.incoming }
@@ -61,8 +63,8 @@ impl Link {
         }
     }
 
-    /// Holds the next piece of what comes in, which completes no packet and no fault, behind what
-    /// is held. After want of memory all is as before.
+    /// Appends the next piece of the input, which completes neither a packet nor a fault, to the
+    /// held bytes. If an allocation fails, the link is unchanged.
     pub fn hold(&mut self, piece: &[u8]) -> Result<(), AllocError>
         requires sound { self.old.incoming.fault ≡ None }
         requires waits { Waits self.old.incoming piece.now }
@@ -79,8 +81,9 @@ impl Link {
         }
     }
 
-    /// How many bytes are missing, at least, until a packet is whole or a fault is there: a shorter
-    /// piece completes nothing. Where there is a fault it is `usize::MAX`. It takes no memory.
+    /// Returns how many bytes are missing, at least, until a packet is whole or a fault is there: a
+    /// shorter piece completes nothing. If there is a fault, the result is `usize::MAX`. Allocates
+    /// nothing.
     pub fn missing(&self) -> usize
         ensures value { MatchOption self.now.incoming.fault
             (result ≡ need_of self.now.incoming.rest) (λ _. result ≡ usize.MAX) }
@@ -91,8 +94,8 @@ impl Link {
         self.incoming.missing()
     }
 
-    /// A packet with that header was taken from what came in with a piece: a CNXN fixes the link's
-    /// version. It takes no memory.
+    /// Records that a packet with this header was taken from the input that a piece completed: a
+    /// CNXN fixes the link's version. Allocates nothing.
     pub fn took(&mut self, head: &Head)
         ensures { self.new ≡ record self.old {
           version = version_past self.old.version head.now.command head.now.arg0;
@@ -101,8 +104,8 @@ impl Link {
         self.version = version_past(self.version, head.command, head.arg0);
     }
 
-    /// What comes in with a further piece, but for the packets that were not given before; of the
-    /// link nothing changes. No payload is copied twice.
+    /// Returns the input with a further piece, without the packets that were not taken before. The
+    /// link itself is unchanged. No payload is copied twice. Fails if an allocation fails.
     pub fn with_piece(&mut self, piece: &[u8]) -> Result<Deframer, AllocError>
         requires { self.old.incoming.fault ≡ None }
         ensures stays { self.new ≡ self.old }
@@ -112,23 +115,22 @@ impl Link {
         self.incoming.with_piece(piece)
     }
 
-    /// Puts that in the place of what comes in. It takes no memory.
+    /// Replaces the input. Allocates nothing.
     pub fn put_incoming(&mut self, incoming: Deframer)
         ensures { self.new ≡ record self.old { incoming = incoming } }
     {
         self.incoming = incoming;
     }
 
-    /// Whether nothing is held of what comes in, and no check words are looked at there. It takes no
-    /// memory.
+    /// Returns whether no input is held and no check words are verified in it. Allocates nothing.
     pub fn is_fresh(&self) -> bool
         ensures { result ≡ true → self.now.incoming ≡ no_bytes }
     {
         self.incoming.is_fresh()
     }
 
-    /// A packet of that header and shared payload is due next, with the link's check word in the
-    /// place of the header's. After want of memory all is as before, and the payload is dropped.
+    /// Queues a packet of this header and shared payload, with the link's check word instead of the
+    /// header's. If an allocation fails, the link is unchanged, and the payload is dropped.
     pub fn owe_slice(&mut self, head: &Head, payload: Bytes) -> Result<(), AllocError>
         requires { IsHeadOf head.now payload }
         ensures ok { OnOk result (self.new ≡ owing self.old (packet_under head.now payload)) }
@@ -139,8 +141,9 @@ impl Link {
         self.outbox.push(Outgoing::new(&head, &[], payload))
     }
 
-    /// Makes places for `packets` packets, with those that are reserved already. After want of
-    /// memory, and where the bytes of so many packets could not be counted, all is as before.
+    /// Reserves places for `packets` packets, including those that are reserved already. If an
+    /// allocation fails, or if the bytes of that many packets could not be counted, the link is
+    /// unchanged.
     pub fn reserve(&mut self, packets: usize) -> Result<(), AllocError>
         ensures ok { OnOk result
             (self.new ≡ record self.old { spare = max packets self.old.spare }) }
@@ -149,8 +152,8 @@ impl Link {
         self.outbox.reserve(packets)
     }
 
-    /// A packet of that header and a payload of at most `MAX_SHORT` bytes, which are copied into
-    /// the place, is due next, in a reserved place, with the link's check word. It takes no memory.
+    /// Queues a packet of this header and a payload of at most `MAX_SHORT` bytes, which are copied,
+    /// in a reserved place, with the link's check word. Allocates nothing.
     pub fn owe_short_spare(&mut self, head: &Head, payload: &[u8])
         requires place { 0 < self.old.spare }
         requires head { IsHeadOf head.now payload.now }
@@ -166,8 +169,8 @@ impl Link {
         self.outbox.push_spare(Outgoing::new(&head, payload, none));
     }
 
-    /// A packet of that header and shared payload is due next, in a reserved place, with the link's
-    /// check word. It takes no memory.
+    /// Queues a packet of this header and shared payload in a reserved place, with the link's check
+    /// word. Allocates nothing.
     pub fn owe_slice_spare(&mut self, head: &Head, payload: SplitBytes)
         requires place { 0 < self.old.spare }
         requires head { IsHeadOf head.now payload }
@@ -177,25 +180,25 @@ impl Link {
         self.outbox.push_spare(Outgoing::new(&head, &[], payload));
     }
 
-    /// How many bytes are due. It takes no memory.
+    /// Returns how many bytes are queued for output. Allocates nothing.
     pub fn owed(&self) -> usize
         ensures { result ≡ length self.now.due }
     {
         self.outbox.owed()
     }
 
-    /// The first `max` bytes that are due, or all where there are fewer. The payload is shared where
-    /// the first packet alone has them, in one slice of it, and else they are copied. Nothing
-    /// changes.
+    /// Returns the first `max` queued bytes, or all if there are fewer. The payload is shared if
+    /// the first packet alone contains them, in one slice of it; otherwise the bytes are copied.
+    /// Nothing changes. Fails if an allocation fails.
     pub fn front(&self, max: usize) -> Result<HandOut, AllocError>
         ensures { IfOk result (λ bytes. bytes ≡ take max self.now.due) }
     {
         self.outbox.front(self.alloc, max)
     }
 
-    /// How many bytes to hand out at once, at most `max`, so that no slice of a payload of 4 KiB or
-    /// more is copied: those up to its end where it is the first, or what stands before it; `max`
-    /// where there is none. It takes no memory.
+    /// Returns how many bytes to hand out at once, at most `max`, so that no payload slice of 4 KiB
+    /// or more is copied: those up to its end if it comes first, otherwise those before it; `max`
+    /// if there is none. Allocates nothing.
     pub fn front_len(&self, max: usize) -> usize
         requires { 0 < max }
         ensures { (0 < result) × (result ≤ max) }
@@ -203,7 +206,8 @@ impl Link {
         self.outbox.front_len(max)
     }
 
-    /// The first `n` bytes that are due were handed out, also beyond the front. It takes no memory.
+    /// Removes the first `n` queued bytes, which were handed out; they may be more than one `front`
+    /// returned. Allocates nothing.
     pub fn hand(&mut self, n: usize)
         requires { n ≤ length self.old.due }
         ensures { self.new ≡ record self.old { due = drop n self.old.due } }
@@ -212,7 +216,7 @@ impl Link {
     }
 }
 
-/// The version of a link after a packet was taken from it: a CNXN says it.
+/// Returns the version of a link after a packet was taken from it: a CNXN sets it.
 fn version_past(version: u32, command: Command, arg0: u32) -> u32
     ensures { result ≡ version_past version command arg0 }
 {
@@ -222,7 +226,7 @@ fn version_past(version: u32, command: Command, arg0: u32) -> u32
     }
 }
 
-/// The header with the check word that it goes out with on a link of that version.
+/// Returns the header with the check word that it goes out with on a link of that version.
 fn head_to_send(version: u32, head: &Head, payload: Parts<'_>) -> Head
     requires { IsHeadOf head.now (payload.start.now ++ payload.rest.now) }
     ensures { let p = packet_under head.now (payload.entry.start.now ++ payload.entry.rest.now) in
@@ -241,7 +245,7 @@ fn head_to_send(version: u32, head: &Head, payload: Parts<'_>) -> Head
     }
 }
 
-/// The sum of a payload's bytes, modulo 2^32.
+/// Returns the sum of a payload's bytes, modulo 2^32.
 #[tactic(auto, using(crate::proofs::Sums::sum_both))]
 fn sum_of(payload: Parts<'_>) -> u32
     ensures { result ≡ byte_sum_of (payload.entry.start.now ++ payload.entry.rest.now) }

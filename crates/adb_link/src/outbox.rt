@@ -1,4 +1,4 @@
-//! The packets that are due, in order.
+//! The queue of outgoing packets.
 
 ghost use Rattle.std.specs.Prelude.{◌≡◌, ◌<◌, ◌≤◌, ◌+◌, ◌-◌, ◌++◌, [], length, take, drop, max, IfOk, IfSome, OnOk, OnErr};
 ghost use Rattle.std.specs.List.{concat};
@@ -10,8 +10,8 @@ use std::alloc::{AllocError, Global};
 use std::collections::VecDeque;
 use std::marker::Model;
 
-/// Packets that are due, and places for more that need no memory: a place holds one packet,
-/// whatever its payload. Contracts see the bytes that are due and how many places are spare.
+/// Queued packets, and places for more that need no allocation: a place holds one packet, whatever
+/// its payload. Contracts see the queued bytes and the number of spare places.
 #[derive(Drop)]
 pub(crate) struct Outbox {
     packets: VecDeque<Outgoing>,
@@ -33,7 +33,7 @@ impl Model for Outbox {
 }
 
 impl Outbox {
-    /// Nothing is due, and no place is spare. It takes no memory.
+    /// Returns an empty queue without spare places. Allocates nothing.
     pub(crate) fn new(alloc: Global) -> Outbox
         ensures { result ≡ record { due = []; spare = 0 } }
     {
@@ -44,8 +44,8 @@ impl Outbox {
         }
     }
 
-    /// Makes places for `n` packets. After want of memory, and where so many bytes could not be
-    /// counted, all is as before.
+    /// Reserves places for `n` packets. If an allocation fails, or if that many bytes could not be
+    /// counted, the queue is unchanged.
     pub(crate) fn reserve(&mut self, n: usize) -> Result<(), AllocError>
         ensures ok { OnOk result (self.new ≡ record self.old { spare = max n self.old.spare }) }
         ensures err { OnErr result (self.new ≡ self.old) }
@@ -59,7 +59,7 @@ impl Outbox {
         Ok(())
     }
 
-    /// A packet is due next, in a spare place. It takes no memory.
+    /// Queues a packet in a spare place. Allocates nothing.
     pub(crate) fn push_spare(&mut self, packet: Outgoing)
         requires place { 0 < self.old.spare }
         requires some { 0 < length packet }
@@ -71,7 +71,7 @@ impl Outbox {
         self.spare -= 1;
     }
 
-    /// A packet is due next. After want of memory all is as before.
+    /// Queues a packet. If an allocation fails, the queue is unchanged.
     pub(crate) fn push(&mut self, packet: Outgoing) -> Result<(), AllocError>
         requires some { 0 < length packet }
         requires fits { length packet ≤ MAX_PACKET }
@@ -84,15 +84,15 @@ impl Outbox {
         Ok(())
     }
 
-    /// How many bytes are due.
+    /// Returns how many bytes are queued.
     pub(crate) fn owed(&self) -> usize
         ensures { result ≡ length self.now.due }
     {
         self.owed
     }
 
-    /// The first `max` bytes that are due, or all where there are fewer. The payload is shared where
-    /// the first packet alone has them, in one slice of it, and else they are copied.
+    /// Returns the first `max` queued bytes, or all if there are fewer. The payload is shared if
+    /// the first packet alone contains them, in one slice of it; otherwise the bytes are copied.
     pub(crate) fn front(&self, alloc: Global, max: usize) -> Result<HandOut, AllocError>
         ensures { IfOk result (λ bytes. bytes ≡ take max self.now.due) }
     {
@@ -105,9 +105,9 @@ impl Outbox {
         Ok(HandOut::own(text))
     }
 
-    /// How many bytes to hand out at once, at most `max`, so that no large slice of a payload is
-    /// copied: those of the first packet up to its first slice's end where that is large, or what
-    /// stands before the first slice that is. It looks at no packet behind these.
+    /// Returns how many bytes to hand out at once, at most `max`, so that no large payload slice is
+    /// copied: those of the first packet up to the end of its first slice if that is large, or
+    /// those before the first large slice. Looks at no packet after these.
     pub(crate) fn front_len(&self, max: usize) -> usize
         requires { 0 < max }
         ensures { (0 < result) × (result ≤ max) }
@@ -130,7 +130,7 @@ impl Outbox {
         max
     }
 
-    /// The first `n` bytes were handed out. It takes no memory.
+    /// Removes the first `n` bytes, which were handed out. Allocates nothing.
     pub(crate) fn hand(&mut self, n: usize)
         requires { n ≤ length self.old.due }
         ensures { self.new ≡ record self.old { due = drop n self.old.due } }
@@ -141,7 +141,7 @@ impl Outbox {
         }
     }
 
-    /// Of the first packet up to `n` bytes were handed out; tells how many.
+    /// Removes up to `n` bytes of the first packet, which were handed out. Returns how many.
     fn hand_first(&mut self, n: usize) -> usize
         requires { (0 < n) × (n ≤ length self.old.due) }
         ensures some { (0 < result) × (result ≤ n) }
@@ -161,7 +161,8 @@ impl Outbox {
     }
 }
 
-/// The first `n` bytes, where the first packet alone has them, in one slice of its payload.
+/// Returns the first `n` bytes, if the first packet alone contains them, in one slice of its
+/// payload.
 fn share(packets: &VecDeque<Outgoing>, n: usize) -> Result<Option<HandOut>, AllocError>
     ensures { IfOk result (λ shared. IfSome shared
         (λ bytes. bytes ≡ take n (concat packets.now.items))) }
@@ -172,7 +173,7 @@ fn share(packets: &VecDeque<Outgoing>, n: usize) -> Result<Option<HandOut>, Allo
     }
 }
 
-/// Fills an empty text up to `max` bytes from packets, and looks at none behind these.
+/// Fills an empty text up to `max` bytes from packets. Looks at no packet after these.
 fn fill(text: &mut Text, packets: &VecDeque<Outgoing>, max: usize) -> Result<(), AllocError>
     requires { text.old ≡ [] }
     ensures { OnOk result (text.new ≡ take max (concat packets.now.items)) }

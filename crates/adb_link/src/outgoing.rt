@@ -1,4 +1,4 @@
-//! One packet that is due.
+//! One queued packet.
 
 ghost use Rattle.std.specs.Prelude.{◌≡◌, ◌<◌, ◌≤◌, ◌+◌, ◌-◌, ◌++◌, length, take, drop, IfOk, IfSome, OnOk};
 ghost use Rattle.adb_wire.specs.Header.{header_bytes};
@@ -10,26 +10,26 @@ use bytes::Bytes;
 use std::alloc::AllocError;
 use std::marker::Model;
 
-/// The most bytes of a payload that a packet holds in its own place.
+/// The maximum number of bytes of a payload that a packet holds inline.
 pub const MAX_SHORT: usize = 8;
 
-/// How many bytes a packet holds in its own place: a header and a short payload.
+/// The number of bytes that a packet holds inline: a header and a short payload.
 const START_LEN: usize = HEADER_LEN + MAX_SHORT;
 
-/// The numbers that definitions take from the code, written out.
+/// States the numbers that definitions take from the code.
 pub fn limits_are()
     ensures short { MAX_SHORT ≡ 8 }
     ensures start { START_LEN ≡ 32 }
 {}
 
-/// What is still due of a packet: bytes of its start, which is the header and a short payload, and
-/// those of its shared payload. Contracts see it as these bytes.
+/// The bytes of a packet that are still queued: those of its start, which is the header and a short
+/// payload, and those of its shared payload. Contracts see it as these bytes.
 #[derive(Drop)]
 pub(crate) struct Outgoing {
     start: [u8; START_LEN],
-    /// Of the start the bytes from here are still due,
+    /// The start of the range of inline bytes that are still queued,
     from: usize,
-    /// and up to here.
+    /// and its end.
     to: usize,
     payload: SplitBytes,
 }
@@ -45,7 +45,7 @@ impl Model for Outgoing {
     ghost invariant = { λ packet. IsHeld packet.start packet.from packet.to packet.payload };
 }
 
-/// Writes bytes over those from a place on.
+/// Overwrites the bytes from a place on.
 fn put_at(out: &mut [u8; START_LEN], at: usize, bytes: &[u8])
     requires { at + length bytes.now ≤ START_LEN }
     ensures { out.new ≡ take at out.old ++ bytes.now ++ drop (at + length bytes.now) out.old }
@@ -53,7 +53,7 @@ fn put_at(out: &mut [u8; START_LEN], at: usize, bytes: &[u8])
     out[at..at + bytes.len()].copy_from_slice(bytes);
 }
 
-/// Fills a text up to `max` bytes from the front of others.
+/// Appends the first of some bytes to a text, up to `max` bytes in all.
 fn fill_up(text: &mut Text, bytes: &[u8], max: usize) -> Result<(), AllocError>
     ensures { OnOk result (text.new ≡ text.old ++ take (max - length text.old) bytes.now) }
 {
@@ -61,14 +61,14 @@ fn fill_up(text: &mut Text, bytes: &[u8], max: usize) -> Result<(), AllocError>
     text.push_slice(&bytes[..n])
 }
 
-/// The first bytes, at most `max`.
+/// Returns the first bytes, at most `max`.
 fn first(bytes: &[u8], max: usize) -> &[u8]
     ensures { result.now ≡ take max bytes.now }
 {
     &bytes[..max.min(bytes.len())]
 }
 
-/// The first bytes of a payload, at most `max`, which are shared.
+/// Returns the first bytes of a payload, at most `max`, shared.
 fn share_first(payload: &Bytes, max: usize) -> Result<Bytes, AllocError>
     ensures { IfOk result (λ front. front ≡ take max payload.now) }
 {
@@ -78,7 +78,7 @@ fn share_first(payload: &Bytes, max: usize) -> Result<Bytes, AllocError>
 }
 
 impl Outgoing {
-    /// A packet of a header, a short payload and a shared payload. It takes no memory.
+    /// Returns a packet of a header, a short payload and a shared payload. Allocates nothing.
     pub(crate) fn new(head: &Head, short: &[u8], payload: SplitBytes) -> Outgoing
         requires short { length short.now ≤ MAX_SHORT }
         requires size { length payload ≤ MAX_PAYLOAD }
@@ -97,22 +97,22 @@ impl Outgoing {
         }
     }
 
-    /// How many bytes are still due.
+    /// Returns how many bytes are still queued.
     pub(crate) fn len(&self) -> usize
         ensures { result ≡ length self.now }
     {
         self.to - self.from + self.payload.len()
     }
 
-    /// Up to where they can be handed out with no payload copied: with the first slice of it that
-    /// is left.
+    /// Returns how many bytes can be handed out without copying a payload: those up to the end of
+    /// the first payload slice that is left.
     pub(crate) fn first_len(&self) -> usize
         ensures { result ≤ length self.now }
     {
         self.to - self.from + self.payload.first().len()
     }
 
-    /// Fills a text up to `max` bytes from the front of those that are still due.
+    /// Appends the first queued bytes to a text, up to `max` bytes in all.
     pub(crate) fn fill(&self, text: &mut Text, max: usize) -> Result<(), AllocError>
         ensures { OnOk result (text.new ≡ text.old ++ take (max - length text.old) self.now) }
     {
@@ -122,8 +122,8 @@ impl Outgoing {
         fill_up(text, payload.rest, max)
     }
 
-    /// The first `n` bytes of those that are still due, where they reach over no more than the first
-    /// slice of the payload, which is shared.
+    /// Returns the first `n` queued bytes if they reach no further than the first slice of the
+    /// payload, which is shared.
     pub(crate) fn share(&self, n: usize) -> Result<Option<HandOut>, AllocError>
         ensures { IfOk result (λ shared. IfSome shared
             (λ bytes. (n ≤ length self.now) × (bytes ≡ take n self.now))) }
@@ -138,7 +138,7 @@ impl Outgoing {
         Ok(Some(HandOut::framed(start, payload)))
     }
 
-    /// The first `n` bytes were handed out. It takes no memory.
+    /// Removes the first `n` bytes, which were handed out. Allocates nothing.
     pub(crate) fn hand(&mut self, n: usize)
         requires { n ≤ length self.old }
         ensures { self.new ≡ drop n self.old }

@@ -1,16 +1,16 @@
-//! What the clients and the devices of a load do.
+//! The actions of the clients and the devices of a load.
 
 ghost use Rattle.std.specs.Prelude.{◌≡◌, ◌∷◌};
 ghost use Rattle.adb_load.specs.Acts.{acts_due, acts_from};
 
-/// What one entry of a load tells. Streams are numbered from 0, and links from 1.
+/// The meaning of one entry of a load. Streams are numbered from 0, and links from 1.
 #[derive(Clone, Copy, Drop)]
 pub(crate) enum Act {
     /// A device is plugged in.
     Plug {
         link: u16,
     },
-    /// It says who it is.
+    /// The device sends its identity.
     Greet {
         link: u16,
     },
@@ -18,7 +18,7 @@ pub(crate) enum Act {
     Come {
         stream: u16,
     },
-    /// It selects its device and asks for the service.
+    /// The client selects its device and asks for the service.
     Ask {
         stream: u16,
     },
@@ -26,7 +26,7 @@ pub(crate) enum Act {
     Accept {
         stream: u16,
     },
-    /// The client writes so many bytes, from that place of its own on.
+    /// The client writes `count` bytes, from its byte `from` on.
     Write {
         stream: u16,
         from: u16,
@@ -36,14 +36,15 @@ pub(crate) enum Act {
     Acknowledge {
         stream: u16,
     },
-    /// The device writes so many bytes, from that place of its own on: the packet, or a piece.
+    /// The device writes `count` bytes, from its byte `from` on: the whole packet, or a piece of
+    /// it.
     Answer {
         stream: u16,
         from: u16,
         count: u16,
         piece: Piece,
     },
-    /// The client goes.
+    /// The client leaves.
     Leave {
         stream: u16,
     },
@@ -53,18 +54,18 @@ pub(crate) enum Act {
     },
 }
 
-/// How much of a packet comes at once.
+/// The part of a packet that comes at once.
 #[derive(Clone, Copy, Drop)]
 pub(crate) enum Piece {
     Whole,
-    /// Its first bytes, fewer than a header has.
+    /// The packet's first bytes, fewer than a header has.
     Head,
-    /// Those behind them.
+    /// The bytes after them.
     Tail,
 }
 
 impl Act {
-    /// The act that comes right behind it, whatever is drawn.
+    /// Returns the act that follows immediately, whatever is drawn.
     pub(crate) fn follower(self) -> Option<Act>
         ensures { acts_from self ≡ self ∷ acts_due result }
     {

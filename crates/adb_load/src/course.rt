@@ -1,4 +1,4 @@
-//! How a load goes on, turn by turn.
+//! The course of a load, turn by turn.
 
 ghost use Rattle.std.specs.Prelude.{◌≡◌, ◌<◌, Some, IfOk, OnErr, length};
 ghost use Rattle.adb_load.specs.Course.{begin, draw, plug_in, start, turn, streams_after};
@@ -12,7 +12,7 @@ use rand_pcg::Pcg32;
 use std::alloc::{AllocError, Global};
 use std::marker::Model;
 
-/// How far a load is. Contracts see it as its `Progress`.
+/// The state of a load in progress. Contracts see it as its `Progress`.
 #[derive(Drop)]
 pub(crate) struct Course {
     plugged: u16,
@@ -40,7 +40,7 @@ impl Model for Course {
 }
 
 impl Course {
-    /// A load of so many streams before its first turn.
+    /// Returns a load of `streams` streams before its first turn.
     pub(crate) fn new(alloc: Global, seed: u64, streams: u16) -> Result<Course, AllocError>
         ensures { IfOk result (λ course. course ≡ start seed streams) }
     {
@@ -53,8 +53,8 @@ impl Course {
         })
     }
 
-    /// Takes a turn, and says what it brings; nothing where the load is over. After want of memory
-    /// the load is as before.
+    /// Takes a turn, and returns its act; `None` if the load is over. If an allocation fails, the
+    /// load is unchanged.
     #[tactic(auto, unfolding(crate::specs::Course::turn))]
     pub(crate) fn turn(&mut self) -> Result<Option<Act>, AllocError>
         ensures ok { IfOk result (λ act. record { act = act; after = self.new } ≡ turn self.old) }
@@ -72,7 +72,7 @@ impl Course {
         Ok(Some(self.draw()))
     }
 
-    /// The next device is plugged in.
+    /// Plugs in the next device.
     fn plug_in(&mut self) -> Act
         requires { self.old.plugged < DEVICES }
         ensures { record { act = Some result; after = self.new } ≡ plug_in self.old }
@@ -81,7 +81,7 @@ impl Course {
         Act::Plug { link: self.plugged }
     }
 
-    /// The next stream begins. After want of memory it has not.
+    /// Begins the next stream. If an allocation fails, the stream has not begun.
     fn begin(&mut self) -> Result<Act, AllocError>
         requires { self.old.begun < self.old.streams }
         ensures ok { IfOk result
@@ -94,7 +94,7 @@ impl Course {
         Ok(Act::Come { stream })
     }
 
-    /// A word is drawn, and one of the live streams moves.
+    /// Draws a word, with which one of the live streams moves.
     fn draw(&mut self) -> Act
         requires { 0 < length self.old.live }
         ensures { record { act = Some result; after = self.new } ≡ draw self.old }
@@ -106,7 +106,7 @@ impl Course {
         moved.act
     }
 
-    /// The stream at a place moved, or ended.
+    /// Replaces the stream at a place that moved, or removes it if it ended.
     fn set(&mut self, place: usize, after: Option<Live>)
         requires { place < length self.old.live }
         ensures { self.new ≡ record self.old { live = streams_after place after self.old.live } }

@@ -1,4 +1,4 @@
-//! The entry that tells an act of a load.
+//! The entry of an act of a load.
 
 ghost use Rattle.std.specs.Prelude.{◌≡◌, IfOk};
 ghost use Rattle.adb_capture.specs.Records.{HasRecord};
@@ -13,7 +13,7 @@ use adb_outside::{Cause, Kind};
 use adb_wire::Command;
 use std::alloc::{AllocError, Global};
 
-/// The entry of an act. It has a record.
+/// Returns the entry of an act. It has a record.
 #[tactic(auto, using(crate::proofs::Records::have_records))]
 pub(crate) fn entry(alloc: Global, pattern: &Pattern, act: Act) -> Result<Entry, AllocError>
     ensures told { IfOk result (λ e. e ≡ entry_of act) }

@@ -1,4 +1,4 @@
-//! A large load: clients and devices whose doings are drawn from a seed, as the entries of a
+//! A large load: clients and devices with actions that are drawn from a seed, as the entries of a
 //! history that come from outside.
 #![tactic(auto)]
 

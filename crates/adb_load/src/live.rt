@@ -1,4 +1,4 @@
-//! A live stream of a load, and what a drawn word makes of it.
+//! A live stream of a load, and its move by a drawn word.
 
 ghost use Rattle.std.specs.Prelude.{◌≡◌, ◌<◌};
 ghost use Rattle.adb_load.specs.Acts.{up_size, down_size};
@@ -6,7 +6,7 @@ ghost use Rattle.adb_load.specs.Streams.{live_at_first, portion, is_set, goes_up
 
 use crate::act::{Act, Piece};
 
-/// A live stream: its number, and how many bytes are left to go up and to come down.
+/// A live stream: its number, and how many bytes are left in each direction.
 #[derive(Clone, Copy, Drop)]
 pub(crate) struct Live {
     pub number: u16,
@@ -14,7 +14,7 @@ pub(crate) struct Live {
     pub down: u16,
 }
 
-/// What a word makes of a stream: its act, and the stream after it, where it lives on.
+/// A move of a stream: its act, and the stream afterwards, if it is still alive.
 #[derive(Clone, Copy, Drop)]
 pub(crate) struct Moved {
     pub act: Act,
@@ -22,7 +22,7 @@ pub(crate) struct Moved {
 }
 
 impl Live {
-    /// The stream of a number, as it begins.
+    /// Returns the stream of a number, as it begins.
     pub(crate) fn new(number: u16) -> Live
         ensures { result ≡ live_at_first number }
     {
@@ -33,7 +33,7 @@ impl Live {
         }
     }
 
-    /// What a word makes of it: bytes go up or come down, or it ends.
+    /// Returns the move for a word: bytes go in either direction, or the stream ends.
     pub(crate) fn moved(self, word: u32) -> Moved
         ensures { result ≡ moved word self }
     {
@@ -46,14 +46,14 @@ impl Live {
         self.ended(word)
     }
 
-    /// Whether bytes go up.
+    /// Returns whether bytes go to the device.
     fn goes_up(self, word: u32) -> bool
         ensures { result ≡ goes_up word self }
     {
         self.up > 0 && (self.down == 0 || !is_set(word, 4))
     }
 
-    /// So many bytes go up.
+    /// Returns the move of `count` bytes to the device.
     fn moved_up(self, count: u16) -> Moved
         ensures { result ≡ moved_up count self }
     {
@@ -70,7 +70,7 @@ impl Live {
         }
     }
 
-    /// So many bytes come down.
+    /// Returns the move of `count` bytes to the client.
     fn moved_down(self, word: u32, count: u16) -> Moved
         ensures { result ≡ moved_down word count self }
     {
@@ -93,7 +93,7 @@ impl Live {
         }
     }
 
-    /// One of its ends ends it.
+    /// Returns the move by which one end closes the stream.
     fn ended(self, word: u32) -> Moved
         ensures { result ≡ ended word self }
     {
@@ -107,28 +107,28 @@ impl Live {
     }
 }
 
-/// How many bytes of a stream go up.
+/// Returns how many bytes of a stream go to the device.
 fn up_size(number: u16) -> u16
     ensures { result ≡ up_size number }
 {
     8000 + 40 * (number % 100)
 }
 
-/// How many come down.
+/// Returns how many bytes of a stream go to the client.
 fn down_size(number: u16) -> u16
     ensures { result ≡ down_size number }
 {
     10_000 + 20 * (number % 100)
 }
 
-/// How many of the bytes that are left go at once.
+/// Returns how many of the bytes that are left go at once.
 fn portion(word: u32, left: u16) -> u16
     ensures { result ≡ portion word left }
 {
     left.min(1 + ((word / 256) % 4096) as u16)
 }
 
-/// Whether a bit of a word is 1.
+/// Returns whether a bit of a word is 1.
 fn is_set(word: u32, bit: u32) -> bool
     requires { bit < 32 }
     ensures { result ≡ is_set word bit }

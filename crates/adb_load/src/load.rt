@@ -1,4 +1,4 @@
-//! The entries of a load, one after the other.
+//! The entries of a load, one after another.
 
 ghost use Rattle.std.specs.Prelude.{◌≡◌, ◌<◌, ◌^◌, IfOk, OnErr, IfSome};
 ghost use Rattle.adb_capture.specs.Records.{HasRecord};
@@ -12,9 +12,9 @@ use adb_capture::Entry;
 use std::alloc::{AllocError, Global};
 use std::marker::Model;
 
-/// A load, of which some entries may be given already. Contracts see it as the list of the entries
-/// that are still to come. It holds the live streams, at most 16, 64 KiB of the pattern that their
-/// payloads are cut from, and nothing of those that are over.
+/// A load, of which some entries may have been returned already. Contracts see it as the list of
+/// the entries that remain. It holds the live streams, at most 16, 64 KiB of the pattern from which
+/// their payloads are cut, and nothing of the streams that are over.
 #[derive(Drop)]
 pub struct Load {
     alloc: Global,
@@ -34,7 +34,7 @@ impl Model for Load {
 }
 
 impl Load {
-    /// The load of a seed and so many streams.
+    /// Returns the load of a seed with `streams` streams. Fails if an allocation fails.
     pub fn new(alloc: Global, seed: u64, streams: u32) -> Result<Load, AllocError>
         requires { streams < 2 ^ 16 }
         ensures { IfOk result (λ l. l ≡ load seed streams) }
@@ -47,8 +47,8 @@ impl Load {
         })
     }
 
-    /// The next entry, or none where all were given. After want of memory the next call gives the
-    /// same. Each entry has a record in a capture.
+    /// Returns the next entry, or `None` if all were returned. If an allocation fails, the next
+    /// call returns the same entry. Each entry has a record in a capture.
     pub fn next(&mut self) -> Result<Option<Entry>, AllocError>
         ensures first { GivesFirst self.old self.new result }
         ensures form { IfOk result (λ given. IfSome given HasRecord) }
@@ -63,8 +63,8 @@ impl Load {
     }
 }
 
-/// The act that comes next, where one is due already or a turn brings one. What is to come stays
-/// the same, and so does the load after want of memory.
+/// Returns the next act: one that is pending, or that of a turn. The remaining entries stay the
+/// same, and if an allocation fails, so does the load.
 #[tactic(auto, using(crate::proofs::Aheads::same_ahead, crate::proofs::Aheads::is_over))]
 fn next_due(due: Option<Act>, course: &mut Course) -> Result<Option<Act>, AllocError>
     ensures ok { IfOk result (λ act. ahead act course.new ≡ ahead due course.old) }

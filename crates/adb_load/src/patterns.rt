@@ -1,4 +1,4 @@
-//! The bytes that go up and come down.
+//! The payload bytes of a load.
 
 ghost use Rattle.std.specs.Prelude.{◌≡◌, ◌<◌, ◌^◌, IfOk};
 ghost use Rattle.adb_load.specs.Acts.{cycle};
@@ -7,13 +7,14 @@ ghost use Rattle.adb_load.specs.Patterns.{Prepares};
 use std::alloc::{AllocError, Global};
 use std::marker::Model;
 
-/// After so many bytes the pattern begins again.
+/// The period of the pattern in bytes.
 const PERIOD: u32 = 251;
 
-/// How many bytes of it are prepared: from any place within a period on, as many as a `u16` counts.
+/// The number of bytes of the pattern that are prepared: from any place within a period on, as many
+/// as a `u16` counts.
 const PATTERN_LEN: u32 = PERIOD + 65_535;
 
-/// The pattern that payloads are cut from, prepared once: the byte at place i is i mod 251.
+/// The pattern from which payloads are cut, prepared once: the byte at place i is i mod 251.
 /// Contracts see it as its bytes.
 #[derive(Drop)]
 pub(crate) struct Pattern {
@@ -33,14 +34,14 @@ impl Model for Pattern {
 }
 
 impl Pattern {
-    /// Prepares it.
+    /// Prepares the pattern.
     pub(crate) fn new(alloc: Global) -> Result<Pattern, AllocError> {
         Ok(Pattern {
             bytes: first_bytes(alloc, PATTERN_LEN)?,
         })
     }
 
-    /// So many bytes from a place on, where the byte at place i is (i + shift) mod 251.
+    /// Returns `count` bytes from a place on, where the byte at place i is (i + shift) mod 251.
     pub(crate) fn slice(&self, shift: u32, from: u16, count: u16) -> &[u8]
         requires { shift < 2 ^ 17 }
         ensures { result.now ≡ cycle shift from count }
@@ -49,7 +50,8 @@ impl Pattern {
     }
 }
 
-/// So many bytes of the pattern, from the place on that the bytes from `from` on have in it.
+/// Returns `count` bytes of the pattern, from the place on at which the bytes from `from` on are in
+/// it.
 fn cut(bytes: &[u8], shift: u32, from: u16, count: u16) -> &[u8]
     requires prepared { Prepares PATTERN_LEN bytes.now }
     requires small { shift < 2 ^ 17 }
@@ -59,7 +61,7 @@ fn cut(bytes: &[u8], shift: u32, from: u16, count: u16) -> &[u8]
     &bytes[start..start + usize::from(count)]
 }
 
-/// The first bytes of the pattern.
+/// Returns the first bytes of the pattern.
 fn first_bytes(alloc: Global, len: u32) -> Result<Vec<u8>, AllocError>
     ensures { IfOk result (λ bytes. Prepares len bytes.items) }
 {

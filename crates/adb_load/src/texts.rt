@@ -1,4 +1,4 @@
-//! What the clients and the devices of a load say.
+//! The bytes that the clients and the devices of a load send.
 
 ghost use Rattle.std.specs.Prelude.{◌≡◌, ◌≤◌, ◌++◌, [], length, drop, IfOk};
 ghost use Rattle.adb_load.specs.Acts.{IsShort, asked_of, device_packet, greeting, packet_of, piece_of, serial_of, up_bytes, down_bytes};
@@ -12,7 +12,7 @@ use adb_wire::{Command, HEADER_LEN, Head, MAX_PAYLOAD, header};
 use itoa::Buffer;
 use std::alloc::{AllocError, Global};
 
-/// The serial of a device.
+/// Returns the serial of a device.
 #[tactic(auto, using(crate::proofs::Records::serial_short))]
 pub(crate) fn serial_of(alloc: Global, link: u16) -> Result<Text, AllocError>
     ensures is { IfOk result (λ t. t ≡ serial_of link) }
@@ -23,7 +23,7 @@ pub(crate) fn serial_of(alloc: Global, link: u16) -> Result<Text, AllocError>
     Ok(serial)
 }
 
-/// What a device says first.
+/// Returns the first packet of a device.
 pub(crate) fn greeting(alloc: Global) -> Result<Text, AllocError>
     ensures is { IfOk result (λ t. t ≡ greeting) }
     ensures short { IfOk result IsShort }
@@ -36,7 +36,7 @@ pub(crate) fn greeting(alloc: Global) -> Result<Text, AllocError>
     )
 }
 
-/// The requests of a stream's client.
+/// Returns the requests of a stream's client.
 pub(crate) fn asked_of(alloc: Global, stream: u16) -> Result<Text, AllocError>
     ensures is { IfOk result (λ t. t ≡ asked_of stream) }
     ensures short { IfOk result IsShort }
@@ -47,7 +47,7 @@ pub(crate) fn asked_of(alloc: Global, stream: u16) -> Result<Text, AllocError>
     Ok(asked)
 }
 
-/// So many of the bytes that a stream's client writes, from a place on.
+/// Returns `count` of the bytes that a stream's client writes, from a place on.
 #[tactic(auto, using(crate::proofs::Records::cycle_short))]
 pub(crate) fn up_bytes(
     alloc: Global,
@@ -62,7 +62,7 @@ pub(crate) fn up_bytes(
     Text::from_slice(alloc, pattern.slice(u32::from(stream), from, count))
 }
 
-/// A write of a stream's device, or a piece of it.
+/// Returns a write of a stream's device, or a piece of it.
 pub(crate) fn answer(
     alloc: Global,
     pattern: &Pattern,
@@ -79,7 +79,7 @@ pub(crate) fn answer(
     write_piece(alloc, stream, payload, piece)
 }
 
-/// A write with that payload, or a piece of it.
+/// Returns a write with that payload, or a piece of it.
 fn write_piece(alloc: Global, stream: u16, payload: &[u8], piece: Piece) -> Result<Text, AllocError>
     requires { length payload.now ≤ MAX_PAYLOAD }
     ensures { IfOk result (λ t. t ≡ piece_of piece
@@ -93,14 +93,14 @@ fn write_piece(alloc: Global, stream: u16, payload: &[u8], piece: Piece) -> Resu
     }
 }
 
-/// What of a header comes in the second piece of its packet.
+/// Returns the part of a header that comes in the second piece of its packet.
 fn rest_of(head: &[u8; HEADER_LEN]) -> &[u8]
     ensures { result.now ≡ drop HEAD_LEN head.now }
 {
     &head[HEAD_LEN..]
 }
 
-/// A packet without a payload of a stream's device on that stream.
+/// Returns a packet without a payload of a stream's device on that stream.
 pub(crate) fn bare_packet(alloc: Global, command: Command, stream: u16) -> Result<Text, AllocError>
     ensures is { IfOk result (λ t. t ≡ device_packet command stream []) }
     ensures short { IfOk result IsShort }
@@ -108,7 +108,7 @@ pub(crate) fn bare_packet(alloc: Global, command: Command, stream: u16) -> Resul
     Text::from_slice(alloc, &device_head(command, stream, &[]))
 }
 
-/// The header of a packet of a stream's device on that stream.
+/// Returns the header of a packet of a stream's device on that stream.
 fn device_head(command: Command, stream: u16, payload: &[u8]) -> [u8; HEADER_LEN]
     requires { length payload.now ≤ MAX_PAYLOAD }
     ensures { result ++ payload.now ≡ device_packet command stream payload.now }
@@ -116,7 +116,7 @@ fn device_head(command: Command, stream: u16, payload: &[u8]) -> [u8; HEADER_LEN
     head_of(command, remote_of(stream), client_of(stream), payload)
 }
 
-/// The header of a packet whose check word is 0.
+/// Returns the header of a packet with the check word 0.
 fn head_of(command: Command, arg0: u32, arg1: u32, payload: &[u8]) -> [u8; HEADER_LEN]
     requires { length payload.now ≤ MAX_PAYLOAD }
     ensures { result ++ payload.now ≡ packet_of command arg0 arg1 payload.now }
@@ -133,7 +133,7 @@ fn head_of(command: Command, arg0: u32, arg1: u32, payload: &[u8]) -> [u8; HEADE
     bytes
 }
 
-/// Bytes, and others behind them.
+/// Returns some bytes followed by others.
 fn joined(alloc: Global, front: &[u8], back: &[u8]) -> Result<Text, AllocError>
     ensures { IfOk result (λ t. t ≡ front.now ++ back.now) }
 {

@@ -1,4 +1,4 @@
-//! The answers that a fake gave.
+//! The answers that a fake returned.
 
 ghost use Rattle.std.specs.Prelude.{◌≡◌, [], Some, option_map, is_some};
 ghost use Rattle.adb_outside.specs.Outside.{TellsOneMore};
@@ -6,8 +6,8 @@ ghost use Rattle.adb_outside.specs.Outside.{TellsOneMore};
 use std::alloc::Global;
 use std::marker::Model;
 
-/// The answers that a fake gave, in order. Where there is no memory for one more it tells none of
-/// them, from then on.
+/// The answers that a fake returned, in order. If the allocation for one more fails, the list is
+/// given up: `list` returns `None` from then on.
 #[derive(Drop)]
 pub struct Answers<T: Drop> {
     list: Option<Vec<T>>,
@@ -22,7 +22,7 @@ impl<T: Drop> Model for Answers<T> {
 }
 
 impl<T: Drop> Answers<T> {
-    /// No answer was given. It takes no memory.
+    /// Returns an empty list of answers. Allocates nothing.
     pub fn new(alloc: Global) -> Answers<T>
         ensures { result ≡ Some [] }
     {
@@ -31,7 +31,7 @@ impl<T: Drop> Answers<T> {
         }
     }
 
-    /// Notes an answer, and says whether the answers are still told.
+    /// Notes an answer. Returns whether the list is still complete.
     pub fn note(&mut self, answer: T) -> bool
         ensures told { TellsOneMore self.old answer self.new }
         ensures noted { result ≡ is_some self.new }
@@ -46,7 +46,7 @@ impl<T: Drop> Answers<T> {
         noted
     }
 
-    /// The answers in order; `None` where they are no more told.
+    /// Returns the answers in order; `None` once the list was given up.
     pub fn list(&self) -> Option<&[T]>
         ensures { option_map (λ list. list.now) result ≡ self.now }
     {

@@ -1,4 +1,4 @@
-//! How bytes are cut into frames, and what is left behind them.
+//! Cutting bytes into frames, and the remainder after the last whole frame.
 
 ghost use Rattle.std.specs.Prelude.{◌≡◌, ◌<◌, ◌≤◌, ◌++◌, [], length, take, IfOk, None};
 ghost use Rattle.adb_outside.specs.Framing.{cut, joined};
@@ -10,8 +10,8 @@ use bytes::Bytes;
 use std::alloc::{AllocError, Global};
 use std::collections::VecDeque;
 
-/// What stands behind the frames that were cut: how the bytes there are read, those bytes, and the
-/// fault there.
+/// The remainder after the frames that were cut: how its bytes are read, the bytes, and the fault
+/// there, if any.
 #[derive(Drop)]
 pub(crate) struct Behind<S: Drop, F: Drop> {
     pub(crate) format: S,
@@ -19,7 +19,7 @@ pub(crate) struct Behind<S: Drop, F: Drop> {
     pub(crate) fault: Option<F>,
 }
 
-/// Cuts what is held, and a piece behind it. What is held stays as it is.
+/// Cuts the held bytes followed by a piece. The held bytes stay as they are.
 pub(crate) fn advance<V: Drop, F: Copy, S: Format<V, F>>(
     alloc: Global,
     format: S,
@@ -42,7 +42,7 @@ pub(crate) fn advance<V: Drop, F: Copy, S: Format<V, F>>(
     behind.take(alloc, &piece[n..], ready)
 }
 
-/// Cuts bytes of which none are gathered.
+/// Cuts bytes of which none are gathered yet.
 fn cut<V: Drop, F: Copy, S: Format<V, F>>(
     alloc: Global,
     from: S,
@@ -73,7 +73,7 @@ fn cut<V: Drop, F: Copy, S: Format<V, F>>(
     })
 }
 
-/// Cuts bytes that are gathered: where they are one frame, it is not copied.
+/// Cuts gathered bytes. If they are exactly one frame, the frame is not copied.
 fn cut_gathered<V: Drop, F: Copy, S: Format<V, F>>(
     alloc: Global,
     format: S,
@@ -141,8 +141,8 @@ impl<S: Drop, F: Copy> Behind<S, F> {
         Ok(behind)
     }
 
-    /// How many of so many bytes are taken at once: what is missing to the frame that is gathered,
-    /// where one is.
+    /// Returns how many of `left` bytes are taken at once: as many as are missing to the frame that
+    /// is being gathered, if there is one.
     fn part_len<V>(&self, left: usize) -> usize
     where
         S: Format<V, F>,
@@ -157,7 +157,7 @@ impl<S: Drop, F: Copy> Behind<S, F> {
         }
     }
 
-    /// Takes a further piece.
+    /// Takes one part of a piece.
     fn take_part<V: Drop>(
         self,
         alloc: Global,

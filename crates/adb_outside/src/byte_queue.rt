@@ -7,17 +7,18 @@ use bytes::BytesMut;
 use std::alloc::{AllocError, Global};
 use std::marker::Model;
 
-/// How many bytes may be taken before memory that still holds others is given back.
+/// The number of bytes that may be taken before memory that still holds others is given back.
 const FEW: usize = 64 * 1024;
 
-/// Bytes that come at the end and go from the front. Contracts see them and its spare, which is how
-/// many more it takes without memory. The place of bytes that went is used anew, and no byte moves
-/// but where room is made or memory given back, so that all calls together are linear in the bytes.
+/// Bytes that are appended at the end and taken from the start. Contracts see them and the spare
+/// capacity, which is how many more bytes fit without an allocation. The space of bytes that were
+/// taken is reused. Bytes move only when room is made or memory is given back, so all calls
+/// together take time linear in the bytes.
 #[derive(Drop)]
 pub struct ByteQueue {
     alloc: Global,
     bytes: BytesMut,
-    /// How many bytes were taken since the memory was new.
+    /// The number of bytes taken since the memory was allocated.
     gone: usize,
 }
 
@@ -30,7 +31,7 @@ impl Model for ByteQueue {
 }
 
 impl ByteQueue {
-    /// The queue without bytes. It takes no memory.
+    /// Returns an empty queue. Allocates nothing.
     pub fn new(alloc: Global) -> ByteQueue
         ensures bytes { result.bytes ≡ [] }
         ensures spare { result.spare ≡ 0 }
@@ -42,7 +43,7 @@ impl ByteQueue {
         }
     }
 
-    /// A queue of the bytes of a text, which is moved: it takes no memory.
+    /// Returns a queue of the bytes of a text, which is moved. Allocates nothing.
     pub fn from_text(text: Text) -> ByteQueue
         ensures { result.bytes ≡ text }
     {
@@ -54,35 +55,35 @@ impl ByteQueue {
         }
     }
 
-    /// The bytes.
+    /// Returns the bytes.
     pub fn as_slice(&self) -> &[u8]
         ensures { result.now ≡ self.now.bytes }
     {
         self.bytes.as_slice()
     }
 
-    /// How many bytes there are.
+    /// Returns the number of bytes.
     pub fn len(&self) -> usize
         ensures { result ≡ length self.now.bytes }
     {
         self.bytes.len()
     }
 
-    /// Whether there are no bytes.
+    /// Returns whether the queue is empty.
     pub fn is_empty(&self) -> bool
         ensures { result ≡ (length self.now.bytes == 0) }
     {
         self.bytes.is_empty()
     }
 
-    /// How many more bytes it takes without memory.
+    /// Returns how many more bytes fit without an allocation.
     pub fn spare(&self) -> usize
         ensures { result ≡ self.now.spare }
     {
         self.bytes.capacity() - self.bytes.len()
     }
 
-    /// Makes room for `n` bytes. After want of memory the queue is as before.
+    /// Reserves room for `n` bytes. If an allocation fails, the queue is unchanged.
     pub fn reserve(&mut self, n: usize) -> Result<(), AllocError>
         ensures bytes { self.new.bytes ≡ self.old.bytes }
         ensures spare { self.old.spare ≤ self.new.spare }
@@ -92,7 +93,7 @@ impl ByteQueue {
         self.bytes.reserve(n)
     }
 
-    /// Adds bytes at the end, for which there is room. It takes no memory.
+    /// Appends bytes for which there is room. Allocates nothing.
     pub fn push_spare(&mut self, bytes: &[u8])
         requires { length bytes.now ≤ self.old.spare }
         ensures bytes { self.new.bytes ≡ self.old.bytes ++ bytes.now }
@@ -101,7 +102,7 @@ impl ByteQueue {
         self.bytes.extend_reserved(bytes);
     }
 
-    /// Adds bytes at the end. After want of memory the bytes are as before.
+    /// Appends bytes. If an allocation fails, the bytes are unchanged.
     pub fn push(&mut self, bytes: &[u8]) -> Result<(), AllocError>
         ensures ok { OnOk result (self.new.bytes ≡ self.old.bytes ++ bytes.now) }
         ensures err { OnErr result (self.new.bytes ≡ self.old.bytes) }
@@ -113,7 +114,7 @@ impl ByteQueue {
         Ok(())
     }
 
-    /// The first `n` bytes go. It takes no memory.
+    /// Removes the first `n` bytes. Allocates nothing.
     pub fn take(&mut self, n: usize)
         requires { n ≤ length self.old.bytes }
         ensures bytes { self.new.bytes ≡ drop n self.old.bytes }
@@ -126,7 +127,7 @@ impl ByteQueue {
         }
     }
 
-    /// All bytes behind the first `n` go. It takes no memory.
+    /// Removes all bytes after the first `n`. Allocates nothing.
     pub fn truncate(&mut self, n: usize)
         ensures bytes { self.new.bytes ≡ take n self.old.bytes }
         ensures spare { length self.new.bytes + self.new.spare
@@ -135,7 +136,7 @@ impl ByteQueue {
         self.bytes.truncate(n);
     }
 
-    /// All bytes go. It takes no memory.
+    /// Removes all bytes. Allocates nothing.
     pub fn clear(&mut self)
         ensures bytes { self.new.bytes ≡ [] }
         ensures spare { length self.old.bytes + self.old.spare ≤ self.new.spare }
@@ -143,8 +144,9 @@ impl ByteQueue {
         self.bytes.clear();
     }
 
-    /// Gives back memory that holds few bytes for its size: all where there are none, and else what a
-    /// copy leaves over, where several times as many went. It fails at nothing; the spare may fall.
+    /// Gives back memory that is large for the few bytes it holds: all of it if the queue is empty,
+    /// and otherwise the excess over a copy, once several times as many bytes were taken. An
+    /// allocation failure is ignored. The spare capacity may fall.
     pub fn give_back(&mut self)
         ensures { self.new.bytes ≡ self.old.bytes }
     {
@@ -157,7 +159,7 @@ impl ByteQueue {
         }
     }
 
-    /// Holds the same bytes in new memory.
+    /// Moves the bytes to new memory.
     fn renew(&mut self, bytes: BytesMut)
         requires { bytes.items ≡ self.old.bytes }
         ensures { self.new.bytes ≡ self.old.bytes }

@@ -5,8 +5,8 @@ ghost use Rattle.adb_outside.specs.Outside.{Rises, Counts, counted, counted_on};
 
 use std::marker::Model;
 
-/// Which calls of a fake fail, how many there were, and how many failed. Both counts stay at their
-/// last value.
+/// The calls of a fake that fail, the number of calls made, and the number that failed. Both counts
+/// stay at their largest value.
 #[derive(Drop)]
 pub struct Failing {
     numbers: Vec<u64>,
@@ -23,7 +23,8 @@ impl Model for Failing {
 }
 
 impl Failing {
-    /// No call was made. Those of these numbers, counted from 1, will fail. It takes no memory.
+    /// Returns the state before the first call. The calls with these numbers, counted from 1, will
+    /// fail. Allocates nothing.
     pub fn new(numbers: Vec<u64>) -> Failing
         ensures { result ≡ record { failing = numbers.items; calls = 0; faults = 0 } }
     {
@@ -34,7 +35,7 @@ impl Failing {
         }
     }
 
-    /// Counts a call, and says whether it fails, which is counted too.
+    /// Counts a call, and returns whether it fails. A failure is counted too.
     pub fn fails(&mut self) -> bool
         ensures fails { IsTrue result ↔ Contains self.old.failing self.new.calls }
         ensures calls { self.new.calls ≡ counted_on self.old.calls }

@@ -1,4 +1,4 @@
-//! Cutting a stream of bytes into frames, in whatever pieces it comes.
+//! Cutting a stream of bytes into frames, whatever pieces it comes in.
 
 ghost use Rattle.std.specs.Prelude.{◌≡◌, ◌++◌, [], List, ℕ, IfOk, IfSome, length, Option, Some, None, Ok, true, ◌≢◌};
 ghost use Rattle.adb_outside.specs.Framing.{cut, uncut, fault_of, answer_of, Takes, Gives, Stands};
@@ -10,19 +10,19 @@ use std::alloc::{AllocError, Global};
 use std::collections::VecDeque;
 use std::marker::Model;
 
-/// What a front of the bytes is, by a format.
+/// The beginning of some bytes, as a format reads it.
 #[derive(Clone, Copy, Debug, PartialEq, Eq, Drop)]
 pub enum Front<F> {
     /// No whole frame yet, and no fault.
     More,
-    /// No frame of the format begins so.
+    /// No frame of the format begins like this.
     Bad(F),
     /// A frame of that many bytes.
     Whole(usize),
 }
 
 impl<F: Copy> Front<F> {
-    /// The fault, where it is one.
+    /// Returns the fault, if this is one.
     pub(crate) fn fault(self) -> Option<F>
         ensures { result ≡ fault_of self }
     {
@@ -34,32 +34,32 @@ impl<F: Copy> Front<F> {
     }
 }
 
-/// How a stream is cut into frames, each of which holds a `V`, with faults `F`. The value itself
-/// says how the bytes at its place are read.
+/// A framing of a byte stream: each frame decodes to a `V`, and faults are `F`. The value of the
+/// format determines how the bytes at its place in the stream are read.
 pub trait Format<V, F>: Copy {
     ghost use Rattle.std.specs.Prelude.{◌≡◌, List, ℕ, IfOk, length};
     ghost use Rattle.adb_outside.specs.declared.framer.Front.{Front};
     ghost use Rattle.adb_outside.specs.Framing.{IsFraming};
 
-    /// What a front of the bytes is.
+    /// The beginning of some bytes: no whole frame yet, a fault, or a whole frame.
     ghost find: { Self → List ℕ → Front F };
 
-    /// What a whole frame holds.
+    /// The value of a whole frame.
     ghost item: { Self → List ℕ → V };
 
-    /// How the bytes after a whole frame are read.
+    /// The format of the bytes after a whole frame.
     ghost after: { Self → List ℕ → Self };
 
-    /// What the bytes begin with.
+    /// Returns what the bytes begin with.
     fn front(&self, bytes: &[u8]) -> Front<F>
         ensures { result ≡ find self.now bytes.now };
 
-    /// What a whole frame holds.
+    /// Decodes a whole frame.
     fn read(&self, alloc: Global, frame: &[u8]) -> Result<V, AllocError>
         requires { find self.now frame.now ≡ Front.Whole (length frame.now) }
         ensures { IfOk result (λ v. v ≡ item self.now frame.now) };
 
-    /// The same, where the frame is gathered already, and may be kept.
+    /// Decodes a whole frame that is already gathered; the value may keep its bytes.
     fn keep(&self, alloc: Global, frame: Bytes) -> Result<V, AllocError>
         requires { find self.now frame ≡ Front.Whole (length frame) }
         ensures { IfOk result (λ v. v ≡ item self.now frame) }
@@ -67,32 +67,32 @@ pub trait Format<V, F>: Copy {
         self.read(alloc, frame.as_slice())
     }
 
-    /// How many bytes are missing at least to a frame that begins so, where that is known: no more
-    /// are gathered with it.
+    /// Returns how many bytes at least are missing to a frame that begins with these bytes, if that
+    /// is known. No more than that are gathered with them.
     fn missing(&self, _bytes: &[u8]) -> Option<usize> {
         None
     }
 
-    /// How the bytes after a whole frame are read.
+    /// Returns the format of the bytes after a whole frame.
     fn past(&self, frame: &[u8]) -> Self
         requires { find self.now frame.now ≡ Front.Whole (length frame.now) }
         ensures { result ≡ after self.now frame.now };
 
-    /// Whether a front is a whole frame or a fault stays so, whatever follows.
+    /// A prefix that is a whole frame or a fault stays one, whatever bytes follow.
     ghost framing: { IsFraming find item after };
 }
 
-/// Why bytes were not taken.
+/// The reason why bytes were not taken.
 #[derive(Clone, Copy, Debug, PartialEq, Eq, Drop)]
 pub enum FeedError<F> {
-    /// Memory ran out. Nothing changed.
+    /// An allocation failed. Nothing changed.
     OutOfMemory,
-    /// The first fault of all the bytes that were fed. It stays.
+    /// The first fault of all the bytes that were fed. It persists.
     Fault(F),
 }
 
-/// The frames of a stream that comes in pieces. It holds the bytes past the last whole frame and the
-/// frames that were not yet taken, never the stream.
+/// The frames of a stream that comes in pieces. A framer holds the bytes past the last whole frame
+/// and the frames that were not taken yet, never the whole stream.
 #[derive(Drop)]
 pub struct Framer<S: Drop, V: Drop, F: Drop> {
     alloc: Global,
@@ -111,7 +111,7 @@ impl<S: Drop, V: Drop, F: Drop> Model for Framer<S, V, F> {
 }
 
 impl<V: Drop, F: Copy, S: Format<V, F>> Framer<S, V, F> {
-    /// Nothing was fed yet. It takes no memory.
+    /// Returns a framer to which nothing was fed. Allocates nothing.
     pub fn new(alloc: Global, format: S) -> Framer<S, V, F>
         ensures value { result ≡ record { given = []; reading = format; rest = []; fault = None } }
         ensures stands { Stands S.find S.item S.after format [] [] result }
@@ -125,7 +125,8 @@ impl<V: Drop, F: Copy, S: Format<V, F>> Framer<S, V, F> {
         }
     }
 
-    /// How the next bytes are read, where nothing is held and there is no fault. It takes no memory.
+    /// Returns the format of the next bytes if nothing is held and there is no fault. Allocates
+    /// nothing.
     pub fn idle(&self) -> Option<S>
         ensures { IfSome result (λ format. self.now ≡ uncut format [] None) }
     {
@@ -136,30 +137,32 @@ impl<V: Drop, F: Copy, S: Format<V, F>> Framer<S, V, F> {
         }
     }
 
-    /// The bytes past the last whole frame.
+    /// Returns the bytes past the last whole frame.
     pub fn rest(&self) -> &[u8]
         ensures { result.now ≡ self.now.rest }
     {
         self.held.as_slice()
     }
 
-    /// The first fault of all the bytes that were fed, if they have one.
+    /// Returns the first fault of all the bytes that were fed, if there is one.
     pub fn fault(&self) -> Option<F>
         ensures { result ≡ self.now.fault }
     {
         self.fault
     }
 
-    /// The next frame that was not yet taken; `None` where no further whole one was fed. It takes no
-    /// memory.
+    /// Takes the next frame. Returns `None` if no further whole frame was fed. Allocates nothing.
     pub fn next(&mut self) -> Option<V>
         ensures { Gives S.find S.item S.after self.old self.new result }
     {
         self.ready.pop_front()
     }
 
-    /// Takes the next piece of the stream. A fault is that of all the bytes fed so far; the frames
-    /// before it are still given, and from then on every call answers it and takes nothing.
+    /// Takes the next piece of the stream.
+    ///
+    /// `OutOfMemory`: an allocation failed; nothing changed. `Fault`: the bytes fed so far have
+    /// this fault. The frames before it can still be taken; every later call returns the same fault
+    /// and takes nothing.
     pub fn feed(&mut self, piece: &[u8]) -> Result<(), FeedError<F>>
         ensures memory { result ≡ Err FeedError.OutOfMemory → self.new ≡ self.old }
         ensures taken { result ≢ Err FeedError.OutOfMemory
@@ -197,7 +200,8 @@ impl<V: Drop, F: Copy, S: Format<V, F>> Framer<S, V, F> {
         }
     }
 
-    /// A piece that completes nothing, as far as the format knows, is gathered; says whether it was.
+    /// Gathers a piece if, as far as the format knows, it completes nothing. Returns whether it was
+    /// gathered.
     fn wait(&mut self, piece: &[u8]) -> Result<bool, AllocError>
         ensures waits { result ≡ Ok true
             → (self.new ≡ record self.old { rest = self.old.rest ++ piece.now })
@@ -218,8 +222,8 @@ impl<V: Drop, F: Copy, S: Format<V, F>> Framer<S, V, F> {
         Ok(false)
     }
 
-    /// Another that holds what this one does, but for its frames, and a further piece; this one
-    /// stays as it is.
+    /// Returns another framer that holds the same bytes, but none of the frames, and takes a
+    /// further piece. This framer stays as it is. Fails if an allocation fails.
     pub fn with_piece(&mut self, piece: &[u8]) -> Result<Framer<S, V, F>, AllocError>
         requires { self.old.fault ≡ None }
         ensures stays { self.new ≡ self.old }
@@ -237,7 +241,7 @@ impl<V: Drop, F: Copy, S: Format<V, F>> Framer<S, V, F> {
         })
     }
 
-    /// What is behind a piece takes the place of what was held.
+    /// Replaces the held bytes by the remainder after a piece.
     fn go_on(&mut self, behind: Behind<S, F>)
         ensures { self.new ≡ record {
           given = self.old.given;

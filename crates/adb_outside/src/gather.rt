@@ -1,4 +1,4 @@
-//! Bytes that are gathered to a whole, and then shared.
+//! A buffer that gathers bytes and then shares them.
 
 ghost use Rattle.std.specs.Prelude.{◌≡◌, ◌==◌, ◌≤◌, ◌++◌, [], length, take, OnOk, OnErr, IfOk, MatchResult};
 ghost use Rattle.adb_outside.specs.Gathered.{IsApart};
@@ -8,12 +8,12 @@ use std::alloc::{AllocError, AllocFailed, Global};
 use std::marker::Model;
 use std::mem;
 
-/// Bytes that come at the end, until all of them are shared as one slice with no copy. Contracts see
-/// them as a list. It may still hold a front of what it shared.
+/// Bytes that are appended until all of them are shared as one slice, without a copy. Contracts see
+/// them as a list. The buffer may still hold a prefix of the bytes that it shared.
 #[derive(Drop)]
 pub(crate) struct Gather {
     alloc: Global,
-    /// What was shared; then nothing grows.
+    /// The shared bytes. If there are any, no bytes are growing.
     shared: Bytes,
     growing: BytesMut,
 }
@@ -30,14 +30,14 @@ impl Model for Gather {
 }
 
 impl Gather {
-    /// No bytes. It takes no memory.
+    /// Returns a buffer without bytes. Allocates nothing.
     pub(crate) fn new(alloc: Global) -> Gather
         ensures { result ≡ [] }
     {
         Gather::of(alloc, Bytes::new())
     }
 
-    /// Bytes that are shared. It takes no memory.
+    /// Returns a buffer of shared bytes. Allocates nothing.
     pub(crate) fn of(alloc: Global, shared: Bytes) -> Gather
         ensures { result ≡ shared }
     {
@@ -48,7 +48,7 @@ impl Gather {
         }
     }
 
-    /// The bytes.
+    /// Returns the bytes.
     pub(crate) fn as_slice(&self) -> &[u8]
         ensures { result.now ≡ self.now }
     {
@@ -59,14 +59,14 @@ impl Gather {
         }
     }
 
-    /// Whether there are no bytes.
+    /// Returns whether there are no bytes.
     pub(crate) fn is_empty(&self) -> bool
         ensures { result ≡ (length self.now == 0) }
     {
         self.as_slice().is_empty()
     }
 
-    /// Adds bytes at the end. After want of memory the bytes are as before.
+    /// Appends bytes. If an allocation fails, the bytes are unchanged.
     pub(crate) fn push(&mut self, piece: &[u8]) -> Result<(), AllocError>
         ensures ok { OnOk result (self.new ≡ self.old ++ piece.now) }
         ensures err { OnErr result (self.new ≡ self.old) }
@@ -74,7 +74,7 @@ impl Gather {
         grow(self.alloc, &mut self.shared, &mut self.growing, piece)
     }
 
-    /// All bytes behind the first `n` go. It takes no memory.
+    /// Removes all bytes after the first `n`. Allocates nothing.
     pub(crate) fn truncate(&mut self, n: usize)
         ensures { self.new ≡ take n self.old }
     {
@@ -82,8 +82,8 @@ impl Gather {
         self.shared.truncate(n);
     }
 
-    /// The bytes, and a piece behind them, as one slice; none of the bytes is copied, but where
-    /// others still share them. They stay.
+    /// Returns the bytes followed by a piece, as one slice. The bytes are copied only if others
+    /// still share them. They stay in the buffer.
     pub(crate) fn join(&mut self, piece: &[u8]) -> Result<Bytes, AllocError>
         ensures all { IfOk result (λ all. all ≡ self.old ++ piece.now) }
         ensures stays { self.new ≡ self.old }
@@ -102,7 +102,7 @@ impl Gather {
     }
 }
 
-/// Adds bytes at the end of those that grow; what was shared is then no more.
+/// Appends bytes to those that grow. Shared bytes become growing ones first.
 fn grow(
     alloc: Global,
     shared: &mut Bytes,
@@ -129,7 +129,7 @@ fn grow(
     growing.extend_from_slice(piece)
 }
 
-/// Bytes that can grow: a copy where others share them too.
+/// Returns bytes that can grow: a copy if others share them too.
 fn own(alloc: Global, shared: Bytes) -> Result<BytesMut, Bytes>
     ensures { MatchResult result (λ own. own.items ≡ shared) (λ back. back ≡ shared) }
 {
@@ -142,7 +142,7 @@ fn own(alloc: Global, shared: Bytes) -> Result<BytesMut, Bytes>
     }
 }
 
-/// Puts the first `len` bytes of a slice where no bytes are, and gives all of it.
+/// Stores the first `len` bytes of a slice in `front`, which is empty, and returns the whole slice.
 fn share_front(front: &mut Bytes, all: Bytes, len: usize) -> Result<Bytes, AllocError>
     requires { len ≤ length all }
     ensures given { IfOk result (λ given. given ≡ all) }

@@ -1,4 +1,4 @@
-//! Bytes that are handed out.
+//! Bytes to hand out.
 
 ghost use Rattle.std.specs.Prelude.{◌≡◌, ◌==◌, ◌≤◌, ◌++◌, length, bytes_eq, IfOk};
 
@@ -7,14 +7,14 @@ use bytes::Bytes;
 use std::alloc::AllocError;
 use std::marker::Model;
 
-/// How many bytes a hand-out holds in its own place, before those that it shares.
+/// The number of bytes that a hand-out holds inline, before those that it shares.
 pub const MAX_START: usize = 32;
 
-/// From how many bytes on a slice is left where it lies: a shorter one is copied together with what
-/// stands before and behind it.
+/// The length from which a slice is handed out without a copy. A shorter slice is copied together
+/// with the bytes before and after it.
 pub const MIN_SHARED: usize = 4096;
 
-/// A few bytes in their own place. Contracts see them as their list.
+/// A few bytes that are stored inline. Contracts see them as their list.
 #[derive(Drop)]
 struct Start {
     bytes: [u8; MAX_START],
@@ -53,7 +53,7 @@ impl Start {
     }
 }
 
-/// Where the bytes are.
+/// The storage of the bytes.
 #[derive(Drop)]
 enum Store {
     Own(Text),
@@ -61,9 +61,8 @@ enum Store {
     Framed(Start, Bytes),
 }
 
-/// Bytes that are handed out: a text of their own, or a part of bytes that others hold too and that
-/// nobody writes, so that they need not be copied, behind a header or nothing. Contracts see them as
-/// their list.
+/// Bytes to hand out: a text of their own, or an optional header followed by bytes that are shared
+/// with others and never written, so they need no copy. Contracts see them as their list.
 #[derive(Drop)]
 pub struct HandOut {
     store: Store,
@@ -78,7 +77,7 @@ impl Model for HandOut {
     ghost view = { λ h. stored h.store };
 }
 
-/// The two parts that the bytes of a hand-out lie in, one behind the other. Each may be empty.
+/// The two consecutive parts of a hand-out's bytes. Each may be empty.
 #[derive(Clone, Copy, Drop)]
 pub struct Parts<'a> {
     pub start: &'a [u8],
@@ -86,7 +85,7 @@ pub struct Parts<'a> {
 }
 
 impl HandOut {
-    /// The bytes of a text, which is moved. It takes no memory.
+    /// Returns the bytes of a text, which is moved. Allocates nothing.
     pub fn own(text: Text) -> HandOut
         ensures { result ≡ text }
     {
@@ -95,7 +94,7 @@ impl HandOut {
         }
     }
 
-    /// Bytes that others may hold too. It takes no memory.
+    /// Returns bytes that others may hold too. Allocates nothing.
     pub fn shared(bytes: Bytes) -> HandOut
         ensures { result ≡ bytes }
     {
@@ -104,8 +103,8 @@ impl HandOut {
         }
     }
 
-    /// A start, which is copied to its own place, and behind it bytes that others may hold too. It
-    /// takes no memory.
+    /// Returns a start, which is copied inline, followed by bytes that others may hold too.
+    /// Allocates nothing.
     pub fn framed(start: &[u8], bytes: Bytes) -> HandOut
         requires { length start.now ≤ MAX_START }
         ensures { result ≡ start.now ++ bytes }
@@ -115,7 +114,7 @@ impl HandOut {
         }
     }
 
-    /// The bytes, where they are. The start is short.
+    /// Returns the bytes as the two parts in which they are stored. The first part is short.
     pub fn parts(&self) -> Parts<'_>
         ensures is { result.start.now ++ result.rest.now ≡ self.now }
         ensures short { length result.start.now ≤ MAX_START }
@@ -136,7 +135,7 @@ impl HandOut {
         }
     }
 
-    /// Whether the bytes are the same, wherever they are.
+    /// Returns whether both hold the same bytes, however they are stored.
     #[tactic(auto, using(crate::proofs::Joined::turned))]
     pub fn equals(&self, other: &HandOut) -> bool
         ensures { result ≡ bytes_eq self.now other.now }
@@ -149,7 +148,7 @@ impl HandOut {
         are_same(one.start, one.rest, two.start, two.rest)
     }
 
-    /// How many bytes there are.
+    /// Returns the number of bytes.
     pub fn len(&self) -> usize
         ensures { result ≡ length self.now }
     {
@@ -157,14 +156,15 @@ impl HandOut {
         start.len() + rest.len()
     }
 
-    /// Whether there are no bytes.
+    /// Returns whether there are no bytes.
     pub fn is_empty(&self) -> bool
         ensures { result ≡ (length self.now == 0) }
     {
         self.len() == 0
     }
 
-    /// The same bytes. Those of a text are copied, and shared ones are not.
+    /// Returns the same bytes. The bytes of a text are copied; shared bytes are not. Fails if an
+    /// allocation fails.
     pub fn copy(&self) -> Result<HandOut, AllocError>
         ensures { IfOk result (λ h. h ≡ self.now) }
     {
@@ -176,7 +176,7 @@ impl HandOut {
     }
 }
 
-/// Whether the bytes in two parts are those in two others, of which the first is no longer.
+/// Returns whether two parts hold the same bytes as two others, the first of which is no longer.
 #[tactic(auto, using(crate::proofs::Joined::same_parts))]
 fn are_same(start: &[u8], rest: &[u8], shorter: &[u8], more: &[u8]) -> bool
     requires { length shorter.now ≤ length start.now }
@@ -186,7 +186,7 @@ fn are_same(start: &[u8], rest: &[u8], shorter: &[u8], more: &[u8]) -> bool
     front == shorter && are_joined(back, rest, more)
 }
 
-/// Whether two parts, one behind the other, are the bytes.
+/// Returns whether two consecutive parts are the bytes.
 #[tactic(auto, using(crate::proofs::Joined::both_are, crate::proofs::Joined::too_few))]
 fn are_joined(start: &[u8], rest: &[u8], bytes: &[u8]) -> bool
     ensures { result ≡ bytes_eq (start.now ++ rest.now) bytes.now }

@@ -1,28 +1,29 @@
-//! Who a device says that it is.
+//! The identity that a device reports.
 
 ghost use Rattle.std.specs.Prelude.{◌≡◌};
 ghost use Rattle.adb_outside.specs.Identity.{state_of_system, text_of_state};
 
 use crate::text::Text;
 
-/// What a device can do for a client (SERVICES.TXT, `<host-prefix>:get-state`).
+/// The state of a device, as far as clients are concerned (SERVICES.TXT,
+/// `<host-prefix>:get-state`).
 #[derive(Clone, Copy, Debug, PartialEq, Eq, Drop)]
 pub enum State {
-    /// It is plugged in, and has not said who it is.
+    /// Plugged in, but the device has not sent its identity.
     Offline,
-    /// It asked for what this server does not answer: a signature, or TLS.
+    /// The device asked for something that this server does not support: a signature, or TLS.
     Unauthorized,
     Device,
     Bootloader,
     Recovery,
     Sideload,
     Rescue,
-    /// It named a system that is none of these.
+    /// The device named a system that is none of these.
     Host,
 }
 
-/// What a device's CNXN says of it (protocol.txt, "The CONNECT message"). A text that it did not
-/// give is empty.
+/// The identity in a device's CNXN (protocol.txt, "The CONNECT message"). A text that the device
+/// did not send is empty.
 #[derive(Drop)]
 pub struct Identity {
     pub system: Text,
@@ -33,8 +34,8 @@ pub struct Identity {
     pub features: Text,
 }
 
-/// The state that the system of an identity means: `device`, `bootloader`, `recovery`, `sideload`
-/// or `rescue`, and `Host` for every other.
+/// Returns the state that the system of an identity means: `device`, `bootloader`, `recovery`,
+/// `sideload` or `rescue`, and `Host` for every other.
 pub fn state_of(identity: &Identity) -> State
     ensures { result ≡ state_of_system identity.now.system }
 {
@@ -54,7 +55,7 @@ pub fn state_of(identity: &Identity) -> State
     }
 }
 
-/// The state as replies and lists print it.
+/// Returns the state as replies and lists print it.
 pub fn state_text(state: State) -> &'static [u8]
     ensures { result.now ≡ text_of_state state }
 {

@@ -1,15 +1,16 @@
-//! The small enums that entries and requests are made of.
+//! The small enums that entries and requests consist of.
 
 use crate::text::Text;
 
-/// How a device is plugged in.
+/// The kind of a device's connection.
 #[derive(Clone, Copy, Debug, PartialEq, Eq, Drop)]
 pub enum Kind {
     Usb,
     Local,
 }
 
-/// Why an input ended: the port ended, it failed, memory ran out, or no thread could be had.
+/// The reason why an input ended: the port ended, it failed, an allocation failed, or no thread
+/// could be started.
 #[derive(Clone, Copy, Debug, PartialEq, Eq, Drop)]
 pub enum Cause {
     Eof,
@@ -18,14 +19,14 @@ pub enum Cause {
     NoThread,
 }
 
-/// Which devices a request means (SERVICES.TXT: `host:transport` and its kin).
+/// The devices that a request means (SERVICES.TXT: `host:transport` and its kin).
 #[derive(Drop)]
 pub enum Selector {
     Any,
     Usb,
     Local,
-    /// The device of this serial.
+    /// The device with this serial.
     Serial(Text),
-    /// The device of this transport id.
+    /// The device with this transport id.
     Id(u32),
 }

@@ -1,4 +1,4 @@
-//! The limits as numbers.
+//! The limits as numbers. The function does nothing: its contract is the law.
 
 ghost use Rattle.std.specs.Prelude.{◌≡◌};
 ghost use Rattle.adb_outside.specs.declared.asked.TheConstants.{MAX_ASKED};
@@ -6,7 +6,7 @@ ghost use Rattle.adb_outside.specs.declared.hand_out.TheConstants.{MAX_START};
 ghost use Rattle.adb_outside.specs.declared.remote.TheConstants.{MAX_REMOTE};
 ghost use Rattle.adb_outside.specs.declared.serial.TheConstants.{MAX_SERIAL};
 
-/// The numbers of the limits, which definitions name.
+/// States the values of the limits, for the definitions that name them.
 pub fn limits_are()
     ensures serial { MAX_SERIAL ≡ 64 }
     ensures remote { MAX_REMOTE ≡ 512 }

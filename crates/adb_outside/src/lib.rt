@@ -1,5 +1,5 @@
-//! The plain types of the host server, the traits of what lies outside it with their fakes in
-//! memory, and how a stream is cut into frames.
+//! The plain types of the host server, the traits of the outside world with their fakes in memory,
+//! and the cutting of a stream into frames.
 #![tactic(auto)]
 
 mod answers;

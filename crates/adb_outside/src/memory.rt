@@ -1,4 +1,4 @@
-//! A source and a sink in memory, which fail where a test wants it.
+//! A source and a sink in memory that fail at the calls that a test chooses.
 
 ghost use Rattle.std.specs.Prelude.{◌≡◌, ◌<◌, ◌≤◌, [], length, Some};
 ghost use Rattle.adb_outside.specs.Outside.{Counts, Rises, counted_on};
@@ -14,7 +14,7 @@ use crate::text::Text;
 use std::alloc::Global;
 use std::marker::Model;
 
-/// A source of the bytes of a text. It tells what is left.
+/// A source of the bytes of a text. It shows the bytes that are left.
 #[derive(Drop)]
 pub struct MemorySource {
     supply: Supply,
@@ -36,8 +36,8 @@ impl Model for MemorySource {
 }
 
 impl MemorySource {
-    /// A source that gives at most `piece` bytes a call, and fails at the calls whose numbers,
-    /// counted from 1, are in `failing`. It takes no memory.
+    /// Returns a source that gives at most `piece` bytes a call and fails at the calls listed in
+    /// `failing` by number, counted from 1. Allocates nothing.
     pub fn new(bytes: Text, piece: usize, failing: Vec<u64>) -> MemorySource
         requires { 1 ≤ piece }
         ensures { result ≡ record {
@@ -54,7 +54,7 @@ impl MemorySource {
         }
     }
 
-    /// Counts a fault of another call than a read.
+    /// Counts a fault of a call other than a read.
     pub fn count_fault(&mut self)
         ensures is { self.new ≡ record self.old { faults = counted_on self.old.faults } }
         ensures count { self.old.faults ≤ self.new.faults }
@@ -73,7 +73,7 @@ impl Source for MemorySource {
 
     ghost steady = { λ s. s.failing ≡ [] };
 
-    /// It fails at the calls whose numbers are in the list, and gives as much as it may.
+    /// Fails at the listed calls. Otherwise gives as many bytes as allowed.
     fn read(&mut self, into: &mut [u8]) -> Got
         requires { 0 < length into.old }
         ensures fits { FitsBuffer into.old result }
@@ -89,8 +89,8 @@ impl Source for MemorySource {
     }
 }
 
-/// A sink that keeps the bytes. It tells them. A write that finds no memory is a failed write, so
-/// it is never steady.
+/// A sink that keeps the bytes and shows them. A write for which an allocation fails is a failed
+/// write, so `steady` never holds.
 #[derive(Drop)]
 pub struct MemorySink {
     written: Vec<u8>,
@@ -111,8 +111,8 @@ impl Model for MemorySink {
 }
 
 impl MemorySink {
-    /// A sink that fails at the calls whose numbers, counted from 1, are in `failing`; a failing
-    /// write takes nothing. It takes no memory.
+    /// Returns a sink that fails at the calls listed in `failing` by number, counted from 1; a
+    /// failed write takes nothing. Allocates nothing.
     pub fn new(alloc: Global, failing: Vec<u64>) -> MemorySink
         ensures { result ≡ record { out = []; failing = failing.items; calls = 0; faults = 0 } }
     {
@@ -122,7 +122,7 @@ impl MemorySink {
         }
     }
 
-    /// The bytes that were written.
+    /// Returns the bytes that were written.
     pub fn bytes(&self) -> &[u8]
         ensures { result.now ≡ self.now.out }
     {
@@ -139,8 +139,7 @@ impl Sink for MemorySink {
 
     ghost steady = { λ s. ⊥ };
 
-    /// It fails at the calls whose numbers are in the list, and where it finds no memory. A write
-    /// that fails takes nothing.
+    /// Fails at the listed calls, and if an allocation fails. A failed write takes nothing.
     fn write(&mut self, piece: &[u8]) -> Wrote
         requires { 0 < length piece.now }
         ensures fits { FitsPiece piece.now result }

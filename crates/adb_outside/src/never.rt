@@ -2,12 +2,12 @@
 
 use crate::sink::{Sink, Wrote};
 
-/// A sink that takes all bytes and tells nothing of them. It never fails.
+/// A sink that takes all bytes and shows none of them. It never fails.
 #[derive(Drop)]
 pub struct NeverSink {}
 
 impl NeverSink {
-    /// It takes no memory.
+    /// Returns a sink. Allocates nothing.
     pub fn new() -> NeverSink {
         NeverSink {}
     }

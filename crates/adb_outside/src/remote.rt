@@ -1,4 +1,4 @@
-//! How long the remote end of a forward may be.
+//! The maximum length of the remote end of a forward.
 
-/// The most bytes of the remote end of a forward.
+/// The maximum length in bytes of the remote end of a forward.
 pub const MAX_REMOTE: usize = 512;

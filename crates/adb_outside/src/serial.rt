@@ -1,20 +1,20 @@
-//! Which bytes can be a device's serial.
+//! The bytes that can be a device's serial.
 
 ghost use Rattle.std.specs.Prelude.{◌≡◌};
 ghost use Rattle.adb_outside.specs.Bytes.{is_graphic};
 ghost use Rattle.adb_outside.specs.Serial.{is_serial};
 
-/// The most bytes of a serial.
+/// The maximum length in bytes of a serial.
 pub const MAX_SERIAL: usize = 64;
 
-/// Whether it can be a device's serial: 1 to 64 bytes of 0x21 to 0x7e.
+/// Returns whether a text can be a device's serial: 1 to 64 bytes of 0x21 to 0x7e.
 pub fn is_serial(serial: &[u8]) -> bool
     ensures { result ≡ is_serial serial.now }
 {
     !serial.is_empty() && serial.len() <= MAX_SERIAL && is_graphic(serial)
 }
 
-/// Whether each byte is printed in ASCII and is no space: 0x21 to 0x7e.
+/// Returns whether each byte is a printable ASCII character other than a space: 0x21 to 0x7e.
 pub fn is_graphic(text: &[u8]) -> bool
     ensures { result ≡ is_graphic text.now }
 {

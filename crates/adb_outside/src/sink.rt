@@ -1,6 +1,6 @@
-//! Where bytes go.
+//! Sinks of bytes.
 
-/// What became of a write.
+/// The result of a write.
 #[derive(Clone, Copy, Debug, PartialEq, Eq, Drop)]
 pub enum Wrote {
     /// The whole piece went out.
@@ -15,17 +15,17 @@ pub trait Sink {
     ghost use Rattle.adb_outside.specs.Outside.{Counts};
     ghost use Rattle.adb_outside.specs.Sink.{FitsPiece, TellsWrite, is_failed_write};
 
-    /// How many of its writes failed. A count at its last value counts as having risen.
+    /// The number of writes that failed. A count at its largest value counts as having risen.
     ghost faults: { Self → ℕ };
 
-    /// The bytes that went out, where the sink tells them.
+    /// The bytes that went out, if the sink shows them.
     ghost written: { Self → Option (List ℕ) };
 
-    /// It never fails.
+    /// No write fails.
     ghost steady: { Self → Type 0 };
 
-    /// Writes the piece, which holds at least one byte. The count of faults rises at `Failed`,
-    /// where the first `taken` bytes of the piece went out, and stands at `All`.
+    /// Writes a piece, which holds at least one byte. At `Failed` the count of faults rises, and
+    /// the first `taken` bytes of the piece went out. At `All` the count is unchanged.
     fn write(&mut self, piece: &[u8]) -> Wrote
         requires { 0 < length piece.now }
         ensures fits { FitsPiece piece.now result }

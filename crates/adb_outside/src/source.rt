@@ -1,11 +1,11 @@
-//! Where bytes come from.
+//! Sources of bytes.
 
-/// What a read gave.
+/// The result of a read.
 #[derive(Clone, Copy, Debug, PartialEq, Eq, Drop)]
 pub enum Got {
-    /// That many bytes, at least one, stand at the front of the buffer.
+    /// That many bytes, at least one, are at the start of the buffer.
     Bytes(usize),
-    /// Nothing more comes.
+    /// No more bytes come.
     End,
     /// The read failed. No byte was taken.
     Failed,
@@ -17,18 +17,18 @@ pub trait Source {
     ghost use Rattle.adb_outside.specs.Outside.{Counts};
     ghost use Rattle.adb_outside.specs.Source.{FitsBuffer, TellsRead, is_failed_read};
 
-    /// How many of its reads failed. A count at its last value counts as having risen.
+    /// The number of reads that failed. A count at its largest value counts as having risen.
     ghost faults: { Self → ℕ };
 
-    /// The bytes that are still to come, where the source tells them.
+    /// The bytes that are still to come, if the source shows them.
     ghost left: { Self → Option (List ℕ) };
 
-    /// It never fails.
+    /// No read fails.
     ghost steady: { Self → Type 0 };
 
-    /// Reads some of the bytes that are still to come into the front of the buffer, which holds at
-    /// least one byte. `End` comes exactly where none are left, where the source tells them. The
-    /// count of faults rises at `Failed`, and stands at every other answer.
+    /// Reads some of the bytes that are still to come into the start of the buffer, which holds at
+    /// least one byte. If the source shows its bytes, it returns `End` exactly when none are left.
+    /// The count of faults rises at `Failed` and is unchanged at every other answer.
     fn read(&mut self, into: &mut [u8]) -> Got
         requires { 0 < length into.old }
         ensures fits { FitsBuffer into.old result }

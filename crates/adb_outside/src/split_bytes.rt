@@ -6,8 +6,8 @@ use crate::hand_out::Parts;
 use bytes::Bytes;
 use std::marker::Model;
 
-/// Shared bytes that lie in two slices, one behind the other: what reaches over two memories needs
-/// not be copied into one. Either slice may be empty. Contracts see them as one list.
+/// Shared bytes in two consecutive slices, so that a text that spans two buffers needs no copy into
+/// one. Either slice may be empty. Contracts see them as one list.
 #[derive(Drop)]
 pub struct SplitBytes {
     front: Bytes,
@@ -23,14 +23,14 @@ impl Model for SplitBytes {
 }
 
 impl SplitBytes {
-    /// One slice behind another. It takes no memory.
+    /// Returns one slice followed by another. Allocates nothing.
     pub fn new(front: Bytes, back: Bytes) -> SplitBytes
         ensures { result ≡ front ++ back }
     {
         SplitBytes { front, back }
     }
 
-    /// Bytes that lie in one slice. It takes no memory.
+    /// Returns bytes that lie in one slice. Allocates nothing.
     pub fn whole(bytes: Bytes) -> SplitBytes
         ensures { result ≡ bytes }
     {
@@ -40,7 +40,7 @@ impl SplitBytes {
         }
     }
 
-    /// The bytes, where they are.
+    /// Returns the two parts of the bytes.
     pub fn parts(&self) -> Parts<'_>
         ensures { result.start.now ++ result.rest.now ≡ self.now }
     {
@@ -50,14 +50,14 @@ impl SplitBytes {
         }
     }
 
-    /// How many bytes there are.
+    /// Returns the number of bytes.
     pub fn len(&self) -> usize
         ensures { result ≡ length self.now }
     {
         self.front.len() + self.back.len()
     }
 
-    /// Those of the first slice, or of the second where the first is empty.
+    /// Returns the first slice, or the second if the first is empty.
     pub fn first(&self) -> &Bytes
         ensures { result.now ≡ take (length result.now) self.now }
     {
@@ -68,7 +68,7 @@ impl SplitBytes {
         }
     }
 
-    /// The first `n` bytes go. It takes no memory.
+    /// Removes the first `n` bytes. Allocates nothing.
     pub fn advance(&mut self, n: usize)
         requires { n ≤ length self.old }
         ensures { self.new ≡ drop n self.old }

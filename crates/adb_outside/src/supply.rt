@@ -1,4 +1,4 @@
-//! The bytes of a text, given piece by piece.
+//! The bytes of a text, read piece by piece.
 
 ghost use Rattle.std.specs.Prelude.{◌≡◌, ◌≢◌, ◌≤◌, ◌<◌, ℕ, length, Some};
 ghost use Rattle.adb_outside.specs.Source.{FitsBuffer, TellsRead};
@@ -9,7 +9,7 @@ use crate::source::Got;
 use crate::text::Text;
 use std::marker::Model;
 
-/// The bytes of a text that were not given yet, of which each call gives at most so many.
+/// The bytes of a text that were not read yet. Each call gives at most a fixed number of them.
 #[derive(Drop)]
 pub struct Supply {
     bytes: ByteQueue,
@@ -28,6 +28,7 @@ impl Model for Supply {
 }
 
 impl Supply {
+    /// Returns the bytes of a text, of which each call gives at most `piece`. Allocates nothing.
     pub fn new(bytes: Text, piece: usize) -> Supply
         requires { 1 ≤ piece }
         ensures { result ≡ record { coming = bytes; piece = piece } }
@@ -38,7 +39,7 @@ impl Supply {
         }
     }
 
-    /// Gives the first of the bytes that are left.
+    /// Copies the first of the bytes that are left into the buffer.
     pub fn give(&mut self, into: &mut [u8]) -> Got
         requires { 0 < length into.old }
         ensures fits { FitsBuffer into.old result }

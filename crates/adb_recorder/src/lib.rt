@@ -1,5 +1,5 @@
-//! Recorders: what keeps the entries of a running server, in memory or as a capture that is written
-//! to a sink. A recorder says by a relation which entries it has kept (`Recorder::stands`).
+//! Recorders, which keep the entries of a running server, in memory or as a capture that is written
+//! to a sink. The relation `Recorder::stands` says which entries a recorder has kept.
 #![tactic(auto)]
 
 mod memory_recorder;

@@ -35,7 +35,7 @@ impl Model for MemoryRecorder {
 }
 
 impl MemoryRecorder {
-    /// Returns a recorder that fails at the calls whose numbers, counted from 1, are in `failing`. It
+    /// Returns a recorder that fails at the calls listed in `failing` by number, counted from 1. It
     /// allocates nothing.
     pub fn new(alloc: Global, failing: Vec<u64>) -> MemoryRecorder
         ensures { result ≡ record { told = []; failing = failing.items; calls = 0; faults = 0 } }
@@ -66,7 +66,7 @@ impl Recorder for MemoryRecorder {
 
     ghost steady = { λ r. r.failing ≡ [] };
 
-    /// Appends a copy of the entry. Fails at the calls whose numbers are in the list.
+    /// Appends a copy of the entry. Fails at the listed calls.
     fn keep(&mut self, entry: &Entry) -> Result<(), RecordError>
         requires { HasRecord entry.now }
         ensures told { TellsRecord (Some self.old.told) (Some self.new.told) entry.now result }
@@ -89,7 +89,7 @@ impl Recorder for MemoryRecorder {
         }
     }
 
-    /// Appends a copy of the piece's entry. Fails at the calls whose numbers are in the list.
+    /// Appends a copy of the piece's entry. Fails at the listed calls.
     fn keep_piece(&mut self, from: Owner, piece: &[u8]) -> Result<(), RecordError>
         requires { length piece.now ≤ MAX_DATA }
         ensures told { TellsRecord (Some self.old.told) (Some self.new.told)

@@ -9,7 +9,7 @@ ghost use Rattle.adb_recorder.specs.Recording.{TellsRecord, is_failed_record};
 use adb_capture::{Entry, Owner};
 use std::alloc::AllocError;
 
-/// Why an entry was not kept. The entries that are kept are those before the call.
+/// The reason why an entry was not kept. The entries that are kept are those before the call.
 #[derive(Clone, Copy, Debug, PartialEq, Eq, Drop)]
 pub enum RecordError {
     /// An allocation failed.
@@ -31,8 +31,8 @@ impl From<AllocError> for RecordError {
 
 /// A list of entries to which a running server appends.
 ///
-/// What an implementation shows (its memory, the bytes of its sink) is tied to the entries that it has
-/// kept by the relation `stands`.
+/// The content that an implementation shows (its memory, the bytes of its sink) is tied to the
+/// entries that it has kept by the relation `stands`.
 pub trait Recorder: Drop {
     ghost use Rattle.std.specs.Prelude.{◌≤◌, ℕ, List, Option, length};
     ghost use Rattle.adb_outside.specs.Outside.{Counts};
@@ -47,10 +47,10 @@ pub trait Recorder: Drop {
     /// The recorder has kept exactly these entries, the oldest first.
     ghost stands: { Self → List Entry → Type 0 };
 
-    /// How many of its calls failed. A count at its largest value counts as having risen.
+    /// The number of calls that failed. A count at its largest value counts as having risen.
     ghost faults: { Self → ℕ };
 
-    /// No call of it fails.
+    /// No call fails.
     ghost steady: { Self → Type 0 };
 
     /// Appends an entry, which has at most 2,097,152 bytes of data.

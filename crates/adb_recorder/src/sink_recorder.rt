@@ -17,8 +17,8 @@ use std::snapshot::Snapshot;
 /// A recorder that writes a capture to a sink: the magic before the first record, and then a record
 /// for each entry. Without entries it writes nothing. It shows no entries and allocates nothing.
 ///
-/// After a failed write a prefix of a record may be in the sink. No record can follow it, so from then
-/// on the recorder writes nothing and every call fails: the sink holds a prefix of a capture.
+/// After a failed write a prefix of a record may be in the sink. No record can follow it, so from
+/// then on the recorder writes nothing and every call fails: the sink holds a prefix of a capture.
 #[derive(Drop)]
 pub struct SinkRecorder<K: Sink + Drop> {
     first: Snapshot<K>,
@@ -57,7 +57,7 @@ impl<K: Sink + Drop> SinkRecorder<K> {
         &self.sink
     }
 
-    /// Gives the sink back.
+    /// Returns the sink that the recorder owns.
     pub fn into_sink(self) -> K
         ensures { result ≡ self.sink }
     {

@@ -1,4 +1,4 @@
-//! Which device a selector means.
+//! Choosing the device that a selector means.
 
 ghost use Rattle.std.specs.Prelude.{◌≡◌};
 ghost use Rattle.std.specs.Map.{values_of};
@@ -8,11 +8,11 @@ use crate::row::Row;
 use adb_outside::{Kind, Selector, State};
 use std::collections::BTreeMap;
 
-/// Why no device was chosen: the selector means none or several, or the one that it means is not
-/// ready.
+/// The reason why no device was chosen: the selector means none or several, or the one that it
+/// means is not ready.
 #[derive(Clone, Copy, Debug, PartialEq, Eq, Drop)]
 pub enum Refusal {
-    /// No device at all is plugged in.
+    /// No device is plugged in.
     NoAny,
     ManyAny,
     NoUsb,
@@ -23,13 +23,13 @@ pub enum Refusal {
     ManySerial,
     /// No device has this transport id; several never do.
     NoId,
-    /// The one device has not said who it is.
+    /// The one device has not sent its identity.
     Offline,
-    /// The one device asked for what this server does not answer.
+    /// The one device asked for something that this server does not support.
     Unauthorized,
 }
 
-/// Whether the selector means this row, whatever its state.
+/// Returns whether the selector means this row, whatever its state.
 fn means(by: &Selector, row: &Row) -> bool
     ensures { result ≡ is_meant by.now row.now }
 {
@@ -66,7 +66,7 @@ fn several_rows(by: &Selector) -> Refusal
     }
 }
 
-/// The row's id, where the device has said who it is.
+/// Returns the row's id, if the device has sent its identity.
 fn if_ready(row: &Row) -> Result<u32, Refusal>
     ensures { result ≡ ready_id row.now.state row.now.id }
 {
@@ -77,7 +77,7 @@ fn if_ready(row: &Row) -> Result<u32, Refusal>
     }
 }
 
-/// The id of the one row that the selector means.
+/// Returns the id of the one row that the selector means.
 pub(crate) fn choose(rows: &BTreeMap<u32, Row>, by: &Selector, ready: bool) -> Result<u32, Refusal>
     ensures { result ≡ choice (values_of rows.now.entries) by.now ready }
 {

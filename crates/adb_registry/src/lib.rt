@@ -1,4 +1,5 @@
-//! The devices that are plugged in: who they are, which one a selector means, and their lists.
+//! The devices that are plugged in: their identities, the device that a selector means, and the
+//! printed lists.
 #![tactic(auto)]
 
 mod choice;

@@ -10,13 +10,13 @@ use itoa::Buffer;
 use std::alloc::{AllocError, Global};
 use std::collections::BTreeMap;
 
-/// A serial is padded to as many bytes in a long line.
+/// The width to which a serial is padded in a long line.
 const SERIAL_WIDTH: usize = 22;
 
-/// The most bytes of a value that a long line has.
+/// The maximum number of bytes of a value in a long line.
 const MAX_VALUE: usize = 64;
 
-/// A line for each row: its serial and its state.
+/// Returns a line for each row: its serial and its state.
 pub(crate) fn short(alloc: Global, rows: &BTreeMap<u32, Row>) -> Result<Text, AllocError>
     ensures { IfOk result (λ list. list ≡ short_list (values_of rows.now.entries)) }
 {
@@ -27,7 +27,7 @@ pub(crate) fn short(alloc: Global, rows: &BTreeMap<u32, Row>) -> Result<Text, Al
     Ok(Text::from_vec(list))
 }
 
-/// A line for each row: its serial, its state, what it said of its make, and its id.
+/// Returns a line for each row: its serial, its state, the make that it reported, and its id.
 pub(crate) fn long(alloc: Global, rows: &BTreeMap<u32, Row>) -> Result<Text, AllocError>
     ensures { IfOk result (λ list. list ≡ long_list (values_of rows.now.entries)) }
 {
@@ -58,7 +58,7 @@ fn push_long_line(list: &mut Vec<u8>, row: &Row) -> Result<(), AllocError>
     push_id(list, row.id)
 }
 
-/// Adds the text, with as many spaces as bring it to the width of a serial.
+/// Appends the text, padded with spaces to the width of a serial.
 fn push_padded(list: &mut Vec<u8>, text: &[u8]) -> Result<(), AllocError>
     ensures { OnOk result (list.new.items ≡ list.old.items ++ padded text.now) }
 {
@@ -67,7 +67,7 @@ fn push_padded(list: &mut Vec<u8>, text: &[u8]) -> Result<(), AllocError>
     list.resize(list.len() + padding, b' ')
 }
 
-/// Adds what a device said of its make.
+/// Appends the make that a device reported.
 fn push_make(list: &mut Vec<u8>, identity: &Option<Identity>) -> Result<(), AllocError>
     ensures { OnOk result (list.new.items ≡ list.old.items ++ make_of identity.now) }
 {
@@ -79,7 +79,7 @@ fn push_make(list: &mut Vec<u8>, identity: &Option<Identity>) -> Result<(), Allo
     push_name(list, b" device:", identity.device.as_slice())
 }
 
-/// Adds the name of a product or device behind its label, where it is not empty.
+/// Appends a label and the name of a product or device, if the name is not empty.
 fn push_name(list: &mut Vec<u8>, label: &[u8], name: &[u8]) -> Result<(), AllocError>
     ensures { OnOk result (list.new.items ≡ list.old.items ++ field label.now name_byte name.now) }
 {
@@ -93,7 +93,7 @@ fn push_name(list: &mut Vec<u8>, label: &[u8], name: &[u8]) -> Result<(), AllocE
     Ok(())
 }
 
-/// Adds the name of a model behind its label, where it is not empty.
+/// Appends a label and the name of a model, if the name is not empty.
 fn push_model(list: &mut Vec<u8>, model: &[u8]) -> Result<(), AllocError>
     ensures { OnOk result (list.new.items
         ≡ list.old.items ++ field (codes " model:") model_byte model.now) }
@@ -108,7 +108,7 @@ fn push_model(list: &mut Vec<u8>, model: &[u8]) -> Result<(), AllocError>
     Ok(())
 }
 
-/// As much of a value as a long line has.
+/// Returns the part of a value that a long line prints.
 fn cut(value: &[u8]) -> &[u8]
     ensures { result.now ≡ take MAX_VALUE value.now }
 {
@@ -119,14 +119,14 @@ fn cut(value: &[u8]) -> &[u8]
     }
 }
 
-/// The byte that is printed for one of a product's or device's name.
+/// Returns the byte that is printed for a byte of a product's or device's name.
 fn name_byte(byte: u8) -> u8
     ensures { result ≡ name_byte byte }
 {
     if byte.is_ascii_graphic() { byte } else { b'_' }
 }
 
-/// The byte that is printed for one of a model's name.
+/// Returns the byte that is printed for a byte of a model's name.
 fn model_byte(byte: u8) -> u8
     ensures { result ≡ model_byte byte }
 {
@@ -137,7 +137,7 @@ fn model_byte(byte: u8) -> u8
     }
 }
 
-/// Adds the transport id, which ends a line.
+/// Appends the transport id, which ends a line.
 fn push_id(list: &mut Vec<u8>, id: u32) -> Result<(), AllocError>
     ensures { OnOk result (list.new.items
         ≡ list.old.items ++ codes " transport_id:" ++ decimal id ++ newline ∷ []) }

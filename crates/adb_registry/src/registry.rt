@@ -19,13 +19,13 @@ use std::alloc::{AllocError, AllocFailed, Global};
 use std::collections::BTreeMap;
 use std::marker::Model;
 
-/// The most devices at one time.
+/// The maximum number of devices at one time.
 pub(crate) const MAX_DEVICES: usize = 128;
 
-/// The most bytes of the features that a device gives.
+/// The maximum number of bytes of a device's features.
 pub const MAX_FEATURES: usize = 32768;
 
-/// The numbers that definitions take from the code, written out.
+/// States the numbers that definitions take from the code.
 pub fn limits_are()
     ensures devices { MAX_DEVICES ≡ 128 }
     ensures features { MAX_FEATURES ≡ 32768 }
@@ -33,12 +33,12 @@ pub fn limits_are()
     ensures value { MAX_VALUE ≡ 64 }
 {}
 
-/// Why a device was not taken in.
+/// The reason why a device was not attached.
 #[derive(Clone, Copy, Debug, PartialEq, Eq, Drop)]
 pub enum AttachError {
-    /// All ids were drawn.
+    /// All ids were used.
     Numbers,
-    /// 128 devices are plugged in.
+    /// 128 devices are already plugged in.
     Full,
     /// The serial is not 1 to 64 bytes of 0x21 to 0x7e.
     BadSerial,
@@ -46,7 +46,7 @@ pub enum AttachError {
 }
 
 /// The devices that are plugged in, by their transport ids, which are drawn 1, 2, 3 and so on and
-/// never used again. Contracts see how many were drawn, and the rows in rising id.
+/// never used again. Contracts see how many ids were drawn, and the rows in rising id.
 #[derive(Drop)]
 pub struct Registry {
     alloc: Global,
@@ -81,7 +81,7 @@ impl Model for Registry {
 }
 
 impl Registry {
-    /// The registry without devices. It takes no memory.
+    /// Returns a registry without devices. Allocates nothing.
     pub fn new(alloc: Global) -> Registry
         ensures drawn { result.drawn ≡ 0 }
         ensures rows { result.rows ≡ [] }
@@ -93,7 +93,7 @@ impl Registry {
         }
     }
 
-    /// How many ids were drawn.
+    /// Returns how many ids were drawn.
     pub fn drawn(&self) -> u32
         ensures drawn { result ≡ self.now.drawn }
         ensures sound { IsSound self.now }
@@ -101,8 +101,8 @@ impl Registry {
         self.drawn
     }
 
-    /// Why a device of this serial is not taken in, where it isn't: the first cause that stands. It
-    /// takes no memory.
+    /// Returns the reason why a device of this serial would not be attached, if there is one: the
+    /// first in the order of `AttachError`. Allocates nothing.
     pub fn refusal(&self, serial: &[u8]) -> Option<AttachError>
         ensures { result ≡ attach_refusal self.now serial.now }
     {
@@ -118,10 +118,12 @@ impl Registry {
         None
     }
 
-    /// Takes in a device that was plugged in, offline, under the next id, which it gives. Other
-    /// devices may have the same serial. `Numbers` comes exactly where 2^32 - 1 ids were drawn,
-    /// else `Full` exactly where 128 devices are plugged in, else `BadSerial` exactly where the
-    /// serial is not 1 to 64 bytes of 0x21 to 0x7e. After an error the registry is as before.
+    /// Attaches a device that was plugged in, offline, under the next id, and returns the id. Other
+    /// devices may have the same serial. After an error the registry is unchanged.
+    ///
+    /// `Numbers`: returned exactly if 2^32 - 1 ids were drawn. `Full`: otherwise, exactly if 128
+    /// devices are plugged in. `BadSerial`: otherwise, exactly if the serial is not 1 to 64 bytes
+    /// of 0x21 to 0x7e.
     pub fn attach(&mut self, kind: Kind, serial: &[u8]) -> Result<u32, AttachError>
         ensures refused { MatchOption (attach_refusal self.old serial.now)
             (IsOkUnless result AttachError.OutOfMemory) (λ refusal. result ≡ Err refusal) }
@@ -142,8 +144,8 @@ impl Registry {
         Ok(id)
     }
 
-    /// The device of this id, which is live, said who it is: the row gets its state, identity,
-    /// version and maxdata. The features hold at most 32,768 bytes. It takes no memory.
+    /// Sets the state, identity, version and maxdata of a live device that sent its identity. The
+    /// features have at most 32,768 bytes. Allocates nothing.
     pub fn online(&mut self, id: u32, identity: Identity, version: u32, maxdata: u32)
         requires live { IsSome (at id self.old.rows) }
         requires features { length identity.features ≤ MAX_FEATURES }
@@ -157,8 +159,8 @@ impl Registry {
         row.go_online(identity, version, maxdata);
     }
 
-    /// The device of this id, which is live, asked for what this server does not answer. It takes
-    /// no memory.
+    /// Marks a live device as unauthorized: it asked for something that this server does not
+    /// support. Allocates nothing.
     pub fn unauthorized(&mut self, id: u32)
         requires { IsSome (at id self.old.rows) }
         ensures devices { self.new ≡ changed id unauthorized_row self.old }
@@ -170,7 +172,7 @@ impl Registry {
         row.state = State::Unauthorized;
     }
 
-    /// Removes the device of this id: whether there was one. It takes no memory.
+    /// Removes the device of this id. Returns whether there was one. Allocates nothing.
     pub fn detach(&mut self, id: u32) -> bool
         ensures found { result ≡ is_some (at id self.old.rows) }
         ensures devices { self.new ≡ detached id self.old }
@@ -181,7 +183,7 @@ impl Registry {
         self.rows.remove(&id).is_some()
     }
 
-    /// Removes all devices. The ids that were drawn stay drawn. It takes no memory.
+    /// Removes all devices. The ids that were drawn are not reused. Allocates nothing.
     pub fn clear(&mut self)
         ensures devices { self.new ≡ record self.old { rows = [] } }
         ensures sound { IsSound self.new }
@@ -189,8 +191,8 @@ impl Registry {
         self.rows.clear();
     }
 
-    /// The device of this id, where there is one: its serial holds at most 64 bytes, its features
-    /// at most 32,768.
+    /// Returns the device of this id, if there is one: its serial has at most 64 bytes, its
+    /// features at most 32,768.
     pub fn row(&self, id: u32) -> Option<&Row>
         ensures row { option_copied result ≡ at id self.now.rows }
         ensures kept { IfSome result (λ row. IsRowAt self.now.drawn id row.now) }
@@ -199,9 +201,9 @@ impl Registry {
         self.rows.get(&id)
     }
 
-    /// The id of the one device that the selector means, whatever its state; where `ready`, a
-    /// device that is offline or unauthorized is refused by that name. Else it is the refusal of
-    /// that selector by how many devices it means, none or several. It takes no memory.
+    /// Returns the id of the one device that the selector means, whatever its state. If `ready` is
+    /// set, a device that is offline or unauthorized is refused with that reason. If the selector
+    /// means no device or several, the refusal is the one for that selector. Allocates nothing.
     pub fn choose(&self, by: &Selector, ready: bool) -> Result<u32, Refusal>
         ensures choice { result ≡ choice (values_of self.now.rows) by.now ready }
         ensures meant { IfOk result (λ id.
@@ -210,7 +212,8 @@ impl Registry {
         choice::choose(&self.rows, by, ready)
     }
 
-    /// The list that `host:devices` gives (SERVICES.TXT): a line for each device, in rising id.
+    /// Returns the list of `host:devices` (SERVICES.TXT): a line for each device, in rising id.
+    /// Fails if an allocation fails.
     pub fn short_list(&self) -> Result<Text, AllocError>
         ensures lines { IfOk result (λ list. list ≡ short_list (values_of self.now.rows)) }
         ensures fits { IfOk result (λ list. length list < 2 ^ 16) }
@@ -218,7 +221,8 @@ impl Registry {
         lists::short(self.alloc, &self.rows)
     }
 
-    /// The list that `host:devices-l` gives (SERVICES.TXT): a line for each device, in rising id.
+    /// Returns the list of `host:devices-l` (SERVICES.TXT): a line for each device, in rising id.
+    /// Fails if an allocation fails.
     pub fn long_list(&self) -> Result<Text, AllocError>
         ensures lines { IfOk result (λ list. list ≡ long_list (values_of self.now.rows)) }
         ensures fits { IfOk result (λ list. length list < 2 ^ 16) }

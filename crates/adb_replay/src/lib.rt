@@ -1,5 +1,6 @@
-//! The replay of a capture: its entries are made in order, all that is due is handed out after
-//! each, and the whole history goes out as a capture.
+//! The replay of a capture: its entries are applied in order, all output is handed out after each,
+//! and the whole history is written as a capture. `replay` does this from a source to a sink;
+//! `Output` is its buffer.
 #![tactic(auto)]
 
 mod output;

@@ -1,4 +1,4 @@
-//! What a replay writes: it is gathered, and goes out in large pieces.
+//! The output buffer of a replay, which is written in large pieces.
 
 ghost use Rattle.std.specs.Prelude.{◌≡◌, ◌++◌, ℕ, List, [], IfOk, OnErr};
 ghost use Rattle.adb_outside.specs.Outside.{Counts};
@@ -13,10 +13,10 @@ use adb_outside::{ByteQueue, Sink, Wrote};
 use std::alloc::{AllocError, Global};
 use std::marker::Model;
 
-/// The fewest bytes of a piece that goes out before the end.
+/// The least number of bytes of a piece that is written before the end.
 const PIECE: usize = 4 * LARGE;
 
-/// What is gathered for a sink: behind what went out, the end of what is kept.
+/// The output buffer for a sink. It holds the suffix of the kept bytes that was not written yet.
 #[derive(Drop)]
 pub struct Output {
     gathered: ByteQueue,
@@ -31,7 +31,7 @@ impl Model for Output {
 }
 
 impl Output {
-    /// The magic is gathered.
+    /// Returns a buffer that holds the magic. Fails if an allocation fails.
     pub fn new(alloc: Global) -> Result<Output, AllocError>
         ensures { IfOk result (λ output. output ≡ magic) }
     {
@@ -41,7 +41,8 @@ impl Output {
         Ok(Output { gathered })
     }
 
-    /// Returns a buffer that holds no bytes and has room for two pieces.
+    /// Returns a buffer that holds no bytes and has room for two pieces. Fails if an allocation
+    /// fails.
     pub fn empty(alloc: Global) -> Result<Output, AllocError>
         ensures { IfOk result (λ output. output ≡ []) }
     {
@@ -50,8 +51,9 @@ impl Output {
         Ok(Output { gathered })
     }
 
-    /// Keeps the record of an entry. A large end of it goes out from where it lies, behind what is
-    /// gathered; else what is gathered goes out where it is a piece.
+    /// Appends the record of an entry. If the end of the record is large, it is written directly,
+    /// after the buffer is flushed; otherwise the buffer is flushed once it holds a piece. The
+    /// errors are those of `keep_bytes`.
     pub fn keep<K: Sink>(&mut self, sink: &mut K, entry: &Entry) -> Result<(), Stop>
         requires { HasRecord entry.now }
         ensures kept { KeepsEntry result entry.now
@@ -63,8 +65,9 @@ impl Output {
         self.keep_end(sink, end)
     }
 
-    /// Keeps a record that was read. Where it is large it goes out from where it lies, behind what is
-    /// gathered; else what is gathered goes out where it is a piece.
+    /// Appends a record that was read. If the record is large, it is written directly, after the
+    /// buffer is flushed; otherwise the buffer is flushed once it holds a piece. The errors are
+    /// those of `keep_bytes`.
     pub fn keep_record<K: Sink>(&mut self, sink: &mut K, read: &Record<'_>) -> Result<(), Stop>
         ensures kept { KeepsEntry result read.now.1
             (K.written sink.old, self.old) (K.written sink.new, self.new) }
@@ -75,12 +78,12 @@ impl Output {
         self.keep_end(sink, end)
     }
 
-    /// Keeps bytes for the sink. At least `LARGE` bytes are written from where they lie, after what
-    /// is gathered; fewer are gathered, and all that is gathered is written once it is a piece.
+    /// Keeps bytes for the sink. At least `LARGE` bytes are written directly, after the buffer is
+    /// flushed; fewer are appended to the buffer, which is flushed once it holds a piece.
     ///
-    /// - `WriteFault`: the sink failed. A prefix of all that was kept is written, and nothing is
-    ///   gathered.
-    /// - `OutOfMemory`: the bytes are not kept, and all else is as before.
+    /// - `WriteFault`: the sink failed. A prefix of all that was kept is written, and the buffer is
+    ///   empty.
+    /// - `OutOfMemory`: the bytes are not kept, and all else is unchanged.
     pub fn keep_bytes<K: Sink>(&mut self, sink: &mut K, bytes: &[u8]) -> Result<(), Stop>
         ensures kept { KeepsBytes result bytes.now
             (K.written sink.old, self.old) (K.written sink.new, self.new) }
@@ -91,8 +94,8 @@ impl Output {
         self.keep_end(sink, end)
     }
 
-    /// Gathers bytes, but where they are many, which are given back: they are to be written behind
-    /// what is gathered, from where they lie. After want of memory nothing more is gathered.
+    /// Appends bytes to the buffer, or returns them if they are many: the caller writes them
+    /// directly, after the buffer. If an allocation fails, nothing is appended.
     fn gather<'a>(&mut self, bytes: &'a [u8]) -> Result<&'a [u8], AllocError>
         ensures ok { IfOk result (λ end. self.new ++ end.now ≡ self.old ++ bytes.entry.now) }
         ensures err { OnErr result (self.new ≡ self.old) }
@@ -104,8 +107,8 @@ impl Output {
         Ok(&[])
     }
 
-    /// Keeps the end of a record whose start is gathered: it goes out behind what is gathered, from
-    /// where it lies. Without an end what is gathered goes out where it is a piece.
+    /// Keeps the end of a record that starts in the buffer: it is written directly, after the
+    /// buffer is flushed. If the end is empty, the buffer is flushed once it holds a piece.
     fn keep_end<K: Sink>(&mut self, sink: &mut K, end: &[u8]) -> Result<(), Stop>
         ensures kept { (had text piece : List ℕ)
             → Keeps had (text ++ piece) (K.written sink.old, self.old ++ end.now)
@@ -120,7 +123,8 @@ impl Output {
         write_piece(sink, end)
     }
 
-    /// Writes what is gathered. Then nothing is, also where the sink failed.
+    /// Writes the buffered bytes. The buffer is empty afterwards. If the sink fails, a prefix of
+    /// the bytes is written.
     pub fn write_out<K: Sink>(&mut self, sink: &mut K) -> Result<(), Stop>
         ensures out { (had text : List ℕ) → Keeps had text (K.written sink.old, self.old)
             → WritesOut result had text (K.written sink.new) }
@@ -135,7 +139,7 @@ impl Output {
     }
 }
 
-/// Writes a piece, where it has a byte.
+/// Writes a piece, unless it is empty.
 fn write_piece<K: Sink>(sink: &mut K, piece: &[u8]) -> Result<(), Stop>
     ensures out { (had text : List ℕ) → Keeps had text (K.written sink.old, piece.now)
         → WritesOut result had text (K.written sink.new) }

@@ -1,5 +1,4 @@
-//! Replaying a capture: its entries are made in order, and all that is due is handed out after
-//! each.
+//! Replaying a capture: its entries are applied in order, and all output is handed out after each.
 
 ghost use Rattle.std.specs.Prelude.{◌≡◌, ◌≢◌, None, Err, not, true, false};
 ghost use Rattle.adb_outside.specs.Outside.{Counts};
@@ -25,8 +24,14 @@ use adb_hub::Hub;
 use adb_outside::{Sink, Source};
 use std::alloc::Global;
 
-/// Replays the capture of a source, and writes the whole history to the sink as a capture. Nothing
-/// is written where the magic is bad.
+/// Replays the capture of a source, up to its end or a kill, and writes the whole history to the
+/// sink as a capture. If the magic is wrong, nothing is written.
+///
+/// - `ReadFault`: the source failed. The history of the consumed bytes is written.
+/// - `WriteFault`: the sink failed. A prefix of the history is written.
+/// - `OutOfMemory`: an allocation failed. Nothing is written, or a prefix of the history up to the
+///   end of a record.
+/// - `Refused`: a record, or the magic, is refused. The history before it is written.
 pub fn replay<S: Source, K: Sink>(alloc: Global, source: &mut S, sink: &mut K) -> Result<(), Stop>
     ensures replays { ReplaysCapture (S.left source.old) (S.left source.new)
         (K.written sink.old) (K.written sink.new) result }
@@ -41,7 +46,7 @@ pub fn replay<S: Source, K: Sink>(alloc: Global, source: &mut S, sink: &mut K) -
     ended
 }
 
-/// Replays the records of a capture, whose magic was read: all, or those up to a kill.
+/// Replays the records of a capture, after its magic was read: all of them, or those up to a kill.
 fn replay_records<S: Source, K: Sink>(
     alloc: Global,
     reader: &mut CaptureReader,
@@ -69,8 +74,8 @@ fn replay_records<S: Source, K: Sink>(
     Ok(())
 }
 
-/// Replays one record: its entry is made, its bytes are kept, from where they lie, and all that is
-/// due then is handed out. A hand-out that was recorded is passed over.
+/// Replays one record: applies its entry, keeps its bytes, and hands out all output. A hand-out
+/// that was recorded is skipped.
 fn replay_record<K: Sink>(
     hub: &mut Hub,
     output: &mut Output,
@@ -98,8 +103,8 @@ fn replay_record<K: Sink>(
     }
 }
 
-/// Hands out all that is due, whoever it is due to, and keeps each hand-out. It ends, by the law
-/// `draining_ends`, with nothing due.
+/// Hands out all output to every client and link, and keeps each hand-out. By the law
+/// `draining_ends` this ends, with no output left.
 fn drain<K: Sink>(hub: &mut Hub, output: &mut Output, sink: &mut K) -> Result<(), Stop>
     requires held { IsHeld hub.old }
     ensures drains { (h : History) → IsLawful hub.old h → Drains result h
@@ -114,7 +119,7 @@ fn drain<K: Sink>(hub: &mut Hub, output: &mut Output, sink: &mut K) -> Result<()
     Ok(())
 }
 
-/// Keeps an entry, which is dropped then.
+/// Keeps an entry, and drops it.
 fn keep<K: Sink>(output: &mut Output, sink: &mut K, entry: Entry) -> Result<(), Stop>
     requires { HasRecord entry }
     ensures kept { KeepsEntry result entry
@@ -125,7 +130,7 @@ fn keep<K: Sink>(output: &mut Output, sink: &mut K, entry: Entry) -> Result<(), 
     output.keep(sink, &entry)
 }
 
-/// Whether an entry is a hand-out.
+/// Returns whether an entry is a hand-out.
 fn is_hand_out(entry: Lent<'_>) -> bool
     ensures { result ≡ not (is_input (entry_lent entry.entry)) }
 {

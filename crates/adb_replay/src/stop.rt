@@ -1,4 +1,4 @@
-//! Why a replay stops before the end of its capture.
+//! The reasons why a replay stops before the end of its capture.
 
 ghost use Rattle.std.specs.Prelude.{◌≡◌};
 ghost use Rattle.adb_replay.specs.Stop.{stop_at};
@@ -8,21 +8,22 @@ use adb_entries::Refused;
 use adb_history::Refusal;
 use std::alloc::AllocError;
 
-/// Why a replay stops before the end of its capture.
+/// The reason why a replay stops before the end of its capture.
 #[derive(Clone, Copy, Debug, PartialEq, Eq, Drop)]
 pub enum Stop {
-    /// The source failed.
+    /// A read of the source failed.
     ReadFault,
-    /// The sink failed.
+    /// A write to the sink failed.
     WriteFault,
-    /// Memory ran out.
+    /// An allocation failed.
     OutOfMemory,
     /// The capture is refused.
     Refused(Refusal),
 }
 
 impl Stop {
-    /// Why a replay stops at the record of that offset, whose entry is not made.
+    /// Returns the reason why a replay stops at the record of that offset. The record's entry is
+    /// not made.
     pub fn at(offset: u64, why: Refused) -> Stop
         ensures { result ≡ stop_at offset why }
     {

@@ -16,7 +16,7 @@ use byteorder::{ByteOrder, LittleEndian};
 use itoa::Buffer;
 use std::alloc::{AllocError, Global};
 
-/// What can be asked of one device.
+/// A fact that a request asks of one device.
 #[derive(Clone, Copy, Debug, PartialEq, Eq, Drop)]
 pub(crate) enum Fact {
     Serialno,
@@ -26,7 +26,8 @@ pub(crate) enum Fact {
 }
 
 impl Fact {
-    /// Features are asked of a device that said who it is, the others of any.
+    /// Returns whether the device must have sent its identity: features are asked only of such a
+    /// device, the other facts of any.
     fn asks_ready(self) -> bool
         ensures { result ≡ asks_ready self }
     {
@@ -34,7 +35,7 @@ impl Fact {
     }
 }
 
-/// The list of the devices, and what follows it.
+/// Returns the answer with the list of the devices, and the action that follows.
 pub(crate) fn list(
     alloc: Global,
     registry: &Registry,
@@ -51,7 +52,7 @@ pub(crate) fn list(
     told(alloc, list.as_slice(), next)
 }
 
-/// The connection selects the device that a selector means.
+/// Returns the answer to a request that selects the device of a selector.
 pub(crate) fn select(
     alloc: Global,
     registry: &Registry,
@@ -67,7 +68,8 @@ pub(crate) fn select(
     }
 }
 
-/// A device was selected, and its transport id is told in 8 bytes where that is asked.
+/// Returns the answer after a device was selected, with its transport id in 8 bytes if the request
+/// asks for it.
 fn selected(alloc: Global, id: u32, tell_id: bool) -> Result<Answer, AllocError>
     ensures { IfOk result (λ answer. answer ≡ selects tell_id (Chosen.Device id)) }
 {
@@ -83,7 +85,7 @@ fn selected(alloc: Global, id: u32, tell_id: bool) -> Result<Answer, AllocError>
     })
 }
 
-/// What is asked of the device that a request asks.
+/// Returns the answer with a fact of the device that a request asks.
 pub(crate) fn tell(
     alloc: Global,
     registry: &Registry,
@@ -100,7 +102,7 @@ pub(crate) fn tell(
     }
 }
 
-/// What is asked of the device of a transport id.
+/// Returns the answer with a fact of the device of a transport id.
 fn tell_of(alloc: Global, registry: &Registry, id: u32, fact: Fact) -> Result<Answer, AllocError>
     ensures { IfOk result (λ answer. answer ≡ fact_at fact (at id registry.now.rows)) }
 {
@@ -121,7 +123,7 @@ fn tell_of(alloc: Global, registry: &Registry, id: u32, fact: Fact) -> Result<An
     }
 }
 
-/// Where a device is plugged in.
+/// Returns where a device is plugged in.
 fn path_of(alloc: Global, row: &Row) -> Result<Text, AllocError>
     ensures path { IfOk result (λ path. path ≡ path_of row.now.kind row.now.id) }
     ensures short { IfOk result (λ path. length path < 2 ^ 16) }
@@ -136,7 +138,7 @@ fn path_of(alloc: Global, row: &Row) -> Result<Text, AllocError>
     }
 }
 
-/// A service of the device that the connection selected is opened.
+/// Returns the answer that opens a service of the device that the connection selected.
 pub(crate) fn open(
     alloc: Global,
     registry: &Registry,

@@ -12,7 +12,7 @@ use adb_outside::Text;
 use itoa::Buffer;
 use std::alloc::{AllocError, Global};
 
-/// A forward to an end at the device of a transport id.
+/// Returns the answer to a request for a forward to an end at the device of a transport id.
 pub(crate) fn forward(
     alloc: Global,
     forwards: &Forwards,
@@ -34,7 +34,8 @@ pub(crate) fn forward(
     forward_from(alloc, is_there, transport, local, remote)
 }
 
-/// A forward that nothing refuses: a row that is there changes at once, and else a listener is bound.
+/// Returns the answer for a forward that no rule refuses: an existing row is changed at once,
+/// otherwise a listener is bound.
 fn forward_from(
     alloc: Global,
     is_there: bool,
@@ -67,7 +68,7 @@ fn forward_from(
     })
 }
 
-/// The forward of a local port ends.
+/// Returns the answer that ends the forward of a local port.
 pub(crate) fn unbind(alloc: Global, forwards: &Forwards, port: u16) -> Result<Answer, AllocError>
     ensures { IfOk result (λ answer. answer ≡ unbinds forwards.now port) }
 {
@@ -81,7 +82,7 @@ pub(crate) fn unbind(alloc: Global, forwards: &Forwards, port: u16) -> Result<An
     })
 }
 
-/// No forward has that local port.
+/// Returns the text that no forward has that local port.
 fn not_found(alloc: Global, port: u16) -> Result<Text, AllocError>
     ensures text { IfOk result (λ text.
         text ≡ codes "listener 'tcp:" ++ decimal port ++ codes "' not found") }
@@ -93,7 +94,7 @@ fn not_found(alloc: Global, port: u16) -> Result<Text, AllocError>
     Ok(text)
 }
 
-/// The list of the forwards.
+/// Returns the answer with the list of the forwards.
 pub(crate) fn list(alloc: Global, forwards: &Forwards) -> Result<Answer, AllocError>
     ensures { IfOk result (λ answer. answer ≡ told (forward_list forwards.now) Next.Close) }
 {

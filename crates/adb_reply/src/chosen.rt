@@ -1,4 +1,4 @@
-//! Which device a request asks.
+//! Choosing the device that a request asks.
 
 ghost use Rattle.std.specs.Prelude.{◌≡◌, IfOk};
 ghost use Rattle.adb_reply.specs.Refusals.{no_transport};
@@ -20,8 +20,9 @@ pub(crate) enum Chosen {
     Refused(Answer),
 }
 
-/// The device that a request asks: the one that it names; else the one that the connection selected,
-/// which may be gone; else any. Where `ready`, it has said who it is.
+/// Returns the device that a request asks: the one that it names, otherwise the one that the
+/// connection selected, which may be gone, otherwise any. If `ready` is set, the device must have
+/// sent its identity.
 pub(crate) fn choose(
     alloc: Global,
     registry: &Registry,
@@ -39,7 +40,7 @@ pub(crate) fn choose(
     }
 }
 
-/// The device that the connection selected, which may be gone.
+/// Returns the device that the connection selected, which may be gone.
 fn choose_own(
     alloc: Global,
     registry: &Registry,
@@ -55,7 +56,7 @@ fn choose_own(
     choose_by(alloc, registry, &Selector::Id(id), ready)
 }
 
-/// The one device that a selector means.
+/// Returns the one device that a selector means.
 pub(crate) fn choose_by(
     alloc: Global,
     registry: &Registry,
@@ -73,7 +74,7 @@ pub(crate) fn choose_by(
     }
 }
 
-/// The refusal where the device that is selected is gone, or none is.
+/// Returns the refusal if the selected device is gone, or none is selected.
 pub(crate) fn no_transport(alloc: Global) -> Result<Answer, AllocError>
     ensures { IfOk result (λ answer. answer ≡ failed no_transport) }
 {

@@ -11,14 +11,14 @@ ghost use Rattle.adb_reply.specs.Strings.{string};
 
 use adb_request::spelled_is_read;
 
-/// Every reply begins with `OKAY`, or with `FAIL` where the client is closed then; none comes where a
-/// service opens or a port is to be bound.
+/// States that every reply begins with `OKAY`, or with `FAIL` if the client is closed then, and
+/// that there is no reply when a service opens or a port is to be bound.
 pub fn replies_begin_right()
     ensures { (rows : List (ℕ × Row)) (forwards : List (ℕ × ForwardRow)) (selected : Option ℕ)
         (request : Request) → BeginsRight (answer rows forwards selected request) }
 {}
 
-/// A text that a reply carries stands behind its own length.
+/// States that a text in a reply follows its own length.
 pub fn texts_carry_their_length()
     ensures { (text more : List ℕ) → length text < 2 ^ 16
         → (hex_number (take 4 (string text ++ more)) ≡ Some (length text))

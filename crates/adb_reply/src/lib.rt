@@ -1,5 +1,6 @@
-//! What requests are answered with: the bytes of the reply, and what the server does then, as a
-//! function of the devices, the forwards, what the connection selected, and the request.
+//! Answers to requests. `reply` computes the bytes of the reply, and the action of the server that
+//! follows, from the devices, the forwards, the device that the connection selected, and the
+//! request. It changes nothing itself.
 #![tactic(auto)]
 
 mod about_devices;

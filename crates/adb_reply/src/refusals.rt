@@ -8,15 +8,15 @@ use adb_registry::Refusal;
 use itoa::Buffer;
 use std::alloc::{AllocError, Global};
 
-/// The most bytes of a serial that a refusal prints.
+/// The maximum number of bytes of a serial that a refusal prints.
 const MAX_PRINTED_SERIAL: usize = 64;
 
-/// The numbers that definitions take from the code, written out.
+/// States the numbers that definitions take from the code.
 pub fn limits_are()
     ensures serial { MAX_PRINTED_SERIAL ≡ 64 }
 {}
 
-/// Why a selector chose no device.
+/// Returns the text of a refusal by a selector.
 pub(crate) fn refusal_text(alloc: Global, by: &Selector, why: Refusal) -> Result<Text, AllocError>
     ensures text { IfOk result (λ text. text ≡ refusal_text by.now why) }
     ensures short { IfOk result (λ text. length text < 2 ^ 16) }
@@ -37,7 +37,7 @@ pub(crate) fn refusal_text(alloc: Global, by: &Selector, why: Refusal) -> Result
     Text::from_slice(alloc, text)
 }
 
-/// The serial that a selector names, and none where it names a device otherwise.
+/// Returns the serial that a selector names, or no bytes if it names a device otherwise.
 fn asked_serial(by: &Selector) -> &[u8]
     ensures { result.now ≡ asked_serial by.now }
 {
@@ -47,7 +47,7 @@ fn asked_serial(by: &Selector) -> &[u8]
     }
 }
 
-/// The transport id that a selector names.
+/// Returns the transport id that a selector names.
 fn asked_id(by: &Selector) -> u32
     ensures { result ≡ asked_id by.now }
 {
@@ -79,7 +79,7 @@ fn id_not_found(alloc: Global, id: u32) -> Result<Text, AllocError>
     Ok(text)
 }
 
-/// As much of a serial as a refusal prints.
+/// Returns the part of a serial that a refusal prints.
 fn printed(serial: &[u8]) -> &[u8]
     ensures text { result.now ≡ take MAX_PRINTED_SERIAL serial.now }
     ensures short { length result.now ≤ MAX_PRINTED_SERIAL }

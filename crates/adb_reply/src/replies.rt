@@ -1,4 +1,4 @@
-//! What each request is answered with.
+//! The answer to each request.
 
 ghost use Rattle.std.specs.Prelude.{◌≡◌, IfOk, codes};
 ghost use Rattle.adb_reply.specs.Answer.{answer};
@@ -14,8 +14,9 @@ use adb_registry::Registry;
 use adb_request::{Request, Which};
 use std::alloc::{AllocError, Global};
 
-/// What a request is answered with, over the devices, the forwards and the device that the connection
-/// selected (SERVICES.TXT, "HOST SERVICES"). It changes nothing; an error is want of memory.
+/// Returns the answer to a request, given the devices, the forwards and the device that the
+/// connection selected (SERVICES.TXT, "HOST SERVICES"). It changes none of them. Fails only if an
+/// allocation fails.
 pub fn reply(
     alloc: Global,
     registry: &Registry,
@@ -66,7 +67,7 @@ pub fn reply(
     }
 }
 
-/// The version of this server.
+/// Returns the answer with the version of this server.
 fn version(alloc: Global) -> Result<Answer, AllocError>
     ensures { IfOk result (λ given. given
         ≡ record { bytes = codes "OKAY00040029"; next = Next.Close }) }
@@ -77,7 +78,7 @@ fn version(alloc: Global) -> Result<Answer, AllocError>
     })
 }
 
-/// All forwards end.
+/// Returns the answer that ends all forwards.
 fn unbind_all(alloc: Global) -> Result<Answer, AllocError>
     ensures { IfOk result (λ given. given
         ≡ record { bytes = codes "OKAYOKAY"; next = Next.UnbindAll }) }

@@ -8,8 +8,8 @@ use adb_outside::Text;
 use adb_request::hex4;
 use std::alloc::{AllocError, Global};
 
-/// Adds the four digits of a text's length, and the text. After want of memory the bytes are as
-/// before.
+/// Appends the four digits of a text's length, and the text. If an allocation fails, the bytes are
+/// unchanged.
 pub fn push_string(bytes: &mut Text, text: &[u8]) -> Result<(), AllocError>
     requires { length text.now < 2 ^ 16 }
     ensures ok { OnOk result (bytes.new ≡ bytes.old ++ string text.now) }
@@ -26,7 +26,7 @@ pub fn push_string(bytes: &mut Text, text: &[u8]) -> Result<(), AllocError>
     }
 }
 
-/// `OKAY` and nothing else.
+/// Returns the answer `OKAY` without a text.
 pub(crate) fn okay(alloc: Global, next: Next) -> Result<Answer, AllocError>
     ensures { IfOk result (λ answer. answer ≡ record { bytes = okay; next = next }) }
 {
@@ -36,7 +36,7 @@ pub(crate) fn okay(alloc: Global, next: Next) -> Result<Answer, AllocError>
     })
 }
 
-/// `OKAY` and a text that was asked for.
+/// Returns the answer `OKAY` and the requested text.
 pub(crate) fn told(alloc: Global, text: &[u8], next: Next) -> Result<Answer, AllocError>
     requires { length text.now < 2 ^ 16 }
     ensures { IfOk result (λ answer. answer ≡ told text.now next) }
@@ -46,7 +46,7 @@ pub(crate) fn told(alloc: Global, text: &[u8], next: Next) -> Result<Answer, All
     Ok(Answer { bytes, next })
 }
 
-/// `FAIL` and why.
+/// Returns the answer `FAIL` and the reason.
 pub(crate) fn failed(alloc: Global, why: &[u8]) -> Result<Answer, AllocError>
     requires { length why.now < 2 ^ 16 }
     ensures { IfOk result (λ answer. answer ≡ failed why.now) }

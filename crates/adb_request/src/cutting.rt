@@ -5,19 +5,19 @@ ghost use Rattle.adb_request.specs.Requests.{found_behind, request_at};
 
 use crate::hex::number_of;
 
-/// What a client's bytes begin with.
+/// The beginning of a client's bytes.
 #[derive(Clone, Copy, Debug, PartialEq, Eq, Drop)]
 pub enum Found {
     /// No whole request yet.
     More,
     /// Four bytes that are no length, or a length of 0.
     Malformed,
-    /// A request: its text is the `len` bytes behind the first four.
+    /// A request: its text is the `len` bytes after the first four.
     Whole { len: usize },
 }
 
-/// What a client's bytes begin with: four hexadecimal digits of length and that many bytes of text
-/// are a request (OVERVIEW.TXT, "Protocol details"). It looks at no more than the digits.
+/// Returns what a client's bytes begin with. Four hexadecimal digits of length and that many bytes
+/// of text are a request (OVERVIEW.TXT, "Protocol details"). Only the digits are read.
 pub fn cut(bytes: &[u8]) -> Found
     ensures found { result ≡ request_at bytes.now }
     ensures within { (len : ℕ) → result ≡ Found.Whole len →
@@ -29,7 +29,7 @@ pub fn cut(bytes: &[u8]) -> Found
     }
 }
 
-/// What a length says where that many bytes stand behind it.
+/// Returns the request of a length if that many bytes follow it.
 fn behind(len: Option<u16>, have: usize) -> Found
     ensures found { result ≡ found_behind len have }
     ensures within { (n : ℕ) → result ≡ Found.Whole n → (0 < n) × (n ≤ u16.MAX) × (n ≤ have) }

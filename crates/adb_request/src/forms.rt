@@ -1,4 +1,4 @@
-//! The forms of requests that stand behind a prefix.
+//! The forms of requests that follow a prefix.
 
 ghost use Rattle.std.specs.Prelude.{◌≡◌, ◌==◌, ◌<◌, length, IfOk, IfSome, option_copied, position};
 ghost use Rattle.adb_request.specs.Forms.{behind, local_in, is_remote, forward_between, forward_of, killed_at, fixed_form, forward_form, form, is_fixed, is_form};
@@ -7,7 +7,7 @@ use crate::request::{Request, Which};
 use adb_outside::{MAX_REMOTE, Text, is_graphic, read_number};
 use std::alloc::{AllocError, Global};
 
-/// What stands behind a word that a text begins with.
+/// Returns the rest of a text that begins with a word.
 pub(crate) fn behind<'a>(word: &[u8], text: &'a [u8]) -> Option<&'a [u8]>
     ensures { option_copied result ≡ behind word.now text.now }
 {
@@ -18,7 +18,7 @@ pub(crate) fn behind<'a>(word: &[u8], text: &'a [u8]) -> Option<&'a [u8]>
     }
 }
 
-/// The request of a form behind a prefix; `None` where the text has none of them.
+/// Parses the form that follows a prefix. Returns `None` if the text is none of the forms.
 pub(crate) fn form(alloc: Global, on: Which, text: &[u8]) -> Result<Option<Request>, AllocError>
     ensures { IfOk result (λ request. request ≡ form on text.now) }
 {
@@ -28,7 +28,7 @@ pub(crate) fn form(alloc: Global, on: Which, text: &[u8]) -> Result<Option<Reque
     forward_form(alloc, on, text)
 }
 
-/// The request of a form that says nothing else than of which device it asks.
+/// Parses a form that says nothing but which device it asks.
 fn fixed_form(on: Which, text: &[u8]) -> Option<Request>
     ensures { result ≡ fixed_form on text.now }
 {
@@ -49,7 +49,7 @@ fn fixed_form(on: Which, text: &[u8]) -> Option<Request>
     }
 }
 
-/// The request of a form that names a forward.
+/// Parses a form that names a forward.
 fn forward_form(alloc: Global, on: Which, text: &[u8]) -> Result<Option<Request>, AllocError>
     ensures { IfOk result (λ request. request ≡ forward_form on text.now) }
 {
@@ -65,14 +65,14 @@ fn forward_form(alloc: Global, on: Which, text: &[u8]) -> Result<Option<Request>
     }
 }
 
-/// Whether a text is one of the forms behind a prefix.
+/// Returns whether a text is one of the forms that follow a prefix.
 pub(crate) fn is_form(text: &[u8]) -> bool
     ensures { result ≡ is_form text.now }
 {
     is_fixed(text) || text.starts_with(b"forward:") || text.starts_with(b"killforward:")
 }
 
-/// Whether a text is one of the forms that say nothing else.
+/// Returns whether a text is one of the forms that name nothing.
 fn is_fixed(text: &[u8]) -> bool
     ensures { result ≡ is_fixed text.now }
 {
@@ -84,7 +84,7 @@ fn is_fixed(text: &[u8]) -> bool
         || text == b"list-forward".as_slice()
 }
 
-/// The forward of a specification `<local>;<remote>`, which is cut at its first `;`.
+/// Parses a forward's specification `<local>;<remote>`, which is cut at its first `;`.
 fn forward(alloc: Global, on: Which, norebind: bool, spec: &[u8]) -> Result<Request, AllocError>
     ensures { IfOk result (λ request. request ≡ forward_of on norebind spec.now) }
 {
@@ -97,7 +97,7 @@ fn forward(alloc: Global, on: Which, norebind: bool, spec: &[u8]) -> Result<Requ
     }
 }
 
-/// The place of the first such byte, where there is one.
+/// Returns the place of the first such byte, if there is one.
 pub(crate) fn place_of(text: &[u8], wanted: u8) -> Option<usize>
     ensures place { result ≡ position (λ byte. byte == wanted) text.now }
     ensures within { IfSome result (λ place. place < length text.now) }
@@ -105,7 +105,7 @@ pub(crate) fn place_of(text: &[u8], wanted: u8) -> Option<usize>
     text.iter().position(|byte| *byte == wanted)
 }
 
-/// The forward between two ends.
+/// Returns the request for a forward between two ends.
 fn forward_between(
     alloc: Global,
     on: Which,
@@ -126,7 +126,7 @@ fn forward_between(
     }
 }
 
-/// The end of the forward of a local end, whose port is not 0.
+/// Returns the request to end the forward of a local end with a port other than 0.
 fn kill_forward(local: &[u8]) -> Request
     ensures { result ≡ killed_at (local_in local.now) }
 {
@@ -136,7 +136,7 @@ fn kill_forward(local: &[u8]) -> Request
     }
 }
 
-/// The port of a local end, `tcp:` and 1 to 5 digits of at most 65,535.
+/// Parses the port of a local end: `tcp:` and 1 to 5 digits of at most 65,535.
 fn read_local(text: &[u8]) -> Option<u16>
     ensures { result ≡ local_in text.now }
 {
@@ -148,7 +148,7 @@ fn read_local(text: &[u8]) -> Option<u16>
     }
 }
 
-/// Whether a text can be the remote end of a forward.
+/// Returns whether a text can be the remote end of a forward.
 fn is_remote(text: &[u8]) -> bool
     ensures { result ≡ is_remote text.now }
 {

@@ -3,8 +3,8 @@
 ghost use Rattle.std.specs.Prelude.{◌≡◌, ◌<◌, IfSome};
 ghost use Rattle.adb_request.specs.Requests.{hex_digit, hex_digits, digit_value, hex_value, hex_number};
 
-/// A length as requests and replies spell it: four lower-case hexadecimal digits (OVERVIEW.TXT,
-/// "Protocol details").
+/// Encodes a length as requests and replies have it: four lower-case hexadecimal digits
+/// (OVERVIEW.TXT, "Protocol details").
 pub fn hex4(n: u16) -> [u8; 4]
     ensures { result ≡ hex_digits n }
 {
@@ -16,8 +16,8 @@ pub fn hex4(n: u16) -> [u8; 4]
     ]
 }
 
-/// The number that four hexadecimal digits of either case spell; `None` exactly where the bytes are
-/// not four such digits.
+/// Parses four hexadecimal digits of either case. Returns `None` exactly if the bytes are not four
+/// such digits.
 pub fn read_hex4(bytes: &[u8]) -> Option<u16>
     ensures { result ≡ hex_number bytes.now }
 {
@@ -27,7 +27,7 @@ pub fn read_hex4(bytes: &[u8]) -> Option<u16>
     }
 }
 
-/// The number that four bytes spell.
+/// Returns the number that four bytes encode.
 pub(crate) fn number_of(a: u8, b: u8, c: u8, d: u8) -> Option<u16>
     ensures { result ≡ hex_value a b c d }
 {

@@ -1,5 +1,5 @@
-//! Laws of the definitions of requests, as functions that do nothing. They say of each row of the
-//! table of requests that its texts are read by that row and by no other.
+//! Laws of the definitions of requests, as functions that do nothing. They state for each row of
+//! the table of requests that its texts are read by that row and by no other.
 
 ghost use Rattle.std.specs.Prelude.{◌≡◌, ◌<◌, ◌++◌, ◌∷◌, ℕ, List, Some, true, false, codes, ◌==◌};
 ghost use Rattle.std.specs.List.{AllByRecursion, list_any};
@@ -13,18 +13,18 @@ ghost use Rattle.adb_request.specs.declared.request.Which.TheVariants.{By};
 ghost use Rattle.adb_request.specs.declared.request.Request.{Request};
 ghost use Rattle.adb_request.specs.declared.request.Request.TheVariants.{Transport, Forward, KillForward};
 
-/// A length that is spelled is read back.
+/// States that an encoded length is parsed again.
 pub fn spelled_is_read()
     ensures { (n : ℕ) → n < 65536 → hex_number (hex_digits n) ≡ Some n }
 {}
 
-/// Each text that is a row of its own is read as that row.
+/// States that each text that is a row of its own is read as that row.
 #[tactic(auto, unfolding(crate::specs::Meaning::meaning))]
 pub fn fixed_texts_are_read()
     ensures { AllByRecursion (λ row. meaning row.0 ≡ row.1) fixed_rows }
 {}
 
-/// A transport by serial or by id is read, whatever the serial.
+/// States that a transport by serial or by id is read, whatever the serial.
 #[tactic(auto, unfolding(crate::specs::Meaning::meaning))]
 pub fn transports_are_read()
     ensures serial { (serial : List ℕ)
@@ -35,7 +35,8 @@ pub fn transports_are_read()
         → meaning (codes "host:transport-id:" ++ digits) ≡ Transport (Id id) false }
 {}
 
-/// A form is read behind the prefix of a serial without a colon, and behind that of an id.
+/// States that a form is read after the prefix of a serial without a colon, and after that of an
+/// id.
 pub fn forms_are_read()
     ensures serial { (serial text : List ℕ) (request : Request)
         → list_any (λ byte. byte == colon) serial ≡ false
@@ -46,7 +47,7 @@ pub fn forms_are_read()
         → meaning (codes "host-transport-id:" ++ (digits ++ colon ∷ text)) ≡ request }
 {}
 
-/// A forward between two ends is read, and so is its end.
+/// States that a forward between two ends is read, and so is the request to end it.
 pub fn forwards_are_read()
     ensures forward { (on : Which) (digits remote : List ℕ) (port : ℕ)
         → local_in (codes "tcp:" ++ digits) ≡ Some port → is_remote remote ≡ true

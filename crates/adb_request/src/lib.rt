@@ -1,5 +1,5 @@
-//! Requests of clients: how they are cut from a client's bytes, and what each means (OVERVIEW.TXT,
-//! SERVICES.TXT).
+//! The requests of clients (OVERVIEW.TXT, SERVICES.TXT). `cut` finds the first request in a
+//! client's bytes, and `read` parses its text.
 #![tactic(auto)]
 
 mod cutting;

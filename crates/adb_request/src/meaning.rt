@@ -1,4 +1,4 @@
-//! What a request's text means.
+//! The meaning of a request's text.
 
 ghost use Rattle.std.specs.Prelude.{◌≡◌, ◌+◌, ◌<◌, [], length, IfOk, IfSome, option_map, find};
 ghost use Rattle.adb_request.specs.Forms.{is_form};
@@ -10,8 +10,8 @@ use crate::request::{Request, Which};
 use adb_outside::{Selector, Text, read_number};
 use std::alloc::{AllocError, Global};
 
-/// What a request's text means (SERVICES.TXT, "HOST SERVICES"). Every text means something; an error
-/// is want of memory for a text of the request.
+/// Parses a request's text (SERVICES.TXT, "HOST SERVICES"). Every text has a meaning. Fails only if
+/// the allocation for a text of the request fails.
 #[tactic(auto, unfolding(crate::specs::Meaning::meaning))]
 pub fn read(alloc: Global, text: &[u8]) -> Result<Request, AllocError>
     ensures { IfOk result (λ request. request ≡ meaning text.now) }
@@ -22,7 +22,7 @@ pub fn read(alloc: Global, text: &[u8]) -> Result<Request, AllocError>
     }
 }
 
-/// The request of a text that asks the host; `None` where it asks a device.
+/// Parses a text that asks the host. Returns `None` if it asks a device.
 fn host(alloc: Global, text: &[u8]) -> Result<Option<Request>, AllocError>
     ensures { IfOk result (λ request. request ≡ host_meaning text.now) }
 {
@@ -44,14 +44,14 @@ fn host(alloc: Global, text: &[u8]) -> Result<Option<Request>, AllocError>
     }
 }
 
-/// A text that asks the host means nothing where no row fits it.
+/// Returns the request, or the unknown one if no row fits the text.
 fn or_unknown(request: Option<Request>) -> Request
     ensures { result ≡ or_unknown request }
 {
     request.unwrap_or(Request::UnknownHost)
 }
 
-/// What stands behind `host:`.
+/// Parses the text after `host:`.
 fn host_request(alloc: Global, text: &[u8]) -> Result<Option<Request>, AllocError>
     ensures { IfOk result (λ request. request ≡ host_request text.now) }
 {
@@ -73,7 +73,7 @@ fn host_request(alloc: Global, text: &[u8]) -> Result<Option<Request>, AllocErro
     form(alloc, Which::Own, text)
 }
 
-/// The request behind `host:` that says nothing else, where the text is one.
+/// Parses a text after `host:` that has no arguments.
 fn fixed_request(text: &[u8]) -> Option<Request>
     ensures { result ≡ fixed_request text.now }
 {
@@ -94,7 +94,7 @@ fn fixed_request(text: &[u8]) -> Option<Request>
     }
 }
 
-/// The request behind `host:` that selects a device by its kind, where the text is one.
+/// Parses a text after `host:` that selects a device by its kind.
 fn fixed_transport(text: &[u8]) -> Option<Request>
     ensures { result ≡ row_of transport_rows text.now }
 {
@@ -116,7 +116,7 @@ fn fixed_transport(text: &[u8]) -> Option<Request>
     Some(Request::Transport { by, tell_id })
 }
 
-/// The request behind `host-serial:`, whose serial ends at the first colon behind which a form stands.
+/// Parses the text after `host-serial:`. The serial ends at the first colon that a form follows.
 fn serial_request(alloc: Global, text: &[u8]) -> Result<Option<Request>, AllocError>
     ensures { IfOk result (λ request. request ≡ serial_request text.now) }
 {
@@ -127,7 +127,7 @@ fn serial_request(alloc: Global, text: &[u8]) -> Result<Option<Request>, AllocEr
     form(alloc, Which::By(by), &text[place + 1..])
 }
 
-/// The place of the first colon behind which a form stands.
+/// Returns the place of the first colon that a form follows.
 fn serial_end(text: &[u8]) -> Option<usize>
     ensures split { option_map (split_at text.now) result
         ≡ find (λ split. is_form split.after) (splits_behind [] text.now) }
@@ -141,7 +141,7 @@ fn serial_end(text: &[u8]) -> Option<usize>
     None
 }
 
-/// The request behind `host-transport-id:`, whose id ends at the first colon.
+/// Parses the text after `host-transport-id:`. The id ends at the first colon.
 fn id_request(alloc: Global, text: &[u8]) -> Result<Option<Request>, AllocError>
     ensures { IfOk result (λ request. request ≡ id_request text.now) }
 {
@@ -154,7 +154,7 @@ fn id_request(alloc: Global, text: &[u8]) -> Result<Option<Request>, AllocError>
     }
 }
 
-/// A transport id: 1 to 10 digits of at most 4,294,967,295.
+/// Parses a transport id: 1 to 10 digits of at most 4,294,967,295.
 fn read_id(text: &[u8]) -> Option<u32>
     ensures { result ≡ id_in text.now }
 {

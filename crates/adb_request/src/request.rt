@@ -1,21 +1,21 @@
-//! What a client asks for.
+//! Requests of clients.
 
 use adb_outside::{Selector, Text};
 
-/// Of which device a request asks.
+/// The device that a request asks.
 #[derive(Drop)]
 pub enum Which {
-    /// The one that the connection selected, or any where it selected none.
+    /// The device that the connection selected, or any device if it selected none.
     Own,
     By(Selector),
 }
 
-/// What a client asks for (SERVICES.TXT, "HOST SERVICES").
+/// A request of a client (SERVICES.TXT, "HOST SERVICES").
 #[derive(Drop)]
 pub enum Request {
     /// The version of the server.
     Version,
-    /// The server's end.
+    /// Stops the server.
     Kill,
     /// The list of devices.
     Devices {
@@ -34,22 +34,22 @@ pub enum Request {
     Devpath(Which),
     GetState(Which),
     Features(Which),
-    /// Listens at a local port, 0 for any, for connections to an end at the device. `norebind`
-    /// refuses a port that is forwarded already.
+    /// Listens at a local port, or any port if it is 0, for connections to an end at the device.
+    /// `norebind` refuses a port that is already forwarded.
     Forward {
         on: Which,
         norebind: bool,
         local: u16,
         remote: Text,
     },
-    /// A forward, or the end of one, whose specification has another form.
+    /// A forward, or the end of one, with a specification of another form.
     BadForward,
-    /// The end of the forward of that local port.
+    /// Ends the forward of that local port.
     KillForward(u16),
     KillAll,
     ListForward,
     /// A service of the selected device: any text that does not ask the host.
     Service(Text),
-    /// A text that asks the host for what it does not know.
+    /// A text that asks the host for an unknown service.
     UnknownHost,
 }

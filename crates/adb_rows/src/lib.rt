@@ -1,5 +1,6 @@
-//! Rows under numbers that are drawn in order and never used again: a map whose rows stand by
-//! index, so that the row of a number is found without a search where the numbers lie close.
+//! Rows under numbers that are drawn in order and never used again: a map with the rows in an array
+//! by number, so that the row of a number is found without a search if the numbers are close
+//! together.
 #![tactic(auto)]
 
 mod row_map;

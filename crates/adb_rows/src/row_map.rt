@@ -1,4 +1,4 @@
-//! A map by numbers that are drawn in order.
+//! A map for keys that are numbers drawn in order.
 
 ghost use Rattle.std.specs.Prelude.{◌≡◌, ◌^◌, ◌<◌, [], length, Some, None, filter, nat_eq, is_some, IfOk, OnOk, OnErr};
 ghost use Rattle.std.specs.Option.{option_copied, option_copied_mut};
@@ -10,10 +10,11 @@ use crate::shelf::Shelf;
 use std::alloc::{AllocError, Global};
 use std::marker::Model;
 
-/// Rows under numbers. Contracts see it as std's map of them. Where numbers are drawn in order a
-/// new row comes behind the others, and rows whose numbers are close are found without a search;
-/// else a search takes as many steps as the number of rows has binary digits. What is kept of rows
-/// that are gone is no more than of those that live, and a few.
+/// Rows under numbers. Contracts see it as std's map of them.
+///
+/// If numbers are drawn in order, a new row is appended, and rows with numbers close together are
+/// found without a search. Otherwise a search takes as many steps as the number of rows has binary
+/// digits. At most as many slots of removed rows are kept as there are live rows, and a few more.
 #[derive(Drop)]
 pub struct RowMap<V> {
     shelf: Shelf<V>,
@@ -35,7 +36,7 @@ impl<V> Model for RowMap<V> {
 impl<V> RowMap<V> {
     ghost use Rattle.adb_rows.specs.Lending.{lends_row};
 
-    /// No rows. It takes no memory.
+    /// Returns a map without rows. Allocates nothing.
     pub fn new(alloc: Global) -> RowMap<V>
         ensures { result.entries ≡ [] }
     {
@@ -44,7 +45,7 @@ impl<V> RowMap<V> {
         }
     }
 
-    /// How many rows there are.
+    /// Returns the number of rows.
     pub fn len(&self) -> usize
         ensures len { result ≡ length self.now.entries }
         ensures small { result < 2 ^ 63 }
@@ -53,21 +54,21 @@ impl<V> RowMap<V> {
         self.shelf.live
     }
 
-    /// The row of a number.
+    /// Returns the row of a number.
     pub fn get(&self, id: &u32) -> Option<&V>
         ensures value { option_copied result ≡ at id.now self.now.entries }
     {
         self.shelf.get(*id)
     }
 
-    /// Whether a number has a row.
+    /// Returns whether a number has a row.
     pub fn contains_key(&self, id: &u32) -> bool
         ensures { result ≡ is_some (at id.now self.now.entries) }
     {
         self.get(id).is_some()
     }
 
-    /// The row of a number, to be written. It takes no memory.
+    /// Returns the row of a number for writing. Allocates nothing.
     pub fn get_mut(&mut self, id: &u32) -> Option<&mut V>
         ensures* writes_back { sem 𝓛 (lends_row V.row self.entry (nat_cmp id.now) result) }
         ensures value { option_copied_mut result ≡ at id.now self.old.entries }
@@ -81,8 +82,8 @@ impl<V> RowMap<V> {
 }
 
 impl<V: Drop> RowMap<V> {
-    /// A row stands under a number, in place of the one there, which is answered. It takes memory
-    /// only where there is none; after want of memory the rows are as before, and the new one is
+    /// Inserts a row under a number and returns the row that it replaces. Allocates only if the
+    /// number has no row. If an allocation fails, the rows are unchanged and the new row is
     /// dropped.
     pub fn insert(&mut self, id: u32, row: V) -> Result<Option<V>, AllocError>
         ensures old { IfOk result (λ old. old ≡ at id self.old.entries) }
@@ -94,7 +95,7 @@ impl<V: Drop> RowMap<V> {
         self.shelf.insert(id, row)
     }
 
-    /// No row stands under a number. The one that did is answered.
+    /// Removes the row of a number and returns it.
     pub fn remove(&mut self, id: &u32) -> Option<V>
         ensures value { result ≡ at id.now self.old.entries }
         ensures puts { Puts id.now None self.old.entries self.new.entries }
@@ -103,14 +104,14 @@ impl<V: Drop> RowMap<V> {
         self.shelf.remove(*id)
     }
 
-    /// No row stays.
+    /// Removes all rows.
     pub fn clear(&mut self)
         ensures { self.new.entries ≡ [] }
     {
         self.shelf.clear();
     }
 
-    /// No row stays but that of one number.
+    /// Removes all rows but that of one number.
     pub fn keep_only(&mut self, id: u32)
         ensures { self.new.entries ≡ filter (λ row. nat_eq row.0 id) self.old.entries }
     {

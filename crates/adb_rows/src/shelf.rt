@@ -1,4 +1,4 @@
-//! Slots in rising number, and how many of them have a row.
+//! Slots by rising number, and a count of those that have a row.
 
 ghost use Rattle.std.specs.Prelude.{◌≡◌, ◌<◌, [], length, filter, nat_eq, None, Some, IfOk, MatchOption, OnErr, OnOk};
 ghost use Rattle.std.specs.Option.{option_copied, option_copied_mut};
@@ -11,22 +11,22 @@ use crate::slots::{Slot, count, drop_empty, find, held, keep_only, place_of, row
 use std::alloc::{AllocError, Global};
 use std::mem;
 
-/// So many slots without a row may stand beside as many as have one.
+/// Slots without a row are dropped once half of all slots are more than the rows and this number.
 const SPARE: usize = 32;
 
-/// Slots in rising number. A row that goes leaves its slot, and those without a row go once they
-/// are more than the others and a few.
+/// Slots by rising number. A removed row leaves its slot. Slots without a row are dropped once half
+/// of all slots are more than the rows and `SPARE`.
 #[derive(Drop)]
 pub(crate) struct Shelf<V> {
     pub slots: Vec<Slot<V>>,
-    /// How many slots have a row.
+    /// The number of slots that have a row.
     pub live: usize,
-    /// The place that was found last. It says where to look first, and nothing rests on it.
+    /// The place that was found last. It is only a hint of where to look first.
     pub last: usize,
 }
 
 impl<V> Shelf<V> {
-    /// No slots. It takes no memory.
+    /// Returns a shelf without slots. Allocates nothing.
     pub(crate) fn new(alloc: Global) -> Shelf<V>
         ensures empty { result.slots.items ≡ [] }
         ensures sound { IsSound result }
@@ -38,7 +38,7 @@ impl<V> Shelf<V> {
         }
     }
 
-    /// The row of a number.
+    /// Returns the row of a number.
     pub(crate) fn get(&self, number: u32) -> Option<&V>
         requires { IsSound self.now }
         ensures { option_copied result ≡ at number (rows_of self.now.slots.items) }
@@ -46,7 +46,7 @@ impl<V> Shelf<V> {
         row_of(self.slots.as_slice(), self.last, number)
     }
 
-    /// The place of a number that has a row, which is remembered.
+    /// Returns the place of a number that has a row, and remembers the place.
     pub(crate) fn seek(&mut self, number: u32) -> Option<usize>
         requires { IsSound self.old }
         ensures place { MatchOption result (at number (rows_of self.old.slots.items) ≡ None)
@@ -59,7 +59,7 @@ impl<V> Shelf<V> {
         Some(place)
     }
 
-    /// The row at a place, to be written.
+    /// Returns the row at a place for writing.
     pub(crate) fn lend(&mut self, place: usize) -> Option<&mut V>
         requires { place < length self.old.slots.items }
         ensures* writes_back { sem 𝓛 (LendsAt V.row self.entry place result) }
@@ -70,8 +70,8 @@ impl<V> Shelf<V> {
 }
 
 impl<V: Drop> Shelf<V> {
-    /// A row stands under a number, in place of the one there, which is answered. After want of
-    /// memory the rows are as before, and the new one is dropped.
+    /// Inserts a row under a number and returns the row that it replaces. If an allocation fails,
+    /// the rows are unchanged and the new row is dropped.
     pub(crate) fn insert(&mut self, number: u32, row: V) -> Result<Option<V>, AllocError>
         requires { IsSound self.old }
         ensures sound { IsSound self.new }
@@ -87,7 +87,7 @@ impl<V: Drop> Shelf<V> {
         }
     }
 
-    /// No row stands under a number. The one that did is answered.
+    /// Removes the row of a number and returns it.
     pub(crate) fn remove(&mut self, number: u32) -> Option<V>
         requires { IsSound self.old }
         ensures sound { IsSound self.new }
@@ -101,7 +101,7 @@ impl<V: Drop> Shelf<V> {
         row
     }
 
-    /// Another row stands in the slot of a number, or none. The one there is answered.
+    /// Replaces the row in the slot of a number, which may be none, and returns the old one.
     fn swap(&mut self, number: u32, place: usize, row: Option<V>) -> Option<V>
         requires sound { IsSound self.old }
         requires place { StandsAt number self.old.slots.items place }
@@ -117,7 +117,8 @@ impl<V: Drop> Shelf<V> {
         old
     }
 
-    /// A number that has no slot gets one, with a row. After want of memory it has none.
+    /// Adds a slot with a row for a number that has no slot. If an allocation fails, no slot is
+    /// added.
     fn add(&mut self, number: u32, place: usize, row: V) -> Result<Option<V>, AllocError>
         requires sound { IsSound self.old }
         requires place { FitsAt number self.old.slots.items place }
@@ -135,7 +136,7 @@ impl<V: Drop> Shelf<V> {
         Ok(None)
     }
 
-    /// Where slots without a row are more than the others and a few, they go.
+    /// Drops the slots without a row if half of all slots are more than the rows and `SPARE`.
     fn thin_out(&mut self)
         requires { IsSound self.old }
         ensures sound { IsSound self.new }
@@ -146,7 +147,7 @@ impl<V: Drop> Shelf<V> {
         }
     }
 
-    /// No row stays.
+    /// Removes all rows.
     pub(crate) fn clear(&mut self)
         ensures empty { self.new.slots.items ≡ [] }
         ensures sound { IsSound self.new }
@@ -156,7 +157,7 @@ impl<V: Drop> Shelf<V> {
         self.live = 0;
     }
 
-    /// No row stays but that of one number.
+    /// Removes all rows but that of one number.
     pub(crate) fn keep_only(&mut self, number: u32)
         requires { IsSound self.old }
         ensures sound { IsSound self.new }
@@ -168,7 +169,7 @@ impl<V: Drop> Shelf<V> {
     }
 }
 
-/// Another row stands in the slot at a place, or none. The one there is answered.
+/// Replaces the row in the slot at a place, which may be none, and returns the old one.
 fn put_in<V>(slots: &mut Vec<Slot<V>>, place: usize, row: Option<V>) -> Option<V>
     requires { place < length slots.old.items }
     ensures old { result ≡ row_at place slots.old.items }

@@ -1,19 +1,20 @@
-//! Slots, each of a number, in rising order of these.
+//! Slots in rising order of their numbers.
 
 ghost use Rattle.std.specs.Prelude.{◌≡◌, true, length, filter, nat_eq, None, MatchOption, MatchResult};
 ghost use Rattle.std.specs.Option.{option_copied};
 ghost use Rattle.adb_outside.specs.Tables.{at};
 ghost use Rattle.adb_rows.specs.Slots.{FitsAt, HasRowAt, RisesFrom, StandsAt, count_of, rows_of};
 
-/// A number, with its row, or with none where that is gone.
+/// A number with its row, or without one if the row was removed.
 #[derive(Drop)]
 pub(crate) struct Slot<V> {
     pub number: u32,
     pub row: Option<V>,
 }
 
-/// The place of a number, or the one where it would stand. Nobody searches where it stands as far
-/// from the place that was found last as its number from the one there, or behind all others.
+/// Returns the place of a number, or the place where it would be inserted. No search is needed if
+/// the number is as far from the number found last as its place is from that number's place, or if
+/// it is greater than all others.
 pub(crate) fn find<V>(slots: &[Slot<V>], last: usize, number: u32) -> Result<usize, usize>
     requires { RisesFrom 0 slots.now }
     ensures { MatchResult result (StandsAt number slots.now) (FitsAt number slots.now) }
@@ -28,7 +29,7 @@ pub(crate) fn find<V>(slots: &[Slot<V>], last: usize, number: u32) -> Result<usi
     search(slots, number)
 }
 
-/// Whether a number stands at a place.
+/// Returns whether the slot at a place has this number.
 fn stands_at<V>(slots: &[Slot<V>], place: usize, number: u32) -> bool
     ensures { result ≡ true → StandsAt number slots.now place }
 {
@@ -38,7 +39,7 @@ fn stands_at<V>(slots: &[Slot<V>], place: usize, number: u32) -> bool
     }
 }
 
-/// Whether there are slots, and a number is greater than those of all.
+/// Returns whether there are slots and the number is greater than all of theirs.
 fn is_behind<V>(slots: &[Slot<V>], number: u32) -> bool
     requires { RisesFrom 0 slots.now }
     ensures { result ≡ true → FitsAt number slots.now (length slots.now) }
@@ -49,7 +50,7 @@ fn is_behind<V>(slots: &[Slot<V>], number: u32) -> bool
     }
 }
 
-/// The place of a number, or the one where it would stand.
+/// Searches for the place of a number, or the place where it would be inserted.
 fn search<V>(slots: &[Slot<V>], number: u32) -> Result<usize, usize>
     requires { RisesFrom 0 slots.now }
     ensures { MatchResult result (StandsAt number slots.now) (FitsAt number slots.now) }
@@ -57,7 +58,7 @@ fn search<V>(slots: &[Slot<V>], number: u32) -> Result<usize, usize>
     slots.binary_search_by_key(&number, |slot| slot.number)
 }
 
-/// Where a number stands if each number has a slot from that at a place on.
+/// Returns the place of a number if every number has a slot from that at `place` on.
 fn guess<V>(slots: &[Slot<V>], place: usize, number: u32) -> usize {
     match slots.get(place) {
         Some(slot) => place
@@ -67,7 +68,7 @@ fn guess<V>(slots: &[Slot<V>], place: usize, number: u32) -> usize {
     }
 }
 
-/// The place of a number that has a row.
+/// Returns the place of a number that has a row.
 pub(crate) fn place_of<V>(slots: &[Slot<V>], last: usize, number: u32) -> Option<usize>
     requires { RisesFrom 0 slots.now }
     ensures { MatchOption result (at number (rows_of slots.now) ≡ None)
@@ -82,7 +83,7 @@ pub(crate) fn place_of<V>(slots: &[Slot<V>], last: usize, number: u32) -> Option
     Some(place)
 }
 
-/// The row of a number.
+/// Returns the row of a number.
 pub(crate) fn row_of<V>(slots: &[Slot<V>], last: usize, number: u32) -> Option<&V>
     requires { RisesFrom 0 slots.now }
     ensures { option_copied result ≡ at number (rows_of slots.now) }
@@ -91,7 +92,7 @@ pub(crate) fn row_of<V>(slots: &[Slot<V>], last: usize, number: u32) -> Option<&
     slots[place].row.as_ref()
 }
 
-/// How many slots have a row.
+/// Returns how many slots have a row.
 pub(crate) fn count<V>(slots: &[Slot<V>]) -> usize
     ensures { result ≡ length (rows_of slots.now) }
 {
@@ -102,7 +103,7 @@ pub(crate) fn count<V>(slots: &[Slot<V>]) -> usize
     rows
 }
 
-/// One for a row, and none for no row.
+/// Returns 1 for a row, and 0 for none.
 pub(crate) fn held<V>(row: &Option<V>) -> usize
     ensures { result ≡ count_of row.now }
 {
@@ -112,7 +113,7 @@ pub(crate) fn held<V>(row: &Option<V>) -> usize
     }
 }
 
-/// The slots without a row go, and the memory that they had.
+/// Drops the slots without a row, and frees their memory.
 pub(crate) fn drop_empty<V: Drop>(slots: &mut Vec<Slot<V>>)
     requires { RisesFrom 0 slots.old.items }
     ensures rows { rows_of slots.new.items ≡ rows_of slots.old.items }
@@ -122,7 +123,7 @@ pub(crate) fn drop_empty<V: Drop>(slots: &mut Vec<Slot<V>>)
     slots.shrink_to_fit();
 }
 
-/// All slots go but that of one number, and the memory that they had.
+/// Drops all slots but that of one number, and frees their memory.
 pub(crate) fn keep_only<V: Drop>(slots: &mut Vec<Slot<V>>, number: u32)
     requires { RisesFrom 0 slots.old.items }
     ensures rows { rows_of slots.new.items

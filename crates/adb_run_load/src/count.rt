@@ -10,7 +10,7 @@ use crate::up::Up;
 use adb_capture::Entry;
 use std::alloc::{AllocError, Global};
 
-/// What is counted of a history so far.
+/// The counts of a history so far.
 #[derive(Drop)]
 pub(crate) struct Count {
     entries: u64,
@@ -19,7 +19,7 @@ pub(crate) struct Count {
 }
 
 impl Count {
-    /// There is no entry yet. It takes no memory.
+    /// Returns the counts before the first entry. Allocates nothing.
     pub(crate) fn new(alloc: Global) -> Count
         ensures { IsCount [] result }
     {
@@ -30,7 +30,7 @@ impl Count {
         }
     }
 
-    /// What went through by these entries.
+    /// Returns the totals of the entries so far.
     pub(crate) fn totals(&self) -> Totals
         ensures { result ≡ record {
           up = self.now.up.total;

@@ -1,4 +1,4 @@
-//! Counting what comes down the streams.
+//! Counting the bytes that are put to clients.
 
 ghost use Rattle.std.specs.Prelude.{◌≡◌, ◌≢◌, ◌≤◌, ℕ, [], Some, OnOk};
 ghost use Rattle.adb_outside.specs.Tables.{at, Puts};
@@ -8,11 +8,11 @@ use adb_capture::Entry;
 use std::alloc::{AllocError, Global};
 use std::collections::BTreeMap;
 
-/// How many bytes the replies have that lead what is put to a client of a load.
+/// The number of bytes of the leading replies to a client of a load.
 pub(crate) const LEAD_LEN: usize = 8;
 
-/// The bytes that were put to clients past the replies that lead them, and how much of these is
-/// still to be put to each client: only the clients are held to which some is.
+/// The count of bytes that were put to clients after the leading replies, and how much of the
+/// replies is still to be put to each client. A client is held only while there is such a rest.
 #[derive(Drop)]
 pub(crate) struct Down {
     pub total: u64,
@@ -20,7 +20,7 @@ pub(crate) struct Down {
 }
 
 impl Down {
-    /// Nobody came yet.
+    /// Returns the state before any client came.
     pub(crate) fn new(alloc: Global) -> Down
         ensures { IsDown [] result }
     {
@@ -44,7 +44,7 @@ impl Down {
         }
     }
 
-    /// Counts so many bytes that were put to a client.
+    /// Counts `size` bytes that were put to a client.
     fn put(&mut self, client: u32, size: usize)
         ensures { Hands client size self.old self.new }
     {
@@ -54,7 +54,7 @@ impl Down {
     }
 }
 
-/// A client came.
+/// Adds a client that came.
 fn came(leads: &mut BTreeMap<u32, usize>, client: u32) -> Result<(), AllocError>
     ensures { OnOk result (Puts client (Some LEAD_LEN) leads.old.entries leads.new.entries) }
 {
@@ -62,7 +62,7 @@ fn came(leads: &mut BTreeMap<u32, usize>, client: u32) -> Result<(), AllocError>
     Ok(())
 }
 
-/// How much of the replies is still to be put to a client.
+/// Returns how much of the replies is still to be put to a client.
 fn lead_of(leads: &BTreeMap<u32, usize>, client: u32) -> usize
     ensures { result ≡ lead_at (at client leads.now.entries) }
 {
@@ -72,7 +72,7 @@ fn lead_of(leads: &BTreeMap<u32, usize>, client: u32) -> usize
     }
 }
 
-/// So much is still to be put to a client, which is no more than there was.
+/// Sets how much is still to be put to a client, which is no more than before.
 fn set_lead(leads: &mut BTreeMap<u32, usize>, client: u32, left: usize)
     requires { left ≤ lead_at (at client leads.old.entries) }
     ensures here { lead_at (at client leads.new.entries) ≡ left }

@@ -1,5 +1,5 @@
-//! Running a load: the hub is given its entries, one after another, and all that is due is handed
-//! out after each, and what went through is counted.
+//! Running a load: its entries are applied to a hub, one after another, all output is handed out
+//! after each, and the bytes are counted.
 #![tactic(auto)]
 
 mod count;

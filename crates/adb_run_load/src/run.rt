@@ -20,10 +20,10 @@ use adb_laws_loads::{loads_are_accepted, totals_of_loads};
 use adb_load::Load;
 use std::alloc::{AllocError, Global};
 
-/// Makes the load of a seed and so many streams in a hub to which nobody came yet, entry by entry,
-/// and hands out all that is due after each; and tells how much went through. It holds of the load
-/// what lives, and nothing of what is over. After want of memory the hub holds a front of the
-/// history that was to be made.
+/// Runs the load of a seed with `streams` streams in a hub to which no client or device came yet:
+/// applies its entries one by one, and hands out all output after each. Returns the totals. It
+/// holds only the live streams of the load. If an allocation fails, the hub holds a prefix of the
+/// history.
 pub fn run_load(alloc: Global, hub: &mut Hub, seed: u64, streams: u32) -> Result<Totals, AllocError>
     requires new { IsLawful hub.old [] }
     requires some { 0 < streams }
@@ -41,7 +41,7 @@ pub fn run_load(alloc: Global, hub: &mut Hub, seed: u64, streams: u32) -> Result
     Ok(count.totals())
 }
 
-/// Makes an entry, which is dropped then, and hands out all that is due.
+/// Applies an entry, drops it, and hands out all output.
 fn make(hub: &mut Hub, count: &mut Count, entry: Entry) -> Result<(), AllocError>
     requires form { HasRecord entry }
     requires ready { IsReady entry hub.old count.old }
@@ -51,7 +51,7 @@ fn make(hub: &mut Hub, count: &mut Count, entry: Entry) -> Result<(), AllocError
     make_entry(hub, count, &entry)
 }
 
-/// Makes an entry and counts it, and hands out all that is due.
+/// Applies and counts an entry, and hands out all output.
 fn make_entry(hub: &mut Hub, count: &mut Count, entry: &Entry) -> Result<(), AllocError>
     requires form { HasRecord entry.now }
     requires ready { IsReady entry.now hub.old count.old }
@@ -68,8 +68,8 @@ fn make_entry(hub: &mut Hub, count: &mut Count, entry: &Entry) -> Result<(), All
     }
 }
 
-/// Hands out all that is due, whoever it is due to, and counts each hand-out. It ends, by the law
-/// `draining_ends`, with nothing due.
+/// Hands out all output to every client and link, and counts each hand-out. By the law
+/// `draining_ends` this ends, with no output left.
 fn drain(hub: &mut Hub, count: &mut Count) -> Result<(), AllocError>
     requires { IsCounted hub.old count.old }
     ensures { (h : History) → IsLawful hub.old h → IsCount h count.old
@@ -82,7 +82,7 @@ fn drain(hub: &mut Hub, count: &mut Count) -> Result<(), AllocError>
     Ok(())
 }
 
-/// Counts a hand-out, which is dropped then.
+/// Counts a hand-out, and drops it.
 fn add(count: &mut Count, entry: Entry) -> Result<(), AllocError>
     ensures { OnOk result ((h : History) → IsLegal (entry ∷ h) → IsCount h count.old
         → IsCount (entry ∷ h) count.new) }

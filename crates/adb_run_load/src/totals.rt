@@ -1,12 +1,12 @@
-//! What went through a hub.
+//! The totals of a hub's traffic.
 
-/// How much went through a hub. A number that is past the last of 64 bits is told as that.
+/// The totals of a hub's traffic. A number that exceeds 64 bits saturates.
 #[derive(Clone, Copy, Debug, PartialEq, Eq, Drop)]
 pub struct Totals {
-    /// The payload bytes of the writes that were sent to devices.
+    /// The number of payload bytes of the writes that were sent to devices.
     pub up: u64,
-    /// The bytes that came from devices and were put to clients.
+    /// The number of bytes that came from devices and were put to clients.
     pub down: u64,
-    /// The entries of the history: those that came, and the hand-outs.
+    /// The number of entries of the history: those that came, and the hand-outs.
     pub entries: u64,
 }

@@ -1,4 +1,4 @@
-//! Counting what goes up the streams.
+//! Counting the bytes that are sent to devices.
 
 ghost use Rattle.std.specs.Prelude.{◌≡◌, ◌≢◌, ℕ, [], IfOk, OnOk};
 ghost use Rattle.adb_outside.specs.Tables.{at};
@@ -11,8 +11,8 @@ use adb_wire::Deframer;
 use std::alloc::{AllocError, Global};
 use std::collections::BTreeMap;
 
-/// The payload bytes of the writes that were sent to links, and what is held of each link that was
-/// sent to: the bytes past its last whole packet.
+/// The count of payload bytes of the writes that were sent to links, and for each link that was
+/// sent to the bytes past its last whole packet.
 #[derive(Drop)]
 pub(crate) struct Up {
     pub alloc: Global,
@@ -21,7 +21,7 @@ pub(crate) struct Up {
 }
 
 impl Up {
-    /// Nothing was sent yet.
+    /// Returns the state before any byte was sent.
     pub(crate) fn new(alloc: Global) -> Up
         ensures { IsUp [] result }
     {
@@ -42,7 +42,7 @@ impl Up {
         }
     }
 
-    /// Counts what was sent to a link, which is joined where it lies in two parts.
+    /// Counts the bytes that were sent to a link; if they lie in two parts, the parts are joined.
     fn sent(&mut self, link: u32, bytes: &HandOut) -> Result<(), AllocError>
         ensures { OnOk result (Writes link bytes.now self.old self.new) }
     {
@@ -69,7 +69,7 @@ impl Up {
     }
 }
 
-/// A link that was not sent to before has a deframer too.
+/// Adds a deframer for a link that was not sent to before.
 fn begin(links: &mut BTreeMap<u32, Deframer>, alloc: Global, link: u32) -> Result<(), AllocError>
     ensures { OnOk result (Begins link links.old.entries links.new.entries) }
 {
@@ -79,7 +79,7 @@ fn begin(links: &mut BTreeMap<u32, Deframer>, alloc: Global, link: u32) -> Resul
     Ok(())
 }
 
-/// How many bytes the writes have that became whole on a link.
+/// Returns how many bytes the writes have that became whole on a link.
 fn written_on(
     links: &mut BTreeMap<u32, Deframer>,
     link: u32,

@@ -11,8 +11,8 @@ ghost use Rattle.adb_run_load.specs.Totals.{told};
 use adb_wire::{Command, Deframer, Packet, WireError};
 use std::alloc::AllocError;
 
-/// How many bytes the writes have that become whole by a further piece. Past a fault there are
-/// none.
+/// Returns how many bytes the writes have that become whole by a further piece. After a fault there
+/// are none.
 pub(crate) fn written(cutter: &mut Deframer, piece: &[u8]) -> Result<u64, AllocError>
     ensures { IfOk result (λ written. (fed : List ℕ) → HasRead fed cutter.old
         → Wrote fed piece.now written cutter.new) }
@@ -24,14 +24,14 @@ pub(crate) fn written(cutter: &mut Deframer, piece: &[u8]) -> Result<u64, AllocE
     Ok(take_writes(cutter))
 }
 
-/// Whether there was no memory for a piece.
+/// Returns whether an allocation for a piece failed.
 fn ran_out(fed: Result<(), WireError>) -> bool
     ensures { result ≡ false → fed ≢ Err WireError.OutOfMemory }
 {
     matches!(fed, Err(WireError::OutOfMemory))
 }
 
-/// How many bytes the writes have that are still to be given, which are taken.
+/// Takes the packets that are whole, and returns how many bytes their writes have.
 fn take_writes(cutter: &mut Deframer) -> u64
     ensures counted { result ≡ told (wrote_in cutter.old.given) }
     ensures taken { cutter.new.given ≡ [] }
@@ -45,7 +45,7 @@ fn take_writes(cutter: &mut Deframer) -> u64
     total
 }
 
-/// How many bytes a packet writes.
+/// Returns how many bytes a packet writes.
 fn write_len(packet: Packet) -> u64
     ensures { result ≡ (if is_wrte packet.command then length packet.payload else 0) }
 {

@@ -1,20 +1,20 @@
-//! How a stream is cut into packets.
+//! The framing of a stream of packets.
 
 use crate::packet::{ShellFault, ShellPacket};
 use adb_outside::{Format, Front, Text};
 use byteorder::{ByteOrder, LittleEndian};
 use std::alloc::{AllocError, Global};
 
-/// The id and the length.
+/// The bytes of a header: the id and the length.
 pub const HEADER_BYTES: usize = 5;
 
-/// The greatest id.
+/// The largest id.
 pub const LAST_ID: u8 = 5;
 
-/// The most bytes that a packet holds.
+/// The maximum number of bytes that a packet holds.
 pub const MAX_SHELL_PAYLOAD: u32 = 1_048_576;
 
-/// Packets, the first of which begins at an offset of the stream.
+/// The format of packets, the first of which begins at an offset of the stream.
 #[derive(Clone, Copy)]
 pub struct ShellFormat {
     pub offset: u64,

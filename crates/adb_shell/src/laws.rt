@@ -1,4 +1,4 @@
-//! What holds of all bytes and packets, whoever reads or writes them.
+//! Laws of all bytes and packets, whichever program reads or writes them.
 
 ghost use Rattle.std.specs.Prelude.{◌≡◌, ◌<◌, ◌^◌, ◌++◌, ◌∷◌, [], List, ℕ, Some};
 ghost use Rattle.adb_outside.specs.Bytes.{AreBytes};
@@ -10,35 +10,35 @@ ghost use Rattle.adb_shell.specs.declared.format.TheConstants.{HEADER_BYTES, LAS
 ghost use Rattle.adb_shell.specs.Packets.{IsPacket, IsCut, Reading, cut_from, past};
 ghost use Rattle.adb_shell.specs.Packets.{spelling, packets_in, fault_in};
 
-/// A packet that was written is the packet that is read, whatever follows it.
+/// States that a packet that was written is read again, whatever follows it.
 pub fn written_is_read()
     ensures { (from : ShellFormat) (packet : ShellPacket) (more : List ℕ) → IsPacket packet
         → cut_from from (spelling packet ++ more)
         ≡ joined (packet ∷ []) (cut_from (past from (spelling packet)) more) }
 {}
 
-/// The packets that are read from bytes are spelled there, one after the other, up to the first
-/// place where no whole packet stands; where a bad header stands there, it is the fault.
+/// States that the packets read from bytes are encoded there one after another, up to the first
+/// place with no whole packet; if there is a bad header at that place, it is the fault.
 pub fn cut_is_right()
     ensures { (from : ShellFormat) (bytes : List ℕ) → from.offset < 2 ^ 64 → AreBytes bytes
         → IsCut from bytes (cut_from from bytes) }
 {}
 
-/// Bytes are cut in one way: packets with a rest, and a fault where one stands there, that are
-/// right are those that are read.
+/// States that bytes are cut in one way: any packets with a rest, and a fault if there is one, that
+/// meet the definition are those that are read.
 pub fn cut_is_determined()
     ensures { (from : ShellFormat) (bytes : List ℕ) (cut : Reading)
         → from.offset < 2 ^ 64 → IsCut from bytes cut → cut ≡ cut_from from bytes }
 {}
 
-/// What follows the first fault changes neither the fault nor the packets before it.
+/// States that the bytes after the first fault change neither the fault nor the packets before it.
 pub fn faults_stay()
     ensures { (bytes more : List ℕ) (fault : ShellFault) → fault_in bytes ≡ Some fault
         → (fault_in (bytes ++ more) ≡ Some fault)
         × (packets_in (bytes ++ more) ≡ packets_in bytes) }
 {}
 
-/// The numbers of the definitions that are read here.
+/// States the numbers that the definitions take from the code.
 pub fn limits_are()
     ensures header { HEADER_BYTES ≡ 5 }
     ensures last_id { LAST_ID ≡ 5 }

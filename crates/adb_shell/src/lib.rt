@@ -1,5 +1,6 @@
-//! The packets of the shell protocol, version 2, that a device's `shell,v2:` service and its client
-//! send each other.
+//! The packets of the shell protocol, version 2, which a device's `shell,v2:` service and its
+//! client send each other. `write_packet` encodes a packet; a `ShellReader` is fed a stream in any
+//! pieces and returns its packets.
 #![tactic(auto)]
 
 mod format;

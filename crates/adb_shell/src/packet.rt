@@ -4,33 +4,33 @@ ghost use Rattle.adb_shell.specs.Packets.{error_of, failure_of};
 
 use adb_outside::{FeedError, Text};
 
-/// A packet of the shell protocol. Its id says what the bytes are: 0 is the command's input, 1 its
-/// output, 2 its error output, 3 its exit status in one byte, 4 the end of its input, 5 the size of
-/// the window.
+/// A packet of the shell protocol. Its id determines the meaning of its bytes: 0 is the command's
+/// input, 1 its output, 2 its error output, 3 its exit status in one byte, 4 the end of its input,
+/// 5 the size of the window.
 #[derive(Drop)]
 pub struct ShellPacket {
     pub id: u8,
     pub bytes: Text,
 }
 
-/// Why a stream is no stream of packets from some place on. An offset is that of the packet's first
-/// byte, counted from the first byte of the stream; past 2^64 - 1 it stays there.
+/// The reason why a stream is no stream of packets from some place on. An offset is that of the
+/// packet's first byte, counted from the first byte of the stream; past 2^64 - 1 it stays there.
 #[derive(Clone, Copy, Debug, PartialEq, Eq, Drop)]
 pub enum ShellFault {
-    /// The id of a packet is past 5.
+    /// The id of a packet is above 5.
     BadId { offset: u64, id: u8 },
-    /// A packet says that it holds more than 1,048,576 bytes.
+    /// The length in a packet is above 1,048,576 bytes.
     TooLong { offset: u64, length: u32 },
 }
 
-/// Why bytes were not taken.
+/// The reason why bytes were not taken.
 #[derive(Clone, Copy, Debug, PartialEq, Eq, Drop)]
 pub enum ShellError {
-    /// Memory ran out. Nothing changed.
+    /// An allocation failed. Nothing changed.
     OutOfMemory,
-    /// The id of a packet is past 5.
+    /// The id of a packet is above 5.
     BadId { offset: u64, id: u8 },
-    /// A packet says that it holds more than 1,048,576 bytes.
+    /// The length in a packet is above 1,048,576 bytes.
     TooLong { offset: u64, length: u32 },
 }
 

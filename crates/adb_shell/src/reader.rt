@@ -1,4 +1,4 @@
-//! Packets of a stream that comes in pieces.
+//! The packets of a stream that comes in pieces.
 
 ghost use Rattle.std.specs.Prelude.{◌≡◌, ◌≢◌, []};
 ghost use Rattle.adb_outside.specs.Framing.{Takes, Gives, answer_of};
@@ -11,8 +11,8 @@ use adb_outside::Framer;
 use std::alloc::Global;
 use std::marker::Model;
 
-/// Reads the packets of a stream that comes in any pieces. It holds the bytes past the last whole
-/// packet and the packets that were not taken yet, never the stream.
+/// A reader of the packets of a stream that comes in any pieces. It holds the bytes past the last
+/// whole packet and the packets that were not taken yet, never the whole stream.
 #[derive(Drop)]
 pub struct ShellReader {
     framer: Framer<ShellFormat, ShellPacket, ShellFault>,
@@ -27,7 +27,7 @@ impl Model for ShellReader {
 }
 
 impl ShellReader {
-    /// Nothing was fed yet. It takes no memory.
+    /// Returns a reader to which nothing was fed. Allocates nothing.
     pub fn new(alloc: Global) -> ShellReader
         ensures { StandsFor [] [] result }
     {
@@ -36,10 +36,12 @@ impl ShellReader {
         }
     }
 
-    /// Takes the next piece of the stream, of any length. A fault is the first of all the bytes fed
-    /// so far: a bad id, or else a bad length, of the first packet that has one, once its header is
-    /// there. The packets before it are still given by `next`, and from then on every call takes
-    /// nothing and answers that fault.
+    /// Takes the next piece of the stream, of any length.
+    ///
+    /// `OutOfMemory`: an allocation failed; nothing changed. `BadId` and `TooLong`: the first fault
+    /// of all the bytes fed so far: a bad id, or otherwise a bad length, of the first packet that
+    /// has one, once its header is there. The packets before it can still be taken with `next`;
+    /// every later call takes nothing and returns that fault.
     pub fn feed(&mut self, piece: &[u8]) -> Result<(), ShellError>
         ensures memory { result ≡ Err ShellError.OutOfMemory → self.new ≡ self.old }
         ensures taken { result ≢ Err ShellError.OutOfMemory
@@ -52,8 +54,7 @@ impl ShellReader {
         Ok(self.framer.feed(piece)?)
     }
 
-    /// The next packet that was not taken yet; `None` where no further whole packet was fed. It
-    /// takes no memory.
+    /// Takes the next packet. Returns `None` if no further whole packet was fed. Allocates nothing.
     pub fn next(&mut self) -> Option<ShellPacket>
         ensures { Gives front packet_of past self.old self.new result }
     {

@@ -1,4 +1,4 @@
-//! Spelling packets.
+//! Encoding packets.
 
 ghost use Rattle.std.specs.Prelude.{◌≡◌, ◌≤◌, ◌++◌, ◌∷◌, length, OnOk, OnErr};
 ghost use Rattle.byteorder.specs.Endian.{little_bytes};
@@ -9,7 +9,7 @@ use adb_outside::Text;
 use byteorder::{ByteOrder, LittleEndian};
 use std::alloc::{AllocError, Global};
 
-/// Adds the bytes of a packet at the end. After want of memory `out` is as before.
+/// Appends the bytes of a packet. If an allocation fails, `out` is unchanged.
 pub fn write_packet(alloc: Global, id: u8, bytes: &[u8], out: &mut Text) -> Result<(), AllocError>
     requires known { id ≤ LAST_ID }
     requires short { length bytes.now ≤ MAX_SHELL_PAYLOAD }
@@ -22,7 +22,7 @@ pub fn write_packet(alloc: Global, id: u8, bytes: &[u8], out: &mut Text) -> Resu
     out.push_slice(packet.as_slice())
 }
 
-/// The id and the length of a packet.
+/// Returns the id and the length of a packet.
 fn header(id: u8, length: u32) -> [u8; HEADER_BYTES]
     ensures { result ≡ id ∷ little_bytes 4 length }
 {

@@ -1,4 +1,4 @@
-//! The commands.
+//! The commands of the shell.
 
 ghost use Rattle.std.specs.Prelude.{◌≡◌, map, IfOk};
 ghost use Rattle.std.specs.List.{join_with_byte};
@@ -11,10 +11,10 @@ use adb_files::{FileError, Files};
 use adb_outside::{Text, read_number};
 use std::alloc::{AllocError, Global};
 
-/// The most digits of a status.
+/// The maximum number of digits of a status.
 const STATUS_DIGITS: usize = 3;
 
-/// What the words of a command write, and the status that they end with. No file is changed.
+/// Returns the output of a command and its exit status. No file is changed.
 pub fn outcome_of(alloc: Global, files: &Files, words: &[&[u8]]) -> Result<Outcome, AllocError>
     ensures { IfOk result (λ outcome. outcome
         ≡ outcome_of files.now (map (λ word. word.now) words.now)) }
@@ -32,7 +32,7 @@ pub fn outcome_of(alloc: Global, files: &Files, words: &[&[u8]]) -> Result<Outco
     }
 }
 
-/// Writes its words back.
+/// Writes the arguments back.
 fn echo(alloc: Global, arguments: &[&[u8]]) -> Result<Outcome, AllocError>
     ensures { IfOk result (λ outcome. outcome
         ≡ echo_outcome (map (λ word. word.now) arguments.now)) }
@@ -42,7 +42,7 @@ fn echo(alloc: Global, arguments: &[&[u8]]) -> Result<Outcome, AllocError>
     Ok(done(alloc, stdout))
 }
 
-/// Words, with a space between each two.
+/// Returns the words, with a space between each two.
 fn joined(alloc: Global, words: &[&[u8]]) -> Result<Text, AllocError>
     ensures { IfOk result (λ text. text ≡ join_with_byte 32 (map (λ word. word.now) words.now)) }
 {
@@ -57,7 +57,7 @@ fn joined(alloc: Global, words: &[&[u8]]) -> Result<Text, AllocError>
     Ok(text)
 }
 
-/// Writes a file. Without a path it writes nothing here: what its input is, the service answers.
+/// Writes a file. Without a path it writes nothing here: the service answers with its input.
 fn cat(alloc: Global, files: &Files, arguments: &[&[u8]]) -> Result<Outcome, AllocError>
     ensures { IfOk result (λ outcome. outcome
         ≡ cat_outcome files.now (map (λ word. word.now) arguments.now)) }
@@ -94,7 +94,7 @@ fn list(alloc: Global, files: &Files, arguments: &[&[u8]]) -> Result<Outcome, Al
     }
 }
 
-/// Writes what a path shows.
+/// Writes the listing of a path.
 fn list_at(alloc: Global, files: &Files, path: &[u8]) -> Result<Outcome, AllocError>
     ensures { IfOk result (λ outcome. outcome ≡ list_at files.now path.now) }
 {
@@ -109,7 +109,7 @@ fn list_at(alloc: Global, files: &Files, path: &[u8]) -> Result<Outcome, AllocEr
     Ok(done(alloc, stdout))
 }
 
-/// The names in a directory, each with the end of its line.
+/// Returns the names in a directory, each with a newline.
 fn name_lines(alloc: Global, files: &Files, path: &[u8]) -> Result<Text, AllocError>
     ensures { IfOk result (λ lines. lines ≡ name_lines files.now path.now) }
 {
@@ -121,7 +121,7 @@ fn name_lines(alloc: Global, files: &Files, path: &[u8]) -> Result<Text, AllocEr
     Ok(lines)
 }
 
-/// Says whether a file may be removed. It is removed where the command is run.
+/// Returns the outcome of `rm`: whether the file may be removed. Running the command removes it.
 fn remove(alloc: Global, files: &Files, arguments: &[&[u8]]) -> Result<Outcome, AllocError>
     ensures { IfOk result (λ outcome. outcome
         ≡ remove_outcome files.now (map (λ word. word.now) arguments.now)) }
@@ -132,7 +132,7 @@ fn remove(alloc: Global, files: &Files, arguments: &[&[u8]]) -> Result<Outcome, 
     }
 }
 
-/// What `rm` writes of a path, by what refuses it.
+/// Returns the output of `rm`, by the refusal of the path.
 fn remove_by(alloc: Global, refusal: Option<FileError>) -> Result<Outcome, AllocError>
     ensures { IfOk result (λ outcome. outcome ≡ remove_by refusal) }
 {
@@ -153,7 +153,7 @@ fn exit(alloc: Global, arguments: &[&[u8]]) -> Result<Outcome, AllocError>
     }
 }
 
-/// What `exit` writes of a word, by the status that it is.
+/// Returns the outcome of `exit`, by the status that its word means.
 fn exit_by(alloc: Global, status: Option<u8>) -> Result<Outcome, AllocError>
     ensures { IfOk result (λ outcome. outcome ≡ exit_by status) }
 {
@@ -167,7 +167,7 @@ fn exit_by(alloc: Global, status: Option<u8>) -> Result<Outcome, AllocError>
     }
 }
 
-/// The status that decimal digits are: a number of at most 255, without leading zeros.
+/// Parses decimal digits as a status: a number of at most 255, without leading zeros.
 fn status_of(digits: &[u8]) -> Option<u8>
     ensures { result ≡ status_of digits.now }
 {

@@ -1,11 +1,11 @@
-//! What the definitions rest on.
+//! The limits on which the definitions rest.
 
 ghost use Rattle.std.specs.Prelude.{◌≡◌};
 ghost use Rattle.adb_shell_service.specs.declared.commands.TheConstants.{STATUS_DIGITS};
 ghost use Rattle.adb_shell_service.specs.declared.output.TheConstants.{STDIN, STDOUT, STDERR};
 ghost use Rattle.adb_shell_service.specs.declared.output.TheConstants.{EXIT, CLOSE_STDIN, MAX_OUTPUT};
 
-/// The numbers of the definitions that are read here.
+/// States the numbers that the definitions take from the code.
 pub fn limits_are()
     ensures input { STDIN ≡ 0 }
     ensures output { STDOUT ≡ 1 }

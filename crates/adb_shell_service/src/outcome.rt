@@ -1,4 +1,4 @@
-//! What a command writes, and how it ends.
+//! The output of a command, and its status.
 
 ghost use Rattle.std.specs.Prelude.{◌≡◌, IfOk};
 ghost use Rattle.adb_shell_service.specs.Commands.{done, refused, denied, bad_words};
@@ -7,7 +7,7 @@ use adb_files::FileError;
 use adb_outside::Text;
 use std::alloc::{AllocError, Global};
 
-/// What a command writes, and the status that it ends with.
+/// The output of a command, and its exit status.
 #[derive(Drop)]
 pub struct Outcome {
     pub stdout: Text,
@@ -15,7 +15,7 @@ pub struct Outcome {
     pub status: u8,
 }
 
-/// A command that was done.
+/// Returns the outcome of a command that succeeded.
 pub fn done(alloc: Global, stdout: Text) -> Outcome
     ensures { result ≡ done stdout }
 {
@@ -26,7 +26,7 @@ pub fn done(alloc: Global, stdout: Text) -> Outcome
     }
 }
 
-/// A command that says why it was not done.
+/// Returns the outcome of a command that failed, with its reason.
 pub fn refused(alloc: Global, word: &[u8], reason: &[u8], status: u8) -> Result<Outcome, AllocError>
     ensures { IfOk result (λ outcome. outcome ≡ refused word.now reason.now status) }
 {
@@ -41,14 +41,14 @@ pub fn refused(alloc: Global, word: &[u8], reason: &[u8], status: u8) -> Result<
     })
 }
 
-/// A command that the files refuse.
+/// Returns the outcome of a command that the files refuse.
 pub fn denied(alloc: Global, word: &[u8], refusal: FileError) -> Result<Outcome, AllocError>
     ensures { IfOk result (λ outcome. outcome ≡ denied word.now refusal) }
 {
     refused(alloc, word, refusal.text(), 1)
 }
 
-/// A command whose other words are not those that it takes.
+/// Returns the outcome of a command with wrong arguments.
 pub fn bad_words(alloc: Global, word: &[u8]) -> Result<Outcome, AllocError>
     ensures { IfOk result (λ outcome. outcome ≡ bad_words word.now) }
 {

@@ -1,4 +1,4 @@
-//! How what a command writes is spelled.
+//! Encoding the output of a command.
 
 ghost use Rattle.std.specs.Prelude.{◌≡◌, ◌≤◌, ◌++◌, IfOk, OnOk};
 ghost use Rattle.adb_shell_service.specs.Output.{output_bytes, exit_bytes, spelled};
@@ -17,16 +17,16 @@ pub const STDOUT: u8 = 1;
 /// The id of a packet of the command's error output.
 pub const STDERR: u8 = 2;
 
-/// The id of the packet that has the command's status.
+/// The id of the packet with the command's status.
 pub const EXIT: u8 = 3;
 
 /// The id of the packet that ends the command's input.
 pub const CLOSE_STDIN: u8 = 4;
 
-/// The most bytes of output in one packet.
+/// The maximum number of bytes of output in one packet.
 pub const MAX_OUTPUT: usize = 65_536;
 
-/// Adds output as packets. After want of memory the first of them may stand there.
+/// Appends output as packets. If an allocation fails, the first of them may have been appended.
 pub fn add_output(alloc: Global, id: u8, bytes: &[u8], out: &mut Text) -> Result<(), AllocError>
     requires { id ≤ 5 }
     ensures { OnOk result (out.new ≡ out.old ++ output_bytes id bytes.now) }
@@ -40,14 +40,14 @@ pub fn add_output(alloc: Global, id: u8, bytes: &[u8], out: &mut Text) -> Result
     Ok(())
 }
 
-/// Adds the packet that has the status. After want of memory nothing is added.
+/// Appends the packet with the status. If an allocation fails, nothing is appended.
 pub fn add_exit(alloc: Global, status: u8, out: &mut Text) -> Result<(), AllocError>
     ensures { OnOk result (out.new ≡ out.old ++ exit_bytes status) }
 {
     write_packet(alloc, EXIT, &[status], out)
 }
 
-/// All that a command writes, and its status where that is told.
+/// Returns all that a command writes, followed by its status if the stream consists of packets.
 pub fn spelled(alloc: Global, packets: bool, outcome: &Outcome) -> Result<Text, AllocError>
     ensures { IfOk result (λ bytes. bytes ≡ spelled packets outcome.now) }
 {

@@ -1,9 +1,9 @@
-//! The first words that a shell knows.
+//! The programs of the shell, by their first words.
 
 ghost use Rattle.std.specs.Prelude.{◌≡◌};
 ghost use Rattle.adb_shell_service.specs.Commands.{program_of};
 
-/// What a command runs.
+/// The program of a command.
 #[derive(Clone, Copy, Drop)]
 pub enum Program {
     Echo,
@@ -14,7 +14,7 @@ pub enum Program {
 }
 
 impl Program {
-    /// The program that a command's first word names, if it names one.
+    /// Returns the program that a command's first word names, if it names one.
     pub fn of(word: &[u8]) -> Option<Program>
         ensures { result ≡ program_of word.now }
     {

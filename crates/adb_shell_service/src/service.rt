@@ -20,10 +20,10 @@ use adb_shell::{ShellError, ShellPacket, ShellReader};
 use std::alloc::{AllocError, Global};
 use std::marker::Model;
 
-/// The service `shell:` of a device, and `shell,v2:`, whose streams are packets of the shell protocol
-/// (SERVICES.TXT). The command is run when the service is opened. Contracts see what its reader of
-/// input holds where it still reads input, the answer that was not taken yet, and whether it is spent
-/// by want of memory.
+/// The service `shell:` of a device, and `shell,v2:`, which sends and takes packets of the shell
+/// protocol (SERVICES.TXT). The command is run when the service is opened. Contracts see the input
+/// that its reader holds while it still reads input, the answer that was not taken yet, and whether
+/// it is spent by an allocation failure.
 #[derive(Drop)]
 pub struct ShellService {
     alloc: Global,
@@ -41,9 +41,9 @@ impl Model for ShellService {
 }
 
 impl ShellService {
-    /// Runs a command over the files: `rm` removes its file now. Where its streams are packets, a
-    /// `cat` without a path writes what its input is, up to the end of that; each other command has
-    /// ended. After want of memory the files are as before.
+    /// Runs a command over the files: `rm` removes its file now. If its streams consist of packets,
+    /// a `cat` without a path writes its input back, up to the end of the input; every other
+    /// command has ended. If an allocation fails, the files are unchanged.
     pub fn open(
         alloc: Global,
         files: &mut Files,
@@ -76,9 +76,9 @@ impl ShellService {
         })
     }
 
-    /// Takes the next piece of the stream, of any length. A service that has ended drops it. After
-    /// want of memory a front of the answer was given, it has ended only where it had before, and the
-    /// service is spent: every call answers want of memory and changes nothing.
+    /// Takes the next piece of the stream, of any length. A service that has ended drops it. If an
+    /// allocation fails, a prefix of the answer was given, the service has ended only if it had
+    /// before, and it is spent: every later call returns the error and changes nothing.
     pub fn feed(&mut self, piece: &[u8]) -> Result<(), AllocError>
         ensures ok { OnOk result ((self.old.spent ≡ false) × (self.new.spent ≡ false)) }
         ensures whole { OnOk result ((opening : Opening) (fed taken : List ℕ)
@@ -110,14 +110,14 @@ impl ShellService {
         }
     }
 
-    /// The answer that was not taken yet.
+    /// Returns the answer that was not taken yet.
     pub fn out(&self) -> &[u8]
         ensures { result.now ≡ self.now.out }
     {
         self.out.as_slice()
     }
 
-    /// The first `n` bytes of the answer that is left were taken. It takes no memory.
+    /// Removes the first `n` bytes of the answer, which were taken. Needs no memory.
     pub fn taken(&mut self, n: usize)
         requires { n ≤ length self.old.out }
         ensures left { self.new ≡ record self.old { out = drop n self.old.out } }
@@ -129,7 +129,7 @@ impl ShellService {
         self.out.give_back();
     }
 
-    /// Whether the service has ended, so that nothing is added to its answer.
+    /// Returns whether the service has ended, so that nothing is added to its answer.
     pub fn ended(&self) -> bool
         ensures { result ≡ is_none self.now.input }
     {
@@ -137,7 +137,7 @@ impl ShellService {
     }
 }
 
-/// Whether a command writes what its input is: `cat` with no other word.
+/// Returns whether a command writes its input back: `cat` with no other word.
 fn is_echo_of_input(words: &[&[u8]]) -> bool
     ensures { result ≡ is_echo_of_input (map (λ word. word.now) words.now) }
 {
@@ -147,7 +147,7 @@ fn is_echo_of_input(words: &[&[u8]]) -> bool
     }
 }
 
-/// Removes the file that an `rm` names, where one is there.
+/// Removes the file that an `rm` names, if it exists.
 fn change(files: &mut Files, words: &[&[u8]])
     ensures { files.new ≡ files_left files.old (map (λ word. word.now) words.now) }
 {
@@ -158,8 +158,8 @@ fn change(files: &mut Files, words: &[&[u8]])
     }
 }
 
-/// Takes a piece of the input and answers the packets that it completes, and says whether the
-/// service has ended. After want of memory a front of the answer was given.
+/// Takes a piece of the input and answers the packets that it completes. Returns whether the
+/// service has ended. If an allocation fails, a prefix of the answer was given.
 fn answer_piece(
     alloc: Global,
     reader: &mut ShellReader,
@@ -180,7 +180,7 @@ fn answer_piece(
     Ok(closed || faulty)
 }
 
-/// Whether a reader told a fault; want of memory is none.
+/// Returns whether a reader reported a fault. An allocation failure is passed on as an error.
 fn is_faulty(answer: Result<(), ShellError>) -> Result<bool, AllocError>
     ensures ok { IfOk result (λ faulty. (answer ≢ Err ShellError.OutOfMemory)
         × ((fault : Option ShellFault) → answer ≡ answer_of error_of fault
@@ -194,8 +194,8 @@ fn is_faulty(answer: Result<(), ShellError>) -> Result<bool, AllocError>
     }
 }
 
-/// Answers the packets that a reader gives, up to the end of the input, and says whether that came.
-/// After want of memory a front of the answer was given.
+/// Answers the packets that a reader returns, up to the end of the input. Returns whether that end
+/// came. If an allocation fails, a prefix of the answer was given.
 fn answer_given(
     alloc: Global,
     reader: &mut ShellReader,
@@ -215,7 +215,7 @@ fn answer_given(
     Ok(false)
 }
 
-/// What is answered to a packet of input.
+/// Returns the answer to a packet of input.
 fn packet_answer(alloc: Global, packet: &ShellPacket) -> Result<Text, AllocError>
     ensures { IfOk result (λ bytes. bytes ≡ (packet_answer packet.now).bytes) }
 {

@@ -5,7 +5,7 @@ ghost use Rattle.adb_shell_service.specs.Commands.{words_of};
 
 use std::alloc::{AllocError, Global};
 
-/// The words of a command: what stands between its runs of spaces.
+/// Returns the words of a command: the texts between its runs of spaces.
 pub fn words_of(alloc: Global, command: &[u8]) -> Result<Vec<&[u8]>, AllocError>
     ensures { IfOk result (λ words. map (λ word. word.now) words.items ≡ words_of command.now) }
 {

@@ -1,4 +1,4 @@
-//! What runs jobs.
+//! A runner of jobs.
 
 ghost use Rattle.std.specs.Prelude.{◌≡◌, ◌<◌, [], None, Some, IfOk, IfErr, is_err, option_map};
 ghost use Rattle.adb_outside.specs.Outside.{Counts};
@@ -12,12 +12,12 @@ use std::marker::Model;
 use std::sync::Wait;
 use std::thread::Threads;
 
-/// Runs jobs of one type, each in a thread of its own while it runs, or within the call, and hands
-/// some back, not run: those of the calls that a test wants to fail, and those for which no thread
-/// can be had.
+/// A runner of jobs of one type. It runs each job in a thread of its own, or within the call. It
+/// hands a job back without running it if a test wants this call to fail, or if no thread can be
+/// started.
 ///
-/// A thread that has run its job waits for the next. `finish` ends the threads; those of a crew that
-/// is dropped without it wait on.
+/// A thread that has run its job waits for the next one. `finish` ends the threads; the threads of
+/// a crew that is dropped without it wait on.
 #[derive(Drop)]
 pub struct Crew<
     W: Threads + Wait + Copy + Send + Sync + Drop + 'static,
@@ -45,8 +45,8 @@ impl<W: Threads + Wait + Copy + Send + Sync + Drop + 'static, J: Job + Send + Dr
     W,
     J,
 > {
-    /// A crew that runs each job within the call, and hands back the jobs of the calls whose
-    /// numbers, counted from 1, are in `failing`. It takes no memory.
+    /// Returns a crew that runs each job within the call, and hands back the jobs of the calls
+    /// listed in `failing` by number, counted from 1. Allocates nothing.
     pub fn inline(failing: Vec<u64>) -> Crew<W, J>
         ensures { result ≡ record {
           failing = failing.items;
@@ -61,7 +61,8 @@ impl<W: Threads + Wait + Copy + Send + Sync + Drop + 'static, J: Job + Send + Dr
         }
     }
 
-    /// A crew that runs each job in a thread of its own while it runs.
+    /// Returns a crew that runs each job in a thread of its own while it runs. Fails if an
+    /// allocation fails.
     pub fn threads(rt: W, alloc: Global) -> Result<Crew<W, J>, AllocError>
         ensures { IfOk result (λ crew. crew
             ≡ record { failing = []; calls = 0; faults = 0; threads = Some 0 }) }
@@ -72,8 +73,8 @@ impl<W: Threads + Wait + Copy + Send + Sync + Drop + 'static, J: Job + Send + Dr
         })
     }
 
-    /// Runs a job, or hands it back, not run. The count of faults rises where it is handed back, and
-    /// stands elsewhere.
+    /// Runs a job, or returns it as the error without running it. The count of faults rises exactly
+    /// when it is returned.
     pub fn spawn(&mut self, job: J) -> Result<(), J>
         ensures back { IfErr result (λ back. back ≡ job) }
         ensures counts { Counts IsSteady (λ crew. crew.faults)
@@ -99,7 +100,7 @@ impl<W: Threads + Wait + Copy + Send + Sync + Drop + 'static, J: Job + Send + Dr
         }
     }
 
-    /// What shows that it handed a job back.
+    /// Returns evidence that the crew handed a job back.
     pub fn no_thread(&self) -> NoThread
         requires { 0 < self.now.faults }
     {
@@ -117,7 +118,7 @@ impl<W: Threads + Wait + Copy + Send + Sync + Drop + 'static, J: Job + Send + Dr
     }
 }
 
-/// What shows that a crew handed a job back, since it is had from such a crew alone.
+/// Evidence that a crew handed a job back. Only such a crew returns it.
 #[derive(Drop)]
 pub struct NoThread {
     shown: (),

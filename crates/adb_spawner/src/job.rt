@@ -1,8 +1,8 @@
-//! What a crew runs.
+//! The jobs of a crew.
 
 /// A job, which is run once.
 pub trait Job {
-    /// What has come about when it was run.
+    /// The condition that holds once the job was run.
     ghost done: { Self → Type 0 };
 
     fn run(self)

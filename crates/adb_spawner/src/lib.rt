@@ -1,4 +1,4 @@
-//! What runs the jobs of a server: each in a thread of its own while it runs, or within the call.
+//! Running the jobs of a server: each in a thread of its own while it runs, or within the call.
 #![tactic(auto)]
 
 mod crew;

@@ -11,25 +11,25 @@ use std::sync::{Arc, Condvar, Mutex, Wait};
 use std::thread;
 use std::thread::{JoinHandle, Threads};
 
-/// The jobs that no thread took yet. There is a thread for each: one that waits, or one that was
-/// started for it.
+/// The jobs that no thread has taken yet. There is a thread for each: one that waits, or one that
+/// was started for it.
 #[derive(Drop)]
 struct Queue<J: Job + Send + Drop> {
     jobs: VecDeque<J>,
-    /// How many threads wait for a job.
+    /// The number of threads that wait for a job.
     waiting: usize,
     /// Whether no more jobs come.
     over: bool,
 }
 
-/// What the threads share.
+/// The state that the threads share.
 #[derive(Drop)]
 struct Shared<J: Job + Send + Drop> {
     queue: Mutex<Queue<J>>,
     came: Condvar,
 }
 
-/// Threads that were started and not yet waited for. Contracts see how many they are.
+/// Threads that were started and not waited for yet. Contracts see their number.
 #[derive(Drop)]
 pub(crate) struct Pool<
     W: Threads + Wait + Copy + Send + Sync + Drop + 'static,
@@ -53,7 +53,7 @@ impl<W: Threads + Wait + Copy + Send + Sync + Drop + 'static, J: Job + Send + Dr
     W,
     J,
 > {
-    /// No thread.
+    /// Returns a pool without threads.
     pub(crate) fn new(rt: W, alloc: Global) -> Result<Pool<W, J>, AllocError>
         ensures { IfOk result (λ pool. pool ≡ 0) }
     {
@@ -73,8 +73,8 @@ impl<W: Threads + Wait + Copy + Send + Sync + Drop + 'static, J: Job + Send + Dr
         })
     }
 
-    /// Hands a job to a thread that waits, or else to one that is started for it, or hands the job
-    /// back, not run.
+    /// Hands a job to a waiting thread, or to one that is started for it. Returns the job, not run,
+    /// if neither exists.
     pub(crate) fn spawn(&mut self, job: J) -> Result<(), J>
         ensures back { IfErr result (λ back. back ≡ job) }
         ensures staffs { Staffs self.old (is_err result) self.new }
@@ -97,7 +97,7 @@ impl<W: Threads + Wait + Copy + Send + Sync + Drop + 'static, J: Job + Send + Dr
         self.close(false);
     }
 
-    /// Says whether no more jobs come.
+    /// Sets whether no more jobs come.
     fn close(&mut self, over: bool)
         ensures { self.new ≡ self.old }
     {
@@ -108,7 +108,7 @@ impl<W: Threads + Wait + Copy + Send + Sync + Drop + 'static, J: Job + Send + Dr
     }
 }
 
-/// Queues a job for a thread that waits, or for one that is started for it.
+/// Queues a job for a waiting thread, or for one that is started for it.
 fn assign<W: Threads + Wait + Copy + Send + Sync + Drop + 'static, J: Job + Send + Drop + 'static>(
     rt: &W,
     shared: &Arc<Shared<J>, Global>,
@@ -130,7 +130,7 @@ fn assign<W: Threads + Wait + Copy + Send + Sync + Drop + 'static, J: Job + Send
     Ok(())
 }
 
-/// Starts a thread, if one can be had.
+/// Starts a thread, if the system provides one.
 fn start<W: Threads + Wait + Copy + Send + Sync + Drop + 'static, J: Job + Send + Drop + 'static>(
     rt: &W,
     shared: &Arc<Shared<J>, Global>,
@@ -164,7 +164,7 @@ fn work<W: Wait + Drop, J: Job + Send + Drop>(rt: W, shared: Arc<Shared<J>, Glob
     }
 }
 
-/// The next job; none where no more come.
+/// Waits for the next job. Returns `None` once no more come.
 fn next<W: Wait, J: Job + Send + Drop>(rt: &W, shared: &Shared<J>) -> Option<J> {
     let mut queue = shared.queue.lock(rt);
     for _ in rt.forever() {

@@ -6,22 +6,24 @@ ghost use Rattle.adb_stream.specs.Credit.{IsWhole, new_credit, CreditTakes, give
 use crate::flow::Took;
 use std::marker::Model;
 
-/// How many bytes each end may send before it is given credit back.
+/// The number of bytes that each end may send before it gets credit back.
 pub const CREDIT_WINDOW: u32 = 262_144;
 
-/// How many bytes that were handed out are given back at once, where more are still to be.
+/// The number of handed-out bytes that are given back at once, while more are still to be handed
+/// out.
 pub const CREDIT_STEP: u32 = 65_536;
 
-/// The numbers that definitions take from the code, written out.
+/// States the numbers that definitions take from the code.
 pub fn limits_are()
     ensures window { CREDIT_WINDOW ≡ 262144 }
     ensures step { CREDIT_STEP ≡ 65536 }
 {}
 
-/// A credit in bytes, on a link whose two ends name the feature `hub_credit`, which is this project's
-/// own: a WRTE holds no more bytes than there is credit for, and an OKAY gives credit for some more.
-/// Contracts see the credit to send, what the other end has left, how many bytes are still to be
-/// handed out, and how many were and are not given back yet. No call takes memory.
+/// A credit in bytes, on a link with two ends that name the feature `hub_credit`, which is this
+/// project's own: a WRTE holds no more bytes than there is credit, and an OKAY gives credit for
+/// more. Contracts see the credit to send, the credit that the other end has left, how many bytes
+/// are still to be handed out, and how many were handed out and not given back yet. No call
+/// allocates.
 #[derive(Clone, Copy, Drop)]
 pub struct Credit {
     to_send: u32,
@@ -45,7 +47,8 @@ impl Model for Credit {
 }
 
 impl Credit {
-    /// Nothing may be sent yet, and the other end may send the whole window.
+    /// Returns the initial credit: nothing may be sent yet, and the other end may send the whole
+    /// window.
     pub fn new() -> Credit
         ensures { result ≡ new_credit }
     {
@@ -57,7 +60,7 @@ impl Credit {
         }
     }
 
-    /// How many bytes may be sent.
+    /// Returns how many bytes may be sent.
     pub fn can_send(&self) -> u32
         ensures sendable { result ≡ self.now.to_send }
         ensures whole { IsWhole self.now }
@@ -65,7 +68,7 @@ impl Credit {
         self.to_send
     }
 
-    /// A WRTE of `n` bytes was sent, for which there was credit.
+    /// Records that a WRTE of `n` bytes was sent, for which there was credit.
     pub fn sent(&mut self, n: u32)
         requires { n ≤ self.old.to_send }
         ensures { self.new ≡ record self.old { to_send = self.old.to_send - n } }
@@ -73,15 +76,16 @@ impl Credit {
         self.to_send -= n;
     }
 
-    /// An OKAY gave credit for `n` bytes more; what is past 4,294,967,295 is lost.
+    /// Records that an OKAY gave credit for `n` more bytes; the credit saturates at 4,294,967,295.
     pub fn grant(&mut self, n: u32)
         ensures { self.new ≡ record self.old { to_send = min (self.old.to_send + n) u32.MAX } }
     {
         self.to_send = self.to_send.saturating_add(n);
     }
 
-    /// A WRTE of `n` bytes came. It is out of turn exactly where these are more than the credit
-    /// left, and then nothing changes. Else its bytes are to be handed out. None is acknowledged now.
+    /// Records that a WRTE of `n` bytes came. It is out of turn exactly if it has more bytes than
+    /// credit is left, and then nothing changes. Otherwise its bytes are to be handed out, and no
+    /// acknowledgement is due yet.
     pub fn took(&mut self, n: usize) -> Took
         ensures took { CreditTakes self.old n self.new result }
         ensures whole { IsWhole self.new }
@@ -94,15 +98,16 @@ impl Credit {
         Took::Accepted
     }
 
-    /// How many bytes are still to be handed out.
+    /// Returns how many bytes are still to be handed out.
     pub fn to_hand(&self) -> usize
         ensures { result ≡ self.now.to_hand }
     {
         self.to_hand as usize
     }
 
-    /// `n` bytes were handed out, at least one and no more than were to be: the credit to give back
-    /// now. Handed bytes gather until none are still to be handed out, or 65,536 have gathered.
+    /// Records that `n` bytes were handed out, at least one and no more than were to be. Returns
+    /// the credit to give back now. Handed-out bytes accumulate until none are still to be handed
+    /// out, or there are 65,536 of them.
     pub fn handed(&mut self, n: usize) -> u32
         requires some { 0 < n }
         requires most { n ≤ self.old.to_hand }

@@ -1,28 +1,27 @@
-//! What an end of a stream may send, and what it has taken.
+//! The bytes that an end of a stream may send, and those that it has taken.
 
 ghost use Rattle.std.specs.Prelude.{◌≡◌, ◌<◌, not, true, false};
 
 use crate::credit::Credit;
 use crate::window::Window;
 
-/// What becomes of a WRTE that came.
+/// The result of a WRTE that came.
 #[derive(Clone, Copy, Debug, PartialEq, Eq, Drop)]
 pub enum Took {
     /// Its bytes are to be handed out.
     Accepted,
-    /// It is acknowledged now.
+    /// The WRTE is acknowledged now.
     AckNow,
-    /// It came before the other end was allowed to send it: the stream ends.
+    /// The WRTE came before the other end was allowed to send it, so the stream ends.
     OutOfTurn,
 }
 
-/// How the writes of a stream are held back: one write each way, or a credit in bytes. No call takes
-/// memory.
+/// The flow control of a stream: one write each way, or a credit in bytes. No call allocates.
 #[derive(Clone, Copy, Drop)]
 pub enum Flow {
-    /// One write each way, as protocol.txt has it.
+    /// One write each way, as in protocol.txt.
     One(Window),
-    /// A credit in bytes, where both ends of the link name the feature `hub_credit`.
+    /// A credit in bytes, if both ends of the link name the feature `hub_credit`.
     Credit(Credit),
 }
 
@@ -31,7 +30,7 @@ impl Flow {
     ghost use Rattle.adb_stream.specs.Flow.{LetsGo, wrote, first_credit, acknowledged};
     ghost use Rattle.adb_stream.specs.Flow.{is_out_of_turn, accepted, to_hand, flow_back, handed_to};
 
-    /// What each end may send at first, on a link with or without credit in bytes.
+    /// Returns the initial state, on a link with or without credit in bytes.
     pub fn new(credit: bool) -> Flow
         ensures { result ≡ new_flow credit }
     {
@@ -42,7 +41,7 @@ impl Flow {
         }
     }
 
-    /// Whether it is a credit in bytes.
+    /// Returns whether this is a credit in bytes.
     pub fn has_credit(&self) -> bool
         ensures { result ≡ has_credit self.now }
     {
@@ -52,7 +51,7 @@ impl Flow {
         }
     }
 
-    /// How many bytes may be sent now, where a write may have at most `most`.
+    /// Returns how many bytes may be sent now, if a write may have at most `most`.
     pub fn may_send(&self, most: usize) -> usize
         ensures { result ≡ may_send self.now most }
     {
@@ -63,7 +62,7 @@ impl Flow {
         }
     }
 
-    /// Whether a write with bytes may be sent now.
+    /// Returns whether a non-empty write may be sent now.
     pub fn can_send(&self) -> bool
         ensures { result ≡ can_send self.now }
     {
@@ -73,7 +72,7 @@ impl Flow {
         }
     }
 
-    /// Whether no write waits for its OKAY.
+    /// Returns whether no write waits for its OKAY.
     pub fn is_idle(&self) -> bool
         ensures { result ≡ is_idle self.now }
     {
@@ -83,7 +82,7 @@ impl Flow {
         }
     }
 
-    /// A write of `n` bytes was sent, which might be.
+    /// Records that a write of `n` bytes was sent, which was allowed.
     pub fn wrote(&mut self, n: usize)
         requires { LetsGo self.old n }
         ensures { self.new ≡ wrote n self.old }
@@ -94,7 +93,7 @@ impl Flow {
         }
     }
 
-    /// The other end opened the stream, with a credit word or without.
+    /// Records that the other end opened the stream, with or without a credit word.
     pub fn opened(&mut self, word: Option<u32>)
         ensures { self.new ≡ first_credit word self.old }
     {
@@ -108,8 +107,8 @@ impl Flow {
         }
     }
 
-    /// An OKAY of the open stream came, with a credit word or without: the write that is
-    /// outstanding has ended, or there is more credit.
+    /// Records an OKAY of the open stream, with or without a credit word: it acknowledges the
+    /// outstanding write, or adds credit.
     pub fn acked(&mut self, word: Option<u32>)
         ensures { self.new ≡ acknowledged word self.old }
     {
@@ -125,8 +124,8 @@ impl Flow {
         }
     }
 
-    /// A write of `n` bytes came: whether it came in turn, and then its bytes are to be handed out;
-    /// else nothing changes.
+    /// Records that a write of `n` bytes came. Returns whether it came in turn; its bytes are to be
+    /// handed out then, and otherwise nothing changes.
     pub fn accept(&mut self, n: usize) -> bool
         ensures turn { result ≡ not (is_out_of_turn self.old n) }
         ensures flow { result ≡ true → self.new ≡ accepted n self.old }
@@ -138,7 +137,7 @@ impl Flow {
         }
     }
 
-    /// How many of the bytes that were accepted are still to be handed out.
+    /// Returns how many of the accepted bytes are still to be handed out.
     pub fn to_hand(&self) -> usize
         ensures { result ≡ to_hand self.now }
     {
@@ -148,7 +147,8 @@ impl Flow {
         }
     }
 
-    /// `left` bytes are left to be handed out, fewer than before: the credit to give back now.
+    /// Records that `left` bytes, fewer than before, are left to be handed out. Returns the credit
+    /// to give back now.
     pub fn hand_to(&mut self, left: usize) -> u32
         requires { left < to_hand self.old }
         ensures back { result ≡ flow_back left self.old }

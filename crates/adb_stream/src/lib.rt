@@ -1,4 +1,5 @@
-//! The streams between clients and devices: who is at their ends, and what each end may send.
+//! The streams between clients and devices: their two ends, and the number of bytes that each end
+//! may send.
 #![tactic(auto)]
 
 mod credit;

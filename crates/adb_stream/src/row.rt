@@ -1,22 +1,22 @@
-//! A stream: who is at its ends, and what of it changes.
+//! A stream: its two ends, and its mutable part.
 
 use crate::flow::Flow;
 
-/// What of a stream changes.
+/// The mutable part of a stream.
 #[derive(Clone, Copy, Drop)]
 pub struct Part {
-    /// The device's id of the stream, and 0 while it is not known.
+    /// The device's id of the stream, 0 until it is known.
     pub remote: u32,
-    /// Whether its client went before the device's id was known.
+    /// Whether the client left before the device's id was known.
     pub orphan: bool,
-    /// What each end may send.
+    /// The flow control of the two ends.
     pub flow: Flow,
 }
 
-/// A stream that lives (protocol.txt, OPEN).
+/// A live stream (protocol.txt, OPEN).
 #[derive(Clone, Copy, Drop)]
 pub struct Stream {
-    /// The server's id of the stream, from 1.
+    /// The server's id of the stream, at least 1.
     pub id: u32,
     /// The number of its client.
     pub client: u32,

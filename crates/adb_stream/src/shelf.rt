@@ -1,4 +1,4 @@
-//! The streams in a slab, with their keys by id, and by link and id.
+//! The streams in a slab, with indices by id, and by link and id.
 
 ghost use Rattle.std.specs.Prelude.{◌≡◌, ◌<◌, ◌≤◌, ◌^◌, ℕ, [], length, Some, None, IfOk, IfSome, OnErr, OnOk, IsSome, MatchOption, option_map};
 ghost use Rattle.std.specs.Option.{option_copied, option_copied_mut};
@@ -15,7 +15,7 @@ use slab::Slab;
 use std::alloc::{AllocError, Global};
 use std::collections::BTreeMap;
 
-/// The streams, each under a key of the slab's, with the keys by id, and by link and id.
+/// The streams, each under a key of the slab, with indices by id, and by link and id.
 #[derive(Drop)]
 pub(crate) struct Shelf {
     rows: Slab<Stream>,
@@ -24,7 +24,7 @@ pub(crate) struct Shelf {
 }
 
 impl Shelf {
-    /// A shelf without streams. It takes no memory.
+    /// Returns a shelf without streams. Allocates nothing.
     pub(crate) fn new(alloc: Global) -> Shelf
         ensures keys { result.keys.entries ≡ [] }
         ensures slots { result.rows.slots ≡ [] }
@@ -37,7 +37,7 @@ impl Shelf {
         }
     }
 
-    /// Puts a new stream under an id that has none, and gives its key.
+    /// Inserts a new stream under an id that has none, and returns its key.
     pub(crate) fn add(
         &mut self,
         id: u32,
@@ -76,7 +76,7 @@ impl Shelf {
         Ok(key)
     }
 
-    /// Puts a key at an id that has none, and at its link.
+    /// Adds a key under an id that has none, and under its link.
     fn place(&mut self, link: u32, id: u32, key: usize) -> Result<(), AllocError>
         ensures rows { self.new.rows ≡ self.old.rows }
         ensures keys { OnOk result (keys_of self.new ≡ put_row id (Some key) (keys_of self.old)) }
@@ -96,7 +96,7 @@ impl Shelf {
         Ok(())
     }
 
-    /// Takes out the stream of an id.
+    /// Removes the stream of an id and returns it.
     pub(crate) fn remove(&mut self, id: u32) -> Option<Stream>
         ensures was { result ≡ stream_of (slots_of self.old) (keys_of self.old id) }
         ensures keys { keys_of self.new ≡ put_row id None (keys_of self.old) }
@@ -112,7 +112,7 @@ impl Shelf {
         Some(stream)
     }
 
-    /// Takes out all streams. It takes no memory.
+    /// Removes all streams. Allocates nothing.
     pub(crate) fn clear(&mut self)
         ensures keys { self.new.keys.entries ≡ [] }
         ensures slots { self.new.rows.slots ≡ [] }
@@ -125,14 +125,14 @@ impl Shelf {
         self.keys_rise();
     }
 
-    /// The ids of the keys rise. It does nothing: its contract is the law.
+    /// States that the ids of the keys rise. It does nothing: its contract is the law.
     fn keys_rise(&self)
         ensures { IsRising self.now.keys.entries }
     {
         self.keys.len();
     }
 
-    /// The stream of an id.
+    /// Returns the stream of an id.
     pub(crate) fn get(&self, id: u32) -> Option<&Stream>
         ensures { option_copied result ≡ stream_of (slots_of self.now) (keys_of self.now id) }
     {
@@ -140,7 +140,7 @@ impl Shelf {
         self.rows.get(*key)
     }
 
-    /// The stream of a link and an id.
+    /// Returns the stream of a link and an id.
     pub(crate) fn find(&self, link: u32, id: u32) -> Option<&Stream>
         requires { IsFoundAt self.now link id }
         ensures { option_copied result ≡ stream_of (slots_of self.now) (index_of self.now link id) }
@@ -149,7 +149,7 @@ impl Shelf {
         self.rows.get(key)
     }
 
-    /// The part of the stream of a link and an id, to be written.
+    /// Returns the part of the stream of a link and an id, for writing.
     pub(crate) fn find_mut(&mut self, link: u32, id: u32) -> Option<&mut Part>
         requires { IsFoundAt self.old link id }
         ensures* writes_back { sem 𝓛 (LendsAt self.entry (index_of self.old link id) result) }
@@ -161,8 +161,8 @@ impl Shelf {
         Some(&mut stream.part)
     }
 
-    /// The key of a link and an id: that of the id, where its stream is one of the link. The index
-    /// has the same, and would be searched.
+    /// Returns the key of a link and an id: that of the id, if its stream is one of the link. The
+    /// index by link holds the same key, but would have to be searched.
     fn key_of(&self, link: u32, id: u32) -> Option<usize>
         requires { IsFoundAt self.now link id }
         ensures { result ≡ index_of self.now link id }
@@ -174,14 +174,14 @@ impl Shelf {
         Some(key)
     }
 
-    /// How many streams it has.
+    /// Returns the number of streams.
     pub(crate) fn len(&self) -> usize
         ensures { result ≡ length self.now.keys.entries }
     {
         self.keys.len()
     }
 
-    /// The least id of a link in the index.
+    /// Returns the least id of a link in the index.
     pub(crate) fn first_of(&self, link: u32) -> Option<u32>
         ensures here { MatchOption result
             ((id : ℕ) → id < 2 ^ 32 → index_of self.now link id ≡ None)

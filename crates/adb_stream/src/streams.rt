@@ -1,4 +1,4 @@
-//! The streams that live.
+//! The live streams.
 
 ghost use Rattle.std.specs.Prelude.{◌≡◌, ◌+◌, ◌↔◌, [], length, Err, IfOk, OnErr, MatchOption, option_map};
 ghost use Rattle.std.specs.Option.{option_copied, option_copied_mut};
@@ -14,10 +14,10 @@ use crate::shelf::Shelf;
 use std::alloc::{AllocError, Global};
 use std::marker::Model;
 
-/// Why no stream was drawn.
+/// The reason why no stream was drawn.
 #[derive(Clone, Copy, Debug, PartialEq, Eq, Drop)]
 pub enum DrawError {
-    /// All ids were drawn.
+    /// All ids were used.
     NoIds,
     OutOfMemory,
 }
@@ -30,9 +30,10 @@ impl From<AllocError> for DrawError {
     }
 }
 
-/// The streams that live, by their ids, which are drawn 1, 2, 3 and so on over the whole server and
-/// never used again. Contracts see how many were drawn, and the streams in rising id. No call looks
-/// through streams that it is not about, and the memory of a closed one serves the next.
+/// The live streams, by their ids, which are drawn 1, 2, 3 and so on over the whole server and
+/// never used again. Contracts see how many ids were drawn, and the streams in rising id. No call
+/// looks at streams other than those it is about, and the memory of a closed stream is reused for
+/// the next.
 #[derive(Drop)]
 pub struct Streams {
     drawn: u32,
@@ -55,7 +56,7 @@ impl Streams {
     ghost use Rattle.std.specs.Borrow.{sem};
     ghost use Rattle.adb_stream.specs.Lending.{LendsPart};
 
-    /// No streams, and no id is drawn. It takes no memory.
+    /// Returns the state without streams, before any id is drawn. Allocates nothing.
     pub fn new(alloc: Global) -> Streams
         ensures { result ≡ record { drawn = 0; streams = [] } }
     {
@@ -65,9 +66,9 @@ impl Streams {
         }
     }
 
-    /// Draws the next id, which it gives, for a stream of a client and a link: with a credit in bytes
-    /// where `credit`, else with one write each way. `NoIds` comes exactly where 2^32 - 1 ids were
-    /// drawn. After an error the streams are as before.
+    /// Draws the next id, for a stream of a client and a link, and returns it. The stream has a
+    /// credit in bytes if `credit` is set, and otherwise one write each way. `NoIds` is returned
+    /// exactly if 2^32 - 1 ids were drawn. After an error the streams are unchanged.
     pub fn draw(&mut self, client: u32, link: u32, credit: bool) -> Result<u32, DrawError>
         ensures no_ids { (result ≡ Err DrawError.NoIds) ↔ (self.old.drawn ≡ u32.MAX) }
         ensures id { IfOk result (λ id. id ≡ self.old.drawn + 1) }
@@ -86,7 +87,7 @@ impl Streams {
         Ok(id)
     }
 
-    /// The stream of an id, or `None` where none lives. It takes no memory.
+    /// Returns the stream of an id, or `None` if it does not live. Allocates nothing.
     pub fn get(&self, id: u32) -> Option<&Stream>
         ensures found { option_copied result ≡ at id self.now.streams }
         ensures sound { IsSound self.now }
@@ -94,7 +95,7 @@ impl Streams {
         self.shelf.get(id)
     }
 
-    /// The stream of this id, exactly where it lives and is one of this link.
+    /// Returns the stream of this id, exactly if it lives and is one of this link.
     pub fn find(&self, link: u32, id: u32) -> Option<&Stream>
         ensures found { option_copied result ≡ found link id self.now.streams }
         ensures sound { IsSound self.now }
@@ -102,8 +103,8 @@ impl Streams {
         self.shelf.find(link, id)
     }
 
-    /// The part of the stream of this id, to be written, exactly where it lives and is one of this
-    /// link.
+    /// Returns the part of the stream of this id for writing, exactly if it lives and is one of
+    /// this link.
     pub fn find_mut(&mut self, link: u32, id: u32) -> Option<&mut Part>
         ensures* writes_back { sem 𝓛 (LendsPart self.entry link id result) }
         ensures found { option_copied_mut result
@@ -113,7 +114,7 @@ impl Streams {
         self.shelf.find_mut(link, id)
     }
 
-    /// Takes out the stream of this id, where it lives, and gives it.
+    /// Removes the stream of this id, if it lives, and returns it.
     pub fn close(&mut self, id: u32) -> Option<Stream>
         ensures was { result ≡ at id self.old.streams }
         ensures after { self.new ≡ record self.old { streams = without id self.old.streams } }
@@ -122,7 +123,7 @@ impl Streams {
         self.shelf.remove(id)
     }
 
-    /// All streams end. The ids that were drawn stay drawn. It takes no memory.
+    /// Removes all streams. The ids that were drawn are not reused. Allocates nothing.
     pub fn clear(&mut self)
         ensures after { self.new ≡ record self.old { streams = [] } }
         ensures sound { IsSound self.new }
@@ -130,7 +131,7 @@ impl Streams {
         self.shelf.clear();
     }
 
-    /// How many streams live.
+    /// Returns the number of live streams.
     pub fn len(&self) -> usize
         ensures count { result ≡ length self.now.streams }
         ensures sound { IsSound self.now }
@@ -138,14 +139,15 @@ impl Streams {
         self.shelf.len()
     }
 
-    /// What the streams of every server keep. It does nothing: its contract is the law.
+    /// States the invariant of the streams of every server. It does nothing: its contract is the
+    /// law.
     pub fn are_sound(&self)
         ensures { IsSound self.now }
     {
         let _ = &self.drawn;
     }
 
-    /// The least id of a stream of this link that lives.
+    /// Returns the least id of a live stream of this link.
     pub fn first_of(&self, link: u32) -> Option<u32>
         ensures first { MatchOption result
             (HasNoneOf link self.now.streams) (IsFirstOf link self.now.streams) }

@@ -1,4 +1,4 @@
-//! One write each way (protocol.txt).
+//! Flow control by one write each way (protocol.txt).
 
 ghost use Rattle.std.specs.Prelude.{◌≡◌, ◌-◌, ◌≤◌, ◌<◌, not, true, false, IsTrue, ◌↔◌};
 ghost use Rattle.adb_stream.specs.Window.{new_window, WindowTakes};
@@ -6,10 +6,10 @@ ghost use Rattle.adb_stream.specs.Window.{new_window, WindowTakes};
 use crate::flow::Took;
 use std::marker::Model;
 
-/// One write each way (protocol.txt, OKAY and WRTE): after a WRTE the next one waits for an OKAY,
-/// and a WRTE of the other end is acknowledged when its bytes were handed out. Both ends of a
-/// stream have one. Contracts see whether a WRTE is outstanding, and how many bytes are still to be
-/// handed out. No call takes memory.
+/// Flow control by one write each way (protocol.txt, OKAY and WRTE): after a WRTE the next one
+/// waits for an OKAY, and a WRTE of the other end is acknowledged once its bytes were handed out.
+/// Both ends of a stream have one. Contracts see whether a WRTE is outstanding, and how many bytes
+/// are still to be handed out. No call allocates.
 #[derive(Clone, Copy, Drop)]
 pub struct Window {
     outstanding: bool,
@@ -27,7 +27,7 @@ impl Model for Window {
 }
 
 impl Window {
-    /// Nothing is outstanding, and nothing is to be handed out.
+    /// Returns the initial window: no WRTE is outstanding, and no bytes are to be handed out.
     pub fn new() -> Window
         ensures { result ≡ new_window }
     {
@@ -37,14 +37,14 @@ impl Window {
         }
     }
 
-    /// Whether a WRTE may be sent: none is outstanding.
+    /// Returns whether a WRTE may be sent: none is outstanding.
     pub fn can_write(&self) -> bool
         ensures { result ≡ not self.now.outstanding }
     {
         !self.outstanding
     }
 
-    /// A WRTE was sent, while none was outstanding.
+    /// Records that a WRTE was sent while none was outstanding.
     pub fn wrote(&mut self)
         requires { self.old.outstanding ≡ false }
         ensures { self.new ≡ record self.old { outstanding = true } }
@@ -52,7 +52,7 @@ impl Window {
         self.outstanding = true;
     }
 
-    /// An OKAY came: whether a WRTE was outstanding. None is then.
+    /// Records that an OKAY came. Returns whether a WRTE was outstanding; none is afterwards.
     pub fn acked(&mut self) -> bool
         ensures was { result ≡ self.old.outstanding }
         ensures after { self.new ≡ record self.old { outstanding = false } }
@@ -62,9 +62,9 @@ impl Window {
         was
     }
 
-    /// A WRTE of `n` bytes came. It is out of turn exactly where bytes are still to be handed out,
-    /// and then nothing changes. Else its bytes are to be handed out; one without bytes is
-    /// acknowledged now.
+    /// Records that a WRTE of `n` bytes came. It is out of turn exactly if bytes are still to be
+    /// handed out, and then nothing changes. Otherwise its bytes are to be handed out; an empty one
+    /// is acknowledged now.
     pub fn took(&mut self, n: usize) -> Took
         ensures { WindowTakes self.old n self.new result }
     {
@@ -75,15 +75,15 @@ impl Window {
         if n == 0 { Took::AckNow } else { Took::Accepted }
     }
 
-    /// How many bytes are still to be handed out.
+    /// Returns how many bytes are still to be handed out.
     pub fn to_hand(&self) -> usize
         ensures { result ≡ self.now.to_hand }
     {
         self.to_hand
     }
 
-    /// `n` bytes were handed out, at least one and no more than were to be: whether none are left,
-    /// so that the WRTE is acknowledged now.
+    /// Records that `n` bytes were handed out, at least one and no more than were to be. Returns
+    /// whether none are left, so that the WRTE is acknowledged now.
     pub fn handed(&mut self, n: usize) -> bool
         requires some { 0 < n }
         requires most { n ≤ self.old.to_hand }

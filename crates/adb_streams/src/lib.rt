@@ -1,4 +1,4 @@
-//! The streams of the system as sources and sinks.
+//! The standard streams of the system as sources and sinks.
 #![tactic(auto)]
 
 mod streams;

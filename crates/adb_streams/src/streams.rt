@@ -6,9 +6,9 @@ ghost use Rattle.adb_outside.specs.Outside.{counted_on};
 use adb_outside::{Got, Sink, Source, Wrote};
 use std::io::{ErrorKind, Read, Write};
 
-/// A stream of the system: a source where it can be read, a sink where it can be written. It tells
-/// nothing of what goes through, and each call that fails is counted. A call that is interrupted
-/// is made again.
+/// A stream of the system: a source if it can be read, a sink if it can be written. It shows none
+/// of the bytes that pass through, and counts each call that fails. An interrupted call is made
+/// again.
 #[derive(Drop)]
 pub struct Stream<T> {
     inner: T,
@@ -16,7 +16,7 @@ pub struct Stream<T> {
 }
 
 impl<T> Stream<T> {
-    /// No call failed yet.
+    /// Returns a stream of which no call failed yet.
     pub fn new(inner: T) -> Stream<T>
         ensures { result.faults ≡ 0 }
     {

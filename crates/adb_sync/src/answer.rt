@@ -1,11 +1,11 @@
-//! Answers.
+//! Answers of the sync service.
 
 use adb_outside::Text;
 
 /// An answer of the service. Modes are those of `stat(2)`, times are in seconds since 1970.
 #[derive(Drop)]
 pub enum SyncAnswer {
-    /// STAT: what a path names; all three are 0 where it names nothing.
+    /// STAT: the attributes of a path; all three are 0 if there is nothing at the path.
     Stat {
         mode: u32,
         size: u32,
@@ -26,7 +26,7 @@ pub enum SyncAnswer {
     ChunkEnd,
     /// OKAY: a file was written.
     Okay,
-    /// FAIL: why a request was refused.
+    /// FAIL: the reason why a request was refused.
     Fail(Text),
 }
 

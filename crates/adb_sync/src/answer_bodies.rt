@@ -1,4 +1,4 @@
-//! What stands behind an answer's id.
+//! Decoding the bytes after an answer's id.
 
 ghost use Rattle.std.specs.Prelude.{◌≡◌, ◌≤◌, ◌+◌, drop, length, IfOk};
 ghost use Rattle.adb_sync.specs.Messages.{number_at};
@@ -9,7 +9,7 @@ use adb_outside::Text;
 use byteorder::{ByteOrder, LittleEndian};
 use std::alloc::{AllocError, Global};
 
-/// The numbers of a STAT.
+/// Decodes the numbers of a STAT.
 pub fn stat_of(rest: &[u8]) -> SyncAnswer
     requires { 12 ≤ length rest.now }
     ensures { result
@@ -22,7 +22,7 @@ pub fn stat_of(rest: &[u8]) -> SyncAnswer
     }
 }
 
-/// The numbers and the name of a DENT.
+/// Decodes the numbers and the name of a DENT.
 pub fn dent_of(alloc: Global, rest: &[u8]) -> Result<SyncAnswer, AllocError>
     requires { 16 ≤ length rest.now }
     ensures { IfOk result (λ answer. answer
@@ -38,7 +38,7 @@ pub fn dent_of(alloc: Global, rest: &[u8]) -> Result<SyncAnswer, AllocError>
     })
 }
 
-/// What follows the number.
+/// Copies the bytes after the number.
 pub fn text_of(alloc: Global, rest: &[u8]) -> Result<Text, AllocError>
     requires { 4 ≤ length rest.now }
     ensures { IfOk result (λ text. text ≡ drop 4 rest.now) }
@@ -47,7 +47,7 @@ pub fn text_of(alloc: Global, rest: &[u8]) -> Result<Text, AllocError>
     Text::from_slice(alloc, text)
 }
 
-/// The number at a place.
+/// Returns the number at a place.
 fn number_from(bytes: &[u8], place: usize) -> u32
     requires { place + 4 ≤ length bytes.now }
     ensures { result ≡ number_at place bytes.now }

@@ -1,4 +1,4 @@
-//! How a stream is cut into answers.
+//! The framing of a stream of answers.
 
 use crate::answer::SyncAnswer;
 use crate::answer_bodies::{dent_of, stat_of, text_of};
@@ -8,7 +8,8 @@ use crate::layout::{Layout, WORD_BYTES, front_behind};
 use adb_outside::{Format, Front};
 use std::alloc::{AllocError, Global};
 
-/// Answers, the first of which begins at an offset of the stream, to a LIST or to other requests.
+/// The format of answers, the first of which begins at an offset of the stream, to a LIST or to
+/// other requests.
 #[derive(Clone, Copy)]
 pub struct AnswerFormat {
     pub offset: u64,
@@ -20,7 +21,7 @@ impl AnswerFormat {
     ghost use Rattle.adb_sync.specs.Messages.{HasHead};
     ghost use Rattle.adb_sync.specs.Answers.{answered_at};
 
-    /// What stands behind an id, or what it breaks.
+    /// Returns the layout after an id, or the rule that the id breaks.
     fn layout(&self, id: &[u8]) -> Result<Layout, SyncRule>
         ensures value { result ≡ answered_at self.now id.now }
         ensures head { IfOk result HasHead }

@@ -18,7 +18,7 @@ pub enum AnswerId {
 }
 
 impl AnswerId {
-    /// The id that four bytes are, where they are one.
+    /// Returns the id that four bytes are, if they are one.
     pub fn of(bytes: &[u8]) -> Option<AnswerId>
         ensures { result ≡ answer_id_of bytes.now }
     {
@@ -39,7 +39,7 @@ impl AnswerId {
         }
     }
 
-    /// What stands behind it, in an answer to a LIST or in another.
+    /// Returns the layout of the bytes after the id, in an answer to a LIST or in another.
     pub fn layout(self, list: bool) -> Layout
         ensures value { result ≡ answer_layout list self }
         ensures head { HasHead result }

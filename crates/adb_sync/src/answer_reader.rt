@@ -1,4 +1,4 @@
-//! Answers of a stream that comes in pieces.
+//! The answers of a stream that comes in pieces.
 
 ghost use Rattle.std.specs.Prelude.{◌≡◌, ◌≢◌, []};
 ghost use Rattle.adb_outside.specs.Framing.{Takes, Gives, answer_of};
@@ -14,8 +14,9 @@ use adb_outside::Framer;
 use std::alloc::Global;
 use std::marker::Model;
 
-/// Reads the answers of a stream that comes in any pieces, as the asking side does. It holds the
-/// bytes past the last whole answer and the answers that were not taken yet, never the stream.
+/// A reader of the answers of a stream that comes in any pieces, for the client of the service. It
+/// holds the bytes past the last whole answer and the answers that were not taken yet, never the
+/// whole stream.
 #[derive(Drop)]
 pub struct AnswerReader {
     framer: Framer<AnswerFormat, SyncAnswer, SyncFault>,
@@ -30,8 +31,8 @@ impl Model for AnswerReader {
 }
 
 impl AnswerReader {
-    /// Nothing was fed yet. `list` says whether the answers are those to a LIST, whose DONE is
-    /// longer. It takes no memory.
+    /// Returns a reader to which nothing was fed. `list` says whether the answers are those to a
+    /// LIST, which has a longer DONE. Allocates nothing.
     pub fn new(alloc: Global, list: bool) -> AnswerReader
         ensures { StandsForAnswers list [] [] result }
     {
@@ -40,10 +41,12 @@ impl AnswerReader {
         }
     }
 
-    /// Takes the next piece of the stream, of any length. A fault is the first of all the bytes fed
-    /// so far: an id that no answer has, once its four bytes are there, or a DATA that is too long,
-    /// once its length is there. The answers before it are still given by `next`, and from then on
-    /// every call takes nothing and answers that fault.
+    /// Takes the next piece of the stream, of any length.
+    ///
+    /// `OutOfMemory`: an allocation failed; nothing changed. Every other error is the first fault
+    /// of all the bytes fed so far: an id that no answer has, once its four bytes are there, or a
+    /// DATA that is too long, once its length is there. The answers before it can still be taken
+    /// with `next`; every later call takes nothing and returns that fault.
     pub fn feed(&mut self, piece: &[u8]) -> Result<(), SyncError>
         ensures memory { result ≡ Err SyncError.OutOfMemory → self.new ≡ self.old }
         ensures taken { result ≢ Err SyncError.OutOfMemory
@@ -56,8 +59,7 @@ impl AnswerReader {
         Ok(self.framer.feed(piece)?)
     }
 
-    /// The next answer that was not taken yet; `None` where no further whole answer was fed. It
-    /// takes no memory.
+    /// Takes the next answer. Returns `None` if no further whole answer was fed. Allocates nothing.
     pub fn next(&mut self) -> Option<SyncAnswer>
         ensures { Gives answer_front answer_of_bytes past_answer self.old self.new result }
     {

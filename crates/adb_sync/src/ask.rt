@@ -1,22 +1,22 @@
-//! Requests.
+//! Requests to the sync service.
 
 use adb_outside::Text;
 
-/// A request of the asking side.
+/// A request of the client.
 #[derive(Drop)]
 pub enum SyncAsk {
-    /// STAT: the mode, size and time of what a path names.
+    /// STAT: asks for the mode, size and time of a path.
     Stat(Text),
-    /// LIST: the entries of a directory.
+    /// LIST: asks for the entries of a directory.
     List(Text),
-    /// RECV: the bytes of a file.
+    /// RECV: asks for the bytes of a file.
     Recv(Text),
-    /// SEND: the file of this path is to be written. Its bytes and its time follow.
+    /// SEND: the file at this path is to be written. Its bytes and its time follow.
     Send { path: Text, mode: Text },
-    /// DATA: the next bytes of the file that is sent, at most 65,536.
+    /// DATA: the next bytes of the file that is being sent, at most 65,536.
     Chunk(Text),
-    /// DONE: the file that is sent is whole. Its time is in seconds since 1970.
+    /// DONE: the file that was sent is whole. Its time is in seconds since 1970.
     Finish { mtime: u32 },
-    /// QUIT: nothing more is asked.
+    /// QUIT: no more requests follow.
     Quit,
 }

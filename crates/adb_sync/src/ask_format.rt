@@ -1,4 +1,4 @@
-//! How a stream is cut into requests.
+//! The framing of a stream of requests.
 
 use crate::ask::SyncAsk;
 use crate::ask_id::AskId;
@@ -9,7 +9,8 @@ use adb_outside::{Format, Front, Text};
 use byteorder::{ByteOrder, LittleEndian};
 use std::alloc::{AllocError, Global};
 
-/// Requests, the first of which begins at an offset of the stream, inside a SEND or outside one.
+/// The format of requests, the first of which begins at an offset of the stream, inside a SEND or
+/// outside one.
 #[derive(Clone, Copy)]
 pub struct AskFormat {
     pub offset: u64,
@@ -21,7 +22,7 @@ impl AskFormat {
     ghost use Rattle.adb_sync.specs.Messages.{HasHead};
     ghost use Rattle.adb_sync.specs.Asks.{asked_at};
 
-    /// What stands behind an id, or what it breaks here.
+    /// Returns the layout after an id, or the rule that the id breaks here.
     fn layout(&self, id: &[u8]) -> Result<Layout, SyncRule>
         ensures value { result ≡ asked_at self.now id.now }
         ensures head { IfOk result HasHead }

@@ -20,7 +20,7 @@ pub enum AskId {
 }
 
 impl AskId {
-    /// The id that four bytes are, where they are one.
+    /// Returns the id that four bytes are, if they are one.
     pub fn of(bytes: &[u8]) -> Option<AskId>
         ensures { result ≡ ask_id_of bytes.now }
     {
@@ -43,7 +43,7 @@ impl AskId {
         }
     }
 
-    /// Whether it may stand inside a SEND, or outside one.
+    /// Returns whether the request is allowed at a place inside a SEND, or outside one.
     pub fn is_in_place(self, sending: bool) -> bool
         ensures { result ≡ is_in_place sending self }
     {
@@ -53,7 +53,7 @@ impl AskId {
         }
     }
 
-    /// What stands behind it.
+    /// Returns the layout of the bytes after the id.
     pub fn layout(self) -> Layout
         ensures value { result ≡ ask_layout self }
         ensures head { HasHead result }

@@ -1,4 +1,4 @@
-//! Requests of a stream that comes in pieces.
+//! The requests of a stream that comes in pieces.
 
 ghost use Rattle.std.specs.Prelude.{◌≡◌, ◌≢◌, []};
 ghost use Rattle.adb_outside.specs.Framing.{Takes, Gives, answer_of};
@@ -13,8 +13,9 @@ use adb_outside::Framer;
 use std::alloc::Global;
 use std::marker::Model;
 
-/// Reads the requests of a stream that comes in any pieces, as the service does. It holds the bytes
-/// past the last whole request and the requests that were not taken yet, never the stream.
+/// A reader of the requests of a stream that comes in any pieces, for the service. It holds the
+/// bytes past the last whole request and the requests that were not taken yet, never the whole
+/// stream.
 #[derive(Drop)]
 pub struct AskReader {
     framer: Framer<AskFormat, SyncAsk, SyncFault>,
@@ -29,7 +30,7 @@ impl Model for AskReader {
 }
 
 impl AskReader {
-    /// Nothing was fed yet. It takes no memory.
+    /// Returns a reader to which nothing was fed. Allocates nothing.
     pub fn new(alloc: Global) -> AskReader
         ensures { StandsForAsks [] [] result }
     {
@@ -44,11 +45,13 @@ impl AskReader {
         }
     }
 
-    /// Takes the next piece of the stream, of any length. A fault is the first of all the bytes fed
-    /// so far; at one request it is that of the id, once its four bytes are there, or else that of
-    /// the length, once its word is there, or else a missing comma, once the text is there. The
-    /// requests before it are still given by `next`, and from then on every call takes nothing and
-    /// answers that fault.
+    /// Takes the next piece of the stream, of any length.
+    ///
+    /// `OutOfMemory`: an allocation failed; nothing changed. Every other error is the first fault
+    /// of all the bytes fed so far. Within one request it is that of the id, once its four bytes
+    /// are there, or otherwise that of the length, once its word is there, or otherwise a missing
+    /// comma, once the text is there. The requests before it can still be taken with `next`; every
+    /// later call takes nothing and returns that fault.
     pub fn feed(&mut self, piece: &[u8]) -> Result<(), SyncError>
         ensures memory { result ≡ Err SyncError.OutOfMemory → self.new ≡ self.old }
         ensures taken { result ≢ Err SyncError.OutOfMemory
@@ -61,8 +64,8 @@ impl AskReader {
         Ok(self.framer.feed(piece)?)
     }
 
-    /// The next request that was not taken yet; `None` where no further whole request was fed. It
-    /// takes no memory.
+    /// Takes the next request. Returns `None` if no further whole request was fed. Allocates
+    /// nothing.
     pub fn next(&mut self) -> Option<SyncAsk>
         ensures { Gives ask_front ask_of past_ask self.old self.new result }
     {

@@ -1,4 +1,4 @@
-//! The chunk of some bytes that is handed out.
+//! The chunk of some bytes that is being handed out.
 
 ghost use Rattle.std.specs.Prelude.{◌≡◌, ◌≢◌, ◌<◌, ◌≤◌, [], List, ℕ, length, drop};
 ghost use Rattle.std.specs.Io.{StartsWith};
@@ -7,9 +7,9 @@ ghost use Rattle.adb_sync.specs.Chunk.{IsWithin, HasFront, TakesHere, chunk_byte
 use crate::layout::MAX_CHUNK;
 use crate::writers::{CHUNK_HEADER_BYTES, chunk_header};
 
-/// A chunk of some bytes that are handed out as DATA, one chunk after the other, without a copy: its
-/// header, how many bytes of that were taken, and where the bytes of the chunk that were not taken
-/// begin and end. The bytes are lent to each call, and are the same each time.
+/// One chunk of some bytes that are handed out as DATA, one chunk after another, without a copy:
+/// its header, how many bytes of the header were taken, and the range of the chunk's bytes that
+/// were not taken yet. The bytes are passed to each call, and are the same each time.
 #[derive(Drop)]
 pub struct Chunk {
     pub header: [u8; CHUNK_HEADER_BYTES],
@@ -19,7 +19,7 @@ pub struct Chunk {
 }
 
 impl Chunk {
-    /// The chunk that begins there. At the end of the bytes nothing is left of it.
+    /// Returns the chunk that begins at `from`. At the end of the bytes the chunk is empty.
     pub fn begin(bytes: &[u8], from: usize) -> Chunk
         requires { from ≤ length bytes.now }
         ensures left { left_from result bytes.now ≡ chunk_bytes (drop from bytes.now) }
@@ -43,7 +43,7 @@ impl Chunk {
         }
     }
 
-    /// What is left of the header, and where that was taken, what is left of the chunk.
+    /// Returns the rest of the header or, once the header was taken, the rest of the chunk.
     pub fn front<'a>(&'a self, bytes: &'a [u8]) -> &'a [u8]
         requires within { IsWithin self.now bytes.now }
         requires front { HasFront self.now bytes.now }
@@ -57,8 +57,8 @@ impl Chunk {
         }
     }
 
-    /// Takes at most `n` of the bytes that are left, and gives how many. Where all of a chunk was taken
-    /// the next one begins.
+    /// Takes at most `n` of the bytes that are left, and returns how many it took. After all of a
+    /// chunk was taken, the next one begins.
     pub fn take_front(&mut self, bytes: &[u8], n: usize) -> usize
         requires within { IsWithin self.old bytes.now }
         requires front { HasFront self.old bytes.now }
@@ -76,7 +76,8 @@ impl Chunk {
         taken
     }
 
-    /// Takes at most `n` bytes of what is left of the header, or where that was taken, of the chunk.
+    /// Takes at most `n` bytes of the rest of the header or, once the header was taken, of the
+    /// chunk.
     fn take_here(&mut self, n: usize) -> usize
         requires header { self.old.header_taken ≤ 8 }
         requires from { self.old.from ≤ self.old.to }

@@ -9,7 +9,7 @@ use adb_outside::Text;
 use bstr::ByteSlice;
 use std::alloc::{AllocError, Global};
 
-/// The place of the last comma.
+/// Returns the place of the last comma.
 pub fn last_comma_of(text: &[u8]) -> Option<usize>
     ensures place { result ≡ last_comma text.now }
     ensures within { IfSome result (λ comma. comma < length text.now) }
@@ -17,7 +17,7 @@ pub fn last_comma_of(text: &[u8]) -> Option<usize>
     text.rfind_byte(b',')
 }
 
-/// The request of a text, cut at its last comma. A text without one is all path.
+/// Returns the request of a text, cut at its last comma. A text without one is all path.
 pub fn send_of(alloc: Global, text: &[u8]) -> Result<SyncAsk, AllocError>
     ensures { IfOk result (λ ask. ask ≡ send_cut text.now (last_comma text.now)) }
 {

@@ -5,10 +5,10 @@ ghost use Rattle.adb_sync.specs.Messages.{error_of, failure_of, told_by};
 
 use adb_outside::FeedError;
 
-/// What requests and answers keep to.
+/// A rule of requests and answers.
 #[derive(Clone, Copy, Debug, PartialEq, Eq, Drop)]
 pub enum SyncRule {
-    /// No request, or no answer, has this id; or a QUIT says that bytes follow it.
+    /// No request, or no answer, has this id, or bytes follow a QUIT.
     UnknownId,
     /// The path of a request has more than 1,024 bytes.
     PathTooLong,
@@ -20,22 +20,22 @@ pub enum SyncRule {
     BadPlace,
 }
 
-/// Why a stream is no stream of requests, or of answers, from some place on. The offset is that of
-/// the first byte of the request or answer, each DATA and DONE counted as one of its own, from the
-/// first byte of the stream; past 2^64 - 1 it stays there.
+/// The reason why a stream is no stream of requests, or of answers, from some place on. The offset
+/// is that of the first byte of the request or answer, counted from the first byte of the stream;
+/// each DATA and DONE counts as one of its own. Past 2^64 - 1 it stays there.
 #[derive(Clone, Copy, Debug, PartialEq, Eq, Drop)]
 pub struct SyncFault {
     pub offset: u64,
-    /// What is broken there.
+    /// The rule that is broken there.
     pub rule: SyncRule,
 }
 
-/// Why bytes were not taken. An offset is that of a [`SyncFault`].
+/// The reason why bytes were not taken. An offset is that of a [`SyncFault`].
 #[derive(Clone, Copy, Debug, PartialEq, Eq, Drop)]
 pub enum SyncError {
-    /// Memory ran out. Nothing changed.
+    /// An allocation failed. Nothing changed.
     OutOfMemory,
-    /// No request, or no answer, has this id; or a QUIT says that bytes follow it.
+    /// No request, or no answer, has this id, or bytes follow a QUIT.
     UnknownId { offset: u64 },
     /// The path of a request has more than 1,024 bytes.
     PathTooLong { offset: u64 },
@@ -48,7 +48,7 @@ pub enum SyncError {
 }
 
 impl SyncError {
-    /// The fault of the stream that it reports; `None` for want of memory.
+    /// Returns the fault of the stream that this error reports; `None` for an allocation failure.
     pub fn fault(self) -> Option<SyncFault>
         ensures { result ≡ told_by self }
     {

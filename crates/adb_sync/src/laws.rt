@@ -1,4 +1,4 @@
-//! What holds of all bytes, requests and answers, whoever reads or writes them.
+//! Laws of all bytes, requests and answers, whichever program reads or writes them.
 
 ghost use Rattle.std.specs.Prelude.{◌≡◌, ◌<◌, ◌^◌, ◌++◌, ◌∷◌, [], List, ℕ, Bool, true, Some};
 ghost use Rattle.adb_outside.specs.Framing.{joined};
@@ -15,7 +15,7 @@ ghost use Rattle.adb_sync.specs.Asks.{id_of_ask, is_in_place, ask_bytes, asks_in
 ghost use Rattle.adb_sync.specs.Answers.{IsAnswer, HasAnswerWords, EndsKind, IsAnswerCut, AnswerReading};
 ghost use Rattle.adb_sync.specs.Answers.{answer_bytes, answers_from, past_answer, answers_in, answer_fault_in};
 
-/// A request that was written where it may stand is the request that is read, whatever follows it.
+/// States that a request that was written at an allowed place is read again, whatever follows it.
 pub fn written_asks_are_read()
     ensures { (from : AskFormat) (ask : SyncAsk) (more : List ℕ) → IsAsk ask → HasAskWords ask
         → is_in_place from.sending (id_of_ask ask) ≡ true
@@ -23,7 +23,7 @@ pub fn written_asks_are_read()
         ≡ joined (ask ∷ []) (asks_from (past_ask from (ask_bytes ask)) more) }
 {}
 
-/// An answer that was written is the answer that is read, whatever follows it.
+/// States that an answer that was written is read again, whatever follows it.
 pub fn written_answers_are_read()
     ensures { (from : AnswerFormat) (answer : SyncAnswer) (more : List ℕ)
         → IsAnswer answer → HasAnswerWords answer → EndsKind from.list answer
@@ -31,43 +31,45 @@ pub fn written_answers_are_read()
         ≡ joined (answer ∷ []) (answers_from (past_answer from (answer_bytes answer)) more) }
 {}
 
-/// The requests that are read from bytes are spelled there, one after the other, each where it may
-/// stand, up to the first place where no whole request stands; where a fault stands there, it is
-/// the fault.
+/// States that the requests read from bytes are encoded there one after another, each at an allowed
+/// place, up to the first place with no whole request; if there is a fault at that place, it is the
+/// fault.
 pub fn ask_cut_is_right()
     ensures { (from : AskFormat) (bytes : List ℕ) → from.offset < 2 ^ 64 → AreBytes bytes
         → IsAskCut from bytes (asks_from from bytes) }
 {}
 
-/// The answers that are read from bytes are spelled there, one after the other, but for the numbers
-/// of OKAY and DONE, which may be any, up to the first place where no whole answer stands; where a
-/// fault stands there, it is the fault.
+/// States that the answers read from bytes are encoded there one after another, except that the
+/// numbers of OKAY and DONE may be any, up to the first place with no whole answer; if there is a
+/// fault at that place, it is the fault.
 pub fn answer_cut_is_right()
     ensures { (from : AnswerFormat) (bytes : List ℕ) → from.offset < 2 ^ 64 → AreBytes bytes
         → IsAnswerCut from bytes (answers_from from bytes) }
 {}
 
-/// Bytes are cut into requests in one way: requests with a rest, and a fault where one stands
-/// there, that are right are those that are read.
+/// States that bytes are cut into requests in one way: any requests with a rest, and a fault if
+/// there is one, that meet the definition are those that are read.
 pub fn ask_cut_is_determined()
     ensures { (from : AskFormat) (bytes : List ℕ) (cut : AskReading)
         → from.offset < 2 ^ 64 → IsAskCut from bytes cut → cut ≡ asks_from from bytes }
 {}
 
-/// Bytes are cut into answers in one way too.
+/// States that bytes are cut into answers in one way too.
 pub fn answer_cut_is_determined()
     ensures { (from : AnswerFormat) (bytes : List ℕ) (cut : AnswerReading)
         → from.offset < 2 ^ 64 → IsAnswerCut from bytes cut → cut ≡ answers_from from bytes }
 {}
 
-/// What follows the first fault of requests changes neither the fault nor the requests before it.
+/// States that the bytes after the first fault of requests change neither the fault nor the
+/// requests before it.
 pub fn ask_faults_stay()
     ensures { (bytes more : List ℕ) (fault : SyncFault) → ask_fault_in bytes ≡ Some fault
         → (ask_fault_in (bytes ++ more) ≡ Some fault)
         × (asks_in (bytes ++ more) ≡ asks_in bytes) }
 {}
 
-/// What follows the first fault of answers changes neither the fault nor the answers before it.
+/// States that the bytes after the first fault of answers change neither the fault nor the answers
+/// before it.
 pub fn answer_faults_stay()
     ensures { (list : Bool) (bytes more : List ℕ) (fault : SyncFault)
         → answer_fault_in list bytes ≡ Some fault
@@ -75,7 +77,7 @@ pub fn answer_faults_stay()
         × (answers_in list (bytes ++ more) ≡ answers_in list bytes) }
 {}
 
-/// The numbers of the definitions that are read here.
+/// States the numbers that the definitions take from the code.
 pub fn limits_are()
     ensures word { WORD_BYTES ≡ 4 }
     ensures path { MAX_PATH ≡ 1024 }

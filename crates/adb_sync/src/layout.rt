@@ -1,4 +1,4 @@
-//! What stands behind an id, and what a front of such bytes is.
+//! The layout of the bytes after an id, and how a prefix of them is read.
 
 ghost use Rattle.std.specs.Prelude.{◌≡◌, ◌≤◌, ◌*◌, Ok, Result, IfOk, length};
 ghost use Rattle.adb_sync.specs.Messages.{HasHead, numbers, text, limit_fault, body_len, body_fault, front_past_id};
@@ -8,25 +8,25 @@ use crate::error::{SyncFault, SyncRule};
 use adb_outside::Front;
 use byteorder::{ByteOrder, LittleEndian};
 
-/// An id, and a number.
+/// The number of bytes of an id, and of a number.
 pub const WORD_BYTES: usize = 4;
 
-/// The most bytes of a path, in a SEND counted with its comma and mode.
+/// The maximum number of bytes of a path; in a SEND its comma and mode are included.
 pub const MAX_PATH: u32 = 1024;
 
-/// The most bytes of a DATA.
+/// The maximum number of bytes of a DATA.
 pub const MAX_CHUNK: u32 = 65_536;
 
-/// How large a number may be.
+/// The maximum of a number.
 #[derive(Clone, Copy)]
 pub struct Limit {
     pub most: u32,
-    /// What a larger one breaks.
+    /// The rule that a larger number breaks.
     pub rule: SyncRule,
 }
 
 impl Limit {
-    /// How long a path may be.
+    /// Returns the limit of a path's length.
     pub fn of_path() -> Limit
         ensures { result ≡ record { most = MAX_PATH; rule = SyncRule.PathTooLong } }
     {
@@ -36,7 +36,7 @@ impl Limit {
         }
     }
 
-    /// How long a chunk may be.
+    /// Returns the limit of a chunk's length.
     pub fn of_chunk() -> Limit
         ensures { result ≡ record { most = MAX_CHUNK; rule = SyncRule.ChunkTooLong } }
     {
@@ -47,21 +47,22 @@ impl Limit {
     }
 }
 
-/// What stands behind an id: numbers, and a body as long as the last of them says, or none.
+/// The layout of the bytes after an id: numbers, and possibly a body. The last number is the length
+/// of the body.
 #[derive(Clone, Copy)]
 pub struct Layout {
-    /// How many bytes the numbers are.
+    /// The number of bytes of all the numbers.
     pub head: usize,
-    /// How large the last number may be.
+    /// The limit of the last number.
     pub limit: Option<Limit>,
-    /// Whether it counts the bytes of a body.
+    /// Whether the last number counts the bytes of a body.
     pub counted: bool,
-    /// Whether the body has to have a comma.
+    /// Whether the body needs a comma.
     pub comma: bool,
 }
 
 impl Layout {
-    /// So many numbers alone.
+    /// Returns the layout of `count` numbers and no body.
     pub fn numbers(count: usize) -> Layout
         requires { count ≤ 4 }
         ensures { result ≡ numbers count }
@@ -74,7 +75,7 @@ impl Layout {
         }
     }
 
-    /// So many numbers, the last of which counts the bytes of a text.
+    /// Returns the layout of `count` numbers and a text. The last number is the length of the text.
     pub fn text(count: usize, limit: Option<Limit>) -> Layout
         requires { count ≤ 4 }
         ensures { result ≡ text count limit }
@@ -87,7 +88,7 @@ impl Layout {
         }
     }
 
-    /// What a number breaks.
+    /// Returns the rule that a number breaks, if any.
     fn number_fault(&self, number: u32) -> Option<SyncRule>
         ensures { result ≡ limit_fault self.now.limit number }
     {
@@ -97,14 +98,14 @@ impl Layout {
         }
     }
 
-    /// How many bytes the body has.
+    /// Returns how many bytes the body has.
     fn body_bytes(&self, number: u32) -> usize
         ensures { result ≡ body_len self.now number }
     {
         if self.counted { number as usize } else { 0 }
     }
 
-    /// What a body breaks.
+    /// Returns the rule that a body breaks, if any.
     fn body_fault(&self, body: &[u8]) -> Option<SyncRule>
         ensures { result ≡ body_fault self.now body.now }
     {
@@ -115,7 +116,7 @@ impl Layout {
         }
     }
 
-    /// What bytes past an id are, in a message at an offset of the stream.
+    /// Returns what the bytes after an id begin with, in a message at an offset of the stream.
     fn front(&self, offset: u64, rest: &[u8]) -> Front<SyncFault>
         requires { HasHead self.now }
         ensures { result ≡ front_past_id offset (Ok self.now) rest.now }
@@ -140,7 +141,8 @@ impl Layout {
     }
 }
 
-/// What bytes past an id are, where that is what stands behind it, or what it breaks.
+/// Returns what the bytes after an id begin with, for this layout, or the fault if the id breaks a
+/// rule.
 pub fn front_behind(offset: u64, layout: Result<Layout, SyncRule>, rest: &[u8]) -> Front<SyncFault>
     requires { IfOk layout HasHead }
     ensures { result ≡ front_past_id offset layout rest.now }

@@ -1,5 +1,6 @@
-//! The requests and answers of a device's file sync service, as SYNC.TXT has them: readers of a
-//! stream that comes in pieces, and writers.
+//! The requests and answers of a device's file sync service, as SYNC.TXT defines them. `write_ask`
+//! and `write_answer` encode them; an `AskReader` or an `AnswerReader` is fed a stream in any
+//! pieces and returns them.
 #![tactic(auto)]
 
 mod answer;

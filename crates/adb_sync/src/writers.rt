@@ -1,4 +1,4 @@
-//! Spelling requests and answers.
+//! Encoding requests and answers.
 
 ghost use Rattle.std.specs.Prelude.{◌≡◌, ◌<◌, ◌^◌, ◌++◌, List, ℕ, length, OnOk, OnErr, IfOk};
 ghost use Rattle.byteorder.specs.Endian.{little_bytes};
@@ -13,7 +13,7 @@ use adb_outside::Text;
 use byteorder::{ByteOrder, LittleEndian};
 use std::alloc::{AllocError, Global};
 
-/// Adds the bytes of a request at the end. After want of memory `out` is as before.
+/// Appends the bytes of a request. If an allocation fails, `out` is unchanged.
 pub fn write_ask(alloc: Global, ask: &SyncAsk, out: &mut Text) -> Result<(), AllocError>
     requires { IsAsk ask.now }
     ensures ok { OnOk result (out.new ≡ out.old ++ ask_bytes ask.now) }
@@ -36,7 +36,7 @@ pub fn write_ask(alloc: Global, ask: &SyncAsk, out: &mut Text) -> Result<(), All
     out.push_slice(request.as_slice())
 }
 
-/// Adds the bytes of an answer at the end. After want of memory `out` is as before.
+/// Appends the bytes of an answer. If an allocation fails, `out` is unchanged.
 pub fn write_answer(alloc: Global, answer: &SyncAnswer, out: &mut Text) -> Result<(), AllocError>
     requires { IsAnswer answer.now }
     ensures ok { OnOk result (out.new ≡ out.old ++ answer_bytes answer.now) }
@@ -64,15 +64,14 @@ pub fn write_answer(alloc: Global, answer: &SyncAnswer, out: &mut Text) -> Resul
     out.push_slice(answer.as_slice())
 }
 
-/// How many bytes stand before those of a chunk.
+/// The number of bytes before those of a chunk.
 pub const CHUNK_HEADER_BYTES: usize = 8;
 
-/// The length of the longest chunk with its header.
+/// The length of the longest chunk including its header.
 pub const WHOLE_CHUNK: usize = CHUNK_HEADER_BYTES + MAX_CHUNK as usize;
 
-/// What stands before the bytes of a chunk of so many bytes, for who hands a chunk out of a buffer
-/// of his own: with them behind it, it is what `write_answer` writes of the chunk. It takes no
-/// memory.
+/// Returns the header of a chunk of this many bytes, for a caller that hands a chunk out of its own
+/// buffer: `write_answer` writes the header and the bytes together. Allocates nothing.
 pub fn chunk_header(size: u32) -> [u8; CHUNK_HEADER_BYTES]
     ensures { (bytes : List ℕ) → length bytes ≡ size
         → result ++ bytes ≡ answer_bytes (SyncAnswer.Chunk bytes) }
@@ -82,7 +81,7 @@ pub fn chunk_header(size: u32) -> [u8; CHUNK_HEADER_BYTES]
     header
 }
 
-/// An id, how many bytes follow, and these.
+/// Returns an id, a length, and that many bytes.
 fn counted(alloc: Global, id: &[u8], body: &[u8]) -> Result<Text, AllocError>
     requires { length body.now < 2 ^ 32 }
     ensures { IfOk result (λ bytes. bytes ≡ message id.now (length body.now) body.now) }
@@ -92,7 +91,7 @@ fn counted(alloc: Global, id: &[u8], body: &[u8]) -> Result<Text, AllocError>
     Ok(bytes)
 }
 
-/// An id and a number.
+/// Returns an id and a number.
 fn numbered(alloc: Global, id: &[u8], number: u32) -> Result<Text, AllocError>
     ensures { IfOk result (λ bytes. bytes ≡ id.now ++ little_bytes 4 number) }
 {
@@ -101,7 +100,7 @@ fn numbered(alloc: Global, id: &[u8], number: u32) -> Result<Text, AllocError>
     Ok(bytes)
 }
 
-/// An id and the numbers of a STAT.
+/// Returns an id and the numbers of a STAT.
 fn stat(alloc: Global, id: &[u8], mode: u32, size: u32, mtime: u32) -> Result<Text, AllocError>
     ensures { IfOk result (λ bytes. bytes
         ≡ id.now ++ little_bytes 4 mode ++ little_bytes 4 size ++ little_bytes 4 mtime) }
@@ -112,7 +111,7 @@ fn stat(alloc: Global, id: &[u8], mode: u32, size: u32, mtime: u32) -> Result<Te
     Ok(bytes)
 }
 
-/// Adds a number at the end.
+/// Appends a number.
 fn push_number(bytes: &mut Text, number: u32) -> Result<(), AllocError>
     ensures { OnOk result (bytes.new ≡ bytes.old ++ little_bytes 4 number) }
 {

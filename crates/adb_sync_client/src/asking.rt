@@ -1,4 +1,4 @@
-//! Asking about a path.
+//! Requests about a path.
 
 ghost use Rattle.std.specs.Prelude.{◌≡◌, ◌≤◌, ◌++◌, List, ℕ, length, take, drop, IfOk};
 ghost use Rattle.adb_sync_client.specs.Asking.{Asks, Feeds, FeedsToEnd, Gives};
@@ -15,7 +15,7 @@ use adb_outside::ByteQueue;
 use std::alloc::{AllocError, Global};
 use std::marker::{Model, PhantomData};
 
-/// What a request about a path is answered with.
+/// The value of the answer to a request about a path.
 pub trait PathValue: Drop + Sized {
     ghost use Rattle.std.specs.Prelude.{◌≡◌, ◌≤◌, List, ℕ, length, IfOk};
     ghost use Rattle.adb_sync_client.specs.declared.kind.AnswerKind.{AnswerKind};
@@ -28,34 +28,34 @@ pub trait PathValue: Drop + Sized {
     /// The bytes of the request.
     ghost text: { List ℕ → List ℕ };
 
-    /// What it is of what the answers said.
+    /// The value, as a part of the content of the answers.
     ghost part: { Said → Self };
 
-    /// What answer bytes mean.
+    /// The value of answer bytes.
     ghost value: { List ℕ → Step Self };
 
-    /// The kind of the answer.
+    /// Returns the kind of the answer.
     fn kind() -> AnswerKind
         ensures { result ≡ kind };
 
-    /// The bytes of the request, to be taken from the front.
+    /// Returns the bytes of the request, to be taken from the start.
     fn request(alloc: Global, path: &[u8]) -> Result<ByteQueue, AllocError>
         requires { length path.now ≤ MAX_ASKED_PATH }
         ensures { IfOk result (λ queue. queue.bytes ≡ text path.now) };
 
-    /// A copy of what the answers said.
+    /// Returns a copy of the value in the answers.
     fn of(told: &Told) -> Result<Self, AllocError>
         ensures { IfOk result (λ copy. copy ≡ part told.now) };
 
-    /// What the answers said, given away. It takes no memory.
+    /// Moves the value out of the answers. Allocates nothing.
     fn give(told: &mut Told) -> Self
         ensures { result ≡ part told.old };
 
-    /// The value of answer bytes is that part of what they said.
+    /// The value of answer bytes is this part of their content.
     ghost is_part: { (bytes : List ℕ) → value bytes ≡ step_map part (answer_value kind bytes) };
 }
 
-/// A machine that asks one request about a path, whose answer is a `V`.
+/// A machine that makes one request about a path. The answer is a `V`.
 #[derive(Drop)]
 pub struct PathAsk<V: PathValue> {
     out: ByteQueue,
@@ -72,7 +72,7 @@ impl<V: PathValue> Model for PathAsk<V> {
 }
 
 impl<V: PathValue> PathAsk<V> {
-    /// Asks about a path.
+    /// Returns a machine that makes a request about a path. Fails if an allocation fails.
     pub fn new(alloc: Global, path: &[u8]) -> Result<PathAsk<V>, AllocError>
         requires { length path.now ≤ MAX_ASKED_PATH }
         ensures { IfOk result (λ new. Asks V.kind (V.text path.now) new) }
@@ -84,14 +84,14 @@ impl<V: PathValue> PathAsk<V> {
         })
     }
 
-    /// The bytes of the request that were not taken yet.
+    /// Returns the bytes of the request that were not taken yet.
     pub fn out(&self) -> &[u8]
         ensures { result.now ≡ self.now.left }
     {
         self.out.as_slice()
     }
 
-    /// The first `n` bytes of the request that are left were taken. It takes no memory.
+    /// Removes the first `n` bytes of the request, which were taken. Allocates nothing.
     pub fn taken(&mut self, n: usize)
         requires { n ≤ length self.old.left }
         ensures left { self.new ≡ record self.old { left = drop n self.old.left } }
@@ -101,9 +101,9 @@ impl<V: PathValue> PathAsk<V> {
         self.out.take(n);
     }
 
-    /// Takes the next piece of the answer bytes, of any length, and gives what all of them mean, as
-    /// often as it is called. The value is a copy. After want of memory the machine is spent: every
-    /// call answers it.
+    /// Takes the next piece of the answer bytes, of any length. Returns the meaning of all of them,
+    /// at each call. The value is a copy. If an allocation fails, the machine is spent: every later
+    /// call returns the error.
     pub fn feed(&mut self, piece: &[u8]) -> Result<Step<V>, AllocError>
         ensures { Feeds V.kind V.value self.old piece.now result self.new }
     {
@@ -112,8 +112,8 @@ impl<V: PathValue> PathAsk<V> {
         self.reading.spend_on(step)
     }
 
-    /// The same, where nothing is fed behind the end of the answer: the value is given away, and
-    /// not copied.
+    /// Does the same, if nothing is fed after the end of the answer: the value is moved out, and
+    /// not copied. The errors are those of `feed`.
     pub fn feed_to_end(&mut self, piece: &[u8]) -> Result<Step<V>, AllocError>
         ensures { FeedsToEnd V.kind V.value self.old piece.now result self.new }
     {
@@ -122,7 +122,7 @@ impl<V: PathValue> PathAsk<V> {
     }
 }
 
-/// A step with the value of what was said.
+/// Returns a step with a copy of the value in the answers.
 fn valued<V: PathValue>(step: Step<()>, told: &Told) -> Result<Step<V>, AllocError>
     ensures { IfOk result (λ given. given ≡ step_map V.part (with_said told.now step)) }
 {
@@ -134,7 +134,7 @@ fn valued<V: PathValue>(step: Step<()>, told: &Told) -> Result<Step<V>, AllocErr
     })
 }
 
-/// A step to which the value of what was said is given.
+/// Returns a step with the value moved out of the answers.
 fn given<V: PathValue>(step: Step<()>, told: &mut Told) -> Step<V>
     ensures value { result ≡ step_map V.part (with_said told.old step) }
     ensures stays { result ≡ More → told.new ≡ told.old }

@@ -6,8 +6,7 @@ use adb_sync::Dirent;
 use std::alloc::{AllocError, Global};
 use std::marker::Model;
 
-/// The entries of a directory, in the order in which the answer has them. Contracts see them as
-/// that list.
+/// The entries of a directory, in the order of the answer. Contracts see them as that list.
 #[derive(Drop)]
 pub struct Entries {
     entries: Vec<Dirent>,
@@ -23,7 +22,7 @@ impl Model for Entries {
 }
 
 impl Entries {
-    /// A copy of these entries.
+    /// Returns a copy of these entries. Fails if an allocation fails.
     pub fn copy_of(alloc: Global, entries: &[Dirent]) -> Result<Entries, AllocError>
         ensures { IfOk result (λ copy. copy ≡ entries.now) }
     {
@@ -35,21 +34,21 @@ impl Entries {
         Ok(Entries { entries: copies })
     }
 
-    /// The entries of a `Vec`, which is moved: it takes no memory.
+    /// Returns the entries of a `Vec`, which is moved. Allocates nothing.
     pub fn from_vec(entries: Vec<Dirent>) -> Entries
         ensures { result ≡ entries.items }
     {
         Entries { entries }
     }
 
-    /// The entries.
+    /// Returns the entries.
     pub fn as_slice(&self) -> &[Dirent]
         ensures { result.now ≡ self.now }
     {
         self.entries.as_slice()
     }
 
-    /// The entries as a `Vec`. It takes no memory.
+    /// Returns the entries as a `Vec`. Allocates nothing.
     pub fn into_vec(self) -> Vec<Dirent>
         ensures { result.items ≡ self }
     {
@@ -57,7 +56,7 @@ impl Entries {
     }
 }
 
-/// A copy of an entry.
+/// Returns a copy of an entry.
 fn copy_of(entry: &Dirent) -> Result<Dirent, AllocError>
     ensures { IfOk result (λ copy. copy ≡ entry.now) }
 {

@@ -1,12 +1,12 @@
-//! How a stream is cut into the answers that are expected.
+//! The framing of a stream of expected answers.
 
 use crate::kind::AnswerKind;
 use adb_outside::{Format, Front};
 use adb_sync::{AnswerFormat, SyncAnswer};
 use std::alloc::{AllocError, Global};
 
-/// Answers of a kind, the first of which begins at an offset of the stream. A fault is the offset
-/// of the first byte that breaks the grammar.
+/// The format of answers of a kind, the first of which begins at an offset of the stream. A fault
+/// is the offset of the first byte that breaks the grammar.
 #[derive(Clone, Copy)]
 pub struct Expected {
     pub kind: AnswerKind,
@@ -17,7 +17,7 @@ impl Expected {
     ghost use Rattle.std.specs.Prelude.{◌≡◌};
     ghost use Rattle.adb_sync_client.specs.Expected.{expected_start};
 
-    /// The answer to a request, from its first byte.
+    /// Returns the format of the answer to a request, from its first byte.
     pub fn to(kind: AnswerKind) -> Expected
         ensures { result ≡ expected_start kind }
     {

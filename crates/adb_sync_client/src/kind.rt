@@ -1,4 +1,4 @@
-//! What a request is answered with, byte by byte.
+//! The grammar of the answer to a request, byte by byte.
 
 ghost use Rattle.std.specs.Prelude.{◌≡◌, ◌≤◌, length};
 ghost use Rattle.adb_sync_client.specs.Expected.{begins, begins_chunk, may_begin, stray_in};
@@ -6,10 +6,10 @@ ghost use Rattle.adb_sync_client.specs.Expected.{begins, begins_chunk, may_begin
 use adb_sync::MAX_CHUNK;
 use byteorder::{ByteOrder, LittleEndian};
 
-/// The bytes of an id and of the number behind it.
+/// The number of bytes of an id and of the number after it.
 const HEAD_BYTES: usize = 8;
 
-/// A request, by what it is answered with (SYNC.TXT). Each may be answered by a FAIL, at any place
+/// The kind of a request, by its answer (SYNC.TXT). Each may be answered by a FAIL, at any place
 /// where an answer begins.
 #[derive(Clone, Copy, Debug, PartialEq, Eq)]
 pub enum AnswerKind {
@@ -24,8 +24,8 @@ pub enum AnswerKind {
 }
 
 impl AnswerKind {
-    /// The place of the first byte after which no answer of this kind can follow. Such a byte is
-    /// one of an id, or of the length of a DATA.
+    /// Returns the place of the first byte after which no answer of this kind can follow. Such a
+    /// byte is in an id, or in the length of a DATA.
     pub fn stray(self, bytes: &[u8]) -> Option<usize>
         ensures { result ≡ stray_in self bytes.now }
     {
@@ -38,7 +38,7 @@ impl AnswerKind {
         None
     }
 
-    /// Whether an answer of this kind may begin with these bytes.
+    /// Returns whether an answer of this kind may begin with these bytes.
     fn may_begin(self, head: &[u8]) -> bool
         requires { length head.now ≤ 8 }
         ensures { result ≡ may_begin self head.now }
@@ -53,7 +53,7 @@ impl AnswerKind {
     }
 }
 
-/// Whether the first bytes are those of an id, as far as they go.
+/// Returns whether the first bytes are those of an id, as far as they go.
 fn begins(head: &[u8], id: &[u8; 4]) -> bool
     ensures { result ≡ begins id.now head.now }
 {
@@ -61,8 +61,8 @@ fn begins(head: &[u8], id: &[u8; 4]) -> bool
     head[..size] == id[..size]
 }
 
-/// Whether the first bytes are those of a DATA that is not too long, as far as they go: with zeros
-/// for what is missing, its length is the least that can follow.
+/// Returns whether the first bytes are those of a DATA that is not too long, as far as they go.
+/// With zeros for the missing bytes, its length is the least that can follow.
 fn is_chunk_head(head: &[u8]) -> bool
     requires { length head.now ≤ 8 }
     ensures { result ≡ begins_chunk head.now }

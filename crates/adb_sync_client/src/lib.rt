@@ -1,5 +1,7 @@
-//! The asking side of a device's file sync service (SYNC.TXT): one machine for each request, which
-//! gives the request's bytes as they are taken and tells what the answer bytes mean.
+//! The client of a device's file sync service (SYNC.TXT): one machine for each kind of request.
+//!
+//! The caller sends the bytes of `out` to the service, reports with `taken` how many it sent, and
+//! feeds the bytes of the answer to `feed`, which returns what all of them mean so far.
 #![tactic(auto)]
 
 mod asking;

@@ -9,7 +9,7 @@ use adb_outside::{ByteQueue, Text};
 use adb_sync::SyncAsk;
 use std::alloc::{AllocError, Global};
 
-/// LIST of a path: its value is the entries of the directory.
+/// LIST of a path. Its value is the entries of the directory.
 pub type List = PathAsk<Entries>;
 
 impl PathValue for Entries {

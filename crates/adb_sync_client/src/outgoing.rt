@@ -13,7 +13,7 @@ use std::alloc::{AllocError, Global};
 use std::marker::Model;
 
 /// The bytes of a SEND, its chunks and its DONE that were not taken yet. Contracts see those bytes.
-/// The chunks are made as they are taken, out of the one copy of the file.
+/// The chunks are made as they are taken, from a single copy of the file.
 #[derive(Drop)]
 pub struct Outgoing {
     head: ByteQueue,
@@ -34,7 +34,7 @@ impl Model for Outgoing {
 }
 
 impl Outgoing {
-    /// Nothing was taken yet.
+    /// Returns all the bytes of a push.
     pub fn new(
         alloc: Global,
         path: &[u8],
@@ -57,7 +57,7 @@ impl Outgoing {
         })
     }
 
-    /// The first bytes that were not taken yet: at least one where one is left.
+    /// Returns the first bytes that were not taken yet: at least one if any are left.
     pub fn front(&self) -> &[u8]
         ensures front { StartsWith self.now result.now }
         ensures some { self.now ≢ [] → result.now ≢ [] }
@@ -73,7 +73,7 @@ impl Outgoing {
         }
     }
 
-    /// The first `n` bytes were taken. It takes no memory.
+    /// Removes the first `n` bytes, which were taken. Allocates nothing.
     pub fn taken(&mut self, n: usize)
         requires { n ≤ length self.old }
         ensures { self.new ≡ drop n self.old }
@@ -84,8 +84,8 @@ impl Outgoing {
         }
     }
 
-    /// Takes at most the first `n` bytes, of one part alone, and gives how many: at least one where
-    /// one is left.
+    /// Removes at most the first `n` bytes, of one part alone. Returns how many: at least one if
+    /// any are left.
     fn take_front(&mut self, n: usize) -> usize
         ensures most { result ≤ n }
         ensures here { result ≤ length self.old }
@@ -103,7 +103,7 @@ impl Outgoing {
     }
 }
 
-/// Takes at most the first `n` bytes of a queue, and gives how many.
+/// Removes at most the first `n` bytes of a queue. Returns how many.
 fn take_from(queue: &mut ByteQueue, n: usize) -> usize
     ensures most { result ≤ n }
     ensures here { result ≤ length queue.old.bytes }
@@ -115,7 +115,7 @@ fn take_from(queue: &mut ByteQueue, n: usize) -> usize
     taken
 }
 
-/// The bytes of a SEND.
+/// Returns the bytes of a SEND.
 fn send_of(alloc: Global, path: &[u8], mode: u32) -> Result<ByteQueue, AllocError>
     requires { length path.now ≤ MAX_ASKED_PATH }
     ensures { IfOk result (λ head. head.bytes ≡ ask_bytes (SyncAsk.Send path.now (decimal mode))) }
@@ -125,7 +125,7 @@ fn send_of(alloc: Global, path: &[u8], mode: u32) -> Result<ByteQueue, AllocErro
     spelled(alloc, &SyncAsk::Send { path, mode })
 }
 
-/// The decimal digits of a number.
+/// Returns the decimal digits of a number.
 fn decimal_of(alloc: Global, number: u32) -> Result<Text, AllocError>
     ensures { IfOk result (λ text. text ≡ decimal number) }
 {

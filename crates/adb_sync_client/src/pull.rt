@@ -8,7 +8,7 @@ use adb_outside::{ByteQueue, Text};
 use adb_sync::SyncAsk;
 use std::alloc::{AllocError, Global};
 
-/// RECV of a path: its value is the bytes of the file.
+/// RECV of a path. Its value is the bytes of the file.
 pub type Pull = PathAsk<Text>;
 
 impl PathValue for Text {

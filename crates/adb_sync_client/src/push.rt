@@ -14,7 +14,7 @@ use crate::step::Step;
 use std::alloc::{AllocError, Global};
 use std::marker::Model;
 
-/// SEND of a path: the file is there when it is done.
+/// SEND of a path. The file exists once it is done.
 #[derive(Drop)]
 pub struct Push {
     out: Outgoing,
@@ -30,8 +30,9 @@ impl Model for Push {
 }
 
 impl Push {
-    /// Sends a file of these bytes to a path, with a mode as `stat(2)` has it and a time in seconds
-    /// since 1970. The bytes are copied once, and their chunks are made as they are taken.
+    /// Returns a machine that sends a file of these bytes to a path, with a mode as in `stat(2)`
+    /// and a time in seconds since 1970. The bytes are copied once, and their chunks are made as
+    /// they are taken.
     pub fn new(
         alloc: Global,
         path: &[u8],
@@ -49,8 +50,9 @@ impl Push {
         })
     }
 
-    /// The first bytes of the request that were not taken yet: at least one where one is left. The
-    /// header of each chunk, and its bytes, come one by one as those before are taken.
+    /// Returns the first bytes of the request that were not taken yet: at least one if any are
+    /// left. The header of each chunk, and its bytes, come one by one as the bytes before are
+    /// taken.
     pub fn out(&self) -> &[u8]
         ensures front { StartsWith self.now.left result.now }
         ensures some { self.now.left ≢ [] → result.now ≢ [] }
@@ -58,7 +60,7 @@ impl Push {
         self.out.front()
     }
 
-    /// The first `n` bytes of the request that are left were taken. It takes no memory.
+    /// Removes the first `n` bytes of the request, which were taken. Allocates nothing.
     pub fn taken(&mut self, n: usize)
         requires { n ≤ length self.old.left }
         ensures left { self.new ≡ record self.old { left = drop n self.old.left } }
@@ -68,8 +70,9 @@ impl Push {
         self.out.taken(n);
     }
 
-    /// Takes the next piece of the answer bytes, of any length, and gives what all of them mean, as
-    /// often as it is called. After want of memory the machine is spent: every call answers it.
+    /// Takes the next piece of the answer bytes, of any length. Returns the meaning of all of them,
+    /// at each call. If an allocation fails, the machine is spent: every later call returns the
+    /// error.
     pub fn feed(&mut self, piece: &[u8]) -> Result<Step<()>, AllocError>
         ensures { Feeds AnswerKind.Push push_value self.old piece.now result self.new }
     {

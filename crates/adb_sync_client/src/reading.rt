@@ -1,4 +1,4 @@
-//! What a machine holds of the answer bytes.
+//! The answer bytes that a machine holds.
 
 ghost use Rattle.std.specs.Prelude.{◌≡◌, ◌≢◌, [], true, false, Err, IfOk, OnOk, OnErr, IsErr};
 ghost use Rattle.adb_outside.specs.Framing.{answer_of};
@@ -15,8 +15,8 @@ use adb_sync::SyncAnswer;
 use std::alloc::{AllocError, Global};
 use std::marker::Model;
 
-/// What was read of the answer to a request: what the whole answers told, whether one of them ended
-/// it, and the bytes past them. It is spent by want of memory.
+/// The state of reading the answer to a request: the content of the whole answers, whether one of
+/// them ended it, and the bytes past them. An allocation failure spends it.
 #[derive(Drop)]
 pub struct Reading {
     framer: Framer<Expected, SyncAnswer, u64>,
@@ -34,7 +34,7 @@ impl Model for Reading {
 }
 
 impl Reading {
-    /// No byte was fed yet. It takes no memory.
+    /// Returns the state before any byte was fed. Allocates nothing.
     pub fn new(alloc: Global, kind: AnswerKind) -> Reading
         ensures stands { StandsFor kind [] result }
         ensures spent { result.spent ≡ false }
@@ -47,8 +47,8 @@ impl Reading {
         }
     }
 
-    /// Takes the next piece of the answer bytes. Where they are an answer, what it told is in
-    /// `told`. After want of memory it is spent.
+    /// Takes the next piece of the answer bytes. If they are a whole answer, its content is in
+    /// `told`. If an allocation fails, the state is spent.
     pub fn feed(&mut self, piece: &[u8]) -> Result<Step<()>, AllocError>
         ensures ok { IfOk result (λ step. Reads self.old piece.now step self.new) }
         ensures open { OnOk result ((self.old.spent ≡ false) × (self.new.spent ≡ false)) }
@@ -62,7 +62,7 @@ impl Reading {
         self.spend_on(step)
     }
 
-    /// An error of a call spends it.
+    /// Passes on the result of a call, and marks the state as spent if it is an error.
     pub fn spend_on<V: Drop>(&mut self, answer: Result<V, AllocError>) -> Result<V, AllocError>
         ensures same { result ≡ answer }
         ensures spent { self.new ≡ spend self.old answer }
@@ -73,7 +73,7 @@ impl Reading {
         answer
     }
 
-    /// Takes the next piece, where memory never ran out.
+    /// Takes the next piece, if no allocation has failed.
     fn feed_open(&mut self, piece: &[u8]) -> Result<Step<()>, AllocError>
         ensures ok { IfOk result (λ step. Reads self.old piece.now step self.new) }
         ensures same { self.new.spent ≡ self.old.spent }
@@ -85,7 +85,7 @@ impl Reading {
         self.step(fault)
     }
 
-    /// What all the bytes mean, where this is their fault.
+    /// Returns the meaning of all the bytes, if this is their fault.
     fn step(&self, fault: Option<u64>) -> Result<Step<()>, AllocError>
         requires held { self.now.next ≡ Next.GoesOn → self.now.cut.given ≡ [] }
         requires fault { self.now.next ≡ Next.GoesOn → self.now.cut.fault ≡ fault }
@@ -98,7 +98,7 @@ impl Reading {
         }
     }
 
-    /// Cuts the next piece, tells the answers that it completes, and gives the fault behind them.
+    /// Cuts the next piece, takes the answers that it completes, and returns the fault after them.
     fn continue_with(&mut self, piece: &[u8]) -> Result<Option<u64>, AllocError>
         requires { self.old.next ≡ Next.GoesOn }
         ensures ok { IfOk result (λ fault. Continues self.old piece.now fault self.new) }
@@ -109,7 +109,7 @@ impl Reading {
         Ok(fault)
     }
 
-    /// Tells the answers that are held, up to one that ends them.
+    /// Takes the answers that are held, up to one that ends them.
     fn gather(&mut self) -> Result<(), AllocError>
         ensures ok { OnOk result (Gathers self.old self.new) }
         ensures fault { self.new.cut.fault ≡ self.old.cut.fault }
@@ -125,7 +125,7 @@ impl Reading {
     }
 }
 
-/// What bytes mean whose answers do not end.
+/// Returns the meaning of bytes with answers that do not end.
 fn unended(fault: Option<u64>) -> Step<()>
     ensures { (said : Said) → with_said said result ≡ unended fault }
 {
@@ -135,7 +135,7 @@ fn unended(fault: Option<u64>) -> Step<()>
     }
 }
 
-/// The fault that a framer told; want of memory is none.
+/// Returns the fault that a framer reported. An allocation failure is passed on as an error.
 fn told_fault(answer: Result<(), FeedError<u64>>) -> Result<Option<u64>, AllocError>
     ensures ok { IfOk result (λ fault. (answer ≢ Err FeedError.OutOfMemory)
         × (answer ≡ answer_of FeedError.Fault fault)) }

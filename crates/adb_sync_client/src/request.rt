@@ -7,10 +7,10 @@ use adb_outside::{ByteQueue, MAX_ASKED, Text};
 use adb_sync::{SyncAsk, write_ask};
 use std::alloc::{AllocError, Global};
 
-/// The most bytes of a path.
+/// The maximum number of bytes of a path.
 pub const MAX_ASKED_PATH: usize = MAX_ASKED;
 
-/// The bytes of a request, to be taken from the front.
+/// Returns the bytes of a request, to be taken from the start.
 pub fn spelled(alloc: Global, ask: &SyncAsk) -> Result<ByteQueue, AllocError>
     requires { IsAsk ask.now }
     ensures { IfOk result (λ queue. queue.bytes ≡ ask_bytes ask.now) }

@@ -1,4 +1,4 @@
-//! What a path names.
+//! The attributes of a path.
 
 use crate::asking::{PathAsk, PathValue};
 use crate::kind::AnswerKind;
@@ -9,7 +9,7 @@ use adb_outside::{ByteQueue, Text};
 use adb_sync::SyncAsk;
 use std::alloc::{AllocError, Global};
 
-/// STAT of a path: its value is what the path names.
+/// STAT of a path. Its value is the attributes of the path.
 pub type Stat = PathAsk<StatValue>;
 
 impl PathValue for StatValue {

@@ -1,9 +1,9 @@
-//! What the answer to a request is so far.
+//! The state of the answer to a request.
 
 use adb_outside::Text;
 
-/// What the answer bytes that were fed mean. Where it is other than `More`, what follows them does
-/// not change it.
+/// The meaning of the answer bytes that were fed. Unless it is `More`, the bytes that follow do not
+/// change it.
 #[derive(Drop)]
 pub enum Step<V: Drop> {
     /// The answer is not whole yet.
@@ -12,12 +12,12 @@ pub enum Step<V: Drop> {
     Done(V),
     /// The answer is a FAIL with this text.
     Refused(Text),
-    /// The first byte after which no answer to the request can follow, by its offset, which stays
-    /// at 2^64 - 1.
+    /// No answer to the request can follow the byte at this offset, the first such byte; an offset
+    /// past 2^64 - 1 stays there.
     BadAnswer { offset: u64 },
 }
 
-/// What a path names: mode and time as `stat(2)` has them; all three are 0 where it names nothing.
+/// The attributes of a path: mode and time as in `stat(2)`; all three are 0 if nothing is there.
 #[derive(Clone, Copy, Debug, PartialEq, Eq, Drop)]
 pub struct StatValue {
     pub mode: u32,

@@ -1,4 +1,4 @@
-//! What the whole answers told so far.
+//! The content of the whole answers so far.
 
 ghost use Rattle.std.specs.Prelude.{◌≡◌, ℕ, IfOk, OnOk};
 ghost use Rattle.adb_sync_client.specs.Values.{next_of, told_by, told_nothing};
@@ -10,7 +10,7 @@ use std::alloc::{AllocError, Global};
 use std::marker::Model;
 use std::mem;
 
-/// What follows a whole answer.
+/// The continuation after a whole answer.
 #[derive(Drop)]
 pub enum Next {
     /// Further answers.
@@ -43,7 +43,7 @@ impl Model for Told {
 }
 
 impl Told {
-    /// Nothing was told yet. It takes no memory.
+    /// Returns the content before the first answer. Allocates nothing.
     pub fn new(alloc: Global) -> Told
         ensures { result ≡ told_nothing }
     {
@@ -59,21 +59,21 @@ impl Told {
         }
     }
 
-    /// Gives the bytes of the chunks away. It takes no memory.
+    /// Moves the bytes of the chunks out. Allocates nothing.
     pub fn give_bytes(&mut self) -> Text
         ensures { result ≡ self.old.bytes }
     {
         mem::replace(&mut self.bytes, Text::new(self.alloc))
     }
 
-    /// Gives the entries of the list away. It takes no memory.
+    /// Moves the entries of the list out. Allocates nothing.
     pub fn give_entries(&mut self) -> Vec<Dirent>
         ensures { result.items ≡ self.old.entries }
     {
         mem::replace(&mut self.entries, Vec::new(self.alloc))
     }
 
-    /// Takes the next answer, and gives what follows it.
+    /// Takes the next answer, and returns the continuation.
     pub fn take(&mut self, answer: SyncAnswer) -> Result<Next, AllocError>
         ensures next { IfOk result (λ next. next ≡ next_of answer) }
         ensures told { OnOk result (self.new ≡ told_by self.old answer) }

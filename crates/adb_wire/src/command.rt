@@ -3,7 +3,7 @@
 ghost use Rattle.std.specs.Prelude.{◌≡◌};
 ghost use Rattle.adb_wire.specs.Command.{word_of, command_of};
 
-/// What a packet is for (protocol.txt, "MESSAGES"). The obsolete SYNC is none of them.
+/// The purpose of a packet (protocol.txt, "MESSAGES"). The obsolete SYNC is not supported.
 #[derive(Clone, Copy, Debug, PartialEq, Eq, Drop)]
 pub enum Command {
     Cnxn,
@@ -16,7 +16,7 @@ pub enum Command {
 }
 
 impl Command {
-    /// The word that stands for it: its four letters.
+    /// Returns the word of the command: its four letters.
     pub(crate) fn word(self) -> u32
         ensures { result ≡ word_of self }
     {
@@ -31,7 +31,7 @@ impl Command {
         }
     }
 
-    /// The command that a word stands for, if it is one.
+    /// Returns the command of a word, if there is one.
     pub(crate) fn from_word(word: u32) -> Option<Command>
         ensures { result ≡ command_of word }
     {

@@ -11,10 +11,10 @@ use adb_outside::{FeedError, Framer};
 use std::alloc::{AllocError, Global};
 use std::marker::Model;
 
-/// Why a piece was not taken, or not taken to its end.
+/// The reason why a piece was not taken, or not taken to its end.
 #[derive(Clone, Copy, Debug, PartialEq, Eq, Drop)]
 pub enum WireError {
-    /// Memory ran out. Nothing changed.
+    /// An allocation failed. Nothing changed.
     OutOfMemory,
     /// A header is wrong.
     Broken(HeadFault),
@@ -22,8 +22,8 @@ pub enum WireError {
     BadSum { said: u32, is: u32 },
 }
 
-/// Cuts a stream into packets, in whatever pieces it comes. It holds the bytes past the last whole
-/// packet and the packets that were not yet taken, never the stream.
+/// A parser that cuts a stream into packets, whatever pieces it comes in. It holds the bytes past
+/// the last whole packet and the packets that were not taken yet, never the whole stream.
 #[derive(Drop)]
 pub struct Deframer {
     framer: Framer<PacketFormat, Packet, PacketFault>,
@@ -46,7 +46,7 @@ impl Deframer {
     ghost use Rattle.adb_wire.specs.Slicing.{need_of};
     ghost use Rattle.adb_wire.specs.Cutting.{cut_packets};
 
-    /// Nothing was fed yet. It takes no memory.
+    /// Returns a deframer to which nothing was fed. Allocates nothing.
     pub fn new(alloc: Global) -> Deframer
         ensures value { result ≡ no_bytes }
         ensures stands { StandsFor [] [] result }
@@ -58,12 +58,12 @@ impl Deframer {
 
     /// Takes the next piece of the stream, of any length.
     ///
-    /// `Broken` and `BadSum` come exactly where all the bytes fed so far have that fault first:
-    /// that of a header once its 24 bytes are there, that of a check word once the payload is
-    /// whole. A check word is looked at in a CNXN, which carries 0 or its sum, and in other packets
-    /// while the last CNXN had a version below 0x01000001. At the first fault the packets before it
-    /// are kept, and still given; from then on every call answers it, and takes nothing. After want
-    /// of memory all is as before.
+    /// `OutOfMemory`: an allocation failed; nothing changed. `Broken` and `BadSum`: returned
+    /// exactly if this is the first fault of all the bytes fed so far: that of a header once its 24
+    /// bytes are there, that of a check word once the payload is whole. A check word is verified in
+    /// a CNXN, which carries 0 or its sum, and in other packets while the last CNXN had a version
+    /// below 0x01000001. At the first fault the packets before it are kept and can still be taken;
+    /// every later call returns the same fault and takes nothing.
     pub fn feed(&mut self, piece: &[u8]) -> Result<(), WireError>
         ensures answer { result ≢ Err WireError.OutOfMemory → result ≡ answer_of self.new.fault }
         ensures taken { result ≢ Err WireError.OutOfMemory → Takes self.old piece.now self.new }
@@ -81,8 +81,8 @@ impl Deframer {
         }
     }
 
-    /// The next packet that was not yet given; `None` exactly where no further whole packet was
-    /// fed. It takes no memory.
+    /// Takes the next packet. Returns `None` exactly if no further whole packet was fed. Allocates
+    /// nothing.
     pub fn next(&mut self) -> Option<Packet>
         ensures given { Gives self.old self.new result }
         ensures sized { IfSome result (λ packet. length packet.payload ≤ MAX_PAYLOAD) }
@@ -90,9 +90,9 @@ impl Deframer {
         self.framer.next()
     }
 
-    /// How many bytes are missing, at least, until a packet is whole or a fault is there: a shorter
-    /// piece completes nothing. Where there is a fault, no packet ever is, and it is `usize::MAX`.
-    /// It takes no memory.
+    /// Returns how many bytes are missing, at least, until a packet is whole or a fault is there: a
+    /// shorter piece completes nothing. If there is a fault, no packet ever completes, and the
+    /// result is `usize::MAX`. Allocates nothing.
     pub fn missing(&self) -> usize
         ensures value { MatchOption self.now.fault (result ≡ need_of self.now.rest)
             (λ _. result ≡ usize.MAX) }
@@ -106,7 +106,8 @@ impl Deframer {
         }
     }
 
-    /// Whether it is as a new one: it holds nothing, and looks at no check words. It takes no memory.
+    /// Returns whether the deframer is like a new one: it holds nothing and verifies no check
+    /// words. Allocates nothing.
     pub fn is_fresh(&self) -> bool
         ensures { result ≡ true → self.now ≡ no_bytes }
     {
@@ -116,15 +117,16 @@ impl Deframer {
         }
     }
 
-    /// Whether the bytes that were fed have a fault.
+    /// Returns whether the bytes that were fed have a fault.
     pub fn is_broken(&self) -> bool
         ensures { result ≡ is_some self.now.fault }
     {
         self.framer.fault().is_some()
     }
 
-    /// Another that holds what this one does, but for its packets, and a further piece; this one
-    /// stays as it is. No payload is copied twice.
+    /// Returns another deframer that holds the same bytes, but none of the packets, and takes a
+    /// further piece. This deframer stays as it is. No payload is copied twice. Fails if an
+    /// allocation fails.
     pub fn with_piece(&mut self, piece: &[u8]) -> Result<Deframer, AllocError>
         requires { self.old.fault ≡ None }
         ensures stays { self.new ≡ self.old }

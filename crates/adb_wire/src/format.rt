@@ -1,4 +1,4 @@
-//! How a stream of packets is cut.
+//! The framing of a stream of packets.
 
 ghost use Rattle.std.specs.Prelude.{◌≡◌, ◌+◌, Ok, length};
 ghost use Rattle.adb_outside.specs.declared.framer.Front.{Front};
@@ -14,24 +14,24 @@ use adb_outside::{Format, Front};
 use bytes::Bytes;
 use std::alloc::{AllocError, Global};
 
-/// Why a stream is no stream of packets from some place on (protocol.txt, "MESSAGES").
+/// The reason why a stream is no stream of packets from some place on (protocol.txt, "MESSAGES").
 #[derive(Clone, Copy, Debug, PartialEq, Eq, Drop)]
 pub enum PacketFault {
-    /// The header there.
+    /// The fault of the header there.
     Broken(HeadFault),
     /// The check word that the packet there carries, and the sum of its payload.
     BadSum { said: u32, is: u32 },
 }
 
-/// How the packets at a place of a stream are read: whether their check words are looked at, as
-/// they are while the last CNXN had a version below 0x01000001.
+/// The reading of packets at a place of a stream: whether their check words are verified. They are
+/// while the last CNXN had a version below 0x01000001.
 #[derive(Clone, Copy, Debug, PartialEq, Eq, Drop)]
 pub struct PacketFormat {
     pub sums: bool,
 }
 
 impl PacketFormat {
-    /// What is wrong with the check word, if it may not stand there. A CNXN may carry 0 too.
+    /// Returns the fault of the check word, if it is wrong there. A CNXN may also carry 0.
     fn sum_fault(&self, head: &Head, payload: &[u8]) -> Option<PacketFault>
         ensures { result ≡ sum_fault self.now head.now payload.now }
     {
@@ -53,7 +53,7 @@ impl PacketFormat {
         }
     }
 
-    /// The header of a whole packet.
+    /// Returns the header of a whole packet.
     fn head_of(&self, frame: &[u8]) -> Head
         requires { front_of self.now frame.now ≡ Front.Whole (length frame.now) }
         ensures { head_at frame.now ≡ Ok result }

@@ -6,29 +6,29 @@ ghost use Rattle.adb_wire.specs.Header.{IsHead, byte_sum_of, header_bytes, head_
 use crate::command::Command;
 use byteorder::{ByteOrder, LittleEndian};
 
-/// How many bytes a header has: six words of four bytes.
+/// The number of bytes of a header: six words of four bytes.
 pub const HEADER_LEN: usize = 24;
 
-/// The most bytes that a payload has.
+/// The maximum number of bytes of a payload.
 pub const MAX_PAYLOAD: u32 = 1_048_576;
 
-/// The words of a header (protocol.txt, "MESSAGES"), but for its magic, which is the command's word
-/// with all bits turned.
+/// The words of a header (protocol.txt, "MESSAGES"), without its magic, which is the complement of
+/// the command's word.
 #[derive(Clone, Copy, Debug, PartialEq, Eq, Drop)]
 pub struct Head {
     pub command: Command,
     pub arg0: u32,
     pub arg1: u32,
-    /// How many bytes of payload follow.
+    /// The number of bytes of payload that follow.
     pub length: u32,
-    /// The check word: the sum of the payload's bytes, or 0 on links that do without.
+    /// The check word: the sum of the payload's bytes, or 0 on links that do not use it.
     pub check: u32,
 }
 
-/// What is wrong with a header. They are looked for in this order.
+/// The fault of a header. Faults are checked in this order.
 #[derive(Clone, Copy, Debug, PartialEq, Eq, Drop)]
 pub enum HeadFault {
-    /// The magic is not the command's word with all bits turned.
+    /// The magic is not the complement of the command's word.
     BadMagic { command: u32, magic: u32 },
     /// The command's word is none of the seven.
     UnknownCommand(u32),
@@ -36,7 +36,7 @@ pub enum HeadFault {
     TooLong(u32),
 }
 
-/// The sum of the bytes, modulo 2^32. It takes no memory.
+/// Returns the sum of the bytes, modulo 2^32. Allocates nothing.
 pub fn byte_sum(payload: &[u8]) -> u32
     ensures { result ≡ byte_sum_of payload.now }
 {
@@ -47,7 +47,7 @@ pub fn byte_sum(payload: &[u8]) -> u32
     sum
 }
 
-/// Writes a header: its five words and the magic, in little-endian order. It takes no memory.
+/// Writes a header: its five words and the magic, in little-endian order. Allocates nothing.
 pub fn header(head: &Head, out: &mut [u8; HEADER_LEN])
     ensures { out.new ≡ header_bytes head.now }
 {
@@ -63,8 +63,8 @@ pub fn header(head: &Head, out: &mut [u8; HEADER_LEN])
     LittleEndian::write_u32_into(&words, out);
 }
 
-/// Reads a header. The fault is the first in the order of `HeadFault`; `TooLong` comes exactly
-/// where the length is above `MAX_PAYLOAD`. It takes no memory.
+/// Parses a header. Returns the first fault in the order of `HeadFault`; `TooLong` is returned
+/// exactly if the length is above `MAX_PAYLOAD`. Allocates nothing.
 pub fn read_header(bytes: &[u8; HEADER_LEN]) -> Result<Head, HeadFault>
     ensures exact { result ≡ head_at bytes.now }
     ensures spelled { IfOk result (λ head. bytes.now ≡ header_bytes head) }
@@ -74,7 +74,7 @@ pub fn read_header(bytes: &[u8; HEADER_LEN]) -> Result<Head, HeadFault>
     read_head(bytes)
 }
 
-/// The header that the first 24 bytes are.
+/// Parses the header in the first 24 bytes.
 pub(crate) fn read_head(bytes: &[u8]) -> Result<Head, HeadFault>
     requires { HEADER_LEN ≤ length bytes.now }
     ensures { result ≡ head_at bytes.now }
@@ -99,7 +99,7 @@ pub(crate) fn read_head(bytes: &[u8]) -> Result<Head, HeadFault>
     })
 }
 
-/// The word at a place of a header, of the six counted from 0.
+/// Returns the word at a place of a header, of the six counted from 0.
 #[tactic(auto, unfolding(crate::specs::Header::word_at))]
 fn word(bytes: &[u8], place: usize) -> u32
     requires { 4 * place + 4 ≤ length bytes.now }

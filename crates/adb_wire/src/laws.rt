@@ -1,5 +1,5 @@
-//! What holds of packets and their cutting, over all streams. Each function does nothing: its
-//! contract is the law.
+//! Laws of packets and their cutting, over all streams. Each function does nothing: its contract is
+//! the law.
 
 ghost use Rattle.std.specs.Prelude.{◌≡◌, ◌^◌, ◌<◌, ◌≤◌, ◌++◌, List, ℕ, Ok, IsTrue, drop, length};
 ghost use Rattle.adb_wire.specs.declared.headers.Head.{Head};
@@ -12,61 +12,62 @@ ghost use Rattle.adb_wire.specs.Cutting.{Begins, Parts, Cuts, Adds, Continues, M
 ghost use Rattle.adb_wire.specs.Cutting.{parts_of, goes_with_sum, wants_sums};
 ghost use Rattle.adb_wire.specs.Slicing.{HasSliced, Follow, whole_of, open_of};
 
-/// A header that was written is read, whatever follows it.
+/// States that a header that was written is read, whatever follows it.
 pub fn headers_are_read()
     ensures { (head : Head) (more : List ℕ) → IsHead head
         → head_at (header_bytes head ++ more) ≡ Ok head }
 {}
 
-/// A header that is read is written so.
+/// States that a header that is read is written to the same bytes.
 pub fn headers_are_written()
     ensures { (bytes : List ℕ) (head : Head) → IsBytes bytes → HEADER_LEN ≤ length bytes
         → head_at bytes ≡ Ok head
         → IsHead head × (bytes ≡ header_bytes head ++ drop HEADER_LEN bytes) }
 {}
 
-/// Every stream of bytes is cut, and the framing computes how.
+/// States that every stream of bytes is cut, and that the framing computes how.
 pub fn every_stream_is_cut()
     ensures { (bytes : List ℕ) → IsBytes bytes → Cuts bytes (parts_of bytes) }
 {}
 
-/// A stream is cut in one way.
+/// States that a stream is cut in one way only.
 pub fn cutting_is_determined()
     ensures { (bytes : List ℕ) (parts others : Parts) → Cuts bytes parts → Cuts bytes others
         → parts ≡ others }
 {}
 
-/// What is left over begins with no good packet that is whole.
+/// States that the remainder begins with no valid packet that is whole.
 pub fn no_packet_is_left()
     ensures { (bytes : List ℕ) (parts : Parts) → Cuts bytes parts
         → (p : Packet) (more : List ℕ) → Begins parts.packets p parts.rest more → ⊥ }
 {}
 
-/// The packets of a front of a stream come first in the whole stream, and a fault there stays.
+/// States that the packets of a prefix of a stream come first in the whole stream, and that a fault
+/// in the prefix persists.
 pub fn fronts_are_cut_alike()
     ensures { (front more : List ℕ) (parts all : Parts) → Cuts front parts
         → Cuts (front ++ more) all → Continues parts all }
 {}
 
-/// A packet that is spelled behind whole packets, with a check word that may stand there, is cut to
+/// States that a packet that is encoded after whole packets, with a valid check word, is cut to
 /// that packet, whatever follows.
 pub fn spelled_packets_are_cut()
     ensures { (front : List ℕ) (p : Packet) (check : ℕ) → IsPacket p → check < 2 ^ 32
         → Adds front (front ++ spelling p check) p check }
 {}
 
-/// A slicer that was fed any pieces gave the packets of the stream first, in their bytes: these and
-/// nothing else where the stream has no fault, and next the header that has one, or the packet with
-/// a wrong check word. Also behind these its slices follow one another, and none that is whole is
-/// left.
+/// States that a slicer that was fed any pieces returns the packets of the stream first, in their
+/// bytes: these and nothing else if the stream has no fault, and otherwise next the faulty header,
+/// or the packet with a wrong check word. After these too its slices are consecutive, and none that
+/// is whole is left.
 pub fn slices_are_packets()
     ensures { (fed : List ℕ) (gave : List (List ℕ)) (held : List ℕ) (parts : Parts)
         → HasSliced fed gave held → Cuts fed parts
         → Follow (gave ++ whole_of held) (open_of held) parts }
 {}
 
-/// The check word that a link's version fixes for what goes out may stand there, if sums are looked
-/// at only where that version is one that does so.
+/// States that the check word that a link's version requires for outgoing packets is valid, if sums
+/// are verified only while that version is one that verifies them.
 pub fn outgoing_check_words_may_stand()
     ensures { (before : List Packet) (p : Packet) (version : ℕ) → 0x01000000 ≤ version
         → (IsTrue (wants_sums before) → version < VERSION)

@@ -1,5 +1,8 @@
-//! The packets of the Android Debug Bridge (protocol.txt): their spelling, and the cutting of a
-//! stream that comes in any pieces.
+//! The packets of the Android Debug Bridge (protocol.txt).
+//!
+//! `frame` encodes a packet. A `Deframer` is fed a stream in any pieces and returns its packets. A
+//! `Slicer` cuts a stream into the bytes of its packets without decoding them, and allocates only
+//! when it is made.
 #![tactic(auto)]
 
 mod command;

@@ -5,16 +5,16 @@ ghost use Rattle.adb_wire.specs.declared.headers.TheConstants.{HEADER_LEN, MAX_P
 ghost use Rattle.adb_wire.specs.declared.limits.TheConstants.{MIN_VERSION, VERSION, MIN_MAXDATA};
 ghost use Rattle.adb_wire.specs.declared.slicer.TheConstants.{MAX_PACKET};
 
-/// The oldest version that is spoken, in which every packet goes out with its sum.
+/// The oldest supported version, in which every packet goes out with its sum.
 pub const MIN_VERSION: u32 = 0x0100_0000;
 
-/// The newest version that is spoken, and the first in which check words are not looked at.
+/// The newest supported version, and the first in which check words are not verified.
 pub const VERSION: u32 = 0x0100_0001;
 
-/// The least number of bytes that an end has to take in a payload.
+/// The least number of bytes that each end has to accept in a payload.
 pub const MIN_MAXDATA: u32 = 4_096;
 
-/// The numbers that definitions take from the code, written out.
+/// States the numbers that definitions take from the code.
 pub fn limits_are()
     ensures header { HEADER_LEN ≡ 24 }
     ensures payload { MAX_PAYLOAD ≡ 1048576 }

@@ -1,4 +1,4 @@
-//! A packet, and its spelling.
+//! A packet, and its encoding.
 
 ghost use Rattle.std.specs.Prelude.{◌≡◌, ◌≤◌, ◌++◌, ℕ, List, length, if◌then◌else◌, OnOk, OnErr};
 ghost use Rattle.adb_wire.specs.Header.{IsBytes, IsHead, byte_sum_of};
@@ -12,7 +12,7 @@ use bytes::Bytes;
 use std::alloc::{AllocError, Global};
 use std::mem;
 
-/// A packet (protocol.txt, "MESSAGES"). What its arguments mean, its command says.
+/// A packet (protocol.txt, "MESSAGES"). Its command defines the meaning of its arguments.
 #[derive(Drop)]
 pub struct Packet {
     pub command: Command,
@@ -21,9 +21,9 @@ pub struct Packet {
     pub payload: Bytes,
 }
 
-/// Adds a packet at the end of `out`. Its check word is the sum of the payload's bytes where
-/// `sums`, and else 0: a CNXN goes out with its sum, and another packet does on a link of version
-/// 0x01000000. After want of memory `out` is as before.
+/// Appends a packet to `out`. Its check word is the sum of the payload's bytes if `sums` is set,
+/// and 0 otherwise: a CNXN goes out with its sum, and so does every packet on a link of version
+/// 0x01000000. If an allocation fails, `out` is unchanged.
 pub fn frame(alloc: Global, packet: &Packet, sums: bool, out: &mut Text) -> Result<(), AllocError>
     requires { length packet.now.payload ≤ MAX_PAYLOAD }
     ensures ok { OnOk result
@@ -41,7 +41,7 @@ pub fn frame(alloc: Global, packet: &Packet, sums: bool, out: &mut Text) -> Resu
     framed
 }
 
-/// Adds the packet's bytes, or after want of memory some of them.
+/// Appends the packet's bytes. If an allocation fails, some of them may have been appended.
 fn push_packet(packet: &Packet, sums: bool, bytes: &mut Vec<u8>) -> Result<(), AllocError>
     requires { length packet.now.payload ≤ MAX_PAYLOAD }
     ensures ok { OnOk result
@@ -57,7 +57,7 @@ fn push_packet(packet: &Packet, sums: bool, bytes: &mut Vec<u8>) -> Result<(), A
     bytes.extend_from_slice(payload)
 }
 
-/// The header of a packet with these arguments and this payload.
+/// Returns the header of a packet with these arguments and this payload.
 fn head_with(command: Command, arg0: u32, arg1: u32, payload: &[u8], sums: bool) -> Head
     requires { length payload.now ≤ MAX_PAYLOAD }
     ensures head { result ≡ record {

@@ -1,4 +1,4 @@
-//! The packets of a stream, whole but not looked into, in memory that is taken once.
+//! A slicer of streams into whole packets, which are not decoded, in memory that is allocated once.
 
 ghost use Rattle.std.specs.Prelude.{◌≡◌, ◌≤◌, ◌++◌, ◌∷◌, [], ℕ, List, min, take, length, IfOk, IfSome, IsSome, ◌↔◌};
 ghost use Rattle.adb_wire.specs.Slicing.{slice_len, need_of, IsSlice, HasSliced};
@@ -8,11 +8,11 @@ use adb_outside::ByteQueue;
 use std::alloc::{AllocError, Global};
 use std::marker::Model;
 
-/// The most bytes that a packet has: its header and the longest payload.
+/// The maximum number of bytes of a packet: its header and the longest payload.
 pub const MAX_PACKET: usize = HEADER_LEN + MAX_PAYLOAD as usize;
 
-/// How long the slice is that the bytes begin: a header's length as long as that is not whole or
-/// has a fault, and else that of its packet.
+/// Returns the length of the slice that the bytes begin: a header's length while the header is not
+/// whole or if it has a fault, and that of the header's packet otherwise.
 #[tactic(auto, unfolding(crate::specs::Slicing::slice_len))]
 fn slice_len(bytes: &[u8]) -> usize
     ensures { result ≡ slice_len bytes.now }
@@ -26,18 +26,18 @@ fn slice_len(bytes: &[u8]) -> usize
     }
 }
 
-/// How many bytes are missing to that slice.
+/// Returns how many bytes are missing to that slice.
 pub(crate) fn need(bytes: &[u8]) -> usize
     ensures { result ≡ need_of bytes.now }
 {
     slice_len(bytes).saturating_sub(bytes.len())
 }
 
-/// Cuts a stream into slices: each is a packet whose header has no fault, or a header that has one
-/// (protocol.txt, "MESSAGES"). Check words are not looked at. It holds one slice, or a front of it,
-/// and takes memory only when it is made. Contracts see it as the bytes that it holds.
+/// A slicer of a stream: each slice is a packet whose header has no fault, or a header that has one
+/// (protocol.txt, "MESSAGES"). Check words are not verified. The slicer holds one slice, or a
+/// prefix of one, and allocates only when it is made. Contracts see it as the bytes that it holds.
 ///
-/// What comes behind a header with a fault means nothing: the stream has no packets from there on.
+/// The bytes after a faulty header have no meaning: the stream has no packets from there on.
 #[derive(Drop)]
 pub struct Slicer {
     held: ByteQueue,
@@ -57,7 +57,8 @@ impl Model for Slicer {
 }
 
 impl Slicer {
-    /// Nothing was fed yet. It takes the memory of the longest packet.
+    /// Returns a slicer to which nothing was fed. Fails if the allocation of memory for the longest
+    /// packet fails.
     pub fn new(alloc: Global) -> Result<Slicer, AllocError>
         ensures value { IfOk result (λ slicer. slicer ≡ []) }
         ensures stands { IfOk result (λ slicer. HasSliced [] [] slicer) }
@@ -67,9 +68,9 @@ impl Slicer {
         Ok(Slicer { held })
     }
 
-    /// Takes bytes off the front of a piece, as many as are missing to 24 bytes, and then to the
-    /// packet that the header tells, and says how many: all of a shorter piece, and none exactly
-    /// where a slice is whole or the piece has no bytes. It takes no memory.
+    /// Takes bytes from the start of a piece: as many as are missing to 24 bytes, and then to the
+    /// packet that the header describes. Returns how many it took: all of a shorter piece, and 0
+    /// exactly if a slice is whole or the piece is empty. Allocates nothing.
     pub fn take(&mut self, piece: &[u8]) -> usize
         ensures taken { result ≡ min (length piece.now) (need_of self.old) }
         ensures held { self.new ≡ self.old ++ take result piece.now }
@@ -81,7 +82,8 @@ impl Slicer {
         n
     }
 
-    /// The slice that is held; `None` exactly where bytes are missing to it. It takes no memory.
+    /// Returns the slice that is held; `None` exactly if bytes are missing to it. Allocates
+    /// nothing.
     pub fn whole(&self) -> Option<&[u8]>
         ensures whole { IsSome result ↔ (need_of self.now ≡ 0) }
         ensures bytes { IfSome result (λ bytes. bytes.now ≡ self.now) }
@@ -91,14 +93,14 @@ impl Slicer {
         if need(bytes) == 0 { Some(bytes) } else { None }
     }
 
-    /// The bytes that are held: a slice, or a front of it. It takes no memory.
+    /// Returns the held bytes: a slice, or a prefix of one. Allocates nothing.
     pub fn held(&self) -> &[u8]
         ensures { result.now ≡ self.now }
     {
         self.held.as_slice()
     }
 
-    /// All that is held goes; where it was whole, it was the next slice. It takes no memory.
+    /// Removes the held bytes; if they were a whole slice, the next one follows. Allocates nothing.
     pub fn clear(&mut self)
         ensures value { self.new ≡ [] }
         ensures stands { (fed : List ℕ) (gave : List (List ℕ)) → need_of self.old ≡ 0
