@@ -1,4 +1,8 @@
 use Rattle.std.proofs.Common.{ℕ, ◌≡◌, rules, subst}
+use denote.Exit.{no}
+use denote.Param.Send.{arg_send, param_send}
+use Rattle.std.specs.contracts.marker.Brand as brand
+use Rattle.adb_record.proofs.Sent.{live_send}
 use Rattle.adb_asking.specs.Telling.{seen}
 use Rattle.adb_top.specs.Tools.{RunsTool}
 use Rattle.adb_serving.specs.Live.{live_yard}
@@ -21,3 +25,7 @@ returns-clause-tool g c =
     (λ (count : ℕ). RunsTool c.args.words.now (seen g.S.Source.steady g.S.Source.faults g.S.Source.left)
     (seen g.K.Sink.steady g.K.Sink.faults g.K.Sink.written) (seen g.N.Sink.steady g.N.Sink.faults g.N.Sink.written) live_yard c.args.source.now
     c.run-ran.new.source c.args.sink.now c.run-ran.new.sink c.args.note.now c.run-ran.new.note count c.run-ran.result.status) none live
+
+pub run-ran-requires-send-Y-Keeper : goal.run-ran-requires-send-Y-Keeper
+run-ran-requires-send-Y-Keeper g c κs within =
+    param_send _ _ (arg_send _ no _ (live_send _ brand.the_row _ _ c.type_bounds.send-W))

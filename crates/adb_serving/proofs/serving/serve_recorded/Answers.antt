@@ -1,4 +1,8 @@
 use Rattle.std.proofs.Common.{◌≡◌, true, false, sym, ap, subst, ◌∙◌}
+use denote.Exit.{no}
+use denote.Param.{param}
+use denote.Param.Send.{arg_send, param_send}
+use Rattle.adb_record.proofs.Sent.{live_send}
 use Rattle.adb_record.specs.Live.{IsUnused}
 use Rattle.adb_record.specs.Written.{PipeSinkView}
 use Rattle.adb_asking.specs.Telling.{seen}
@@ -25,3 +29,7 @@ pub returns-clause-record : goal.returns-clause-record
 returns-clause-record g c =
     let asked = asked_of (serve_of (texts c.args.words.now)) c.requires.asked in
     c.settle_record.ensures.record (c.run-status.ensures.kept asked.0 asked.1)
+
+pub run-status-requires-send-Y-Keeper : goal.run-status-requires-send-Y-Keeper
+run-status-requires-send-Y-Keeper g c κs within =
+    param_send _ _ (arg_send _ no _ (live_send _ (param 1 g.row.B) _ _ c.type_bounds.send-W))
