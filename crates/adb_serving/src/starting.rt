@@ -27,9 +27,10 @@ use std::sync::Wait;
 use std::thread::Threads;
 
 /// Runs the words of the command line: a server over this machine, whose history goes to a sink of
-/// its own, a client tool, or a command that neither serves nor dials. If memory ran out for the
-/// words, nothing is read, nothing goes out, and the note has the line of that. If one of them is
-/// not text, they are no command.
+/// its own, a client tool, or a command that neither serves nor dials.
+///
+/// If the words could not be read, nothing is read and only the note is written: the line of
+/// OutOfMemory if an allocation failed, otherwise the usage line.
 pub fn start<
     W: Net<Listener = TcpListener, Stream = TcpStream>
         + Threads
@@ -60,8 +61,8 @@ pub fn start<
         (record { told = N.written; faults = N.faults; steady = N.steady })
         source.old source.new sink.old sink.new note.old note.new) }
 
-    // or a client tool, whose yard tells nothing but how many of its calls failed: the sink and the
-    // note have what some answer of a server to the tool's job means,
+    // or a client tool, whose yard shows only how many of its calls failed: the sink and the note
+    // have the meaning of some answer of a server to the tool's job,
     ensures tools { IfOk words (λ list. is_serve (texts list.items) ≡ false
         → names_tool (texts list.items) ≡ true → RunsTool list.items
         (seen S.steady S.faults S.left) (seen K.steady K.faults K.written)
@@ -85,8 +86,8 @@ pub fn start<
     ensures command { IfOk words (λ list. is_serve (texts list.items) ≡ true
         → result.status ≡ Status.Usage → serve_of (texts list.items) ≡ None) }
 
-    // Where they are not there, nothing is read and nothing goes out, and the note says why: an
-    // allocation failure, or that they are no command. WriteFault comes only where its count rose.
+    // If there are no words, nothing is read, and the note alone is written and says why: an
+    // allocation failure, or that they are no command. WriteFault comes only if its count rose.
     ensures untouched { IfErr words (λ _. (source.new ≡ source.old) × (sink.new ≡ sink.old)) }
     ensures memory { IfErr words (λ error. error_kind error ≡ ErrorKind.OutOfMemory
         → (result.status ≡ Status.OutOfMemory) ⊎ (result.status ≡ Status.WriteFault)) }
