@@ -1,7 +1,0 @@
-use Rattle.adb_server.proofs.house.take_all.Given as goal
-
-abbrev pub invariant-loop : goal.invariant-loop
-invariant-loop g l =
-    (goal.iterator-loop g).can_next l.iterator' × (goal.iterator-loop g).is_finite l.iterator'
-    × (g.D.Door.steady l.fn.door → g.D.Door.steady l.door)
-    × (g.D.Door.lasting l.fn.door → g.D.Door.lasting l.door)
