@@ -123,7 +123,8 @@ told_ahead f (Some x) y e = (x, refl, e)
 
 -- what is ahead, and what is given of it, by whether the magic is there
 module _ (all : List ℕ) (now : Reading) (left : Option (List ℕ)) (given : History) (new : Reading) (after : Option (List ℕ)) where
-  pub came_next : (offset : ℕ) (e : Entry) → AnswersNext now left new after (Ok (Some (offset, e))) → Came all now left given → Came all new after (e ∷ given)
+  pub came_next : (offset : ℕ) (e : Entry) → AnswersNext now left new after (Ok (Some (offset, e))) → Came all now left given
+      → Came all new after (e ∷ given)
   came_next offset e answers c = go (ahead_of now left) refl
     where
       go : (o : Option (List ℕ)) → ahead_of now left ≡ o → Came all new after (e ∷ given)

@@ -116,8 +116,8 @@ impl Hub {
         Ok(self.link_life(link))
     }
 
-    /// Returns the serial of the device of a link, and no bytes if no device is plugged in there. It
-    /// takes no memory.
+    /// Returns the serial of the device of a link, and no bytes if no device is plugged in there.
+    /// It takes no memory.
     pub fn serial(&self, link: u32) -> &[u8]
         ensures { result.now ≡ serial_of link self.now.devices }
     {
