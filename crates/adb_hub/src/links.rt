@@ -116,17 +116,6 @@ impl Hub {
         Ok(self.link_life(link))
     }
 
-    /// Returns the serial of the device of a link, and no bytes if no device is plugged in there.
-    /// It takes no memory.
-    pub fn serial(&self, link: u32) -> &[u8]
-        ensures { result.now ≡ serial_of link self.now.devices }
-    {
-        match self.tables.devices.row(link) {
-            Some(row) => row.serial.as_slice(),
-            None => &[],
-        }
-    }
-
     /// Whether something may come on a link.
     fn look_for_link(&self, link: u32) -> Result<(), HubError>
         ensures { result ≡ err_if (unless_stopped self.now.stopped
@@ -156,5 +145,16 @@ impl Hub {
             → result ≡ life_of ((state h).links link) }
     {
         life_if(self.tables.links.contains_key(&link))
+    }
+
+    /// Returns the serial of the device of a link, and no bytes if no device is plugged in there.
+    /// Allocates nothing.
+    pub fn serial(&self, link: u32) -> &[u8]
+        ensures { result.now ≡ serial_of link self.now.devices }
+    {
+        match self.tables.devices.row(link) {
+            Some(row) => row.serial.as_slice(),
+            None => &[],
+        }
     }
 }
