@@ -41,8 +41,8 @@ pub fn copy_tree(
         → result ≢ Err ScriptError.OutOfMemory → result ≡ Err (ScriptError.BadLine line) }
     ensures before { (line : ℕ) → result ≡ Err (ScriptError.BadLine line)
         → world.new ≡ world.old }
-    ensures in_part { result ≡ Err ScriptError.OutOfMemory → (tree : List Entry)
-        → tree_of script.now ≡ Some tree → FilesPushed tree [] world.new.files }
+    ensures in_part { (tree : List Entry) → tree_of script.now ≡ Some tree
+        → FilesPushed tree [] world.new.files }
 {
     let tree = read_tree(alloc, script)?;
     match copy_files(alloc, world, tree, seed) {

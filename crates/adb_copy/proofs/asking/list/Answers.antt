@@ -20,5 +20,5 @@ returns-clause-entries c =
     let read = listing_read files path c.requires.short (listing_words files c.requires.map c.requires.files path) in
     c.into_vec.ensures ∙ done_is (sym c.value_of-entries.ensures ∙ (c.in_ok-step.ensures.step ∙ read))
 
-pub ask-step-requires-clause-in_part : goal.ask-step-requires-clause-in_part
-ask-step-requires-clause-in_part c = list_in_part c.args.world.now.files c.args.directory.now c.requires.short
+pub ask-requires-clause-in_part : goal.ask-requires-clause-in_part
+ask-requires-clause-in_part c = list_in_part c.args.world.now.files c.args.directory.now c.requires.short

@@ -27,7 +27,7 @@ returns-clause-file c is =
     let bytes = done_is (sym c.value_of-bytes.ensures ∙ (c.in_ok-step.ensures.step ∙ (path ∙ read))) in
     λ i. record { mode = is.mode i; mtime = is.mtime i; bytes = bytes i }
 
-pub ask-step-requires-clause-in_part : goal.ask-step-requires-clause-in_part
-ask-step-requires-clause-in_part c k =
+pub ask-requires-clause-in_part : goal.ask-requires-clause-in_part
+ask-requires-clause-in_part c k =
     subst (λ (p : List ℕ). (serve_all c.args.world.now.files (take k (requests_in (pull_text p)))).files ≡ c.args.world.now.files) (sym c.as_slice.ensures)
     (recv_in_part c.args.world.now.files c.args.found.now.path c.requires.short k)
