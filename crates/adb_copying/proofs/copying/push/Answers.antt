@@ -22,6 +22,6 @@ pub returns-in-Ok-clause-in_part : goal.returns-in-Ok-clause-in_part
 returns-in-Ok-clause-in_part c =
     pushed_onto c.args.tree c.args.world.now.files c.push_tree.new.world.files c.requires.empty c.push_tree.ensures.in_part
 
-pub returns-in-Err-clause-in_part : goal.returns-in-Err-clause-in_part
-returns-in-Err-clause-in_part c =
+pub returns-clause-in_part : goal.returns-clause-in_part
+returns-clause-in_part c =
     pushed_onto c.args.tree c.args.world.now.files c.push_tree.new.world.files c.requires.empty c.push_tree.ensures.in_part
