@@ -23,9 +23,9 @@ use rand_core::SeedableRng;
 use rand_pcg::Pcg32;
 use std::alloc::{AllocError, Global};
 
-/// Returns the files of the world's device, asked for as a client does, each time by a session of its
-/// own: a LIST of the root and of each directory that a listing names, and a RECV of each file. They
-/// come back entry for entry, and stay as they are. All that was started has to have settled.
+/// Returns the files of the world's device, asked for as a client does, each time by a session of
+/// its own: a LIST of the root and of each directory that a listing names, and a RECV of each file.
+/// They come back entry for entry, and stay as they are. All that was started has to have settled.
 ///
 /// - `AllocError`: an allocation failed. The world is spent, or only some sessions were given. The
 ///   files stay.

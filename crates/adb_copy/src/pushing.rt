@@ -24,8 +24,8 @@ use std::alloc::Global;
 ///
 /// - `Refused`: the device refuses the next file; the files before it stay. A device without files
 ///   refuses none.
-/// - `OutOfMemory`: an allocation failed. The world is spent, or some sessions were given. The device
-///   has the first files of the tree, each of them whole, and all else as before.
+/// - `OutOfMemory`: an allocation failed. The world is spent, or some sessions were given. The
+///   device has the first files of the tree, each of them whole, and all else as before.
 pub fn push_tree<T: PushedTree>(
     alloc: Global,
     world: &mut World,

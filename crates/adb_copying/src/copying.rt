@@ -16,8 +16,8 @@ use adb_trees::{NamedTree, read_tree};
 use adb_world::World;
 use std::alloc::{AllocError, Global};
 
-/// Copies the tree that a script names to the device of a new world and back, and returns a line for
-/// each file that came, which the seed does not change.
+/// Copies the tree that a script names to the device of a new world and back, and returns a line
+/// for each file that came, which the seed does not change.
 ///
 /// - `BadLine`: a line is refused; it is the first one. The whole script is read before anything is
 ///   copied, so the world is as before.

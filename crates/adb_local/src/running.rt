@@ -13,14 +13,14 @@ use adb_world::World;
 use std::alloc::{AllocError, Global};
 
 /// Runs a script in a new world and returns its answer lines, which the seed does not change. The
-/// sessions of a line, one, or one for each stream of an echo, have ended and are dropped before the
-/// next line.
+/// sessions of a line, one, or one for each stream of an echo, have ended and are dropped before
+/// the next line.
 ///
-/// - `BadLine`: a line is refused; it is the first one. The whole script is read before any line runs,
-///   so the world is as before.
+/// - `BadLine`: a line is refused; it is the first one. The whole script is read before any line
+///   runs, so the world is as before.
 /// - `OutOfMemory`: an allocation failed. The world is spent, or some lines were run. The files are
-///   those after the first lines, and after a prefix of the whole requests, or the command, of the
-///   next one.
+///   those after the first lines and, of the next line, a prefix of its whole requests, or its
+///   command or nothing.
 pub fn run_script(
     alloc: Global,
     world: &mut World,

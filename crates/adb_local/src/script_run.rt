@@ -67,12 +67,12 @@ impl<'a> ScriptRun<'a> {
         })
     }
 
-    /// Runs the next line in a world and returns its answer line, or `None` after the last line. The
-    /// sessions of the line, one, or one for each stream of an echo, have ended and are dropped.
+    /// Runs the next line in a world and returns its answer line, or `None` after the last line.
+    /// The sessions of the line, one, or one for each stream of an echo, have ended and are dropped.
     ///
     /// - `AllocError`: an allocation failed. The line may have run in part; the world is spent, or
-    ///   may still hold its sessions. The files are those after a prefix of the line's whole requests,
-    ///   or before or after its command.
+    ///   may still hold its sessions. The files are those after a prefix of the line's whole
+    ///   requests, or before or after its command.
     pub fn next(&mut self, alloc: Global, world: &mut World) -> Result<Option<Text>, AllocError>
         requires idle { IsIdle world.old }
         requires room { world.old.given + sessions_in self.old.lines ≤ most_sessions }
