@@ -1,5 +1,5 @@
 -- Lines that ran in part.
-use Rattle.std.specs.Prelude.{ℕ, ◌+◌, ◌≡◌, ◌≢◌, ◌==◌, ◌⊎◌, cond, Bool, true, List, [], ◌∷◌, ◌++◌, drop, Some, None, codes}
+use Rattle.std.specs.Prelude.{ℕ, ◌≡◌, ◌≢◌, ◌⊎◌, cond, Bool, List, [], ◌∷◌, ◌++◌, Some, None, codes}
 use Rattle.std.specs.List.{AllByRecursion}
 use Rattle.std.proofs.Common.{refl, sym, ◌∙◌, ap, subst, inl, inr}
 use Rattle.std.proofs.lemmas.Bool.{cases_eq, eq-eqb}
@@ -18,7 +18,7 @@ use Rattle.adb_script.specs.Answers as script
 use Rattle.adb_script.specs.Answers.{exchange, line_answer}
 use Rattle.adb_script.specs.Lines as lines
 use Rattle.adb_script.specs.Lines.{Asked, Asks, Line, Lists, Pulls, Pushes, Runs, Stats}
-use Rattle.adb_world.specs.Session.{new_session, text_of}
+use Rattle.adb_world.specs.Session.{new_session}
 use Rattle.adb_world.specs.Stopped.{IsServedInPart}
 use Rattle.adb_world.specs.Together.{AreAskedInPart, IsUnwritten}
 use Rattle.adb_world.specs.declared.session.Session.{Session}
