@@ -15,7 +15,7 @@ use Rattle.adb_laws_alone.proofs.Through.{calls_of, calls_own, served_first}
 use Rattle.adb_laws_sessions.specs.Words.{requests_for}
 use Rattle.adb_shell_service.specs.Commands.{files_left, words_of}
 use Rattle.adb_script.specs.Answers as script
-use Rattle.adb_script.specs.Answers.{exchange, line_answer}
+use Rattle.adb_script.specs.Answers.{exchange}
 use Rattle.adb_script.specs.Lines as lines
 use Rattle.adb_script.specs.Lines.{Asked, Asks, Line, Lists, Pulls, Pushes, Runs, Stats}
 use Rattle.adb_world.specs.Session.{new_session}
