@@ -3,6 +3,7 @@
 #![tactic(auto)]
 
 mod binder;
+mod calm;
 mod case;
 mod connections;
 mod halting;

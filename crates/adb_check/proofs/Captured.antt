@@ -74,7 +74,7 @@ pub history_given : (given : History) (refused : Option Refusal) → history_of 
 history_given given refused = ap (λ (g : List Entry). reverse g) (append-nil (reverse given)) ∙ reverse-reverse given
 
 -- the same before others
-history_behind : (given : History) (f : Formed) → history_of (behind given f) ≡ reverse f.entries ++ given
+pub history_behind : (given : History) (f : Formed) → history_of (behind given f) ≡ reverse f.entries ++ given
 history_behind given f = reverse-append (reverse given) f.entries ∙ ap (λ (g : List Entry). reverse f.entries ++ g) (reverse-reverse given)
 
 -- ---- how far the capture was read
@@ -123,7 +123,8 @@ told_ahead f (Some x) y e = (x, refl, e)
 
 -- what is ahead, and what is given of it, by whether the magic is there
 module _ (all : List ℕ) (now : Reading) (left : Option (List ℕ)) (given : History) (new : Reading) (after : Option (List ℕ)) where
-  came_next : (offset : ℕ) (e : Entry) → AnswersNext now left new after (Ok (Some (offset, e))) → Came all now left given → Came all new after (e ∷ given)
+  pub came_next : (offset : ℕ) (e : Entry) → AnswersNext now left new after (Ok (Some (offset, e))) → Came all now left given
+      → Came all new after (e ∷ given)
   came_next offset e answers c = go (ahead_of now left) refl
     where
       go : (o : Option (List ℕ)) → ahead_of now left ≡ o → Came all new after (e ∷ given)

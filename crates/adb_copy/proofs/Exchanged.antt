@@ -58,4 +58,5 @@ module _ (old new : View) (entry : Entry) (copied : IsCopied entry) (time : entr
           record { sessions = 1; few = omega arith; syncs = exchanged.syncs },
         );
         stays = λ is. absurd (exchanged.unspent is);
+        files = subst (λ (files : List Entry). FilesPushed (entry ∷ []) old.files files) (sym exchanged.files) own.first;
       }

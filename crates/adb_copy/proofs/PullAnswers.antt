@@ -1,4 +1,6 @@
 -- What a device's sync service answers to a LIST and to a RECV, as the asking side reads it.
+use Rattle.std.proofs.Math.Seq.{take-nil}
+use Rattle.std.proofs.Common.{zero, suc}
 use Rattle.std.proofs.Common.{ℕ, ◌+◌, ◌^◌, ◌≡◌, ◌<◌, ◌≤◌, Bool, true, false, List, [], ◌∷◌, ◌++◌, length, take, drop, Option, Some, None}
 use Rattle.std.proofs.Common.{sym, refl, ◌∙◌, ap, append_assoc, arith}
 use Rattle.std.specs.List.{AllByRecursion, flat_map}
@@ -27,7 +29,7 @@ use Rattle.adb_files.specs.Entries.{Entry}
 use Rattle.adb_files.specs.Files.{file_at, read_refusal}
 use Rattle.adb_files.specs.Listing.{listing}
 use Rattle.adb_files.specs.Requests.{Request, Lists, Receives, completed, requests_of, fault_request, requests_in}
-use Rattle.adb_files.specs.Served.{Served, answered, dent_bytes, list_bytes, recv_by, recv_bytes, serve_all, served, then_served}
+use Rattle.adb_files.specs.Served.{Served, answered, dent_bytes, list_bytes, recv_by, recv_bytes, serve_all, serve_one, served, then_served}
 use Rattle.adb_sync_client.specs.declared.request.TheConstants.{MAX_ASKED_PATH}
 use Rattle.adb_sync_client.specs.declared.expected.Expected.{Expected}
 use Rattle.adb_sync_client.specs.declared.kind.AnswerKind.TheVariants as kinds
@@ -56,6 +58,27 @@ pub list_served : (files : List Entry) (path : List ℕ) → length path ≤ MAX
 list_served files path short =
     ap (serve_all files) (one_request (asks.List path) (Lists path) (omega (arith, short)) tt refl refl)
     ∙ alone_answered files (list_bytes (listing path files))
+
+-- a prefix of one request that changes no file changes none
+one_in_part : (files : List Entry) (text answer : List ℕ) (request : Request) → requests_in text ≡ request ∷ []
+    → serve_one files request ≡ answered files answer → (k : ℕ) → (serve_all files (take k (requests_in text))).files ≡ files
+one_in_part files text answer request is serves zero = refl
+one_in_part files text answer request is serves (suc k) =
+    ap (λ (rs : List Request). (serve_all files (take (suc k) rs)).files) is
+    ∙ (ap (λ (rs : List Request). (serve_all files (request ∷ rs)).files) (take-nil k)
+    ∙ ap (λ (s : Served). (then_served s (λ left. answered left [])).files) serves)
+
+pub list_in_part : (files : List Entry) (path : List ℕ) → length path ≤ MAX_ASKED_PATH → (k : ℕ)
+    → (serve_all files (take k (requests_in (list_text path)))).files ≡ files
+list_in_part files path short =
+    one_in_part files (list_text path) (list_bytes (listing path files)) (Lists path)
+    (one_request (asks.List path) (Lists path) (omega (arith, short)) tt refl refl) refl
+
+pub recv_in_part : (files : List Entry) (path : List ℕ) → length path ≤ MAX_ASKED_PATH → (k : ℕ)
+    → (serve_all files (take k (requests_in (pull_text path)))).files ≡ files
+recv_in_part files path short =
+    one_in_part files (pull_text path) (recv_bytes files path) (Receives path)
+    (one_request (asks.Recv path) (Receives path) (omega (arith, short)) tt refl refl) refl
 
 pub recv_served : (files : List Entry) (path : List ℕ) → length path ≤ MAX_ASKED_PATH → served files (pull_text path) ≡ answered files (recv_bytes files path)
 recv_served files path short =

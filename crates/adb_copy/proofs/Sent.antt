@@ -1,10 +1,14 @@
 -- What a device makes of the SEND of one file, and what its answer means.
-use Rattle.std.proofs.Common.{ℕ, ◌^◌, ◌≡◌, ◌<◌, List, [], ◌∷◌, length, Option, Some, None, refl, sym, ◌∙◌, ap, subst}
+use Rattle.std.proofs.Common.{ℕ, zero, suc, ◌^◌, ◌≡◌, ◌<◌, List, [], ◌∷◌, length, take, Option, Some, None, refl, sym, ◌∙◌, ap, subst}
+use Rattle.std.specs.Prelude.{decimal}
+use Rattle.std.proofs.Math.Seq.{take-nil}
 use Rattle.adb_files.specs.declared.file.FileError.{FileError}
 use Rattle.adb_files.specs.Entries.{Entry}
 use Rattle.adb_files.specs.Files.{put_refusal, refusal_text}
-use Rattle.adb_files.specs.Served.{Served, send_by, served}
-use Rattle.adb_script.proofs.Requests.{push_refused, push_served}
+use Rattle.adb_files.specs.Requests.{Request, Sends, requests_in}
+use Rattle.adb_files.specs.Served.{Served, send_by, serve_all, served}
+use Rattle.adb_script.proofs.Requests.{push_refused, push_requests, push_served}
+use Rattle.adb_world.specs.Stopped.{IsServedInPart}
 use Rattle.adb_sync_client.specs.declared.step.Step.TheVariants as steps
 use Rattle.adb_sync_client.specs.Texts.{push_text}
 use Rattle.adb_sync_client.specs.Values.{push_value}
@@ -45,3 +49,24 @@ module _ (files : List Entry) (entry : Entry) (copied : IsCopied entry) (time : 
 
   pub is_sent : IsSent sent
   is_sent = subst IsSent (sym sent_by) (is_by (put_refusal files entry.path (length entry.file.bytes)) refl)
+
+  -- a prefix of what is sent is nothing, or all of it
+  pub sent_in_part : (left : List Entry) → IsServedInPart files left (push_text entry.path entry.file.mode entry.file.mtime entry.file.bytes)
+      → FilesPushed (entry ∷ []) files left
+  sent_in_part left (k, is) = go k is
+    where
+      send : Request
+      send = Sends entry.path (decimal entry.file.mode) entry.file.bytes entry.file.mtime
+
+      requests : requests_in (push_text entry.path entry.file.mode entry.file.mtime entry.file.bytes)
+          ≡ Sends entry.path (decimal entry.file.mode) entry.file.bytes entry.file.mtime ∷ []
+      requests = push_requests entry.file.mode copied.1 copied.2 entry.path entry.file.bytes entry.file.mtime copied.0 time
+
+      go : (n : ℕ) → left ≡ (serve_all files (take n (requests_in (push_text entry.path entry.file.mode entry.file.mtime entry.file.bytes)))).files
+          → FilesPushed (entry ∷ []) files left
+      go zero same = record { done = []; left = entry ∷ []; split = refl; stored = ap all_pushed (sym same) }
+      go (suc n) same =
+          let all : take (suc n) (requests_in (push_text entry.path entry.file.mode entry.file.mtime entry.file.bytes))
+          ≡ requests_in (push_text entry.path entry.file.mode entry.file.mtime entry.file.bytes) =
+          ap (take (suc n)) requests ∙ (ap (λ (rs : List Request). send ∷ rs) (take-nil n) ∙ sym requests) in
+          subst (FilesPushed (entry ∷ []) files) (sym (same ∙ ap (λ (rs : List Request). (serve_all files rs).files) all)) is_sent.first

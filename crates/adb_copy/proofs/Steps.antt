@@ -94,17 +94,21 @@ module _ (done more : List Entry) (old mid new : View) (result : Result ⊤ Copy
     refused = λ path text is. pushed_behind done more old.files mid.files p.ok ∙ q.refused path text is;
     part = λ whole left. both (q.part (p.syncs.whole whole) left);
     stays = λ spent. stay done p.stays spent;
+    files = more_files q.files;
   }
     where
+      more_files : FilesPushed more mid.files new.files → FilesPushed (done ++ more) old.files new.files
+      more_files part = record {
+        done = done ++ part.done;
+        left = part.left;
+        split = append_assoc done part.done part.left ∙ ap (λ (files : List Entry). done ++ files) part.split;
+        stored = pushed_behind done part.done old.files mid.files p.ok ∙ part.stored;
+      }
+
       both : FilesPushed more mid.files new.files × SyncsAtMost (length more) mid new
           → FilesPushed (done ++ more) old.files new.files × SyncsAtMost (length (done ++ more)) old new
       both part = (
-        record {
-          done = done ++ part.0.done;
-          left = part.0.left;
-          split = append_assoc done part.0.done part.0.left ∙ ap (λ (files : List Entry). done ++ files) part.0.split;
-          stored = pushed_behind done part.0.done old.files mid.files p.ok ∙ part.0.stored;
-        },
+        more_files part.0,
         record {
           sessions = length done + part.1.sessions;
           few = (let size = length-append done more in let few = part.1.few in omega (arith, size, few));
@@ -128,8 +132,17 @@ module _ (done more : List Entry) (old new : View) (result : Result ⊤ CopyErro
     refused = λ path text is. refused_behind done more old.files new.files path text (p.refused path text is);
     part = λ whole left. both (p.part whole left);
     stays = λ spent. ((λ some. stopped), (p.stays spent).1);
+    files = all_files p.files;
   }
     where
+      all_files : FilesPushed done old.files new.files → FilesPushed (done ++ more) old.files new.files
+      all_files part = record {
+        done = part.done;
+        left = part.left ++ more;
+        split = sym (append_assoc part.done part.left more) ∙ ap (λ (files : List Entry). files ++ more) part.split;
+        stored = part.stored;
+      }
+
       never : (A : Type 0) (result : Result ⊤ CopyError) → IsErr result → OnOk result A
       never A (Ok done) is = let clash : false ≡ true = is in absurd (cc)
       never A (Err error) is = tt
@@ -137,12 +150,7 @@ module _ (done more : List Entry) (old new : View) (result : Result ⊤ CopyErro
       both : FilesPushed done old.files new.files × SyncsAtMost (length done) old new
           → FilesPushed (done ++ more) old.files new.files × SyncsAtMost (length (done ++ more)) old new
       both part = (
-        record {
-          done = part.0.done;
-          left = part.0.left ++ more;
-          split = sym (append_assoc part.0.done part.0.left more) ∙ ap (λ (files : List Entry). files ++ more) part.0.split;
-          stored = part.0.stored;
-        },
+        all_files part.0,
         record {
           sessions = part.1.sessions;
           few = (let size = length-append done more in let few = part.1.few in omega (arith, size, few));
@@ -158,6 +166,7 @@ pushes_none old rests = record {
   refused = λ path text is. absurd (cc);
   part = λ whole left. (record { done = []; left = []; split = refl; stored = refl }, record { sessions = 0; few = omega arith; syncs = syncs_none old rests });
   stays = λ spent. ((λ some. absurd (some refl)), refl);
+  files = record { done = []; left = []; split = refl; stored = refl };
 }
 
 -- memory ran out before a file was sent
@@ -169,16 +178,19 @@ pushes_nothing tree old rests = record {
   part = λ whole left.
       (record { done = []; left = tree; split = refl; stored = refl }, record { sessions = 0; few = omega arith; syncs = syncs_none old rests });
   stays = λ spent. ((λ some. refl), refl);
+  files = record { done = []; left = tree; split = refl; stored = refl };
 }
 
 -- memory ran out in the world
-pub pushes_spent : (tree : List Entry) (old new : View) → new.spent ≡ true → (old.spent ≡ true → new ≡ old) → Pushes tree (Err errors.OutOfMemory) old new
-pushes_spent tree old new spent stays = record {
+pub pushes_spent : (tree : List Entry) (old new : View) → new.spent ≡ true → (old.spent ≡ true → new ≡ old) → FilesPushed tree old.files new.files
+    → Pushes tree (Err errors.OutOfMemory) old new
+pushes_spent tree old new spent stays files = record {
   ok = tt;
   syncs = tt;
   refused = λ path text is. absurd (cc);
   part = λ whole left. let clash = sym spent ∙ left in absurd (cc);
   stays = λ is. ((λ some. refl), stays is);
+  files = files;
 }
 
 -- a refusal is told

@@ -21,3 +21,4 @@ pub record Pushes (tree : List Entry) (result : Result ⊤ CopyError) (old new :
   pub refused : (path text : List ℕ) → result ≡ Err (errors.Refused path text) → pushed old.files tree ≡ refused_at new.files path text
   pub part : old.spent ≡ false → new.spent ≡ false → FilesPushed tree old.files new.files × SyncsAtMost (length tree) old new
   pub stays : old.spent ≡ true → (tree ≢ [] → IsErr result) × (new ≡ old)
+  pub files : FilesPushed tree old.files new.files

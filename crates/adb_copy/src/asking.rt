@@ -1,9 +1,10 @@
 //! Asking the device of a world about a path.
 
-ghost use Rattle.std.specs.Prelude.{◌≡◌, ◌<◌, ◌≤◌, true, false, length, IfOk, IsErr, OnOk};
+ghost use Rattle.std.specs.Prelude.{◌≡◌, ◌<◌, ◌≤◌, true, false, ℕ, length, take, IfOk, IsErr, OnErr, OnOk};
 ghost use Rattle.adb_files.specs.Files.{IsFileMap};
 ghost use Rattle.adb_files.specs.Listing.{listing};
-ghost use Rattle.adb_files.specs.Served.{served};
+ghost use Rattle.adb_files.specs.Requests.{requests_in};
+ghost use Rattle.adb_files.specs.Served.{serve_all, served};
 ghost use Rattle.adb_copy.specs.Pulled.{Pulls, PullsAtMost};
 ghost use Rattle.adb_copy.specs.Trees.{AreCopied};
 ghost use Rattle.adb_copy.specs.Waiting.{IsDone, IsFile};
@@ -20,7 +21,9 @@ use adb_sync_client::{Entries, PathAsk, PathValue, Step, written_files_are_pulle
 use adb_world::World;
 use std::alloc::{AllocError, Global};
 
-/// The entries of a directory.
+/// Returns the entries of a directory.
+///
+/// - `AllocError`: an allocation failed. The files are as before.
 pub fn list(
     alloc: Global,
     world: &mut World,
@@ -36,6 +39,7 @@ pub fn list(
         entries.items ≡ listing directory.now world.old.files) }
     ensures pulls { OnOk result (Pulls 1 world.old world.new) }
     ensures left { world.new.spent ≡ false → PullsAtMost 1 world.old world.new }
+    ensures kept { OnErr result (world.new.files ≡ world.old.files) }
     ensures stays { world.old.spent ≡ true → IsErr result × (world.new ≡ world.old) }
 {
     let step = ask::<Entries>(alloc, world, seed, directory)?;
@@ -43,7 +47,9 @@ pub fn list(
     Ok(entries.into_vec())
 }
 
-/// A file that was found, with its bytes.
+/// Returns a file that was found, with its bytes.
+///
+/// - `AllocError`: an allocation failed. The files are as before.
 pub fn pull(alloc: Global, world: &mut World, seed: u64, found: &Found) -> Result<File, AllocError>
     requires settled { world.old.settled ≡ true }
     requires room { world.old.given < most_sessions }
@@ -53,6 +59,7 @@ pub fn pull(alloc: Global, world: &mut World, seed: u64, found: &Found) -> Resul
     ensures file { (is : IsFile world.old.files found.now) → IfOk result (λ file. file ≡ is.file) }
     ensures pulls { OnOk result (Pulls 1 world.old world.new) }
     ensures left { world.new.spent ≡ false → PullsAtMost 1 world.old world.new }
+    ensures kept { OnErr result (world.new.files ≡ world.old.files) }
     ensures stays { world.old.spent ≡ true → IsErr result × (world.new ≡ world.old) }
 {
     written_files_are_pulled();
@@ -89,10 +96,13 @@ fn ask<V: PathValue>(
     requires room { world.old.given < most_sessions }
     requires short { length path.now ≤ MAX_ASKED_PATH }
     requires leaves { (served world.old.files (V.text path.now)).files ≡ world.old.files }
+    requires in_part { (k : ℕ) → (serve_all world.old.files
+        (take k (requests_in (V.text path.now)))).files ≡ world.old.files }
     ensures step { IfOk result (λ step.
         step ≡ V.value (served world.old.files (V.text path.now)).answer) }
     ensures pulls { OnOk result (Pulls 1 world.old world.new) }
     ensures left { world.new.spent ≡ false → PullsAtMost 1 world.old world.new }
+    ensures kept { OnErr result (world.new.files ≡ world.old.files) }
     ensures stays { world.old.spent ≡ true → IsErr result × (world.new ≡ world.old) }
 {
     let mut ask = PathAsk::<V>::new(alloc, path)?;

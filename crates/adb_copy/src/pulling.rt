@@ -1,6 +1,6 @@
 //! Pulling the files of the device.
 
-ghost use Rattle.std.specs.Prelude.{◌≡◌, ◌+◌, ◌<◌, ◌≤◌, ◌++◌, ◌∷◌, [], true, false, List, length, map, None, IfOk, IsErr, OnOk};
+ghost use Rattle.std.specs.Prelude.{◌≡◌, ◌+◌, ◌<◌, ◌≤◌, ◌++◌, ◌∷◌, [], true, false, List, length, map, None, IfOk, IsErr, OnErr, OnOk};
 ghost use Rattle.adb_files.specs.Entries.{Entry};
 ghost use Rattle.adb_files.specs.Files.{IsFileMap, put_refusal, with_file};
 ghost use Rattle.adb_files.specs.Listing.{listing};
@@ -23,17 +23,19 @@ use rand_core::SeedableRng;
 use rand_pcg::Pcg32;
 use std::alloc::{AllocError, Global};
 
-/// The files of the world's device, asked for as a client does, each time by a session of its own:
-/// a LIST of the root and of each directory that a listing tells of, and a RECV of each file. They
-/// come back entry for entry, and stay as they are. All that was started has to have settled. After
-/// want of memory the world is spent, or only some sessions were given.
+/// Returns the files of the world's device, asked for as a client does, each time by a session of
+/// its own: a LIST of the root and of each directory that a listing names, and a RECV of each file.
+/// They come back entry for entry, and stay as they are. All that was started has to have settled.
+///
+/// - `AllocError`: an allocation failed. The world is spent, or only some sessions were given. The
+///   files stay.
 pub fn pull_tree(alloc: Global, world: &mut World, seed: u64) -> Result<Files, AllocError>
     requires settled { world.old.settled ≡ true }
     requires files { AreCopied world.old.files }
     requires room { world.old.given
         + (length world.old.files + length (directories world.old.files)) ≤ most_sessions }
     ensures tree { IfOk result (λ tree. tree ≡ world.old.files) }
-    ensures files { OnOk result (world.new.files ≡ world.old.files) }
+    ensures files { world.new.files ≡ world.old.files }
     ensures syncs { OnOk result (Syncs
         (length world.old.files + length (directories world.old.files)) world.old world.new) }
     ensures left { world.new.spent ≡ false → PullsAtMost
@@ -58,7 +60,7 @@ pub fn pull_into<T: PulledTree>(
     requires room { world.old.given
         + (length world.old.files + length (directories world.old.files)) ≤ most_sessions }
     ensures tree { OnOk result (T.Holds tree.new world.old.files) }
-    ensures files { OnOk result (world.new.files ≡ world.old.files) }
+    ensures files { world.new.files ≡ world.old.files }
     ensures syncs { OnOk result (Syncs
         (length world.old.files + length (directories world.old.files)) world.old world.new) }
     ensures left { world.new.spent ≡ false → PullsAtMost
@@ -105,6 +107,7 @@ fn visit<T: PulledTree>(
         ≡ owed world.old.files pending.new.items + 1) }
     ensures pulls { OnOk result (Pulls 1 world.old world.new) }
     ensures left { world.new.spent ≡ false → PullsAtMost 1 world.old world.new }
+    ensures kept { OnErr result (world.new.files ≡ world.old.files) }
     ensures stays { world.old.spent ≡ true → IsErr result × (world.new ≡ world.old) }
 {
     if found.is_directory() {
@@ -133,6 +136,7 @@ fn list_found(
         ++ map (found_in found.now.path) (listing found.now.path world.old.files)) }
     ensures pulls { OnOk result (Pulls 1 world.old world.new) }
     ensures left { world.new.spent ≡ false → PullsAtMost 1 world.old world.new }
+    ensures kept { OnErr result (world.new.files ≡ world.old.files) }
     ensures stays { world.old.spent ≡ true → IsErr result × (world.new ≡ world.old) }
 {
     let directory = found.path.as_slice();
@@ -161,6 +165,7 @@ fn pull_found<T: PulledTree>(
         → OnOk result (T.Holds tree.new (with_file found.now.path is.file files)) }
     ensures pulls { OnOk result (Pulls 1 world.old world.new) }
     ensures left { world.new.spent ≡ false → PullsAtMost 1 world.old world.new }
+    ensures kept { OnErr result (world.new.files ≡ world.old.files) }
     ensures stays { world.old.spent ≡ true → IsErr result × (world.new ≡ world.old) }
 {
     let file = pull(alloc, world, seed, found)?;

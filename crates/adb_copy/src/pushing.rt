@@ -21,9 +21,11 @@ use std::alloc::Global;
 
 /// Pushes each file of a tree to the world's device, in the order of the bytes of their paths and
 /// by a session of its own: its mode, time and bytes are there alike, and all else is as before.
-/// `Refused` comes exactly where the device refuses the next file, and those before it stay; a
-/// device without files refuses none. Where memory runs out the world is spent, or some first files
-/// of the tree are there.
+///
+/// - `Refused`: the device refuses the next file; the files before it stay. A device without files
+///   refuses none.
+/// - `OutOfMemory`: an allocation failed. The world is spent, or some sessions were given. The
+///   device has the first files of the tree, each of them whole, and all else as before.
 pub fn push_tree<T: PushedTree>(
     alloc: Global,
     world: &mut World,
@@ -49,6 +51,7 @@ pub fn push_tree<T: PushedTree>(
     ensures part { world.old.spent ≡ false → world.new.spent ≡ false
         → FilesPushed (T.files tree.now) world.old.files world.new.files
         × SyncsAtMost (length (T.files tree.now)) world.old world.new }
+    ensures in_part { FilesPushed (T.files tree.now) world.old.files world.new.files }
     ensures stays { world.old.spent ≡ true
         → (T.files tree.now ≢ [] → IsErr result) × (world.new ≡ world.old) }
 {

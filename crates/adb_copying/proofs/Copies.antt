@@ -1,10 +1,11 @@
 -- A tree that went to a device without files and came back.
-use Rattle.std.proofs.Common.{ℕ, ◌+◌, ◌*◌, ◌≡◌, ◌≢◌, ◌≤◌, List, [], ◌∷◌, length, Result, Ok, Err, refl, sym, ap, subst, arith}
+use Rattle.std.proofs.Common.{ℕ, ◌+◌, ◌*◌, ◌≡◌, ◌≢◌, ◌≤◌, List, [], ◌∷◌, length, Option, Some, Result, Ok, Err, refl, sym, ◌∙◌, ap, subst, arith}
 use Rattle.std.specs.Prelude.{All, ⊤}
 use Rattle.std.proofs.lemmas.List.Elements.{All-cons, All-head, All-nil, All-tail}
 use Rattle.adb_files.specs.Entries.{Entry}
 use Rattle.adb_world.specs.Parts.{most_sessions}
 use Rattle.adb_copy.specs.Pulling.{directories}
+use Rattle.adb_copy.specs.Pushing.{FilesPushed}
 use Rattle.adb_copy.specs.Trees.{AreCopied, IsCopied}
 use Rattle.adb_copy.specs.declared.error.CopyError.{CopyError}
 use Rattle.adb_copy.specs.declared.error.CopyError.TheVariants as errors
@@ -50,3 +51,23 @@ pull_room given files tree is same named listed =
 
 pub given_is : (old new size : ℕ) → old ≡ 0 → new ≡ old + size → new ≡ size
 given_is old new size none is = omega (arith, none, is)
+
+-- ---- an allocation failure
+-- a prefix of the tree is there
+pub pushed_onto : (tree old new : List Entry) → old ≡ [] → FilesPushed tree old new → FilesPushed tree [] new
+pushed_onto tree old new none part = subst (λ (files : List Entry). FilesPushed tree files new) none part
+
+-- and stays there
+pub pushed_still : (tree now new : List Entry) → new ≡ now → FilesPushed tree [] now → FilesPushed tree [] new
+pushed_still tree now new same part = subst (FilesPushed tree []) (sym same) part
+
+-- nothing was pushed yet
+pub none_pushed : (tree new : List Entry) → new ≡ [] → FilesPushed tree [] new
+none_pushed tree new none = pushed_still tree [] new none (record { done = []; left = tree; split = refl; stored = refl })
+
+pub pushed_of : (o : Option (List Entry)) (named tree new : List Entry) → o ≡ Some named → o ≡ Some tree → FilesPushed named [] new
+    → FilesPushed tree [] new
+pushed_of o named tree new is other part =
+    let both : Some named ≡ Some tree = sym is ∙ other in
+    let same : named ≡ tree = cc in
+    subst (λ (t : List Entry). FilesPushed t [] new) same part

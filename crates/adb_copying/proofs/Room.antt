@@ -1,5 +1,5 @@
 -- A line that is kept in the place of a file that may be put is refused for want of room alone.
-use Rattle.std.proofs.Common.{ℕ, ◌+◌, ◌≡◌, ◌⊎◌, Bool, true, false, cond, not, ltb, List, Option, Some, None, Result, Ok, Err, inl, inr, refl, ◌∙◌, ap}
+use Rattle.std.proofs.Common.{ℕ, ◌+◌, ◌≡◌, Bool, true, false, cond, not, ltb, List, Option, Some, None, Result, Ok, Err, inl, inr, refl, ◌∙◌, ap}
 use Rattle.std.specs.Prelude.{OnErr, ⊤}
 use Rattle.adb_files.specs.declared.file.FileError.{FileError}
 use Rattle.adb_files.specs.declared.file.FileError.TheVariants as refusals

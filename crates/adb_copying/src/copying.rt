@@ -1,7 +1,9 @@
 //! Copying the tree of a script.
 
-ghost use Rattle.std.specs.Prelude.{ℕ, ◌≡◌, ◌≢◌, [], Err, Some, true, length, IfOk, OnOk};
+ghost use Rattle.std.specs.Prelude.{ℕ, ◌≡◌, ◌≢◌, [], List, Err, Some, true, length, IfOk, OnOk};
 ghost use Rattle.adb_copy.specs.declared.error.CopyError.TheVariants as errors;
+ghost use Rattle.adb_copy.specs.Pushing.{FilesPushed};
+ghost use Rattle.adb_files.specs.Entries.{Entry};
 ghost use Rattle.adb_script.specs.Told.{texts_of};
 ghost use Rattle.adb_trees.specs.Shown.{copied_lines, lines_of};
 ghost use Rattle.adb_trees.specs.Trees.{AreNamed, first_bad, tree_of};
@@ -14,10 +16,13 @@ use adb_trees::{NamedTree, read_tree};
 use adb_world::World;
 use std::alloc::{AllocError, Global};
 
-/// Copies the tree that a script names to the device of a new world and back, and gives a line for
-/// each file that came, which the seed does not change. The whole script is looked at first: where a
-/// line is refused the first such is told, and nothing runs. After want of memory the world is spent,
-/// or a part of the tree was copied.
+/// Copies the tree that a script names to the device of a new world and back, and returns a line
+/// for each file that came, which the seed does not change.
+///
+/// - `BadLine`: a line is refused; it is the first one. The whole script is read before anything is
+///   copied, so the world is as before.
+/// - `OutOfMemory`: an allocation failed. The world is spent, or a part of the tree was copied. The
+///   device has the first files of the tree, each of them whole, and no others.
 pub fn copy_tree(
     alloc: Global,
     world: &mut World,
@@ -36,6 +41,8 @@ pub fn copy_tree(
         → result ≢ Err ScriptError.OutOfMemory → result ≡ Err (ScriptError.BadLine line) }
     ensures before { (line : ℕ) → result ≡ Err (ScriptError.BadLine line)
         → world.new ≡ world.old }
+    ensures in_part { (tree : List Entry) → tree_of script.now ≡ Some tree
+        → FilesPushed tree [] world.new.files }
 {
     let tree = read_tree(alloc, script)?;
     match copy_files(alloc, world, tree, seed) {
@@ -57,6 +64,7 @@ fn copy_files(
     requires tree { AreNamed tree }
     ensures lines { IfOk result (λ lines. texts_of lines.items ≡ lines_of tree) }
     ensures files { OnOk result (world.new.files ≡ tree) }
+    ensures in_part { FilesPushed tree [] world.new.files }
 {
     directories_are_few();
     tree.are_a_map();
@@ -75,6 +83,7 @@ fn push(alloc: Global, world: &mut World, tree: NamedTree, seed: u64) -> Result<
     ensures files { OnOk result (world.new.files ≡ tree) }
     ensures settled { OnOk result (world.new.settled ≡ true) }
     ensures given { OnOk result (world.new.given ≡ length tree) }
+    ensures in_part { FilesPushed tree [] world.new.files }
 {
     let tree = ScriptTree { tree };
     match push_tree(alloc, world, seed, &tree) {

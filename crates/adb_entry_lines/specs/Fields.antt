@@ -1,5 +1,5 @@
 -- The fields of an entry in the line that shows it.
-use Rattle.std.specs.Prelude.{ℕ, List, [], ◌++◌, codes}
+use Rattle.std.specs.Prelude.{ℕ, List, [], ◌∷◌, ◌++◌, codes}
 use Rattle.adb_outside.specs.declared.kinds.Kind.{Kind}
 use Rattle.adb_outside.specs.declared.kinds.Kind.TheVariants.{Usb, Local}
 use Rattle.adb_outside.specs.declared.kinds.Cause.{Cause}
@@ -55,7 +55,13 @@ data_fields payloads (Detach link cause) = cause_field cause
 data_fields payloads (Put client bytes) = payload payloads bytes
 data_fields payloads (Send link bytes) = payload payloads bytes
 
--- The fields of an entry: its place in the history, counted from 1, its kind, whom it names, and what it has.
-abbrev pub entry_fields : Payloads → ℕ → Entry → List ℕ
-entry_fields payloads place e =
-    numbered (codes "{\"entry\":") place ++ (numbered (kind_label e) (number_of e) ++ data_fields payloads e)
+-- the serial of the device of the link that it names, where there is one
+abbrev pub serial_field : List ℕ → List ℕ
+serial_field [] = []
+serial_field (b ∷ serial) = codes ",\"serial\":" ++ quoted (b ∷ serial)
+
+-- The fields of an entry: its place in the history, counted from 1, its kind, whom it names, that device, and what it has.
+abbrev pub entry_fields : Payloads → ℕ → List ℕ → Entry → List ℕ
+entry_fields payloads place serial e =
+    numbered (codes "{\"entry\":") place
+    ++ (numbered (kind_label e) (number_of e) ++ (serial_field serial ++ data_fields payloads e))

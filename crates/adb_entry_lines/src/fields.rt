@@ -4,7 +4,7 @@ ghost use Rattle.std.specs.Prelude.{◌≡◌, ◌++◌, OnOk};
 ghost use Rattle.adb_capture.specs.Lent.{entry_lent};
 ghost use Rattle.adb_capture.specs.Records.{number_of};
 ghost use Rattle.adb_entry_lines.specs.Fields.{cause_field, cause_text, data_fields, device_fields};
-ghost use Rattle.adb_entry_lines.specs.Fields.{entry_fields, kind_label, plug_text};
+ghost use Rattle.adb_entry_lines.specs.Fields.{entry_fields, kind_label, plug_text, serial_field};
 ghost use Rattle.adb_entry_lines.specs.Text.{payload};
 
 use crate::payload::Payloads;
@@ -14,19 +14,33 @@ use adb_outside::{Cause, Kind, Parts, Text};
 use std::alloc::AllocError;
 
 /// Appends the fields of an entry, after the brace that opens its object: its place in the history,
-/// its kind, the client or link that it names, and what it has besides.
+/// its kind, the client or link that it names, the serial of that link's device, if one is given,
+/// and what it has besides.
 pub fn push_entry(
     text: &mut Text,
     payloads: Payloads,
     place: u64,
+    serial: &[u8],
     entry: Lent<'_>,
 ) -> Result<(), AllocError>
     ensures { OnOk result (text.new
-        ≡ text.old ++ entry_fields payloads place (entry_lent entry.entry)) }
+        ≡ text.old ++ entry_fields payloads place serial.now (entry_lent entry.entry)) }
 {
     push_numbered(text, b"{\"entry\":", place)?;
     push_numbered(text, kind_label(entry), u64::from(number_of(entry)))?;
+    push_serial(text, serial)?;
     push_data(text, payloads, entry)
+}
+
+/// Appends the serial of a device, if it has a byte.
+fn push_serial(text: &mut Text, serial: &[u8]) -> Result<(), AllocError>
+    ensures { OnOk result (text.new ≡ text.old ++ serial_field serial.now) }
+{
+    if serial.is_empty() {
+        return Ok(());
+    }
+    text.push_slice(b",\"serial\":")?;
+    push_quoted(text, serial)
 }
 
 /// Returns what an entry is, up to the number of its client or link.

@@ -17,7 +17,7 @@ use Rattle.adb_check.specs.Judging.{Judging, Takes}
 use Rattle.adb_check.specs.declared.capture.Judgement.TheVariants as judged
 use Rattle.adb_check.specs.declared.verdict.Rule.{Rule}
 use Rattle.adb_check.proofs.Captured.{Came, Gives, JudgingOn, Turn, judging_first, judging_over, judging_stopped}
-use Rattle.adb_check.proofs.Captured.{ends_with, behind, came_over, came_refused, history_given}
+use Rattle.adb_check.proofs.Captured.{ends_with, behind, came_next, came_over, came_refused, history_behind, history_given}
 use Rattle.adb_check.proofs.Places as places
 use Rattle.adb_replay.specs.Keeping.{Out, Keeps}
 use Rattle.adb_replay.specs.Stop.{fault_of, refused_or, stop_of}
@@ -27,7 +27,6 @@ use Rattle.adb_entry_lines.specs.declared.payload.Payloads.{Payloads}
 use Rattle.adb_explain.specs.Explaining.{Begins, KeepsFirst, KeepsIllegal, KeepsAll, EndsAs, LosesPart, IsText}
 use Rattle.adb_explain.specs.Lines.{lines}
 use Rattle.adb_explain.specs.Making.{KeepsLine, LosesLine, Explained, lines_by}
-use Rattle.adb_explain.proofs.CameNext.{came_next, history_came}
 
 -- The lines of the entries given so far are kept.
 pub record ExplainingOn (before start : Option (List ℕ)) (payloads : Payloads) (now : Reading) (left : Option (List ℕ)) (entries : ℕ)
@@ -80,6 +79,12 @@ explaining_on t new after x k sound = record {
   came = λ all was. came_next all t.now t.left x.given t.new t.after t.offset t.entry (t.given x.sound) (x.came all was);
   kept = λ had has. k.kept had (x.kept had has);
 }
+
+-- the entries given so far are the first of a capture's history
+history_came : {all : List ℕ} {now : Reading} {left : Option (List ℕ)} {given : History} → (c : Came all now left given)
+    → history_of (formed all) ≡ reverse (formed_ahead now.offset (ahead_of now left)).entries ++ given
+history_came {now = now} {left = left} {given = given} c =
+    ap history_of c.is ∙ history_behind given (formed_ahead now.offset (ahead_of now left))
 
 -- the history of a capture of which an entry was given after others
 given_within : {all : List ℕ} (t : Turn) (given : History) → t.now.failed ≡ None → Came all t.now t.left given

@@ -7,7 +7,7 @@ use Rattle.adb_capture.specs.declared.entry.Entry.{Entry}
 use Rattle.adb_capture.specs.declared.entry.Entry.TheVariants.{Put, Send}
 use Rattle.adb_history.specs.Accepted.{is_input, refusal_of}
 use Rattle.adb_history.specs.Machine.{History}
-use Rattle.adb_history.specs.Kept.{Kept}
+use Rattle.adb_history.specs.Kept.{Kept, IsLawful}
 use Rattle.adb_history.specs.Rows.{State}
 use Rattle.adb_history.specs.declared.refusal.Reason.{Reason}
 use Rattle.adb_hub.specs.Endings.{may_end}
@@ -22,7 +22,7 @@ use Rattle.adb_replay.specs.declared.stop.Stop.{Stop}
 use Rattle.adb_replay.specs.declared.stop.Stop.TheVariants as stop
 use Rattle.adb_entry_lines.specs.Fields.{entry_fields}
 use Rattle.adb_entry_lines.specs.declared.payload.Payloads.{Payloads}
-use Rattle.adb_explain.specs.Lines.{made_fields, rule_field, end_by, lines}
+use Rattle.adb_explain.specs.Lines.{fields, made_fields, serial_at, end_by, lines}
 use Rattle.adb_explain.specs.Making.{Reports, line_by, MakesLine, Explained}
 
 -- a hand-out ends no stream
@@ -54,15 +54,20 @@ reports_refused s e h why ends going input refused = go (reason_rule why) (refus
     go (Some rule) breaks = tt
 
 -- the line is its fields, and what was made
-pub line_is : (broken : Option Rule) (payloads : Payloads) (e : Entry) (h : History) (place : ℕ) (new : Kept) (ends : List Ended)
-    → Takes broken e h new → Reports broken e h ends → place ≡ length h + 1
-    → entry_fields payloads place e ++ end_by broken ends new ≡ line_by broken payloads e h
-line_is None payloads e h place new ends taken reports at =
-    ap (λ (n : ℕ). entry_fields payloads n e ++ made_fields ends new) at
-    ∙ (ap (λ (x : List Ended). entry_fields payloads (length h + 1) e ++ made_fields x new) reports
-    ∙ ap (λ (k : Kept). entry_fields payloads (length h + 1) e ++ made_fields (endings_at e h) k) taken.seen)
-line_is (Some rule) payloads e h place new ends taken reports at =
-    ap (λ (n : ℕ). entry_fields payloads n e ++ rule_field rule) at
+pub line_is : (broken : Option Rule) (payloads : Payloads) (e : Entry) (h : History) (place : ℕ) (old new : Kept) (ends : List Ended)
+    → IsLawful old h → Takes broken e h new → Reports broken e h ends → place ≡ length h + 1
+    → entry_fields payloads place (serial_at e old) e ++ end_by broken ends new ≡ line_by broken payloads e h
+line_is broken payloads e h place old new ends lawful taken reports at =
+    ap (λ (n : ℕ). entry_fields payloads n (serial_at e old) e ++ end_by broken ends new) at
+    ∙ (ap (λ (k : Kept). entry_fields payloads (length h + 1) (serial_at e k) e ++ end_by broken ends new) lawful.seen
+    ∙ ended broken taken reports)
+  where
+    ended : (broken : Option Rule) → Takes broken e h new → Reports broken e h ends
+        → fields payloads e h ++ end_by broken ends new ≡ line_by broken payloads e h
+    ended None taken reports =
+        ap (λ (x : List Ended). fields payloads e h ++ made_fields x new) reports
+        ∙ ap (λ (k : Kept). fields payloads e h ++ made_fields (endings_at e h) k) taken.seen
+    ended (Some rule) taken reports = refl
 
 -- the line was made and kept
 pub line_kept : (broken : Option Rule) (payloads : Payloads) (e : Entry) (h : History) (new : Kept) (text : List ℕ) (before after : Out)

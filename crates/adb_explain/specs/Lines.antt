@@ -1,11 +1,13 @@
 -- The line of each entry of a history, as a JSON object.
 use Rattle.std.specs.Prelude.{ℕ, ◌+◌, List, [], ◌∷◌, ◌++◌, length, flat_map, Option, Some, None, codes}
 use Rattle.adb_capture.specs.declared.entry.Entry.{Entry}
+use Rattle.adb_capture.specs.declared.entry.Entry.TheVariants.{Recv, Detach, Send}
 use Rattle.adb_history.specs.Ending.{ending_text}
 use Rattle.adb_history.specs.Machine.{History, state}
 use Rattle.adb_history.specs.Kept.{Kept, kept}
 use Rattle.adb_hub_tables.specs.Endings.{endings_at}
 use Rattle.adb_hub_tables.specs.declared.endings.Ended.{Ended}
+use Rattle.adb_hub.specs.Answers.{serial_of}
 use Rattle.adb_check.specs.Rules.{rule_text}
 use Rattle.adb_check.specs.declared.verdict.Rule.{Rule}
 use Rattle.adb_entry_lines.specs.Text.{numbered, named}
@@ -52,10 +54,20 @@ over = codes "}\n"
 abbrev pub made_fields : List Ended → Kept → List ℕ
 made_fields ends k = ended_field ends ++ (kept_fields k ++ over)
 
+-- the serial of the device of the link that an entry names, of what is kept before it
+abbrev pub serial_at : Entry → Kept → List ℕ
+serial_at (Recv t bytes) k = serial_of t k.devices
+serial_at (Detach t cause) k = serial_of t k.devices
+serial_at (Send t bytes) k = serial_of t k.devices
+serial_at _ k = []
+
+-- the fields of an entry behind a history
+abbrev pub fields : Payloads → Entry → History → List ℕ
+fields payloads e older = entry_fields payloads (length older + 1) (serial_at e (kept (state older))) e
+
 -- the line of an entry behind a history
 abbrev pub line : Payloads → Entry → History → List ℕ
-line payloads e older =
-    entry_fields payloads (length older + 1) e ++ made_fields (endings_at e older) (kept (state (e ∷ older)))
+line payloads e older = fields payloads e older ++ made_fields (endings_at e older) (kept (state (e ∷ older)))
 
 unfoldable pub rule_field : Rule → List ℕ
 rule_field rule = named rule_name (rule_text rule) ++ over
@@ -67,7 +79,7 @@ end_by (Some rule) ends k = rule_field rule
 
 -- the line of an entry that may not come, and the first rule that it breaks
 abbrev pub illegal_line : Payloads → Entry → History → Rule → List ℕ
-illegal_line payloads e older rule = entry_fields payloads (length older + 1) e ++ rule_field rule
+illegal_line payloads e older rule = fields payloads e older ++ rule_field rule
 
 -- the lines of a history, the oldest entry's first
 abbrev pub lines : Payloads → History → List ℕ

@@ -8,6 +8,7 @@ mod making;
 mod note;
 mod running;
 mod status;
+mod tail;
 mod words;
 
 pub use explaining::explain;

@@ -2,15 +2,18 @@
 
 ghost use Rattle.std.specs.Prelude.{◌≡◌, ◌+◌, [], length, false, true, IfOk};
 ghost use Rattle.adb_outside.specs.Outside.{Counts};
+ghost use Rattle.adb_capture.specs.Lent.{entry_lent};
 ghost use Rattle.adb_history.specs.Accepted.{is_input};
 ghost use Rattle.adb_history.specs.Kept.{IsLawful};
 ghost use Rattle.adb_history.specs.Machine.{History};
 ghost use Rattle.adb_check.specs.Judging.{Takes};
 ghost use Rattle.adb_replay.specs.Keeping.{IsLoss, is_write_fault};
+ghost use Rattle.adb_explain.specs.Lines.{serial_at};
 ghost use Rattle.adb_explain.specs.Making.{Explained, MakesLine, Reports, stopped_as};
 
 use crate::line::push_end;
-use adb_capture::Entry;
+use crate::tail::Tail;
+use adb_capture::{Entry, Lent};
 use adb_check::{Rule, rule_of, take};
 use adb_entries::{Refused, apply_reporting};
 use adb_entry_lines::{Payloads, push_entry};
@@ -19,12 +22,13 @@ use adb_outside::{Sink, Text};
 use adb_replay::{Output, Stop};
 use std::alloc::{AllocError, Global};
 
-/// A hub with the streams that the last entry ended, and the line of that entry.
+/// A hub with the streams that the last entry ended, the line of that entry, and how it ended.
 #[derive(Drop)]
 pub(crate) struct Explainer {
     hub: Hub,
     ends: Endings,
     line: Text,
+    tail: Tail,
     payloads: Payloads,
 }
 
@@ -38,6 +42,7 @@ impl Explainer {
             hub: Hub::new(alloc),
             ends: Endings::new(alloc),
             line: Text::new(alloc),
+            tail: Tail::new(alloc),
             payloads,
         }
     }
@@ -78,11 +83,27 @@ impl Explainer {
             self.new.hub self.new.line) }
         ensures payloads { self.new.payloads ≡ self.old.payloads }
     {
-        let broken = make(&mut self.hub, &mut self.ends, entry)?;
+        let lent = entry.lend();
         self.line.truncate(0);
-        push_entry(&mut self.line, self.payloads, place, entry.lend())?;
-        push_end(&mut self.line, broken, self.ends.as_slice(), &self.hub)?;
+        let serial = serial_at(&self.hub, lent);
+        push_entry(&mut self.line, self.payloads, place, serial, lent)?;
+        let broken = make(&mut self.hub, &mut self.ends, entry)?;
+        let ends = self.ends.as_slice();
+        push_end(&mut self.line, broken, ends, &mut self.tail, &self.hub)?;
         Ok(broken)
+    }
+}
+
+/// Returns the serial of the device of the link that an entry names, and no bytes if it names none,
+/// or no device is plugged in there.
+fn serial_at<'a>(hub: &'a Hub, entry: Lent<'_>) -> &'a [u8]
+    ensures { result.now ≡ serial_at (entry_lent entry.entry) hub.now }
+{
+    match entry {
+        Lent::Recv { link, .. } | Lent::Detach { link, .. } | Lent::Send { link, .. } => {
+            hub.serial(link)
+        }
+        _ => &[],
     }
 }
 

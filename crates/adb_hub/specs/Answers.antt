@@ -1,7 +1,9 @@
 -- What the calls of a hub answer, over a history that it holds.
 use Rattle.std.specs.Prelude.{ℕ, ◌+◌, ◌-◌, ◌≤◌, ◌<◌, All, ◌^◌, ◌==◌, ◌≡◌, ◌≢◌, Bool, true, false}
 use Rattle.std.specs.Prelude.{if◌then◌else◌, nat_le, List, [], ◌∷◌, length, take, Option, Some, None, Result, Ok, Err, option_map}
+use Rattle.adb_outside.specs.Tables.{at}
 use Rattle.adb_registry.specs.Registry.{DeviceTable}
+use Rattle.adb_registry.specs.declared.row.Row.{Row}
 use Rattle.adb_client.specs.declared.phase.Phase.{Phase}
 use Rattle.adb_client.specs.declared.phase.Phase.TheVariants.{Binding, Closing, Gone}
 use Rattle.adb_client.specs.declared.about.Want.{Want}
@@ -25,6 +27,15 @@ use Rattle.adb_hub.specs.Refusal.{refusal}
 abbrev pub life_of : {A : Type 0} → Option A → Life
 life_of None = life.Gone
 life_of (Some row) = life.Live
+
+-- the serial of a device, and none of no device
+abbrev pub serial_in : Option Row → List ℕ
+serial_in None = []
+serial_in (Some row) = row.serial
+
+-- the serial of the device of a link, and none where no device is plugged in there
+abbrev pub serial_of : ℕ → DeviceTable → List ℕ
+serial_of t devices = serial_in (at t devices.rows)
 
 -- An entry was made and something of it told; or it is refused for this reason, or memory ran out.
 abbrev pub Answers : {A : Type 0} → Entry → (A → Type 0) → Result A HubError → History → Kept → Type 0

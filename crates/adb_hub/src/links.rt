@@ -8,7 +8,7 @@ ghost use Rattle.adb_history.specs.Kept.{IsLawful};
 ghost use Rattle.adb_history.specs.Machine.{state};
 ghost use Rattle.adb_hub.specs.Endings.{Reports};
 ghost use Rattle.adb_hub.specs.Refusal.{unless_stopped, unless_drawn};
-ghost use Rattle.adb_hub.specs.Answers.{Answers, AnswersLink, life_of, err_if};
+ghost use Rattle.adb_hub.specs.Answers.{Answers, AnswersLink, life_of, err_if, serial_of};
 
 use crate::answers::Life;
 use crate::clients::life_if;
@@ -153,5 +153,16 @@ impl Hub {
             → result ≡ life_of ((state h).links link) }
     {
         life_if(self.tables.links.contains_key(&link))
+    }
+
+    /// Returns the serial of the device of a link, and no bytes if no device is plugged in there.
+    /// Allocates nothing.
+    pub fn serial(&self, link: u32) -> &[u8]
+        ensures { result.now ≡ serial_of link self.now.devices }
+    {
+        match self.tables.devices.row(link) {
+            Some(row) => row.serial.as_slice(),
+            None => &[],
+        }
     }
 }

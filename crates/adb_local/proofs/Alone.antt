@@ -13,7 +13,9 @@ use Rattle.adb_world.specs.Session.{new_session}
 use Rattle.adb_world.specs.Settled.{IsCounted, IsSettled}
 use Rattle.adb_world.specs.World.{HasStarted, View}
 use Rattle.adb_world.specs.declared.session.Session.{Session}
-use Rattle.adb_local.specs.Running.{IsIdle, RunsLine}
+use Rattle.adb_local.specs.Running.{IsAskedInPart, IsIdle, RunsLine}
+use Rattle.adb_local.proofs.InPart.{all_asked, session_in_part}
+use Rattle.adb_world.specs.Together.{AreAskedInPart}
 use Rattle.adb_local.proofs.Exchanges.{IsExchanged, is_exchanged, only_new, same_kept}
 
 -- What finishing leaves of a world: it keeps no session, and its files and numbers stand.
@@ -59,9 +61,21 @@ module _ (number : ℕ) (asked : Asked) (old mid after : View) (idle : IsIdle ol
         let one : text ≡ printed asked (answer_of found.0) = cc in
         one ∙ ap (printed asked) exchanged.answer
 
+    pub left_in_part : (left : List Entry) → left ≡ after.files → IsAskedInPart number asked old.files left
+    left_in_part left same = all_asked number asked old.files left (same ∙ exchanged.left_files)
+
     pub line_runs : (new : View) → after.given ≡ mid.given → IsFinished after new → RunsLine number (Asks asked) old new
     line_runs new given finished = record {
       idle = record { rests = finished.rests; empty = finished.empty; calm = finished.calm; counted = finished.counted };
       files = finished.files ∙ exchanged.left_files;
       given = finished.given ∙ (given ∙ started.given);
     }
+
+-- a step failed before all had settled
+pub settles_in_part : (number : ℕ) (asked : Asked) (old mid : View) (left : List Entry) → IsIdle old
+    → HasStarted (old.given + 1) (new_session (script.service_of asked) (script.text_of number asked)) old mid
+    → AreAskedInPart mid.files left mid.sessions → IsAskedInPart number asked old.files left
+settles_in_part number asked old mid left idle started part =
+    session_in_part number (old.given + 1) asked old.files left mid.sessions
+    (started.sessions ∙ ap (put_at (old.given + 1) (new_session (script.service_of asked) (script.text_of number asked))) idle.empty)
+    (subst (λ (files : List Entry). AreAskedInPart files left mid.sessions) started.files part)

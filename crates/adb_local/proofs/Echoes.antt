@@ -21,6 +21,9 @@ use Rattle.adb_local.specs.Running.{RunsLine}
 use Rattle.adb_local.specs.Streams.{AreEchoed, IsOfStream, IsStarting, stream_session}
 use Rattle.adb_local.proofs.Alone.{IsFinished}
 use Rattle.adb_local.proofs.Exchanges.{same_kept}
+use Rattle.adb_local.proofs.InPart.{echoes_in_part}
+use Rattle.adb_files.specs.Entries.{Entry}
+use Rattle.adb_world.specs.Together.{AreAskedInPart}
 
 -- no stream was started
 pub starts_none : (size : ℕ) (world : View) → world.sessions ≡ [] → IsStarting 0 size world world
@@ -113,3 +116,13 @@ echo_runs number k size old mid after new starting files given finished = record
   files = finished.files ∙ (files (are_echoes k size old mid starting) ∙ starting.files);
   given = finished.given ∙ (given ∙ starting.given);
 }
+
+-- they change no file, also if a step fails
+pub echoes_kept : (k size : ℕ) (old mid after : View) → IsStarting k size old mid → (AreEchoes mid.sessions → after.files ≡ mid.files)
+    → after.files ≡ old.files
+echoes_kept k size old mid after starting files = files (are_echoes k size old mid starting) ∙ starting.files
+
+pub echoes_stop : (k size : ℕ) (old mid : View) (left : List Entry) → IsStarting k size old mid → AreAskedInPart mid.files left mid.sessions
+    → left ≡ old.files
+echoes_stop k size old mid left starting part =
+    echoes_in_part mid.files left mid.sessions (λ c session is. ap (λ (s : Session). s.service) (starting.only c session is).is) part ∙ starting.files

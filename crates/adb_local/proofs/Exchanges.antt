@@ -20,7 +20,7 @@ use Rattle.adb_world.specs.declared.session.Session.{Session}
 use Rattle.adb_local.specs.Running.{MayAsk}
 
 -- the service of what a session is asked
-abbrev kind_of : Asked → Kind
+abbrev pub kind_of : Asked → Kind
 kind_of (Pushes path size) = Syncs
 kind_of (Pulls path) = Syncs
 kind_of (Stats path) = Syncs
@@ -35,7 +35,7 @@ colon_within command =
 shell_kind : (command : List ℕ) → service_of (codes "shell,v2,raw:" ++ command) ≡ Some (Shells true command)
 shell_kind command = ap (λ (b : Bool). shell_cut (codes "v2,raw:" ++ command) (if b then Some 6 else None)) (colon_within command)
 
-asks_kind : (asked : Asked) → service_of (script.service_of asked) ≡ Some (kind_of asked)
+pub asks_kind : (asked : Asked) → service_of (script.service_of asked) ≡ Some (kind_of asked)
 asks_kind (Pushes path size) = refl
 asks_kind (Pulls path) = refl
 asks_kind (Stats path) = refl

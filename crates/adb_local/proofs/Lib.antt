@@ -3,3 +3,4 @@ pub mod Exchanges
 pub mod Alone
 pub mod Echoes
 pub mod Lines
+pub mod InPart

@@ -1,6 +1,6 @@
 -- How far a script has run.
 use Rattle.std.specs.Prelude.{ℕ, ◌+◌, ◌*◌, ◌≡◌, ◌≤◌, ◌<◌, nat_lt, true, List, [], ◌∷◌, ◌++◌, length, drop, map}
-use Rattle.std.proofs.Common.{refl, sym, ◌∙◌, ap, subst, append_assoc, arith, get_or, Fits, w32, suc}
+use Rattle.std.proofs.Common.{inr, refl, sym, ◌∙◌, ap, subst, append_assoc, arith, get_or, Fits, w32, suc}
 use Rattle.std.proofs.lemmas.Bool.{ltb-true}
 use Rattle.std.proofs.lemmas.List.{append-nil, drop-map}
 use Rattle.std.proofs.Math.Seq.{drop-cons}
@@ -11,7 +11,7 @@ use Rattle.adb_script.specs.declared.line.ScriptLine.{ScriptLine}
 use Rattle.adb_script.specs.declared.script.TheConstants.{MAX_LINES}
 use Rattle.adb_world.specs.World.{View}
 use Rattle.adb_local.proofs.Standing.{few_in}
-use Rattle.adb_local.specs.Running.{AllMayStand, IsIdle, LinesLeft, MayStand, RunsFirst, RunsLine, answers_left, left_after, sessions_in}
+use Rattle.adb_local.specs.Running.{AllMayStand, IsIdle, IsRunInPart, LinesLeft, MayStand, RunsFirst, RunsLine, answers_left, left_after, sessions_in}
 
 -- ---- one line
 -- the first of what is left
@@ -54,6 +54,10 @@ module _ (done : ℕ) (lines : List Line) (line : Line) (first : drop done lines
     pub runs_first : RunsFirst text (left_after done lines) (left_after (done + 1) lines) old new
     runs_first = record {
       idle = runs.idle;
+      line = line;
+      first = first;
+      number = refl;
+      files = runs.files;
       answers = answered;
       given = (let s = sessions in let given = runs.given in omega (arith, s, given));
       fewer = ap (λ (ls : List Line). length ls) first ∙ omega arith;
@@ -63,15 +67,29 @@ module _ (done : ℕ) (lines : List Line) (line : Line) (first : drop done lines
 pub answers_over : (left : LinesLeft) (world : View) → world.files ≡ [] → answers_left left world ≡ answers_from left.number [] left.lines
 answers_over left world none = ap (λ (files : List Entry). answers_from left.number files left.lines) none
 
+-- what ran in part behind the first of some lines ran in part of them
+pub runs_in_part : (now next : LinesLeft) (world after : View) (answer : List ℕ) → RunsFirst answer now next world after → (left : List Entry)
+    → IsRunInPart next.number next.lines after.files left → IsRunInPart now.number now.lines world.files left
+runs_in_part now next world after answer runs left part =
+    subst (λ (ls : List Line). IsRunInPart now.number ls world.files left) (sym runs.first)
+    (inr (subst (λ (files : List Entry). IsRunInPart (now.number + 1) next.lines files left) runs.files
+    (subst (λ (n : ℕ). IsRunInPart n next.lines after.files left) runs.number part)))
+
 -- ---- some lines
 -- Some lines were run: these are their answers, and those of the rest are still to come.
 pub record Running (first now : LinesLeft) (old world : View) (said : List (List ℕ)) : Type 0 where
   pub idle : IsIdle world
   pub answers : said ++ answers_left now world ≡ answers_left first old
   pub given : world.given + sessions_in now.lines ≡ old.given + sessions_in first.lines
+  pub so_far : (left : List Entry) → IsRunInPart now.number now.lines world.files left → IsRunInPart first.number first.lines old.files left
 
 pub begins_running : (first : LinesLeft) (old : View) (said : List (List ℕ)) → IsIdle old → said ≡ [] → Running first first old old said
-begins_running first old said idle none = record { idle = idle; answers = ap (λ (s : List (List ℕ)). s ++ answers_left first old) none; given = refl }
+begins_running first old said idle none = record {
+  idle = idle;
+  answers = ap (λ (s : List (List ℕ)). s ++ answers_left first old) none;
+  given = refl;
+  so_far = λ left part. part;
+}
 
 pub runs_one : (first now next : LinesLeft) (old world after : View) (said more : List (List ℕ)) (answer : List ℕ) → Running first now old world said
     → RunsFirst answer now next world after → more ≡ said ++ answer ∷ [] → Running first next old after more
@@ -82,6 +100,7 @@ runs_one first now next old world after said more answer running runs added = re
       ∙ (append_assoc said (answer ∷ []) (answers_left next after)
       ∙ (ap (λ (rest : List (List ℕ)). said ++ rest) runs.answers ∙ running.answers));
   given = (let one = runs.given in let given = running.given in omega (arith, one, given));
+  so_far = λ left part. running.so_far left (runs_in_part now next world after answer runs left part);
 }
 
 pub runs_all : (first now : LinesLeft) (old world : View) (said : List (List ℕ)) → Running first now old world said → now.lines ≡ []

@@ -1,6 +1,6 @@
 //! The lines of streams that get back what they send.
 
-ghost use Rattle.std.specs.Prelude.{◌≡◌, ◌+◌, ◌≤◌, ◌<◌, ◌++◌, Some, codes, option_map, IfOk, OnOk};
+ghost use Rattle.std.specs.Prelude.{◌≡◌, ◌+◌, ◌≤◌, ◌<◌, ◌++◌, Some, codes, option_map, IfOk, OnErr, OnOk};
 ghost use Rattle.adb_outside.specs.Tables.{at};
 ghost use Rattle.adb_script.specs.Answers.{line_answer};
 ghost use Rattle.adb_script.specs.Lines.{echo_of};
@@ -34,6 +34,7 @@ pub(crate) fn run_echo(
     ensures text { IfOk result (λ text. text
         ≡ (line_answer world.old.files number (echo_of echo)).text) }
     ensures runs { OnOk result (RunsLine number (echo_of echo) world.old world.new) }
+    ensures kept { OnErr result (world.new.files ≡ world.old.files) }
 {
     let first = start_streams(alloc, world, echo)?;
     settle(world, seed)?;
@@ -50,6 +51,7 @@ fn start_streams(alloc: Global, world: &mut World, echo: EchoLine) -> Result<u32
     requires room { world.old.given + echo.streams ≤ most_sessions }
     ensures first { IfOk result (λ first. first ≡ world.old.given + 1) }
     ensures started { OnOk result (IsStarting echo.streams echo.size world.old world.new) }
+    ensures kept { OnErr result (world.new.files ≡ world.old.files) }
 {
     let first = start_stream(alloc, world, echo, 0)?;
     for stream in 1..echo.streams {
@@ -69,6 +71,7 @@ fn start_stream(
     ensures number { IfOk result (λ session. session ≡ world.old.given + 1) }
     ensures started { OnOk result (HasStarted (world.old.given + 1)
         (stream_session echo.size stream) world.old world.new) }
+    ensures kept { OnErr result (world.new.files ≡ world.old.files) }
 {
     let text = echo.text(alloc, stream)?;
     let session = world.start_text(ECHO_SERVICE, text)?;

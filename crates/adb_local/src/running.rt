@@ -1,21 +1,26 @@
 //! Running a whole script.
 
-ghost use Rattle.std.specs.Prelude.{ℕ, ◌≡◌, ◌≢◌, ◌≤◌, ◌+◌, Some, Err, IfOk, OnOk};
+ghost use Rattle.std.specs.Prelude.{ℕ, ◌≡◌, ◌≢◌, ◌≤◌, ◌+◌, Some, Err, IfOk, OnErr, OnOk};
 ghost use Rattle.adb_script.specs.Answers.{script_answers};
 ghost use Rattle.adb_script.specs.Script.{first_bad, lines_in};
 ghost use Rattle.adb_script.specs.Told.{texts_of};
 ghost use Rattle.adb_world.specs.Parts.{most_sessions};
-ghost use Rattle.adb_local.specs.Running.{IsIdle, IsNew, answers_left, sessions_in};
+ghost use Rattle.adb_local.specs.Running.{IsIdle, IsNew, IsRunInPart, answers_left, sessions_in};
 
 use crate::script_run::ScriptRun;
 use adb_script::{Line, ScriptError, add_line};
 use adb_world::World;
 use std::alloc::{AllocError, Global};
 
-/// Runs a script in a new world, and gives its answer lines, which the seed does not change. The
-/// whole script is looked at first: where a line is refused the first such is told, and nothing
-/// runs. The sessions of a line, one, or one for each stream of an echo, have ended and are dropped
-/// before the next line. After want of memory the world is spent, or some lines were run.
+/// Runs a script in a new world and returns its answer lines, which the seed does not change. The
+/// sessions of a line, one, or one for each stream of an echo, have ended and are dropped before
+/// the next line.
+///
+/// - `BadLine`: a line is refused; it is the first one. The whole script is read before any line
+///   runs, so the world is as before.
+/// - `OutOfMemory`: an allocation failed. The world is spent, or some lines were run. The files are
+///   those after the first lines and, of the next line, a prefix of its whole requests, or its
+///   command or nothing.
 pub fn run_script(
     alloc: Global,
     world: &mut World,
@@ -33,6 +38,8 @@ pub fn run_script(
         → result ≢ Err ScriptError.OutOfMemory → result ≡ Err (ScriptError.BadLine line) }
     ensures before { (line : ℕ) → result ≡ Err (ScriptError.BadLine line)
         → world.new ≡ world.old }
+    ensures in_part { result ≡ Err ScriptError.OutOfMemory
+        → IsRunInPart 1 (lines_in script.now) world.old.files world.new.files }
 {
     let mut run = ScriptRun::new(alloc, script, seed)?;
     match run_lines(alloc, world, &mut run) {
@@ -54,6 +61,8 @@ fn run_lines(
     ensures idle { OnOk result (IsIdle world.new) }
     ensures given { OnOk result (world.new.given
         ≡ world.old.given + sessions_in run.old.lines) }
+    ensures in_part { OnErr result (IsRunInPart run.old.number run.old.lines
+        world.old.files world.new.files) }
 {
     let mut lines = Vec::new(alloc);
     while let Some(answer) = run.next(alloc, world)? {

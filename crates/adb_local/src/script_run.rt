@@ -1,12 +1,12 @@
 //! A script that is run line by line.
 
-ghost use Rattle.std.specs.Prelude.{ℕ, ◌≡◌, ◌≢◌, ◌≤◌, ◌+◌, Some, None, Err, IfOk, OnOk, length};
+ghost use Rattle.std.specs.Prelude.{ℕ, ◌≡◌, ◌≢◌, ◌≤◌, ◌+◌, Some, None, Err, IfOk, OnErr, OnOk, length};
 ghost use Rattle.adb_script.specs.Answers.{line_answer, sessions_of};
 ghost use Rattle.adb_script.specs.Lines.{seen};
 ghost use Rattle.adb_script.specs.Script.{first_bad, lines_in};
 ghost use Rattle.adb_script.specs.declared.script.TheConstants.{MAX_LINES};
 ghost use Rattle.adb_world.specs.Parts.{most_sessions};
-ghost use Rattle.adb_local.specs.Running.{IsIdle, MayStand, RunsLine, RunsNext, all_left, sessions_in};
+ghost use Rattle.adb_local.specs.Running.{IsIdle, IsLineInPart, IsRunInPart, MayStand, RunsLine, RunsNext, all_left, sessions_in};
 
 use crate::echoing::run_echo;
 use crate::session::run_session;
@@ -67,15 +67,19 @@ impl<'a> ScriptRun<'a> {
         })
     }
 
-    /// Runs the next line in a world and returns its answer line, or `None` after the last line. The
-    /// sessions of the line, one, or one for each stream of an echo, have ended and are dropped.
+    /// Runs the next line in a world and returns its answer line, or `None` after the last line.
+    /// The sessions of the line, one, or one for each stream of an echo, have ended and are dropped.
     ///
     /// - `AllocError`: an allocation failed. The line may have run in part; the world is spent, or
-    ///   may still hold its sessions.
+    ///   may still hold its sessions. The files are those after a prefix of the line's whole
+    ///   requests, or before or after its command.
     pub fn next(&mut self, alloc: Global, world: &mut World) -> Result<Option<Text>, AllocError>
         requires idle { IsIdle world.old }
         requires room { world.old.given + sessions_in self.old.lines ≤ most_sessions }
-        ensures { IfOk result (λ answer. RunsNext answer self.old self.new world.old world.new) }
+        ensures runs { IfOk result (λ answer.
+            RunsNext answer self.old self.new world.old world.new) }
+        ensures in_part { OnErr result (IsRunInPart self.old.number self.old.lines
+            world.old.files world.new.files) }
     {
         let seed = next_seed(&mut self.words);
         let Some(line) = self.script.lines().get(self.done as usize) else {
@@ -115,6 +119,8 @@ fn run_line(
     ensures text { IfOk result (λ text.
         text ≡ (line_answer world.old.files number (seen line.now)).text) }
     ensures runs { OnOk result (RunsLine number (seen line.now) world.old world.new) }
+    ensures in_part { OnErr result (IsLineInPart number (seen line.now)
+        world.old.files world.new.files) }
 {
     match line {
         ScriptLine::Session(session) => {

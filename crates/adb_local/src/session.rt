@@ -1,6 +1,6 @@
 //! The lines of one session.
 
-ghost use Rattle.std.specs.Prelude.{◌≡◌, ◌+◌, ◌<◌, true, is_some, Some, option_map, IfOk, OnOk};
+ghost use Rattle.std.specs.Prelude.{◌≡◌, ◌+◌, ◌<◌, true, is_some, Some, option_map, IfOk, OnErr, OnOk};
 ghost use Rattle.adb_outside.specs.Tables.{at};
 ghost use Rattle.adb_script.specs.Answers.{line_answer, printed, service_of, text_of};
 ghost use Rattle.adb_script.specs.Lines.{Asks, asked_of};
@@ -8,7 +8,7 @@ ghost use Rattle.adb_world.specs.Answered.{answer_of};
 ghost use Rattle.adb_world.specs.Parts.{most_sessions};
 ghost use Rattle.adb_world.specs.Session.{new_session};
 ghost use Rattle.adb_world.specs.World.{HasStarted};
-ghost use Rattle.adb_local.specs.Running.{IsIdle, MayAsk, RunsLine};
+ghost use Rattle.adb_local.specs.Running.{IsAskedInPart, IsIdle, MayAsk, RunsLine};
 
 use adb_outside::Text;
 use adb_script::SessionLine;
@@ -30,6 +30,8 @@ pub(crate) fn run_session(
         ≡ (line_answer world.old.files number (Asks (asked_of line.now))).text) }
     ensures runs { OnOk result
         (RunsLine number (Asks (asked_of line.now)) world.old world.new) }
+    ensures in_part { OnErr result (IsAskedInPart number (asked_of line.now)
+        world.old.files world.new.files) }
 {
     let session = start_session(alloc, world, line, number)?;
     settle(world, seed)?;
@@ -51,6 +53,7 @@ fn start_session(
     ensures started { OnOk result (HasStarted (world.old.given + 1)
         (new_session (service_of (asked_of line.now)) (text_of number (asked_of line.now)))
         world.old world.new) }
+    ensures kept { OnErr result (world.new.files ≡ world.old.files) }
 {
     let service = line.service(alloc)?;
     let text = line.text(alloc, number)?;

@@ -136,7 +136,7 @@ module _ (mode : ℕ) (least : MIN_MODE ≤ mode) (most : mode ≤ MAX_MODE) whe
       ap (option_and_then kept_mode) (number_is mode (omega (arith, least)) (omega (arith, most)))
       ∙ (ap (λ (t : Bool). cond t (Some (32768 + bit_and mode 511)) None) fits ∙ ap Some same)
 
-  push_requests : (path bytes : List ℕ) (mtime : ℕ) → length path ≤ 1000 → mtime < 2 ^ 32
+  pub push_requests : (path bytes : List ℕ) (mtime : ℕ) → length path ≤ 1000 → mtime < 2 ^ 32
       → requests_in (push_text path mode mtime bytes) ≡ Sends path (decimal mode) bytes mtime ∷ []
   push_requests path bytes mtime short time =
       let send = asks.Send path (decimal mode) in

@@ -35,7 +35,8 @@ returns-in_err-keep_answer-clause-kept g c =
     let now : Out = (g.K.Sink.written c.loop-answer.sink, c.loop-answer.output) in
     let new : Out = (g.K.Sink.written c.keep_answer.new.sink, c.keep_answer.new.output) in
     let runs : RunsFirst c.in-Some.answer c.loop-answer.run c.next.new.self c.loop-answer.world c.next.new.world =
-    subst (λ (a : Option (List ℕ)). RunsNext a c.loop-answer.run c.next.new.self c.loop-answer.world c.next.new.world) c.in-Some.is c.in_ok-answer.ensures in
+    subst (λ (a : Option (List ℕ)). RunsNext a c.loop-answer.run c.next.new.self c.loop-answer.world c.next.new.world)
+    c.in-Some.is c.in_ok-answer.ensures.runs in
     rw (passed.1, passed.2)
     (λ had k. says_lost (answers_left c.args.run.now c.args.world.now) (answers_left c.loop-answer.run c.loop-answer.world) before now
     c.loop-answer.invariant.saying c.in-Some.answer (answers_left c.next.new.self c.next.new.world) runs.answers new
@@ -44,7 +45,8 @@ returns-in_err-keep_answer-clause-kept g c =
 pub loop-answer-preserved : goal.loop-answer-preserved
 loop-answer-preserved g c =
     let runs : RunsFirst c.in-Some.answer c.loop-answer.run c.next.new.self c.loop-answer.world c.next.new.world =
-    subst (λ (a : Option (List ℕ)). RunsNext a c.loop-answer.run c.next.new.self c.loop-answer.world c.next.new.world) c.in-Some.is c.in_ok-answer.ensures in
+    subst (λ (a : Option (List ℕ)). RunsNext a c.loop-answer.run c.next.new.self c.loop-answer.world c.next.new.world)
+    c.in-Some.is c.in_ok-answer.ensures.runs in
     answers_on c.loop-answer.invariant runs c.in_ok-keep_answer.ensures.kept
     (counts_then g.K.Sink.steady g.K.Sink.faults c.args.sink.now c.loop-answer.sink c.keep_answer.new.sink {g = false}
     c.loop-answer.invariant.counts c.in_ok-keep_answer.ensures.counts)
@@ -52,7 +54,8 @@ loop-answer-preserved g c =
 pub loop-answer-smaller : goal.loop-answer-smaller
 loop-answer-smaller g c =
     let runs : RunsFirst c.in-Some.answer c.loop-answer.run c.next.new.self c.loop-answer.world c.next.new.world =
-    subst (λ (a : Option (List ℕ)). RunsNext a c.loop-answer.run c.next.new.self c.loop-answer.world c.next.new.world) c.in-Some.is c.in_ok-answer.ensures in
+    subst (λ (a : Option (List ℕ)). RunsNext a c.loop-answer.run c.next.new.self c.loop-answer.world c.next.new.world)
+    c.in-Some.is c.in_ok-answer.ensures.runs in
     let fewer = runs.fewer in omega (arith, fewer)
 
 pub returns-clause-kept : goal.returns-clause-kept
@@ -60,7 +63,8 @@ returns-clause-kept g c =
     let before : Out = (g.K.Sink.written c.args.sink.now, c.args.output.now) in
     let now : Out = (g.K.Sink.written c.loop-answer.sink, c.loop-answer.output) in
     let none : RunsNext None c.loop-answer.run c.next.new.self c.loop-answer.world c.next.new.world =
-    subst (λ (a : Option (List ℕ)). RunsNext a c.loop-answer.run c.next.new.self c.loop-answer.world c.next.new.world) c.in_default.is c.in_ok-answer.ensures in
+    subst (λ (a : Option (List ℕ)). RunsNext a c.loop-answer.run c.next.new.self c.loop-answer.world c.next.new.world)
+    c.in_default.is c.in_ok-answer.ensures.runs in
     λ had k. says_all (answers_left c.args.run.now c.args.world.now) (answers_left c.loop-answer.run c.loop-answer.world) before now
     c.loop-answer.invariant.saying
     (ap (λ (lines : List Line). answers_from c.loop-answer.run.number c.loop-answer.world.files lines) none.0) had k

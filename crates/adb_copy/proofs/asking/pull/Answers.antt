@@ -1,10 +1,11 @@
-use Rattle.std.proofs.Common.{ℕ, ◌∙◌, ap, sym, subst, List}
+use Rattle.std.proofs.Common.{ℕ, ◌≡◌, ◌∙◌, ap, sym, subst, take, List}
+use Rattle.adb_files.specs.Requests.{requests_in}
 use Rattle.adb_sync_client.specs.declared.step.Step.{Step}
 use Rattle.adb_sync_client.specs.Texts.{pull_text}
 use Rattle.adb_sync_client.specs.Values.{pull_value}
-use Rattle.adb_files.specs.Served.{served}
+use Rattle.adb_files.specs.Served.{serve_all, served}
 use Rattle.adb_copy.specs.Waiting.{IsDone}
-use Rattle.adb_copy.proofs.PullAnswers.{done_is, file_read}
+use Rattle.adb_copy.proofs.PullAnswers.{done_is, file_read, recv_in_part}
 use Rattle.adb_copy.proofs.PullFile.{file_readable}
 use Rattle.adb_copy.proofs.asking.pull.Goals as goal
 
@@ -25,3 +26,8 @@ returns-clause-file c is =
     let path = ap (λ (p : List ℕ). pull_value (served files (pull_text p)).answer) c.as_slice.ensures in
     let bytes = done_is (sym c.value_of-bytes.ensures ∙ (c.in_ok-step.ensures.step ∙ (path ∙ read))) in
     λ i. record { mode = is.mode i; mtime = is.mtime i; bytes = bytes i }
+
+pub ask-requires-clause-in_part : goal.ask-requires-clause-in_part
+ask-requires-clause-in_part c k =
+    subst (λ (p : List ℕ). (serve_all c.args.world.now.files (take k (requests_in (pull_text p)))).files ≡ c.args.world.now.files) (sym c.as_slice.ensures)
+    (recv_in_part c.args.world.now.files c.args.found.now.path c.requires.short k)

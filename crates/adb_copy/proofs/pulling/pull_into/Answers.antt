@@ -70,3 +70,6 @@ returns-clause-syncs g c =
     let none = none_left c.loop-found.pending.items c.pop.new.self.items c.loop-found.pending.len c.in_default.ensures.items c.in_default.ensures.rest
     c.in_default.ensures.cases.0 in
     (pulled c.args.world.now c.loop-found.world c.loop-found.pending.items into.collected into.pulling none).0.syncs
+
+pub returns-in_err-visit-clause-files : goal.returns-in_err-visit-clause-files
+returns-in_err-visit-clause-files g c = c.in_err-visit.ensures.kept ∙ c.loop-found.invariant.pulling.pulls.files

@@ -1,4 +1,4 @@
-use Rattle.adb_copying.proofs.Copies.{are_copied, given_is, only_memory, push_room, whole_there}
+use Rattle.adb_copying.proofs.Copies.{are_copied, given_is, only_memory, push_room, pushed_onto, whole_there}
 use Rattle.adb_copying.proofs.copying.push.Goals as goal
 
 pub push_tree-requires-clause-tree : goal.push_tree-requires-clause-tree
@@ -17,3 +17,11 @@ returns-in-Ok-clause-files c =
 
 pub returns-in-Ok-clause-given : goal.returns-in-Ok-clause-given
 returns-in-Ok-clause-given c = given_is _ _ _ c.requires.given c.in-Ok.ensures.syncs.given
+
+pub returns-in-Ok-clause-in_part : goal.returns-in-Ok-clause-in_part
+returns-in-Ok-clause-in_part c =
+    pushed_onto c.args.tree c.args.world.now.files c.push_tree.new.world.files c.requires.empty c.push_tree.ensures.in_part
+
+pub returns-clause-in_part : goal.returns-clause-in_part
+returns-clause-in_part c =
+    pushed_onto c.args.tree c.args.world.now.files c.push_tree.new.world.files c.requires.empty c.push_tree.ensures.in_part

@@ -1,7 +1,8 @@
 use Rattle.std.specs.Prelude.{ℕ}
-use Rattle.std.proofs.Common.{sym, subst, arith}
+use Rattle.std.proofs.Common.{◌∙◌, sym, subst, arith}
+use Rattle.adb_device_streams.proofs.Syncing.{at_err}
 use Rattle.adb_local.specs.Streams.{AreEchoed}
-use Rattle.adb_local.proofs.Echoes.{are_echoed, echo_runs}
+use Rattle.adb_local.proofs.Echoes.{are_echoed, echo_runs, echoes_kept, echoes_stop}
 use Rattle.adb_local.proofs.echoing.run_echo.Goals as goal
 
 pub look_at_streams-requires-clause-room : goal.look_at_streams-requires-clause-room
@@ -28,3 +29,21 @@ returns-clause-runs c =
       files = c.in_ok-finish.ensures.files;
       rests = c.in_ok-finish.ensures.settled;
     })
+
+pub returns-in_err-settle-clause-kept : goal.returns-in_err-settle-clause-kept
+returns-in_err-settle-clause-kept c =
+    at_err _ c.from_residual-in_err-settle.result
+    (echoes_stop c.args.echo.streams c.args.echo.size c.args.world.now c.start_streams.new.world c.settle.new.world.files c.in_ok-first.ensures.started
+    c.in_err-settle.ensures.in_part)
+
+pub returns-in_err-finish-clause-kept : goal.returns-in_err-finish-clause-kept
+returns-in_err-finish-clause-kept c =
+    at_err _ c.from_residual-in_err-finish.result (c.in_err-finish.ensures.files
+    ∙ echoes_kept c.args.echo.streams c.args.echo.size c.args.world.now c.start_streams.new.world c.settle.new.world c.in_ok-first.ensures.started
+    c.in_ok-settle.ensures.files)
+
+pub returns-in_err-text-clause-kept : goal.returns-in_err-text-clause-kept
+returns-in_err-text-clause-kept c =
+    at_err _ c.from_residual-in_err-text.result (c.in_ok-finish.ensures.files
+    ∙ echoes_kept c.args.echo.streams c.args.echo.size c.args.world.now c.start_streams.new.world c.settle.new.world c.in_ok-first.ensures.started
+    c.in_ok-settle.ensures.files)

@@ -1,4 +1,4 @@
-use Rattle.std.proofs.Common.{ℕ, ◌≡◌, rules, subst}
+use Rattle.std.proofs.Common.{ℕ, ◌≡◌, subst}
 use denote.Exit.{no}
 use denote.Param.Send.{arg_send, param_send}
 use Rattle.std.specs.contracts.marker.Brand as brand
