@@ -21,7 +21,7 @@ pub enum Rule {
     NotDrawn,
     /// The entry plugs in a device, and the maximum number of devices is plugged in.
     TooManyDevices,
-    /// The entry plugs in a device whose serial is not valid.
+    /// The entry plugs in a device with a serial that is not valid.
     BadSerial,
     /// The entry hands out no bytes, or bytes that are not the first due ones.
     NotDue,

@@ -14,7 +14,7 @@ pub enum CommandEnd {
     NotRun(WordsError),
     /// `replay`: the history of the capture was written, or the reason why the replay stopped.
     Replayed(Result<(), Stop>),
-    /// `check`: the judgement, whose line was written, or the reason why the command stopped.
+    /// `check`: the judgement, after its line was written, or the reason why the command stopped.
     Judged(Result<Judgement, Stop>),
     /// `gen`: the lines of the load were written, or the reason why the command stopped.
     Generated(Result<(), LoadStop>),

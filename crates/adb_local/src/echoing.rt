@@ -1,4 +1,4 @@
-//! Running the lines of a script whose streams get back the bytes that they send.
+//! Running the echo lines of a script: each stream gets back the bytes that it sends.
 
 ghost use Rattle.std.specs.Prelude.{◌≡◌, ◌+◌, ◌≤◌, ◌<◌, ◌++◌, Some, codes, option_map, IfOk, OnErr, OnOk};
 ghost use Rattle.adb_outside.specs.Tables.{at};

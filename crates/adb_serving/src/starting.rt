@@ -26,8 +26,8 @@ use std::net::{Net, TcpListener, TcpStream};
 use std::sync::Wait;
 use std::thread::Threads;
 
-/// Runs the words of the command line: a server over this machine, whose history goes to a sink of
-/// its own, a client tool, or a command that neither serves nor dials.
+/// Runs the words of the command line: a server over this machine, a client tool, or a command that
+/// neither serves nor dials. The history of a server goes to a sink of its own.
 ///
 /// If the words could not be read, the run reads nothing and writes only the note. The note has the
 /// line of OutOfMemory if an allocation failed, and otherwise the usage line.
