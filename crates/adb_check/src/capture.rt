@@ -15,22 +15,24 @@ use adb_capture_reader::CaptureReader;
 use adb_outside::Source;
 use std::alloc::{AllocError, Global};
 
-/// What the history of a capture comes to.
+/// The judgement of the history of a capture.
 #[derive(Clone, Copy, Debug, PartialEq, Eq, Drop)]
 pub enum Judgement {
-    /// It has so many entries, and is legal.
+    /// The history is legal, and has this many entries.
     Legal { entries: u64 },
-    /// The entry at this place, counted from 1, is the first that may not come, and this is the
-    /// first rule that it breaks.
+    /// The history is not legal: the place, counted from 1, of the first entry that is not legal
+    /// after those before it, and the first rule that this entry breaks.
     Illegal { place: u64, rule: Rule },
 }
 
-/// Judges the history of the capture that a source has. It reads the source to its end, or to the
-/// first entry that may not come; after a kill too it reads on. It keeps one record of the capture
-/// and what was read past it.
+/// Judges the history of the capture that a source has. Reads the source to its end, also after a
+/// kill, or to the first illegal entry. Holds one record of the capture and the bytes that were
+/// read past it.
 ///
-/// An error that refuses the capture is the first refusal by form, of a record before which each
-/// entry may come. The others are `ReadFault`, where the source failed, and `OutOfMemory`.
+/// - `ReadFault`: the source failed.
+/// - `OutOfMemory`: an allocation failed.
+/// - Any other error: the first refusal of the capture for its form. All entries before the refused
+///   record are legal.
 pub fn judge_capture<S: Source>(alloc: Global, source: &mut S) -> Result<Judgement, CaptureError>
     ensures judges { (capture : List ℕ) → S.left source.old ≡ Some capture
         → JudgesCapture result (formed capture) (S.left source.new) }
@@ -57,7 +59,7 @@ pub fn judge_capture<S: Source>(alloc: Global, source: &mut S) -> Result<Judgeme
     Ok(Judgement::Legal { entries })
 }
 
-/// Judges an entry, which is dropped then.
+/// Judges an entry, and drops it.
 fn judge_entry(judge: &mut Judge, entry: Entry) -> Result<Verdict, AllocError>
     ensures judged { (given : History) → Judges judge.old given → IfOk result (λ verdict.
         Says verdict (entry ∷ given) × Judges judge.new (entry ∷ given)) }

@@ -11,7 +11,7 @@ use adb_hub::Hub;
 use std::alloc::{AllocError, Global};
 use std::marker::Model;
 
-/// Judges a history, entry by entry. It keeps a hub, and no entry.
+/// A judge of one history, entry by entry. It keeps a hub, and no entries.
 #[derive(Drop)]
 pub struct Judge {
     hub: Hub,
@@ -27,7 +27,7 @@ impl Model for Judge {
 }
 
 impl Judge {
-    /// A judge that was given no entry. It takes no memory.
+    /// Returns a judge that was given no entries. Allocates nothing.
     pub fn new(alloc: Global) -> Judge
         ensures { Judges result [] }
     {
@@ -37,9 +37,11 @@ impl Judge {
         }
     }
 
-    /// Judges the entries given so far and one more: `Legal` where each may come after those before
-    /// it, else the first rule that the first one breaks which may not. From then on each call
-    /// answers the same. After want of memory the judge is as before.
+    /// Judges the entries given so far and one more. Returns `Legal` if each entry is legal after
+    /// those before it, and otherwise the first rule that the first illegal entry breaks. After an
+    /// illegal entry each call returns the same verdict.
+    ///
+    /// - `AllocError`: an allocation failed. The judge is unchanged.
     pub fn next(&mut self, entry: &Entry) -> Result<Verdict, AllocError>
         ensures judged { (given : History) → Judges self.old given → IfOk result (λ verdict.
             Says verdict (entry.now ∷ given) × Judges self.new (entry.now ∷ given)) }
@@ -54,7 +56,7 @@ impl Judge {
     }
 }
 
-/// What is said where this rule was broken, or none.
+/// Returns the verdict for a broken rule, or `Legal` if no rule was broken.
 fn verdict_of(broken: Option<Rule>) -> Verdict
     ensures { result ≡ verdict_of broken }
 {

@@ -1,4 +1,4 @@
-//! Judging histories: whether a server could have made them.
+//! Checks whether a history is legal: whether a server could have made it.
 #![tactic(auto)]
 
 mod capture;

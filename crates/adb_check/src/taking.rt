@@ -1,4 +1,4 @@
-//! Making the next entry, or finding the rule that it breaks.
+//! Applying the next entry of a history, or finding the rule that it breaks.
 
 ghost use Rattle.std.specs.Prelude.{◌≡◌, true, IfOk, OnErr};
 ghost use Rattle.adb_capture.specs.declared.entry.Entry.{Entry};
@@ -17,10 +17,11 @@ use std::alloc::AllocError;
 
 /// Applies the next entry of the history that a hub holds, if it is legal there.
 ///
-/// `Ok(None)`: the entry is legal, and the hub holds the history with it.
-/// `Ok(Some(rule))`: the first rule that the entry breaks. After a hand-out that is not due the hub
-/// has handed out what was due in its place; after any other entry it is unchanged.
-/// `AllocError`: an allocation failed; the hub is unchanged.
+/// - `Ok(None)`: the entry is legal, and the hub holds the history with it.
+/// - `Ok(Some(rule))`: the first rule that the entry breaks. If the entry is a hand-out whose bytes
+///   are not due, the hub has handed out the due bytes instead. After any other entry the hub is
+///   unchanged.
+/// - `AllocError`: an allocation failed. The hub is unchanged.
 pub fn take(hub: &mut Hub, entry: &Entry) -> Result<Option<Rule>, AllocError>
     ensures taken { (h : History) → IsLawful hub.old h
         → IfOk result (λ broken. Takes broken entry.now h hub.new) }
@@ -33,7 +34,7 @@ pub fn take(hub: &mut Hub, entry: &Entry) -> Result<Option<Rule>, AllocError>
     }
 }
 
-/// Makes the entry of what comes from a client or a device.
+/// Applies an entry that comes from a client or a device.
 fn come(hub: &mut Hub, entry: &Entry) -> Result<Option<Rule>, AllocError>
     requires input { is_input entry.now ≡ true }
     ensures taken { (h : History) → IsLawful hub.old h
@@ -51,7 +52,7 @@ fn come(hub: &mut Hub, entry: &Entry) -> Result<Option<Rule>, AllocError>
 }
 
 /// Returns the rule that an entry breaks if a hub refuses it for this reason. A record that is
-/// refused by its form has no entry, and breaks no rule.
+/// refused for its form has no entry and breaks no rule.
 pub fn rule_of(reason: Reason) -> Option<Rule>
     ensures { result ≡ reason_rule reason }
 {
@@ -63,7 +64,7 @@ pub fn rule_of(reason: Reason) -> Option<Rule>
     }
 }
 
-/// Hands out to a client as many bytes as a Put did, and compares.
+/// Hands out as many bytes to a client as a Put did, and compares them with the bytes of the Put.
 fn put(hub: &mut Hub, client: u32, bytes: &HandOut) -> Result<Option<Rule>, AllocError>
     ensures taken { (h : History) → IsLawful hub.old h
         → IfOk result (λ broken. Takes broken (Entry.Put client bytes.now) h hub.new) }
@@ -72,7 +73,7 @@ fn put(hub: &mut Hub, client: u32, bytes: &HandOut) -> Result<Option<Rule>, Allo
     broken_by(hub.put(client, bytes.len().max(1)), bytes)
 }
 
-/// Hands out on a link as many bytes as a Send did, and compares.
+/// Hands out as many bytes on a link as a Send did, and compares them with the bytes of the Send.
 fn send(hub: &mut Hub, link: u32, bytes: &HandOut) -> Result<Option<Rule>, AllocError>
     ensures taken { (h : History) → IsLawful hub.old h
         → IfOk result (λ broken. Takes broken (Entry.Send link bytes.now) h hub.new) }
@@ -81,7 +82,7 @@ fn send(hub: &mut Hub, link: u32, bytes: &HandOut) -> Result<Option<Rule>, Alloc
     broken_by(hub.send(link, bytes.len().max(1)), bytes)
 }
 
-/// The rule that a hand-out of some bytes breaks where a hub answers so.
+/// Returns the rule that a hand-out of these bytes breaks, if any, by the answer of the hub.
 fn broken_by(answer: Result<Handed, HubError>, bytes: &HandOut) -> Result<Option<Rule>, AllocError>
     ensures { result ≡ broken_by answer bytes.now }
 {
@@ -92,7 +93,8 @@ fn broken_by(answer: Result<Handed, HubError>, bytes: &HandOut) -> Result<Option
     }
 }
 
-/// The same where it hands out so much of what is due.
+/// Returns the rule that a hand-out of these bytes breaks, if any, by the bytes that the hub handed
+/// out.
 fn handed_rule(handed: Handed, bytes: &HandOut) -> Option<Rule>
     ensures { result ≡ handed_rule handed bytes.now }
 {

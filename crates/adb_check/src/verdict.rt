@@ -1,34 +1,34 @@
-//! What a judge says of a history.
+//! The verdicts of a judge, and the rules that an entry can break.
 
 ghost use Rattle.std.specs.Prelude.{◌≡◌};
 ghost use Rattle.adb_check.specs.Rules.{rule_text};
 
-/// What a judge says of the entries that it was given.
+/// The verdict on the entries that a judge was given.
 #[derive(Clone, Copy, Debug, PartialEq, Eq, Drop)]
 pub enum Verdict {
-    /// Each of them may come after those before it.
+    /// Each entry is legal after those before it.
     Legal,
-    /// One of them may not. Of the first such one this is the first rule that it breaks.
+    /// An entry is illegal: the first rule that the first illegal entry breaks.
     Illegal(Rule),
 }
 
-/// A rule that an entry breaks which may not come, in the order in which they are looked at.
+/// A rule that an illegal entry breaks. The rules are checked in this order.
 #[derive(Clone, Copy, Debug, PartialEq, Eq, Drop)]
 pub enum Rule {
-    /// It comes from a client or a device, and a kill was made.
+    /// The entry comes from a client or a device after a kill.
     AfterKill,
-    /// It draws another number than the next one, or names one that was never drawn.
+    /// The entry draws a number other than the next one, or names a number that was never drawn.
     NotDrawn,
-    /// It plugs in a device, and as many as there may be are plugged in.
+    /// The entry plugs in a device, and the maximum number of devices is plugged in.
     TooManyDevices,
-    /// It plugs in a device whose serial is not lawful.
+    /// The entry plugs in a device with a serial that is not valid.
     BadSerial,
-    /// It hands out no bytes, or not the first ones that are due.
+    /// The entry hands out no bytes, or bytes that are not the first due ones.
     NotDue,
 }
 
 impl Rule {
-    /// Its text.
+    /// Returns the text of the rule.
     pub fn text(self) -> &'static [u8]
         ensures { result.now ≡ rule_text self }
     {

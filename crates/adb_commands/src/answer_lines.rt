@@ -1,4 +1,4 @@
-//! Writing the answer lines of a script: each once it is complete.
+//! Writing the answer lines of a script, each once it is complete.
 
 ghost use Rattle.std.specs.Prelude.{◌≡◌, ◌≤◌, ◌+◌, ℕ, List, [], Some};
 ghost use Rattle.std.specs.List.{concat};
@@ -58,7 +58,7 @@ fn write_in<K: Sink>(
     ended
 }
 
-/// Runs the lines that are left, and keeps the answer of each.
+/// Runs the remaining lines, and keeps the answer of each.
 fn keep_answers<K: Sink>(
     alloc: Global,
     world: &mut World,
@@ -80,7 +80,7 @@ fn keep_answers<K: Sink>(
     Ok(())
 }
 
-/// Keeps an answer, which is dropped then.
+/// Keeps an answer, and drops it.
 fn keep_answer<K: Sink>(output: &mut Output, sink: &mut K, answer: Text) -> Result<(), Stop>
     ensures kept { KeepsBytes result answer
         (K.written sink.old, output.old) (K.written sink.new, output.new) }
@@ -90,7 +90,7 @@ fn keep_answer<K: Sink>(output: &mut Output, sink: &mut K, answer: Text) -> Resu
     output.keep_bytes(sink, answer.as_slice())
 }
 
-/// Writes lines that are all there, in larger pieces.
+/// Writes lines that are all complete, in larger pieces.
 ///
 /// - `WriteFault`: the sink failed. A prefix of the lines is written.
 /// - `OutOfMemory`: an allocation failed. A prefix of the lines is written.
@@ -106,7 +106,7 @@ pub(crate) fn write_lines<K: Sink>(alloc: Global, lines: &[Line], sink: &mut K) 
     ended
 }
 
-/// Keeps lines.
+/// Keeps lines for the sink.
 fn keep_lines<K: Sink>(lines: &[Line], output: &mut Output, sink: &mut K) -> Result<(), Stop>
     ensures kept { (had : List ℕ) → Keeps had [] (K.written sink.old, output.old)
         → KeepsText result had (concat (texts_of lines.now))

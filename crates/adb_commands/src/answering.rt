@@ -24,8 +24,8 @@ use adb_script::Line;
 use adb_world::World;
 use std::alloc::Global;
 
-/// Reads a script of a kind, runs it in a new world, whose sides move as the seed says, and writes
-/// its answer lines, which the seed does not change.
+/// Reads a script of a kind, runs it in a new world, and writes its answer lines. The seed decides
+/// how the sides of the world move; it does not change the answer lines.
 ///
 /// - `BadLine`: a line is refused; it is the first one, and nothing is written.
 /// - `ReadFault`: the source failed. Nothing is written.
@@ -78,7 +78,8 @@ fn answer_text<K: Sink>(
     }
 }
 
-/// Runs a script of `local` in a new world. The whole script is checked before a line runs.
+/// Runs a script of `local` in a new world, and writes its answer lines. The whole script is
+/// checked before a line runs.
 fn answer_local<K: Sink>(
     alloc: Global,
     seed: u64,
@@ -103,7 +104,7 @@ fn answer_local<K: Sink>(
     }
 }
 
-/// The lines of a script of `local`, none of which is run yet.
+/// Returns the lines of a script of `local`, none of which has run yet.
 fn run_of<'a>(alloc: Global, script: &'a [u8], seed: u64) -> Result<ScriptRun<'a>, ScriptStop>
     ensures lines { IfOk result (λ run. run ≡ all_left (lines_in script.now)) }
     ensures few { IfOk result (λ run. sessions_in run.lines ≤ 65536) }
@@ -140,7 +141,7 @@ fn answer_copy<K: Sink>(
     }
 }
 
-/// The lines of the tree of a script of `copy`, copied in a new world.
+/// Copies the tree of a script of `copy` in a new world, and returns its lines.
 fn lines_of(alloc: Global, script: &[u8], seed: u64) -> Result<Vec<Line>, ScriptStop>
     ensures lines { IfOk result (λ lines. copied_lines script.now ≡ Some (texts_of lines.items)) }
     ensures refuses { RefusesAs result (first_bad ScriptKind.Copy script.now) }
@@ -150,7 +151,7 @@ fn lines_of(alloc: Global, script: &[u8], seed: u64) -> Result<Vec<Line>, Script
     lines_in(alloc, &mut world, script, seed)
 }
 
-/// The lines of the tree of a script of `copy`, copied in a world that is new.
+/// Copies the tree of a script of `copy` in a world that is new, and returns its lines.
 fn lines_in(
     alloc: Global,
     world: &mut World,
@@ -168,7 +169,7 @@ fn lines_in(
     Ok(lines)
 }
 
-/// Why a script is not answered whose answer lines are lost.
+/// Returns the reason why a script is not answered, for a failure that lost its answer lines.
 fn lost_by(why: Stop) -> ScriptStop
     requires { IsLoss (Err why) }
     ensures { IsLostBy why result }

@@ -1,4 +1,4 @@
-//! Judging the history of a capture, and writing what it comes to.
+//! Judging the history of a capture, and writing the judgement.
 
 ghost use Rattle.std.specs.Prelude.{◌≡◌, ◌<◌, List, ℕ, Some, IfOk, length};
 ghost use Rattle.adb_outside.specs.Outside.{Counts};
@@ -12,9 +12,13 @@ use adb_outside::{Sink, Source, Text, Wrote};
 use adb_replay::Stop;
 use std::alloc::{AllocError, Global};
 
-/// Judges the history of the capture that a source has, and writes a line of what it comes to:
-/// whether it is legal, or else its first entry that may not come. Nothing is written where the
-/// capture is refused by form before that.
+/// Judges the history of the capture that a source has, and writes one line, which says that the
+/// history is legal or names its first illegal entry.
+///
+/// - `Refused`: the capture is refused for its form, before any illegal entry. Nothing is written.
+/// - `ReadFault`: the source failed. Nothing is written.
+/// - `OutOfMemory`: an allocation failed. Nothing is written.
+/// - `WriteFault`: the sink failed. A prefix of the line is written.
 pub fn check<S: Source, K: Sink>(
     alloc: Global,
     source: &mut S,
@@ -38,7 +42,7 @@ pub fn check<S: Source, K: Sink>(
     }
 }
 
-/// The line of what a history comes to.
+/// Returns the line of a judgement.
 #[tactic(auto, unfolding(crate::specs::Loads::line, crate::specs::Check::illegal_line))]
 fn line_of(alloc: Global, judgement: Judgement) -> Result<Text, AllocError>
     ensures line { IfOk result (λ line. line ≡ judged_line judgement) }

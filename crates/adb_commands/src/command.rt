@@ -1,4 +1,4 @@
-//! The commands that need a source and a sink alone.
+//! The commands that need only a source and a sink.
 
 ghost use Rattle.std.specs.Prelude.{ℕ};
 ghost use Rattle.adb_outside.specs.Outside.{Counts};
@@ -16,28 +16,29 @@ use adb_replay::replay;
 use adb_words::{Command, WordsError, read_words};
 use std::alloc::Global;
 
-/// Runs the command that the words after the program's name say, if it is one that neither serves
-/// nor dials. It never waits, and returns.
+/// Runs the command of the words after the program's name, if it is one that neither serves nor
+/// dials. It never waits, and always returns.
 ///
-/// `replay` reads a capture from the source, makes its entries in order, hands out all that is due
-/// after each, and writes the whole history to the sink as a capture. Put and Send records are
-/// passed over. After a kill no further record is made, and no more is read of the source.
+/// `replay` reads a capture from the source, applies its entries in order, hands out all output
+/// after each, and writes the whole history to the sink as a capture. It skips Put and Send
+/// records. After a kill it applies no more records, and reads no more of the source.
 ///
-/// `gen <seed> <streams>` makes the load of that seed and that many streams, hands out all that is
-/// due after each of its entries, and writes four lines: `streams`, `up` and `down`, the bytes that
+/// `gen <seed> <streams>` makes the load of that seed and that many streams, hands out all output
+/// after each of its entries, and writes four lines: `streams`, `up` and `down`, the bytes that
 /// went up and down the streams, and `entries`, the number of entries of the history. It reads
 /// nothing.
 ///
-/// `check` reads a capture with its hand-outs, and writes one line: the number of its entries if its
-/// history is legal, and else the first entry that may not come, and the rule that it breaks. It
-/// keeps one record. After a kill it reads on, to the end of the source.
+/// `check` reads a capture with its hand-outs, and writes one line: the number of entries if the
+/// history is legal, and otherwise the first illegal entry and the rule that it breaks. It holds
+/// one record at a time. After a kill it continues to read, up to the end of the source.
 ///
 /// `local <seed>` reads a script to its end, runs it in a new world, and writes its answer lines.
-/// The seed says only which side of the world moves next, and by how much. Reading stops at the
-/// first byte that is one too many, and nothing is written if a line is refused.
+/// The seed decides only which side of the world moves next, and by how much. Reading stops at the
+/// first byte that exceeds the maximum length. If a line is refused, nothing is written.
 ///
-/// `copy <seed>` reads a script to its end whose lines name files, copies these to the device of a
-/// new world and back, and writes a line for each file that came. The seed says as little.
+/// `copy <seed>` reads a script to its end; each line of the script names a file. It copies the
+/// files to the device of a new world and back, and writes a line for each file that came back. The
+/// seed has the same role as for `local`.
 #[tactic(auto, using(crate::proofs::Loads::load_promised))]
 pub fn run_command<S: Source, K: Sink>(
     alloc: Global,
@@ -45,7 +46,8 @@ pub fn run_command<S: Source, K: Sink>(
     source: &mut S,
     sink: &mut K,
 ) -> CommandEnd
-    // The end is one of the command that the words are, and says what was read and written.
+    // The returned end is that of the command in the words. It determines what was read and
+    // written.
     ensures leaves { Leaves words.now result
         (record { told = S.left; faults = S.faults; steady = S.steady })
         (record { told = K.written; faults = K.faults; steady = K.steady })
@@ -55,7 +57,7 @@ pub fn run_command<S: Source, K: Sink>(
     ensures promised { (seed streams : ℕ) → IsLoad seed streams words.now
         → IsPromised (made seed streams) }
 
-    // The end says whether the source or the sink failed.
+    // The end shows whether the source or the sink failed.
     ensures reads { CountsSource result (Counts S.steady S.faults source.old source.new) }
     ensures writes { Counts K.steady K.faults sink.old sink.new (fails_sink result) }
 {

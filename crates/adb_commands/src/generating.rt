@@ -1,4 +1,4 @@
-//! Making a load, and writing how much went through.
+//! Making a load, and writing its totals.
 
 ghost use Rattle.std.specs.Prelude.{◌≡◌, ◌<◌, IfOk, length};
 ghost use Rattle.adb_outside.specs.Outside.{Counts};
@@ -13,8 +13,11 @@ use adb_outside::{Sink, Text, Wrote};
 use adb_run_load::{Totals, run_load};
 use std::alloc::{AllocError, Global};
 
-/// Makes the load of a seed and so many streams in a hub of its own, and writes four lines: how
-/// many streams it has, and how much went through.
+/// Makes the load of a seed and a number of streams in a hub of its own, and writes four lines: the
+/// number of streams, and the totals of what went through.
+///
+/// - `WriteFault`: the sink failed. A prefix of the lines is written.
+/// - `OutOfMemory`: an allocation failed. Nothing is written.
 pub fn generate<K: Sink>(
     alloc: Global,
     seed: u64,
@@ -32,7 +35,7 @@ pub fn generate<K: Sink>(
     }
 }
 
-/// The lines of the load of a seed and so many streams.
+/// Makes the load of a seed and a number of streams, and returns its lines.
 fn load_lines(alloc: Global, seed: u64, streams: u16) -> Result<Text, AllocError>
     requires size { IsLoadSize streams }
     ensures lines { IfOk result (λ lines. lines ≡ load_lines seed streams) }
@@ -42,7 +45,7 @@ fn load_lines(alloc: Global, seed: u64, streams: u16) -> Result<Text, AllocError
     lines_of(alloc, streams, totals)
 }
 
-/// Makes that load in a hub of its own, and tells how much went through.
+/// Makes the load of a seed and a number of streams in a hub of its own, and returns its totals.
 fn totals_made(alloc: Global, seed: u64, streams: u16) -> Result<Totals, AllocError>
     requires size { IsLoadSize streams }
     ensures { IfOk result (λ totals. totals ≡ totals_of (made seed streams)) }
@@ -51,7 +54,7 @@ fn totals_made(alloc: Global, seed: u64, streams: u16) -> Result<Totals, AllocEr
     run_load(alloc, &mut hub, seed, u32::from(streams))
 }
 
-/// The lines of a load.
+/// Returns the lines of a load.
 #[tactic(auto, unfolding(crate::specs::Loads::line))]
 fn lines_of(alloc: Global, streams: u16, totals: Totals) -> Result<Text, AllocError>
     ensures lines { IfOk result (λ lines. lines ≡ lines_of streams totals) }

@@ -1,8 +1,8 @@
-//! Why the lines of a load are not written.
+//! The reasons why the lines of a load are not written.
 
 use std::alloc::AllocError;
 
-/// Why the lines of a load are not written.
+/// The reason why the lines of a load are not written.
 #[derive(Clone, Copy, Debug, PartialEq, Eq, Drop)]
 pub enum LoadStop {
     /// The sink failed.

@@ -13,15 +13,19 @@ use std::alloc::{AllocError, Global};
 /// The maximum number of bytes that are read of a script: one more than it may have.
 pub const MAX_SCRIPT_READ: usize = MAX_SCRIPT + 1;
 
-/// Says that the number that definitions take from the code is that of the specification.
+/// States that the number that definitions take from the code is that of the specification.
 pub fn limits_are()
     ensures script { MAX_SCRIPT_READ ≡ 1048577 }
 {}
 
-/// The most bytes that are read at once.
+/// The maximum number of bytes that are read at once.
 const PIECE: usize = 65_536;
 
-/// Reads a script: to the end of its source, or to the byte that is one too many.
+/// Reads a script, up to the end of its source or up to the first byte that exceeds the maximum
+/// length.
+///
+/// - `ReadFault`: the source failed.
+/// - `OutOfMemory`: an allocation failed.
 pub fn read_script<S: Source>(alloc: Global, source: &mut S) -> Result<Text, ScriptStop>
     ensures script { IfOk result (λ script. ReadsScript script
         (S.left source.old) (S.left source.new)) }
@@ -35,7 +39,8 @@ pub fn read_script<S: Source>(alloc: Global, source: &mut S) -> Result<Text, Scr
     Ok(script)
 }
 
-/// Reads a piece behind a script, where it may have more and more comes.
+/// Reads a piece and appends it to a script. Returns `false` if the script may have no more bytes,
+/// or if the source is at its end.
 fn read_piece<S: Source>(
     source: &mut S,
     script: &mut Text,
@@ -54,7 +59,8 @@ fn read_piece<S: Source>(
     read_into(source, script, &mut buffer[..room])
 }
 
-/// Reads a piece, no longer than this one, behind a script.
+/// Reads at most as many bytes as `piece` has room for, and appends them to a script. Returns
+/// `false` if the source is at its end.
 fn read_into<S: Source>(
     source: &mut S,
     script: &mut Text,

@@ -1,10 +1,10 @@
 //! The scripts that commands read.
 
-/// What the lines of a script say, and what is written of them.
+/// The kind of a script: the meaning of its lines, and the lines that are written for it.
 #[derive(Clone, Copy, Debug, PartialEq, Eq, Drop)]
 pub enum ScriptKind {
-    /// Each line asks a device for something, and is answered by a line.
+    /// Each line makes a request to a device and is answered by a line.
     Local,
-    /// Each line names a file of a tree, and each file that came back is shown by a line.
+    /// Each line names a file of a tree. Each file that comes back is shown by a line.
     Copy,
 }

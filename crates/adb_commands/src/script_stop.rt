@@ -1,18 +1,18 @@
-//! Why a script is not answered.
+//! The reasons why a script is not answered.
 
 use adb_script::ScriptError;
 use std::alloc::AllocError;
 
-/// Why a script is not answered.
+/// The reason why a script is not answered.
 #[derive(Clone, Copy, Debug, PartialEq, Eq, Drop)]
 pub enum ScriptStop {
     /// The source failed.
     ReadFault,
     /// The sink failed.
     WriteFault,
-    /// Memory ran out.
+    /// An allocation failed.
     OutOfMemory,
-    /// A line is refused: the number of the first, from 1.
+    /// A line is refused: the number of the first such line, counted from 1.
     BadLine { line: u32 },
 }
 

@@ -7,7 +7,7 @@ use adb_outside::Text;
 use itoa::Buffer;
 use std::alloc::AllocError;
 
-/// A name with a number behind it, as a line.
+/// Appends a line of a name and a number.
 #[tactic(auto, unfolding(crate::specs::Loads::line))]
 pub fn push_line(text: &mut Text, name: &[u8], number: u64) -> Result<(), AllocError>
     ensures { OnOk result (text.new ≡ text.old ++ line name.now number) }
@@ -17,7 +17,7 @@ pub fn push_line(text: &mut Text, name: &[u8], number: u64) -> Result<(), AllocE
     text.push_slice(b"\n")
 }
 
-/// A number in decimal digits.
+/// Appends a number in decimal digits.
 pub fn push_number(text: &mut Text, number: u64) -> Result<(), AllocError>
     ensures { OnOk result (text.new ≡ text.old ++ decimal number) }
 {

@@ -1,4 +1,4 @@
-//! Asking the device of a world about a path.
+//! Requests about a path to the device of a world.
 
 ghost use Rattle.std.specs.Prelude.{◌≡◌, ◌<◌, ◌≤◌, true, false, ℕ, length, take, IfOk, IsErr, OnErr, OnOk};
 ghost use Rattle.adb_files.specs.Files.{IsFileMap};
@@ -23,7 +23,7 @@ use std::alloc::{AllocError, Global};
 
 /// Returns the entries of a directory.
 ///
-/// - `AllocError`: an allocation failed. The files are as before.
+/// - `AllocError`: an allocation failed. The files are unchanged.
 pub fn list(
     alloc: Global,
     world: &mut World,
@@ -49,7 +49,7 @@ pub fn list(
 
 /// Returns a file that was found, with its bytes.
 ///
-/// - `AllocError`: an allocation failed. The files are as before.
+/// - `AllocError`: an allocation failed. The files are unchanged.
 pub fn pull(alloc: Global, world: &mut World, seed: u64, found: &Found) -> Result<File, AllocError>
     requires settled { world.old.settled ≡ true }
     requires room { world.old.given < most_sessions }
@@ -72,7 +72,7 @@ pub fn pull(alloc: Global, world: &mut World, seed: u64, found: &Found) -> Resul
     })
 }
 
-/// What an answer tells that is whole and no refusal.
+/// Returns the value of an answer that is complete and no refusal.
 fn value_of<V: Drop>(step: Step<V>) -> V
     requires { IsDone step }
     ensures { step ≡ steps.Done result }
@@ -85,7 +85,8 @@ fn value_of<V: Drop>(step: Step<V>) -> V
     }
 }
 
-/// What a session of its own is answered to a request about a path, which leaves the files.
+/// Makes a request about a path in a session of its own, and returns the parsed answer. The request
+/// leaves the files unchanged.
 fn ask<V: PathValue>(
     alloc: Global,
     world: &mut World,

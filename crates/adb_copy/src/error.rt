@@ -1,14 +1,14 @@
-//! Why a tree is not copied.
+//! The reasons why a tree is not pushed.
 
 use adb_outside::Text;
 use std::alloc::AllocError;
 
-/// Why a tree was not pushed.
+/// The reason why a tree was not pushed.
 #[derive(Drop)]
 pub enum CopyError {
     /// The device refused the file of this path, with this text.
     Refused { path: Text, text: Text },
-    /// Memory ran out.
+    /// An allocation failed.
     OutOfMemory,
 }
 

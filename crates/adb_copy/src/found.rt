@@ -1,4 +1,4 @@
-//! What a listing tells of a path.
+//! A path of the device, as a listing reports it.
 
 ghost use Rattle.std.specs.Prelude.{◌≡◌, ◌==◌, ◌/◌, IfOk};
 ghost use Rattle.adb_copy.specs.Waiting.{found_in, root};
@@ -7,16 +7,16 @@ use adb_outside::Text;
 use adb_sync::Dirent;
 use std::alloc::{AllocError, Global};
 
-/// The path of the directory that holds all others.
+/// The path of the directory that contains all others.
 const ROOT: &[u8] = b"/";
 
-/// The mode of a directory that no listing told of.
+/// The mode of the root, which no listing reports.
 const DIRECTORY_MODE: u32 = 16_877;
 
-/// What the first four bits of a directory's mode are, as `stat(2)` has them.
+/// The first four bits of a directory's mode, as `stat(2)` defines them.
 const DIRECTORY_TYPE: u32 = 4;
 
-/// What a listing tells of a path of the device.
+/// A path of the device, with the mode and the time that a listing reports for it.
 #[derive(Drop)]
 pub struct Found {
     pub path: Text,
@@ -25,7 +25,7 @@ pub struct Found {
 }
 
 impl Found {
-    /// The root.
+    /// Returns the root.
     pub fn root(alloc: Global) -> Result<Found, AllocError>
         ensures { IfOk result (λ found. found ≡ root) }
     {
@@ -36,7 +36,7 @@ impl Found {
         })
     }
 
-    /// An entry of a directory.
+    /// Returns the path of an entry of a directory, with the entry's mode and time.
     pub fn in_directory(
         alloc: Global,
         directory: &[u8],
@@ -56,7 +56,7 @@ impl Found {
         })
     }
 
-    /// Whether the mode is that of a directory.
+    /// Returns whether the mode is that of a directory.
     pub fn is_directory(&self) -> bool
         ensures { result ≡ (self.now.mode / 4096 == 4) }
     {

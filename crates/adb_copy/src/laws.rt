@@ -1,4 +1,4 @@
-//! What holds of all trees. Each function does nothing: its contract is the law.
+//! Laws of all trees. Each function does nothing: its contract is the law.
 
 ghost use Rattle.std.specs.Option.{option_or};
 ghost use Rattle.std.specs.Prelude.{◌≡◌, ◌<◌, ◌≤◌, ◌+◌, ◌*◌, ◌^◌, List, ℕ, length};
@@ -9,8 +9,9 @@ ghost use Rattle.adb_files.specs.Files.{IsFileMap, file_at, put_refusal};
 ghost use Rattle.adb_files.specs.Served.{send_by, served};
 ghost use Rattle.adb_sync_client.specs.Texts.{push_text};
 
-/// Where no file of a tree was refused, the device has at each path the file of the tree, mode,
-/// time and bytes alike, and at a path that the tree does not have what it had before.
+/// States that, if no file of a tree was refused, the device has at each path of the tree the
+/// tree's file, with the same mode, time and bytes. At every other path the device has what it had
+/// before.
 #[tactic(auto, using(crate::proofs::InPlace::are_in_place))]
 pub fn pushed_files_are_in_place()
     ensures { (tree files new : List Entry) → IsFileMap tree → pushed files tree ≡ all_pushed new
@@ -18,8 +19,8 @@ pub fn pushed_files_are_in_place()
         → file_at path new ≡ option_or (file_at path tree) (file_at path files) }
 {}
 
-/// What a device is sent for a file is served as one SEND, with its mode and time: the file is
-/// stored, or refused as a put of it is.
+/// States that the text that sends a file to a device is served as one SEND, with the file's mode
+/// and time: the file is stored, or refused as a put of it is.
 #[tactic(auto, using(crate::proofs::Sent::sent_by))]
 pub fn files_are_sent_whole()
     ensures { (files : List Entry) (entry : Entry) → IsCopied entry → entry.file.mtime < 2 ^ 32
@@ -29,7 +30,7 @@ pub fn files_are_sent_whole()
         (put_refusal files entry.path (length entry.file.bytes)) }
 {}
 
-/// Files lie in few directories: the root, and at most 500 for each of them.
+/// States that files are in few directories: the root, and at most 500 for each file.
 #[tactic(auto, using(crate::proofs::PullDirectories::few_directories))]
 pub fn directories_are_few()
     ensures { (files : List Entry) → IsFileMap files → AreCopied files

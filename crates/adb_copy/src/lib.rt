@@ -1,5 +1,5 @@
-//! Copying trees of files: a whole tree goes to the model device of a world, file by file, and
-//! comes back.
+//! Copies trees of files: pushes a whole tree to the model device of a world, file by file, and
+//! pulls it back.
 #![tactic(auto)]
 
 mod asking;

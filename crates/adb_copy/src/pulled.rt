@@ -1,4 +1,4 @@
-//! What files can be pulled into.
+//! Trees into which files can be pulled.
 
 use adb_files::{File, FileError, Files};
 use std::alloc::AllocError;
@@ -11,10 +11,11 @@ pub trait PulledTree {
     ghost use Rattle.adb_copy.specs.Pulled.{Fits};
     ghost use Rattle.adb_sync_client.specs.declared.request.TheConstants.{MAX_ASKED_PATH};
 
-    /// It stands for these files.
+    /// The property that a tree represents these files.
     ghost Holds: { Self → List Entry → Type 0 };
 
-    /// Puts a file, whose path has at most 1,000 bytes, into files that do not refuse it.
+    /// Puts a file into a tree. The path of the file has at most 1,000 bytes, and the files that
+    /// the tree represents do not refuse the file. Fails if an allocation fails.
     fn put(&mut self, path: &[u8], file: File) -> Result<(), AllocError>
         requires short { length path.now ≤ MAX_ASKED_PATH }
         requires fits { Fits Holds self.old path.now (length file.bytes) }

@@ -23,12 +23,13 @@ use rand_core::SeedableRng;
 use rand_pcg::Pcg32;
 use std::alloc::{AllocError, Global};
 
-/// Returns the files of the world's device, asked for as a client does, each time by a session of
-/// its own: a LIST of the root and of each directory that a listing names, and a RECV of each file.
-/// They come back entry for entry, and stay as they are. All that was started has to have settled.
+/// Returns the files of the world's device, entry for entry. The files of the device are unchanged.
+/// The requests are those of a client, each in a session of its own: a LIST of the root and of each
+/// directory that a listing names, and a RECV of each file. All that was started in the world must
+/// have settled.
 ///
 /// - `AllocError`: an allocation failed. The world is spent, or only some sessions were given. The
-///   files stay.
+///   files of the device are unchanged.
 pub fn pull_tree(alloc: Global, world: &mut World, seed: u64) -> Result<Files, AllocError>
     requires settled { world.old.settled ≡ true }
     requires files { AreCopied world.old.files }
@@ -47,7 +48,8 @@ pub fn pull_tree(alloc: Global, world: &mut World, seed: u64) -> Result<Files, A
     Ok(tree)
 }
 
-/// The same into a tree that stands for no files. Each file is put into it once it has come.
+/// Pulls the files of the world's device, as `pull_tree` does, into a tree that represents no
+/// files. Each file is put into the tree once it is received. The errors are those of `pull_tree`.
 pub fn pull_into<T: PulledTree>(
     alloc: Global,
     world: &mut World,
@@ -79,14 +81,14 @@ pub fn pull_into<T: PulledTree>(
     Ok(())
 }
 
-/// The files of the device are a map. None of them is read.
+/// States that the files of the device are a map from path to file. It reads no file.
 fn look_at_files(world: &World)
     ensures { IsFileMap world.now.files }
 {
     let _root = world.files().get(b"/");
 }
 
-/// Lists a directory that was found, or pulls a file.
+/// Lists a directory that was found, or pulls a file that was found.
 fn visit<T: PulledTree>(
     alloc: Global,
     world: &mut World,
@@ -119,7 +121,7 @@ fn visit<T: PulledTree>(
     }
 }
 
-/// Lists a directory that was found.
+/// Lists a directory that was found, and appends its entries to the pending ones.
 fn list_found(
     alloc: Global,
     world: &mut World,
@@ -173,7 +175,7 @@ fn pull_found<T: PulledTree>(
     Ok(())
 }
 
-/// Adds what the entries of a directory tell.
+/// Appends the entries of a directory to the pending ones.
 fn add_entries(
     alloc: Global,
     pending: &mut Vec<Found>,

@@ -1,4 +1,4 @@
-//! What can be pushed.
+//! Trees of files that can be pushed.
 
 use crate::sending::file_text;
 use adb_files::Files;
@@ -15,19 +15,20 @@ pub trait PushedTree {
     ghost use Rattle.adb_sync_client.specs.Texts.{push_text};
     ghost use Rattle.adb_sync_client.specs.declared.request.TheConstants.{MAX_ASKED_PATH};
 
-    /// Its files, in rising order of the bytes of their paths.
+    /// The files of the tree, in ascending byte order of their paths.
     ghost files: { Self → List Entry };
 
-    /// Does nothing: its files are a map from path to file.
+    /// States that the files of the tree are a map from path to file. It does nothing.
     fn are_a_map(&self)
         ensures { IsFileMap (files self.now) };
 
-    /// The least path of a file that is greater than `after` in the order of bytes; `None` exactly
-    /// where no file has a greater one.
+    /// Returns the least path of a file that is greater than `after` in byte order, or `None` if no
+    /// file has a greater path.
     fn next_path(&self, after: &[u8]) -> Option<&[u8]>
         ensures { option_copied result ≡ next_path after.now (files self.now) };
 
-    /// The text by which a device is sent the file of a path of at most 1,000 bytes.
+    /// Returns the text that sends the file of a path to a device. The path has at most 1,000
+    /// bytes. Fails if an allocation fails.
     fn text(&self, alloc: Global, path: &[u8]) -> Result<Text, AllocError>
         requires there { is_some (file_at path.now (files self.now)) ≡ true }
         requires short { length path.now ≤ MAX_ASKED_PATH }

@@ -19,13 +19,14 @@ use rand_core::SeedableRng;
 use rand_pcg::Pcg32;
 use std::alloc::Global;
 
-/// Pushes each file of a tree to the world's device, in the order of the bytes of their paths and
-/// by a session of its own: its mode, time and bytes are there alike, and all else is as before.
+/// Pushes each file of a tree to the world's device, in byte order of the paths, each in a session
+/// of its own. The device has each file with the same mode, time and bytes, and all else is
+/// unchanged.
 ///
-/// - `Refused`: the device refuses the next file; the files before it stay. A device without files
-///   refuses none.
+/// - `Refused`: the device refused a file. The files before it are stored. A device without files
+///   refuses no file.
 /// - `OutOfMemory`: an allocation failed. The world is spent, or some sessions were given. The
-///   device has the first files of the tree, each of them whole, and all else as before.
+///   device has a prefix of the files of the tree, each of them whole, and all else is unchanged.
 pub fn push_tree<T: PushedTree>(
     alloc: Global,
     world: &mut World,
@@ -81,7 +82,7 @@ fn push_files<T: PushedTree>(
     Ok(())
 }
 
-/// Pushes the file of a path.
+/// Pushes the file at a path.
 fn push_next<T: PushedTree>(
     alloc: Global,
     world: &mut World,

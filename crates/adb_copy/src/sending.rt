@@ -1,4 +1,4 @@
-//! The text by which a file is sent, and what its answer means.
+//! The text that sends a file, and the meaning of its answer.
 
 ghost use Rattle.std.specs.Prelude.{◌≡◌, ◌≤◌, List, ℕ, length, Err, IfOk, OnOk};
 ghost use Rattle.adb_copy.specs.Trees.{HasAnswered};
@@ -15,7 +15,7 @@ use adb_script::push_text;
 use adb_sync_client::{Push, Step};
 use std::alloc::{AllocError, Global};
 
-/// The text by which a file is sent.
+/// Returns the text that sends a file.
 pub(crate) fn file_text(alloc: Global, path: &[u8], file: &File) -> Result<Text, AllocError>
     requires { length path.now ≤ MAX_ASKED_PATH }
     ensures { IfOk result (λ text. text
@@ -24,7 +24,11 @@ pub(crate) fn file_text(alloc: Global, path: &[u8], file: &File) -> Result<Text,
     push_text(alloc, path, file.mode, file.mtime, file.bytes.as_slice())
 }
 
-/// What the answer to a push means.
+/// Reads the answer to the push of a file.
+///
+/// - `Refused`: the device refused the file. The error has the path of the file and the text of the
+///   answer.
+/// - `OutOfMemory`: an allocation failed.
 pub(crate) fn read_answer(alloc: Global, path: &[u8], answer: &[u8]) -> Result<(), CopyError>
     requires short { length path.now ≤ MAX_ASKED_PATH }
     requires whole { HasAnswered (push_value answer.now) }
@@ -43,7 +47,7 @@ pub(crate) fn read_answer(alloc: Global, path: &[u8], answer: &[u8]) -> Result<(
     }
 }
 
-/// What the bytes of the answer to a push are.
+/// Parses the answer to a push.
 fn push_step(alloc: Global, path: &[u8], answer: &[u8]) -> Result<Step<()>, AllocError>
     requires { length path.now ≤ MAX_ASKED_PATH }
     ensures { IfOk result (λ step. step ≡ push_value answer.now) }

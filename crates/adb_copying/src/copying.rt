@@ -17,12 +17,12 @@ use adb_world::World;
 use std::alloc::{AllocError, Global};
 
 /// Copies the tree that a script names to the device of a new world and back, and returns a line
-/// for each file that came, which the seed does not change.
+/// for each file that came back. The seed does not change the lines.
 ///
 /// - `BadLine`: a line is refused; it is the first one. The whole script is read before anything is
-///   copied, so the world is as before.
+///   copied, so the world is unchanged.
 /// - `OutOfMemory`: an allocation failed. The world is spent, or a part of the tree was copied. The
-///   device has the first files of the tree, each of them whole, and no others.
+///   device has a prefix of the files of the tree, each of them whole, and no others.
 pub fn copy_tree(
     alloc: Global,
     world: &mut World,
@@ -51,7 +51,7 @@ pub fn copy_tree(
     }
 }
 
-/// Copies files to the device and back, and shows what came.
+/// Copies files to the device and back, and returns the lines of the files that came back.
 fn copy_files(
     alloc: Global,
     world: &mut World,
@@ -74,7 +74,7 @@ fn copy_files(
     copied.lines()
 }
 
-/// Pushes files to a device that has none, which refuses no tree.
+/// Pushes files to a device that has none. Such a device refuses no tree.
 fn push(alloc: Global, world: &mut World, tree: NamedTree, seed: u64) -> Result<(), AllocError>
     requires settled { world.old.settled ≡ true }
     requires given { world.old.given ≡ 0 }
@@ -92,7 +92,7 @@ fn push(alloc: Global, world: &mut World, tree: NamedTree, seed: u64) -> Result<
     }
 }
 
-/// Want of memory, where no file was refused.
+/// Returns the error of an allocation failure, the only error of a push that is not refused.
 fn memory_of(error: CopyError) -> AllocError
     requires { error ≡ errors.OutOfMemory }
 {

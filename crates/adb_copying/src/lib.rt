@@ -1,5 +1,5 @@
-//! Copying the tree that a script names: it goes to the model device of a new world, comes back, and
-//! is shown.
+//! Copies the tree that a script names: pushes it to the model device of a new world, pulls it
+//! back, and shows its files.
 #![tactic(auto)]
 
 mod copying;

@@ -1,11 +1,11 @@
-//! The tree of a script, as it is pushed.
+//! The tree of a script, in the form that is pushed.
 
 use adb_copy::PushedTree;
 use adb_outside::Text;
 use adb_trees::NamedTree;
 use std::alloc::{AllocError, Global};
 
-/// The tree that a script names. The bytes of a file are made where it is pushed.
+/// The tree that a script names. The bytes of a file are made when the file is pushed.
 #[derive(Drop)]
 pub struct ScriptTree {
     pub tree: NamedTree,

@@ -1,4 +1,4 @@
-//! Showing the files of a tree.
+//! The lines that show the files of a tree.
 
 ghost use Rattle.std.specs.Prelude.{◌≡◌, ◌++◌, ◌∷◌, [], Some, true, is_some, option_map, decimal, codes, IfOk, OnOk};
 ghost use Rattle.adb_files.specs.declared.file.File.{File};
@@ -12,7 +12,8 @@ use adb_outside::Text;
 use adb_script::{Line, add_line, byte_sum, push_number};
 use std::alloc::{AllocError, Global};
 
-/// The line that shows a file: its path, mode, time, how many bytes it has, and their sum.
+/// Returns the line that shows a file: its path, mode and time, the number of its bytes, and their
+/// sum.
 pub(crate) fn line_of(alloc: Global, path: &[u8], file: &File) -> Result<Text, AllocError>
     ensures { IfOk result (λ text. text ≡ shown (record { path = path.now; file = file.now })) }
 {
@@ -25,7 +26,7 @@ pub(crate) fn line_of(alloc: Global, path: &[u8], file: &File) -> Result<Text, A
     Ok(text)
 }
 
-/// Adds a number behind a space.
+/// Appends a space and a number.
 fn push_behind_space(text: &mut Text, number: u128) -> Result<(), AllocError>
     ensures { OnOk result (text.new ≡ text.old ++ codes " " ++ decimal number) }
 {
@@ -33,7 +34,7 @@ fn push_behind_space(text: &mut Text, number: u128) -> Result<(), AllocError>
     push_number(text, number)
 }
 
-/// The lines that files keep as their bytes, in the order of the bytes of their paths.
+/// Returns the lines that files keep as their bytes, in byte order of the paths.
 pub(crate) fn lines_in(alloc: Global, files: &Files) -> Result<Vec<Line>, AllocError>
     ensures { IfOk result (λ lines. texts_of lines.items ≡ kept_lines files.now) }
 {
@@ -47,14 +48,14 @@ pub(crate) fn lines_in(alloc: Global, files: &Files) -> Result<Vec<Line>, AllocE
     Ok(lines)
 }
 
-/// Files are a map from path to file.
+/// States that files are a map from path to file.
 fn are_a_map(files: &Files)
     ensures { IsFileMap files.now }
 {
     files.get(b"");
 }
 
-/// Adds the line that is kept at a path.
+/// Appends the line that is kept at a path.
 fn add_line_at(files: &Files, path: &[u8], lines: &mut Vec<Line>) -> Result<(), AllocError>
     requires there { is_some (file_at path.now files.now) ≡ true }
     ensures { OnOk result (option_map (λ (file : File). texts_of lines.old.items
@@ -66,7 +67,7 @@ fn add_line_at(files: &Files, path: &[u8], lines: &mut Vec<Line>) -> Result<(), 
     }
 }
 
-/// Adds the line that is kept in a file.
+/// Appends the line that is kept in a file.
 fn add_line_of(file: &File, lines: &mut Vec<Line>) -> Result<(), AllocError>
     ensures { OnOk result (texts_of lines.new.items ≡ texts_of lines.old.items
         ++ file.now.bytes ∷ []) }

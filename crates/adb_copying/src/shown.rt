@@ -1,4 +1,4 @@
-//! A tree of which only the lines that show it are kept.
+//! A tree that keeps only the lines that show its files.
 
 ghost use Rattle.std.specs.Prelude.{◌≡◌, List, [], IfOk};
 ghost use Rattle.adb_copying.specs.Kept.{IsWant, with_lines};
@@ -12,7 +12,7 @@ use adb_files::{File, FileError, Files};
 use adb_script::Line;
 use std::alloc::{AllocError, Global};
 
-/// Files of which it keeps the lines that show them, each in the place of the file's bytes.
+/// A tree that keeps the lines that show its files, each in place of the bytes of the file.
 #[derive(Drop)]
 pub struct ShownTree {
     alloc: Global,
@@ -20,7 +20,7 @@ pub struct ShownTree {
 }
 
 impl ShownTree {
-    /// No files. It takes no memory.
+    /// Returns a tree without files. Allocates nothing.
     pub fn new(alloc: Global) -> ShownTree
         ensures { result.files ≡ [] }
     {
@@ -30,7 +30,7 @@ impl ShownTree {
         }
     }
 
-    /// The lines, in the order of the bytes of the paths.
+    /// Returns the lines, in byte order of the paths. Fails if an allocation fails.
     pub fn lines(&self) -> Result<Vec<Line>, AllocError>
         ensures { (files : List Entry) → self.now.files ≡ with_lines files
             → IfOk result (λ lines. texts_of lines.items ≡ lines_of files) }
@@ -46,7 +46,8 @@ impl PulledTree for ShownTree {
 
     ghost Holds = { λ tree files. tree.files ≡ with_lines files };
 
-    /// Keeps the file's line. Where the lines have no room it is want of memory.
+    /// Keeps the line of the file. If there is no room for the line, the error is that of an
+    /// allocation failure.
     fn put(&mut self, path: &[u8], file: File) -> Result<(), AllocError> {
         let bytes = line_of(self.alloc, path, &file)?;
         let line = File {
@@ -61,7 +62,7 @@ impl PulledTree for ShownTree {
     }
 }
 
-/// Want of memory, or of room for the lines.
+/// Converts the error of a put: a lack of room for the lines counts as an allocation failure.
 fn memory_of(error: FileError) -> AllocError
     requires { IsWant error }
 {

@@ -13,9 +13,11 @@ use adb_capture::Lent;
 use adb_outside::{Cause, Kind, Parts, Text};
 use std::alloc::AllocError;
 
-/// Appends the fields of an entry, after the brace that opens its object: its place in the history,
-/// its kind, the client or link that it names, the serial of that link's device, if one is given,
-/// and what it has besides.
+/// Appends the brace that opens the object of an entry, and the fields of the entry: its place in
+/// the history, its kind, the client or link that it names, the serial of that link's device if
+/// `serial` is not empty, and the fields of its kind.
+///
+/// - `AllocError`: an allocation failed. A prefix of the text may have been appended.
 pub fn push_entry(
     text: &mut Text,
     payloads: Payloads,
@@ -32,7 +34,7 @@ pub fn push_entry(
     push_data(text, payloads, entry)
 }
 
-/// Appends the serial of a device, if it has a byte.
+/// Appends the field of a device's serial, unless the serial is empty.
 fn push_serial(text: &mut Text, serial: &[u8]) -> Result<(), AllocError>
     ensures { OnOk result (text.new ≡ text.old ++ serial_field serial.now) }
 {
@@ -43,7 +45,7 @@ fn push_serial(text: &mut Text, serial: &[u8]) -> Result<(), AllocError>
     push_quoted(text, serial)
 }
 
-/// Returns what an entry is, up to the number of its client or link.
+/// Returns the text of an entry's kind, up to the number of its client or link.
 fn kind_label(entry: Lent<'_>) -> &'static [u8]
     ensures { result.now ≡ kind_label (entry_lent entry.entry) }
 {
@@ -79,7 +81,7 @@ fn number_of(entry: Lent<'_>) -> u32
     }
 }
 
-/// Appends what an entry has besides its kind and its number.
+/// Appends the fields that an entry has besides its kind and its number.
 fn push_data(text: &mut Text, payloads: Payloads, entry: Lent<'_>) -> Result<(), AllocError>
     ensures { OnOk result (text.new
         ≡ text.old ++ data_fields payloads (entry_lent entry.entry)) }
@@ -130,7 +132,7 @@ fn plug_text(kind: Kind) -> &'static [u8]
     }
 }
 
-/// Appends the number of some bytes, and the bytes where they are shown.
+/// Appends the number of bytes, and also the bytes if `payloads` is `Whole`.
 fn push_bytes(text: &mut Text, payloads: Payloads, bytes: &[u8]) -> Result<(), AllocError>
     ensures { OnOk result (text.new ≡ text.old ++ payload payloads bytes.now) }
 {
@@ -144,7 +146,7 @@ fn push_bytes(text: &mut Text, payloads: Payloads, bytes: &[u8]) -> Result<(), A
     }
 }
 
-/// Appends the same of bytes in two parts.
+/// Appends the same fields as `push_bytes`, for bytes in two parts.
 fn push_parts(text: &mut Text, payloads: Payloads, bytes: Parts<'_>) -> Result<(), AllocError>
     ensures { OnOk result (text.new
         ≡ text.old ++ payload payloads (bytes.entry.start.now ++ bytes.entry.rest.now)) }

@@ -1,4 +1,4 @@
-//! Entries of a history as the fields of a JSON object.
+//! Writes the entries of a history as the fields of JSON objects.
 #![tactic(auto)]
 
 mod fields;

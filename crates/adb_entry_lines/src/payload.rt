@@ -1,10 +1,10 @@
-//! What is shown of bytes.
+//! The detail in which bytes are shown.
 
-/// What is shown of the bytes of an entry.
+/// The detail in which the bytes of an entry are shown.
 #[derive(Clone, Copy, Debug, PartialEq, Eq, Drop)]
 pub enum Payloads {
-    /// Their number, and the bytes as a string.
+    /// The number of bytes, and the bytes as a string.
     Whole,
-    /// Their number.
+    /// Only the number of bytes.
     Lengths,
 }

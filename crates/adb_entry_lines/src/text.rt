@@ -1,4 +1,4 @@
-//! Bytes as a JSON string, and numbers beside their names.
+//! Text of JSON fields: bytes as a string, and values after their names.
 
 ghost use Rattle.std.specs.Prelude.{◌≡◌, ◌<◌, ◌≤◌, ◌∷◌, ◌++◌, [], true, IfOk, OnOk, flat_map, length, take};
 ghost use Rattle.adb_entry_lines.specs.Text.{by_number, escaped, hex_digit, named, numbered, quoted};
@@ -9,6 +9,8 @@ use std::alloc::AllocError;
 
 /// Appends bytes as a JSON string. Printable ASCII stays as it is; the quote and the backslash are
 /// escaped, and any other byte is written as `\u00XX`.
+///
+/// - `AllocError`: an allocation failed. A prefix of the text may have been appended.
 pub fn push_quoted(text: &mut Text, bytes: &[u8]) -> Result<(), AllocError>
     ensures { OnOk result (text.new ≡ text.old ++ quoted bytes.now) }
 {
@@ -17,7 +19,9 @@ pub fn push_quoted(text: &mut Text, bytes: &[u8]) -> Result<(), AllocError>
     text.push_slice(b"\"")
 }
 
-/// Appends a number in decimal digits after the text that names it.
+/// Appends a name, and then a number in decimal digits.
+///
+/// - `AllocError`: an allocation failed. A prefix of the text may have been appended.
 pub fn push_numbered(text: &mut Text, name: &[u8], number: u64) -> Result<(), AllocError>
     ensures { OnOk result (text.new ≡ text.old ++ numbered name.now number) }
 {
@@ -26,7 +30,9 @@ pub fn push_numbered(text: &mut Text, name: &[u8], number: u64) -> Result<(), Al
     text.push_slice(digits.format(number).as_bytes())
 }
 
-/// Appends a plain text and a quote after the text that names it, which ends with a quote.
+/// Appends a name, which ends with a quote, then a text that needs no escape, and a quote.
+///
+/// - `AllocError`: an allocation failed. A prefix of the text may have been appended.
 pub fn push_named(text: &mut Text, name: &[u8], plain: &[u8]) -> Result<(), AllocError>
     ensures { OnOk result (text.new ≡ text.old ++ named name.now plain.now) }
 {
@@ -35,8 +41,7 @@ pub fn push_named(text: &mut Text, name: &[u8], plain: &[u8]) -> Result<(), Allo
     text.push_slice(b"\"")
 }
 
-/// Appends bytes as they stand in a JSON string. Runs of bytes that stay as they are are appended
-/// whole.
+/// Appends bytes, escaped for a JSON string. A run of bytes that need no escape is appended whole.
 pub(crate) fn push_escaped(text: &mut Text, bytes: &[u8]) -> Result<(), AllocError>
     ensures { OnOk result (text.new ≡ text.old ++ flat_map escaped bytes.now) }
 {
@@ -47,7 +52,8 @@ pub(crate) fn push_escaped(text: &mut Text, bytes: &[u8]) -> Result<(), AllocErr
     Ok(())
 }
 
-/// Appends the first bytes that stay as they are, or some bytes that do not, and returns the rest.
+/// Appends a prefix of the bytes, escaped, and returns the rest. The prefix is a run of bytes that
+/// need no escape, or one byte or four bytes that need one.
 fn push_run<'a>(text: &mut Text, bytes: &'a [u8]) -> Result<&'a [u8], AllocError>
     requires some { 0 < length bytes.now }
     ensures pushed { IfOk result (λ rest. text.new ++ flat_map escaped rest.now
@@ -63,7 +69,8 @@ fn push_run<'a>(text: &mut Text, bytes: &'a [u8]) -> Result<&'a [u8], AllocError
     push_plain(text, bytes)
 }
 
-/// Appends the first bytes that stay as they are, or one byte that does not, and returns the rest.
+/// Appends a prefix of the bytes, escaped, and returns the rest. The prefix is a run of bytes that
+/// need no escape, or one byte that needs one.
 fn push_plain<'a>(text: &mut Text, bytes: &'a [u8]) -> Result<&'a [u8], AllocError>
     requires some { 0 < length bytes.now }
     ensures pushed { IfOk result (λ rest. text.new ++ flat_map escaped rest.now
@@ -83,7 +90,7 @@ fn push_plain<'a>(text: &mut Text, bytes: &'a [u8]) -> Result<&'a [u8], AllocErr
     Ok(rest)
 }
 
-/// Returns whether four bytes are written by their numbers.
+/// Returns whether each of four bytes is written as `\u00XX`.
 fn are_numbered(a: u8, b: u8, c: u8, d: u8) -> bool
     ensures { result ≡ true → (escaped a ≡ by_number a) × (escaped b ≡ by_number b)
         × (escaped c ≡ by_number c) × (escaped d ≡ by_number d) }
@@ -91,14 +98,14 @@ fn are_numbered(a: u8, b: u8, c: u8, d: u8) -> bool
     is_numbered(a) && is_numbered(b) && is_numbered(c) && is_numbered(d)
 }
 
-/// Returns whether a byte is written by its number.
+/// Returns whether a byte is written as `\u00XX`.
 fn is_numbered(byte: u8) -> bool
     ensures { result ≡ true → escaped byte ≡ by_number byte }
 {
     byte < b' ' || b'~' < byte
 }
 
-/// Appends four bytes by their numbers.
+/// Appends each of four bytes as `\u00XX`.
 fn push_numbers(text: &mut Text, a: u8, b: u8, c: u8, d: u8) -> Result<(), AllocError>
     ensures { OnOk result (text.new
         ≡ text.old ++ (by_number a ++ (by_number b ++ (by_number c ++ by_number d)))) }
@@ -131,7 +138,7 @@ fn push_numbers(text: &mut Text, a: u8, b: u8, c: u8, d: u8) -> Result<(), Alloc
     ])
 }
 
-/// Returns how many of the first bytes stay as they are.
+/// Returns how many of the first bytes need no escape.
 fn plain_run(bytes: &[u8]) -> usize
     ensures few { result ≤ length bytes.now }
     ensures plain { flat_map escaped (take result bytes.now) ≡ take result bytes.now }
@@ -146,14 +153,14 @@ fn plain_run(bytes: &[u8]) -> usize
     run
 }
 
-/// Returns whether a byte stays as it is in a JSON string.
+/// Returns whether a byte needs no escape in a JSON string.
 fn is_plain(byte: u8) -> bool
     ensures { result ≡ true → escaped byte ≡ byte ∷ [] }
 {
     b' ' <= byte && byte <= b'~' && byte != b'"' && byte != b'\\'
 }
 
-/// Appends a byte as it stands in a JSON string.
+/// Appends a byte, escaped for a JSON string.
 fn push_byte(text: &mut Text, byte: u8) -> Result<(), AllocError>
     ensures { OnOk result (text.new ≡ text.old ++ escaped byte) }
 {
@@ -176,7 +183,7 @@ fn push_byte(text: &mut Text, byte: u8) -> Result<(), AllocError>
     ])
 }
 
-/// Returns a hexadecimal digit.
+/// Returns the hexadecimal digit of a value.
 fn digit_of(value: u8) -> u8
     requires { value < 16 }
     ensures { result ≡ hex_digit value }

@@ -8,7 +8,7 @@ use adb_hub::Ended;
 use adb_outside::Text;
 use std::alloc::AllocError;
 
-/// Appends the field of the streams that ended, if there are any.
+/// Appends the field of the streams that ended, if any.
 pub(crate) fn push_ended(text: &mut Text, ends: &[Ended]) -> Result<(), AllocError>
     ensures { OnOk result (text.new ≡ text.old ++ ended_field ends.now) }
 {

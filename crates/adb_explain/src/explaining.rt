@@ -18,13 +18,15 @@ use adb_outside::{Sink, Source};
 use adb_replay::{Output, Stop};
 use std::alloc::Global;
 
-/// Writes the lines of the history of the capture that a source has, up to its first entry that may
-/// not come, whose line has the rule that it breaks. It reads the source to its end, or to that
-/// entry, and holds one record of the capture.
+/// Writes the lines of the history of the capture that a source has, up to its first illegal entry.
+/// The line of an illegal entry has the rule that the entry breaks. Reads the source to its end, or
+/// to that entry, and holds one record of the capture.
 ///
-/// `Refused`: the capture is refused by its form; the lines of the entries before that are written.
-/// `ReadFault`, `OutOfMemory`: the source failed, or memory ran out; the lines of the first entries
-/// are written. `WriteFault`: the sink failed; a prefix of the lines is written.
+/// - `Refused`: the capture is refused for its form. The lines of the entries before the refused
+///   record are written.
+/// - `ReadFault`: the source failed. The lines of a prefix of the entries are written.
+/// - `OutOfMemory`: an allocation failed. The lines of a prefix of the entries are written.
+/// - `WriteFault`: the sink failed. A prefix of the lines is written.
 pub fn explain<S: Source, K: Sink>(
     alloc: Global,
     payloads: Payloads,
@@ -71,7 +73,7 @@ fn explain_records<S: Source, K: Sink>(
     explain_all(&mut reader, &mut explainer, source, output, sink)
 }
 
-/// Explains the entries that a reader gives, the first one first.
+/// Explains the entries that a reader returns, in order.
 fn explain_all<S: Source, K: Sink>(
     reader: &mut CaptureReader,
     explainer: &mut Explainer,
@@ -110,7 +112,7 @@ fn explain_all<S: Source, K: Sink>(
     Ok(Judgement::Legal { entries })
 }
 
-/// Explains an entry, which is dropped then.
+/// Explains an entry, and drops it.
 fn explain_entry<K: Sink>(
     explainer: &mut Explainer,
     output: &mut Output,

@@ -1,4 +1,4 @@
-//! Explaining a history: a line for each entry, with the streams that it ended and why.
+//! Explains a history: writes a line for each entry, with the streams that it ended and why.
 #![tactic(auto)]
 
 mod ended;

@@ -1,4 +1,4 @@
-//! What an entry made, as the end of its line.
+//! The end of an entry's line: the effects of the entry, or the rule that it breaks.
 
 ghost use Rattle.std.specs.Prelude.{◌≡◌, ◌++◌, OnOk};
 ghost use Rattle.adb_explain.specs.Lines.{end_by, kept_fields, made_fields, over, rule_field};
@@ -12,7 +12,7 @@ use adb_hub::{Ended, Hub};
 use adb_outside::Text;
 use std::alloc::AllocError;
 
-/// Appends what an entry made, or the rule that it breaks, and ends the line.
+/// Appends the effects of an entry, or the rule that it breaks, and ends the line.
 pub(crate) fn push_end(
     text: &mut Text,
     broken: Option<Rule>,
@@ -28,8 +28,8 @@ pub(crate) fn push_end(
     }
 }
 
-/// Appends the streams that an entry ended, and how many clients, links and streams a hub keeps, and
-/// ends the line.
+/// Appends the streams that an entry ended and the counts of a hub's clients, links and streams,
+/// and ends the line.
 fn push_made(text: &mut Text, ends: &[Ended], tail: &mut Tail, hub: &Hub) -> Result<(), AllocError>
     ensures { OnOk result (text.new ≡ text.old ++ made_fields ends.now hub.now) }
 {
@@ -37,7 +37,7 @@ fn push_made(text: &mut Text, ends: &[Ended], tail: &mut Tail, hub: &Hub) -> Res
     push_kept(text, tail, hub)
 }
 
-/// Appends how many clients, links and streams a hub keeps, and ends the line.
+/// Appends the counts of a hub's clients, links and streams, and ends the line.
 fn push_kept(text: &mut Text, tail: &mut Tail, hub: &Hub) -> Result<(), AllocError>
     ensures { OnOk result (text.new ≡ text.old ++ (kept_fields hub.now ++ over)) }
 {

@@ -1,4 +1,4 @@
-//! Making the next entry of a history, and its line.
+//! Applying the next entry of a history, and making its line.
 
 ghost use Rattle.std.specs.Prelude.{◌≡◌, ◌+◌, [], length, false, true, IfOk};
 ghost use Rattle.adb_outside.specs.Outside.{Counts};
@@ -22,7 +22,7 @@ use adb_outside::{Sink, Text};
 use adb_replay::{Output, Stop};
 use std::alloc::{AllocError, Global};
 
-/// A hub with the streams that the last entry ended, the line of that entry, and how it ended.
+/// A hub with the streams that its last entry ended, the line of that entry, and the end of a line.
 #[derive(Drop)]
 pub(crate) struct Explainer {
     hub: Hub,
@@ -33,7 +33,7 @@ pub(crate) struct Explainer {
 }
 
 impl Explainer {
-    /// Returns an explainer that was given no entry. It allocates nothing.
+    /// Returns an explainer that was given no entries. Allocates nothing.
     pub(crate) fn new(alloc: Global, payloads: Payloads) -> Explainer
         ensures hub { IsLawful result.hub [] }
         ensures payloads { result.payloads ≡ payloads }
@@ -47,11 +47,11 @@ impl Explainer {
         }
     }
 
-    /// Makes the next entry, and keeps its line. Returns the first rule that the entry breaks, if it
-    /// may not come.
+    /// Applies the next entry, and keeps its line. Returns the first rule that the entry breaks, if
+    /// the entry is illegal.
     ///
-    /// `OutOfMemory`: memory ran out; the line is not kept.
-    /// `WriteFault`: the sink failed; a prefix of the lines is written.
+    /// - `OutOfMemory`: an allocation failed. The line is not kept.
+    /// - `WriteFault`: the sink failed. A prefix of the lines is written.
     pub(crate) fn explain<K: Sink>(
         &mut self,
         output: &mut Output,
@@ -76,7 +76,7 @@ impl Explainer {
         }
     }
 
-    /// Makes the next entry and its line.
+    /// Applies the next entry, and makes its line.
     fn make_line(&mut self, place: u64, entry: &Entry) -> Result<Option<Rule>, AllocError>
         ensures made { (h : History) → IsLawful self.old.hub h → place ≡ length h + 1
             → IfOk result (λ broken. MakesLine broken self.old.payloads entry.now h
@@ -94,8 +94,8 @@ impl Explainer {
     }
 }
 
-/// Returns the serial of the device of the link that an entry names, and no bytes if it names none,
-/// or no device is plugged in there.
+/// Returns the serial of the device of the link that an entry names. Returns no bytes if the entry
+/// names no link, or if no device is plugged in there.
 fn serial_at<'a>(hub: &'a Hub, entry: Lent<'_>) -> &'a [u8]
     ensures { result.now ≡ serial_at (entry_lent entry.entry) hub.now }
 {
@@ -107,7 +107,7 @@ fn serial_at<'a>(hub: &'a Hub, entry: Lent<'_>) -> &'a [u8]
     }
 }
 
-/// Makes the next entry of the history that a hub holds, and reports the streams that it ends; or
+/// Applies the next entry of the history that a hub holds and logs the streams that it ends, or
 /// returns the first rule that the entry breaks.
 fn make(hub: &mut Hub, ends: &mut Endings, entry: &Entry) -> Result<Option<Rule>, AllocError>
     ensures taken { (h : History) → IsLawful hub.old h
@@ -122,7 +122,7 @@ fn make(hub: &mut Hub, ends: &mut Endings, entry: &Entry) -> Result<Option<Rule>
     }
 }
 
-/// Makes a hand-out. No stream ends by it.
+/// Applies a hand-out, which ends no stream.
 fn hand_out(hub: &mut Hub, ends: &Endings, entry: &Entry) -> Result<Option<Rule>, AllocError>
     requires output { is_input entry.now ≡ false }
     requires empty { ends.now.list ≡ [] }
@@ -135,7 +135,7 @@ fn hand_out(hub: &mut Hub, ends: &Endings, entry: &Entry) -> Result<Option<Rule>
     take(hub, entry)
 }
 
-/// Makes the entry of what comes from a client or a device.
+/// Applies an entry that comes from a client or a device.
 fn come(hub: &mut Hub, ends: &mut Endings, entry: &Entry) -> Result<Option<Rule>, AllocError>
     requires input { is_input entry.now ≡ true }
     requires empty { ends.old.list ≡ [] }

@@ -12,7 +12,7 @@ use adb_replay::Stop;
 use itoa::Buffer;
 use std::alloc::{AllocError, Global};
 
-/// Writes why a run stopped, and returns its status.
+/// Writes the line for the reason why a run stopped, and returns the status of the run.
 pub(crate) fn say_stop<N: Sink>(alloc: Global, note: &mut N, stop: Stop) -> Status
     ensures status { EndsIn stop result }
     ensures told { SaysLine result (N.written note.old) (N.written note.new) }
@@ -30,7 +30,7 @@ pub(crate) fn say_stop<N: Sink>(alloc: Global, note: &mut N, stop: Stop) -> Stat
     }
 }
 
-/// Writes that a history is not legal.
+/// Writes the line of a history that is not legal, and returns the status of the run.
 pub(crate) fn say_illegal<N: Sink>(note: &mut N) -> Status
     ensures status { (result ≡ Status.Illegal) ⊎ (result ≡ Status.WriteFault) }
     ensures told { SaysLine result (N.written note.old) (N.written note.new) }
@@ -40,7 +40,7 @@ pub(crate) fn say_illegal<N: Sink>(note: &mut N) -> Status
     say(note, Status::Illegal, b"adbexplain: illegal history\n")
 }
 
-/// Writes that the words are wrong.
+/// Writes the usage line, and returns the status of the run.
 pub(crate) fn say_usage<N: Sink>(note: &mut N) -> Status
     ensures status { (result ≡ Status.Usage) ⊎ (result ≡ Status.WriteFault) }
     ensures told { SaysLine result (N.written note.old) (N.written note.new) }
@@ -50,7 +50,8 @@ pub(crate) fn say_usage<N: Sink>(note: &mut N) -> Status
     say(note, Status::Usage, b"usage: adbexplain [--lengths]\n")
 }
 
-/// Writes the line of a status. If that fails, the line of WriteFault is tried once.
+/// Writes the line of a status, and returns the status. If that write fails, tries once to write
+/// the line of WriteFault, and returns WriteFault.
 fn say<N: Sink>(note: &mut N, status: Status, line: &[u8]) -> Status
     requires some { 0 < length line.now }
     requires own { IsLine status line.now }
@@ -66,7 +67,7 @@ fn say<N: Sink>(note: &mut N, status: Status, line: &[u8]) -> Status
     }
 }
 
-/// Tries the line of WriteFault, once.
+/// Tries once to write the line of WriteFault, and returns WriteFault.
 fn say_write_fault<N: Sink>(note: &mut N) -> Status
     ensures status { result ≡ Status.WriteFault }
     ensures counts { (failed : Bool) × Counts N.steady N.faults note.old note.new failed }

@@ -1,4 +1,4 @@
-//! The program over three streams.
+//! The program over its three streams: the source, the sink and the note.
 
 ghost use Rattle.std.specs.Prelude.{◌≡◌, ◌⊎◌, drop, IfErr, IfOk, None, Some};
 ghost use Rattle.adb_outside.specs.Outside.{Rises};
@@ -18,8 +18,9 @@ use std::alloc::Global;
 use std::io;
 use std::io::ErrorKind;
 
-/// Runs the arguments of the program, the first of which is its name, as `run` does. If memory ran
-/// out for them, the status is OutOfMemory; if one of them is no text, the words are wrong.
+/// Runs the program as `run` does. The first of the arguments is the program's name. If an
+/// allocation for the arguments failed, the status is OutOfMemory. If an argument is not text, the
+/// words are wrong.
 pub fn start<S: Source, K: Sink, N: Sink>(
     alloc: Global,
     arguments: io::Result<Vec<String>>,
@@ -47,9 +48,9 @@ pub fn start<S: Source, K: Sink, N: Sink>(
     }
 }
 
-/// Explains the history that the source has, as the words after the program's name say: a line to
-/// the sink for each entry, a JSON object. Each status but Done writes its one line to the note; if
-/// that write fails, the status is WriteFault.
+/// Explains the history of the capture that the source has, as the words after the program's name
+/// request. Writes one line to the sink for each entry, a JSON object. For each status but Done,
+/// writes one line to the note; if that write fails, the status is WriteFault.
 pub fn run<S: Source, K: Sink, N: Sink>(
     alloc: Global,
     words: &[String],
@@ -57,19 +58,20 @@ pub fn run<S: Source, K: Sink, N: Sink>(
     sink: &mut K,
     note: &mut N,
 ) -> Status
-    // Wrong words: nothing is read, and nothing is written.
+    // If the words are wrong, nothing is read, and the sink is not written.
     ensures usage { payloads_in (texts words.now) ≡ None
         → (result ≡ Status.Usage) ⊎ (result ≡ Status.WriteFault) }
     ensures untouched { payloads_in (texts words.now) ≡ None
         → (source.new ≡ source.old) × (sink.new ≡ sink.old) }
 
-    // At Done the history is legal, and its lines are written; at Illegal those before its first
-    // entry that may not come, and the line of that; at BadCapture those of its entries; at a fault
-    // or an allocation failure a prefix.
+    // The written lines depend on the status. Done: the history is legal, and all its lines are
+    // written. Illegal: the lines up to that of the first illegal entry. BadCapture: the lines of
+    // the entries before the refused record. A fault or an allocation failure: a prefix of the
+    // lines.
     ensures writes { (payloads : Payloads) → payloads_in (texts words.now) ≡ Some payloads
         → WritesLines result payloads S.left source.old source.new K.written sink.old sink.new }
 
-    // The note has the line of the status.
+    // The line of the status is written to the note.
     ensures told { SaysLine result (N.written note.old) (N.written note.new) }
 
     // A fault is reported only if a read or a write failed.

@@ -1,29 +1,29 @@
-//! How a run ends.
+//! The status of a run, and its exit code.
 
 ghost use Rattle.std.specs.Prelude.{◌≡◌};
 ghost use Rattle.adb_explain.specs.Notes.{code_of};
 
-/// How a run ends.
+/// The status of a run.
 #[derive(Clone, Copy, Debug, PartialEq, Eq, Drop)]
 pub enum Status {
     /// The history is legal, and all its lines are written.
     Done,
-    /// The words are wrong. Nothing is read.
+    /// The words are wrong. Nothing was read.
     Usage,
     /// The source failed.
     ReadFault,
     /// The sink or the note failed.
     WriteFault,
-    /// The capture is refused by its form.
+    /// The capture is refused for its form.
     BadCapture,
-    /// Memory ran out.
+    /// An allocation failed.
     OutOfMemory,
-    /// An entry may not come. Its line is the last one.
+    /// An entry is illegal. Its line is the last one.
     Illegal,
 }
 
 impl Status {
-    /// Returns the exit code of a program that ends so. `adbhub` has the same codes.
+    /// Returns the exit code of a program that ends with this status. `adbhub` has the same codes.
     pub fn code(self) -> u8
         ensures { result ≡ code_of self }
     {

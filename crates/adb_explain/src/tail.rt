@@ -1,4 +1,4 @@
-//! The end of a line: how many clients, links and streams there are.
+//! The end of a line: the counts of clients, links and streams.
 
 ghost use Rattle.std.specs.Prelude.{◌≡◌, ◌++◌, OnOk};
 ghost use Rattle.adb_explain.specs.Lines.{clients_name, count_fields, over, streams_name};
@@ -8,7 +8,7 @@ use adb_outside::Text;
 use std::alloc::{AllocError, Global};
 use std::marker::Model;
 
-/// The end of the last line, which most lines have again.
+/// The end of the last line. It is kept because most lines end as the line before them.
 #[derive(Drop)]
 pub(crate) struct Tail {
     clients: u32,
@@ -32,7 +32,7 @@ impl Model for Tail {
 }
 
 impl Tail {
-    /// Returns the end of no line. It allocates nothing.
+    /// Returns an empty tail, which is the end of no line. Allocates nothing.
     pub(crate) fn new(alloc: Global) -> Tail {
         Tail {
             clients: 0,
@@ -43,7 +43,7 @@ impl Tail {
         }
     }
 
-    /// Appends how many clients, links and streams there are, and ends the line.
+    /// Appends the counts of clients, links and streams, and ends the line.
     pub(crate) fn push(
         &mut self,
         text: &mut Text,
@@ -72,7 +72,7 @@ impl Tail {
     }
 }
 
-/// Appends counts, and ends the line.
+/// Appends the counts, and ends the line.
 #[tactic(auto, unfolding(crate::specs::Lines::count_fields))]
 fn push_counts(text: &mut Text, clients: u32, links: u32, streams: u32) -> Result<(), AllocError>
     ensures { OnOk result (text.new ≡ text.old ++ (count_fields clients links streams ++ over)) }

@@ -1,12 +1,12 @@
-//! The words of the program.
+//! Parsing of the words after the program's name.
 
 ghost use Rattle.std.specs.Prelude.{◌≡◌, drop, string_bytes};
 ghost use Rattle.adb_explain.specs.Words.{payloads_in, payloads_named, texts};
 
 use adb_entry_lines::Payloads;
 
-/// Returns what is to be shown of the bytes of entries: all of them, or by `--lengths` their number.
-/// `None` if the words are wrong.
+/// Parses the words: a line shows the bytes of its entry, or with `--lengths` only their number.
+/// Returns `None` if the words are wrong.
 pub fn payloads_of(words: &[String]) -> Option<Payloads>
     ensures { result ≡ payloads_in (texts words.now) }
 {

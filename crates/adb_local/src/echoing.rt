@@ -1,4 +1,4 @@
-//! The lines of streams that get back what they send.
+//! Running the echo lines of a script: each stream gets back the bytes that it sends.
 
 ghost use Rattle.std.specs.Prelude.{◌≡◌, ◌+◌, ◌≤◌, ◌<◌, ◌++◌, Some, codes, option_map, IfOk, OnErr, OnOk};
 ghost use Rattle.adb_outside.specs.Tables.{at};
@@ -16,11 +16,11 @@ use adb_script::EchoLine;
 use adb_world::{World, settle};
 use std::alloc::{AllocError, Global};
 
-/// The service that writes back what it gets.
+/// The service that writes back the bytes that it gets.
 const ECHO_SERVICE: &[u8] = b"echo:";
 
-/// Runs the streams of an echo side by side, and gives the answer line, which says that each got
-/// back what it sent.
+/// Runs the streams of an echo line side by side, and returns the answer line, which says that each
+/// stream got back what it sent.
 pub(crate) fn run_echo(
     alloc: Global,
     world: &mut World,
@@ -44,7 +44,7 @@ pub(crate) fn run_echo(
     Ok(text)
 }
 
-/// Starts a session for each stream, and gives the number of the first.
+/// Starts a session for each stream, and returns the number of the first session.
 fn start_streams(alloc: Global, world: &mut World, echo: EchoLine) -> Result<u32, AllocError>
     requires idle { IsIdle world.old }
     requires some { 0 < echo.streams }
@@ -60,7 +60,7 @@ fn start_streams(alloc: Global, world: &mut World, echo: EchoLine) -> Result<u32
     Ok(first)
 }
 
-/// Starts the session of a stream.
+/// Starts the session of a stream, and returns its number.
 fn start_stream(
     alloc: Global,
     world: &mut World,
@@ -78,7 +78,8 @@ fn start_stream(
     Ok(session)
 }
 
-/// Each stream got back what it sent: their sessions stand one behind the other.
+/// Checks that each stream got back what it sent. The sessions of the streams have consecutive
+/// numbers.
 fn look_at_streams(world: &World, first: u32, echo: EchoLine)
     requires room { first + echo.streams ≤ most_sessions + 1 }
     requires echoed { AreEchoed first echo.streams echo.size world.now.sessions }
@@ -88,7 +89,7 @@ fn look_at_streams(world: &World, first: u32, echo: EchoLine)
     }
 }
 
-/// A stream got back what it sent.
+/// Checks that a stream got back what it sent.
 fn look_at_stream(world: &World, session: u32, echo: EchoLine, stream: u32)
     requires { option_map answer_of (at session world.now.sessions)
         ≡ Some (pattern stream echo.size) }

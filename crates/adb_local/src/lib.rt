@@ -1,5 +1,5 @@
-//! Running the scripts of the command `local` in a world: what each line asks for goes through a hub
-//! to a model device, and comes back.
+//! Runs the scripts of the command `local` in a world: the request of each line goes through a hub
+//! to a model device, and its answer comes back.
 #![tactic(auto)]
 
 mod echoing;

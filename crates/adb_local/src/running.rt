@@ -12,15 +12,16 @@ use adb_script::{Line, ScriptError, add_line};
 use adb_world::World;
 use std::alloc::{AllocError, Global};
 
-/// Runs a script in a new world and returns its answer lines, which the seed does not change. The
-/// sessions of a line, one, or one for each stream of an echo, have ended and are dropped before
-/// the next line.
+/// Runs a script in a new world and returns its answer lines, which the seed does not change. A
+/// line has one session, or one for each stream of an echo. The sessions of a line have ended and
+/// are dropped before the next line runs.
 ///
 /// - `BadLine`: a line is refused; it is the first one. The whole script is read before any line
-///   runs, so the world is as before.
+///   runs, so the world is unchanged.
 /// - `OutOfMemory`: an allocation failed. The world is spent, or some lines were run. The files are
-///   those after the first lines and, of the next line, a prefix of its whole requests, or its
-///   command or nothing.
+///   those after a prefix of the lines and a part of the next line. The part of a line with a
+///   command is the whole command or nothing; that of any other line is a prefix of its whole
+///   requests.
 pub fn run_script(
     alloc: Global,
     world: &mut World,
@@ -48,7 +49,7 @@ pub fn run_script(
     }
 }
 
-/// Runs the lines that are left, and keeps their answers.
+/// Runs the remaining lines, and returns their answers.
 fn run_lines(
     alloc: Global,
     world: &mut World,

@@ -19,12 +19,12 @@ use rand_pcg::Pcg32;
 use std::alloc::{AllocError, Global};
 use std::marker::Model;
 
-/// A script that is run line by line. Contracts see the lines that are still to be run, and the
-/// number of the first of them.
+/// A script that is run line by line. Contracts see the remaining lines, and the number of the
+/// first of them.
 #[derive(Drop)]
 pub struct ScriptRun<'a> {
     script: Script<'a>,
-    /// How many lines were run.
+    /// The number of lines that were run.
     done: u32,
     words: Pcg32,
 }
@@ -43,8 +43,8 @@ impl<'a> Model for ScriptRun<'a> {
 }
 
 impl<'a> ScriptRun<'a> {
-    /// Reads a whole script, of which no line is run yet. Each line runs by a seed of its own, made
-    /// of `seed`.
+    /// Reads a whole script, and runs no line yet. Each line runs with a seed of its own, which is
+    /// derived from `seed`.
     ///
     /// - `BadLine`: a line is refused; it is the first one.
     /// - `OutOfMemory`: an allocation failed.
@@ -68,11 +68,12 @@ impl<'a> ScriptRun<'a> {
     }
 
     /// Runs the next line in a world and returns its answer line, or `None` after the last line.
-    /// The sessions of the line, one, or one for each stream of an echo, have ended and are dropped.
+    /// The line has one session, or one for each stream of an echo. Its sessions have ended and are
+    /// dropped.
     ///
-    /// - `AllocError`: an allocation failed. The line may have run in part; the world is spent, or
-    ///   may still hold its sessions. The files are those after a prefix of the line's whole
-    ///   requests, or before or after its command.
+    /// - `AllocError`: an allocation failed. The line may have run in part. The world is spent, or
+    ///   it may still hold the sessions of the line. The files are those after a prefix of the
+    ///   line's whole requests, or those before or after its command.
     pub fn next(&mut self, alloc: Global, world: &mut World) -> Result<Option<Text>, AllocError>
         requires idle { IsIdle world.old }
         requires room { world.old.given + sessions_in self.old.lines ≤ most_sessions }
@@ -92,20 +93,20 @@ impl<'a> ScriptRun<'a> {
     }
 }
 
-/// Does nothing: a script has at most 1,024 lines.
+/// States that a script has at most 1,024 lines.
 fn are_few(script: &Script<'_>)
     ensures { length script.now ≤ MAX_LINES }
 {
     script.lines();
 }
 
-/// Two words are a seed.
+/// Returns the next seed, which is made of two words.
 fn next_seed(words: &mut Pcg32) -> u64 {
     let high = words.next_word();
     u64::from(high) << 32 | u64::from(words.next_word())
 }
 
-/// Runs the line of a number.
+/// Runs the line with this number, and returns its answer line.
 fn run_line(
     alloc: Global,
     world: &mut World,

@@ -1,4 +1,4 @@
-//! The lines of one session.
+//! Running the lines of a script that have one session.
 
 ghost use Rattle.std.specs.Prelude.{◌≡◌, ◌+◌, ◌<◌, true, is_some, Some, option_map, IfOk, OnErr, OnOk};
 ghost use Rattle.adb_outside.specs.Tables.{at};
@@ -15,7 +15,7 @@ use adb_script::SessionLine;
 use adb_world::{World, settle};
 use std::alloc::{AllocError, Global};
 
-/// Runs the session of the line of a number, and gives the answer line.
+/// Runs the session of the line with this number, and returns its answer line.
 pub(crate) fn run_session(
     alloc: Global,
     world: &mut World,
@@ -40,7 +40,7 @@ pub(crate) fn run_session(
     Ok(text)
 }
 
-/// Starts the session of the line of a number.
+/// Starts the session of the line with this number, and returns the number of the session.
 fn start_session(
     alloc: Global,
     world: &mut World,
@@ -61,7 +61,7 @@ fn start_session(
     Ok(session)
 }
 
-/// What is printed of what a session was handed.
+/// Returns the answer line for the bytes that a session was handed.
 fn print_session(
     alloc: Global,
     world: &World,

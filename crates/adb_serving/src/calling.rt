@@ -19,8 +19,8 @@ use std::net::{Net, TcpListener, TcpStream};
 use std::sync::Wait;
 use std::thread::Threads;
 
-/// Calls a client tool as the words say: `adb_top::run` over a yard of this machine, which dials the
-/// server's port. Words that are no tool's call nobody.
+/// Runs the client tool of the words: `adb_top::run` over a yard of this machine, which dials the
+/// server's port. If the words are those of no tool, no port is dialled.
 pub(crate) fn call_live<
     W: Net<Listener = TcpListener, Stream = TcpStream>
         + Threads

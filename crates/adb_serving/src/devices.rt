@@ -1,5 +1,5 @@
-//! The devices of a server: model devices in threads of their own, and those that are reached by a
-//! port of this machine.
+//! The devices of a server: model devices in threads of their own, and devices that are reached by
+//! a port of this machine.
 
 use crate::either::{EitherIn, EitherOut};
 use adb_daemon::Daemon;
@@ -25,11 +25,15 @@ pub type LocalDevice<W> = Device<
     EitherOut<PipeDeviceOut<W>, TcpDeviceOut>,
 >;
 
-/// How many chunks, of up to a packet each, a pipe between a model device and the server holds.
+/// The maximum number of chunks, of up to a packet each, in a pipe between a model device and the
+/// server.
 const CHUNKS: usize = 16;
 
-/// The devices that words ask for: the model devices, and then those that listen on a port. All are
-/// devices of this machine; one that is reached by a port has the serial `127.0.0.1:<port>`.
+/// Returns the devices that the words request: the model devices, followed by those that listen on
+/// a port. All are devices of this machine. A device that is reached by a port has the serial
+/// `127.0.0.1:<port>`.
+///
+/// - `AllocError`: an allocation failed.
 pub fn devices_of<
     W: Net<Listener = TcpListener, Stream = TcpStream>
         + Threads
@@ -50,8 +54,8 @@ pub fn devices_of<
     Ok(devices)
 }
 
-/// A model device without files, in a thread of its own. Where no thread can be had its pipes are
-/// dropped, and its link ends at once.
+/// Returns a model device without files, which runs in a thread of its own. If no thread can be
+/// spawned, the device's pipes are dropped, and its link ends at once.
 fn model_device<
     W: Net<Listener = TcpListener, Stream = TcpStream>
         + Threads
@@ -87,7 +91,7 @@ fn attend<W: Wait + Copy + Drop>(
     output.finish();
 }
 
-/// A device that listens on a port of this machine.
+/// Returns a device that listens on a port of this machine.
 fn device_at<
     W: Net<Listener = TcpListener, Stream = TcpStream>
         + Threads

@@ -3,7 +3,7 @@
 use adb_connections::{DeviceIn, DeviceOut, Plug};
 use adb_outside::{Got, Wrote};
 
-/// What a device of one of two kinds sends. It tells what that device tells.
+/// The input half of a device of one of two kinds. Contracts see it as the half of that device.
 #[derive(Drop)]
 pub enum EitherIn<A: DeviceIn, B: DeviceIn> {
     First(A),
@@ -36,7 +36,7 @@ impl<A: DeviceIn, B: DeviceIn> DeviceIn for EitherIn<A, B> {
     }
 }
 
-/// What a device of one of two kinds is sent. It tells what that device tells.
+/// The output half of a device of one of two kinds. Contracts see it as the half of that device.
 #[derive(Drop)]
 pub enum EitherOut<A: DeviceOut, B: DeviceOut> {
     First(A),

@@ -1,5 +1,5 @@
-//! The program over this machine: its streams, sockets and threads, its devices, and what its words
-//! say.
+//! Runs the command of the program's words over this machine: its streams, sockets, threads and
+//! devices.
 #![tactic(auto)]
 
 mod calling;

@@ -1,4 +1,4 @@
-//! Words are run over this machine.
+//! Running the words of the command line over this machine.
 
 ghost use Rattle.std.specs.Prelude.{◌≡◌, None, Some, true, false};
 ghost use Rattle.adb_asking.specs.Telling.{seen};
@@ -24,8 +24,8 @@ use std::net::{Net, TcpListener, TcpStream};
 use std::sync::Wait;
 use std::thread::Threads;
 
-/// Runs the command of the words: `adb_top::run`, over a yard of this machine if they serve or dial. A
-/// server's record goes to a sink of its own, which is returned.
+/// Runs the command of the words by `adb_top::run`, over a yard of this machine if the command
+/// serves or dials. A server's record goes to a sink of its own, which is returned.
 pub(crate) fn run_live<
     W: Net<Listener = TcpListener, Stream = TcpStream>
         + Threads
@@ -85,7 +85,7 @@ pub(crate) fn run_live<
     }
 }
 
-/// Runs the words of a client tool, or of a command that neither serves nor dials.
+/// Runs a client tool, or a command that neither serves nor dials.
 fn run_other<
     W: Net<Listener = TcpListener, Stream = TcpStream>
         + Threads

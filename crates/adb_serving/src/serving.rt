@@ -25,13 +25,14 @@ use std::net::{Net, TcpListener, TcpStream};
 use std::sync::Wait;
 use std::thread::{PromisedHandle, Threads};
 
-/// Serves as the words say, with the devices that they ask for. If they ask for a record, it goes to
-/// `history` through a pipe and a thread of its own, and the sink is returned when the server has
-/// ended and the record is written. Otherwise `history` is returned as it was.
+/// Runs the server of the words, with the devices that they request: `adb_top::run` over a yard of
+/// this machine. If the words request a record, it goes to `history` through a pipe and a thread of
+/// its own, and the sink is returned when the server has ended and the record is written. Otherwise
+/// `history` is returned as it was.
 ///
-/// It is `adb_top::run` over a yard of this machine. If a write of the record failed, a status of Done
-/// becomes RecordFault. If an allocation fails before there is a yard, or the system has no thread for
-/// the record, no port is listened on and the status is OutOfMemory.
+/// If a write of the record failed, a status of Done becomes RecordFault. If an allocation fails
+/// before the yard exists, or the system has no thread for the record, the server listens on no
+/// port, and the status is OutOfMemory.
 pub(crate) fn serve_live<
     W: Net<Listener = TcpListener, Stream = TcpStream>
         + Threads
@@ -87,7 +88,7 @@ pub(crate) fn serve_live<
     serve_recorded::<W, Brand, S, K, N, R>(rt, alloc, words, source, sink, note, prepared, begun)
 }
 
-/// The flag of a server that ends, its devices, and whether its words ask for a record.
+/// The flag that says whether a server ends, its devices, and whether its words request a record.
 #[derive(Drop)]
 struct Prepared<
     W: Net<Listener = TcpListener, Stream = TcpStream>
@@ -104,7 +105,7 @@ struct Prepared<
     records: bool,
 }
 
-/// Makes the devices that the words ask for; none if they are no command.
+/// Makes the flag and the devices of a server. There are no devices if the words are no command.
 fn prepare<
     W: Net<Listener = TcpListener, Stream = TcpStream>
         + Threads
@@ -128,7 +129,7 @@ fn prepare<
     })
 }
 
-/// Returns whether the words ask for a record.
+/// Returns whether the words request a record.
 fn is_recorded(alloc: Global, words: &[String]) -> Result<bool, AllocError>
     ensures { IfOk result (λ records. records ≡ asks_record (texts words.now)) }
 {
@@ -180,7 +181,7 @@ fn serve_unrecorded<
     ran.status
 }
 
-/// Serves with the record that was begun, whose pipe is named by `B`.
+/// Serves with a record that was begun. `B` names the pipe of the record.
 fn serve_recorded<
     W: Net<Listener = TcpListener, Stream = TcpStream>
         + Threads
@@ -235,8 +236,8 @@ fn serve_recorded<
     settle_record::<W, B, N, R>(&rt, note, status, recorder, writing)
 }
 
-/// Ends the record of a server that has ended, and returns its sink. A server that did not serve has
-/// no recorder, and its sink is dropped.
+/// Ends the record of a server that has ended, and returns its sink. If the server did not serve,
+/// there is no recorder, and the sink is dropped.
 fn settle_record<W: Threads + Wait + Drop, B: Named, N: Sink, R: Sink + Drop>(
     rt: &W,
     note: &mut N,
@@ -265,7 +266,8 @@ fn settle_record<W: Threads + Wait + Drop, B: Named, N: Sink, R: Sink + Drop>(
     }
 }
 
-/// Returns how a server ended, by whether its record was written.
+/// Returns the status of a server that has ended: Done becomes that of a record fault if the record
+/// was not written.
 fn ended<N: Sink>(note: &mut N, status: Status, kept: bool) -> Status
     ensures ended { Ended status result (seen N.steady N.faults N.written) note.old note.new }
     ensures command { result ≡ Status.Usage → status ≡ Status.Usage }
@@ -277,7 +279,7 @@ fn ended<N: Sink>(note: &mut N, status: Status, kept: bool) -> Status
     }
 }
 
-/// Makes the devices that the words ask for; none if they are no command.
+/// Makes the devices that the words request, or none if the words are no command.
 fn devices_for<
     W: Net<Listener = TcpListener, Stream = TcpStream>
         + Threads

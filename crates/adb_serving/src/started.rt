@@ -1,12 +1,12 @@
-//! The end of a run over this machine.
+//! The result of a run over this machine.
 
 use adb_top::Status;
 
-/// How a run over this machine ended, and the sink of the record that it was given.
+/// The result of a run over this machine: its exit status, and the sink for the record.
 #[derive(Drop)]
 pub struct Started<R: Drop> {
     /// The exit status.
     pub status: Status,
-    /// The sink. It is missing only if a record was asked for and the server did not serve.
+    /// The sink. It is missing only if a record was requested and the server did not serve.
     pub history: Option<R>,
 }

@@ -1,4 +1,4 @@
-//! What a run is given of the command line.
+//! The start of a run, from the words of the command line.
 
 ghost use Rattle.std.specs.Prelude.{◌≡◌, ◌≢◌, ◌⊎◌, drop, IfErr, IfOk, None, Some, true, false};
 ghost use Rattle.std.specs.IoError.{error_kind};
@@ -26,11 +26,11 @@ use std::net::{Net, TcpListener, TcpStream};
 use std::sync::Wait;
 use std::thread::Threads;
 
-/// Runs the words of the command line: a server over this machine, whose history goes to a sink of
-/// its own, a client tool, or a command that neither serves nor dials.
+/// Runs the words of the command line: a server over this machine, a client tool, or a command that
+/// neither serves nor dials. The history of a server goes to a sink of its own.
 ///
-/// If the words could not be read, nothing is read and only the note is written: the line of
-/// OutOfMemory if an allocation failed, otherwise the usage line.
+/// If the words could not be read, the run reads nothing and writes only the note. The note has the
+/// line of OutOfMemory if an allocation failed, and otherwise the usage line.
 pub fn start<
     W: Net<Listener = TcpListener, Stream = TcpStream>
         + Threads
@@ -53,7 +53,8 @@ pub fn start<
     note: &mut N,
     history: R,
 ) -> Started<R>
-    // Words that are there are run: a command that neither serves nor dials,
+    // If the words could be read, they are run. The first case is a command that neither serves nor
+    // dials.
     ensures alone { IfOk words (λ list. is_serve (texts list.items) ≡ false
         → names_tool (texts list.items) ≡ false → RunsAlone list.items result.status
         (record { told = S.left; faults = S.faults; steady = S.steady })
@@ -61,8 +62,8 @@ pub fn start<
         (record { told = N.written; faults = N.faults; steady = N.steady })
         source.old source.new sink.old sink.new note.old note.new) }
 
-    // or a client tool, whose yard shows only how many of its calls failed: the sink and the note
-    // have the meaning of some answer of a server to the tool's job,
+    // The second case is a client tool, over a yard that shows only how many of its calls failed.
+    // The sink and the note have the meaning of some answer of a server to the tool's job.
     ensures tools { IfOk words (λ list. is_serve (texts list.items) ≡ false
         → names_tool (texts list.items) ≡ true → RunsTool list.items
         (seen S.steady S.faults S.left) (seen K.steady K.faults K.written)
@@ -73,8 +74,8 @@ pub fn start<
         → SaysUsage result.status (seen N.steady N.faults N.written) note.old note.new
         × (source.new ≡ source.old) × (sink.new ≡ sink.old)) }
 
-    // or a server, which reads nothing, and writes to its history and the note: where it listens,
-    // and how it ended.
+    // The third case is a server. It reads nothing, and writes to its history and to the note. The
+    // note has the port on which the server listens, and how it ended.
     ensures serves { IfOk words (λ list. (asked : Serving)
         → serve_of (texts list.items) ≡ Some asked
         → ServesLive asked.port result.status (seen N.steady N.faults N.written) note.old note.new) }
@@ -86,8 +87,9 @@ pub fn start<
     ensures command { IfOk words (λ list. is_serve (texts list.items) ≡ true
         → result.status ≡ Status.Usage → serve_of (texts list.items) ≡ None) }
 
-    // If there are no words, nothing is read, and the note alone is written and says why: an
-    // allocation failure, or that they are no command. WriteFault comes only if its count rose.
+    // If the words could not be read, nothing is read, and only the note is written. It has the
+    // reason: an allocation failure, or that the words are no command. The status is WriteFault
+    // only if the fault count of the note rose.
     ensures untouched { IfErr words (λ _. (source.new ≡ source.old) × (sink.new ≡ sink.old)) }
     ensures memory { IfErr words (λ error. error_kind error ≡ ErrorKind.OutOfMemory
         → (result.status ≡ Status.OutOfMemory) ⊎ (result.status ≡ Status.WriteFault)) }
@@ -102,7 +104,7 @@ pub fn start<
     ensures counts { IfErr words (λ _. Counts N.steady N.faults note.old note.new
         (tells_write_fault result.status)) }
 
-    // A server that is asked for a record gives it to the sink of its history: the magic and the
+    // A server that is asked for a record writes it to the sink of its history: the magic and the
     // records of a legal history, which is fifo, has its causes and is answered. Every other run
     // returns the sink as it was.
     ensures record { IfOk words (λ list. asks_record (texts list.items) ≡ true
@@ -124,7 +126,7 @@ pub fn start<
     }
 }
 
-/// The words behind the program's name, which is the first of the arguments.
+/// Returns the words after the program's name, which is the first of the arguments.
 pub fn words_of(arguments: Vec<String>) -> Vec<String>
     ensures { result.items ≡ drop 1 arguments.items }
 {
