@@ -1,5 +1,7 @@
 //! A server over fakes: its end after each failure of its environment.
 
+ghost use Rattle.std.specs.Prelude.{true};
+
 use crate::rows::{CLIENTS, DEVICES, Row};
 use adb_connections::{DeviceIn, DeviceOut, MemoryDeviceIn, Plug};
 use adb_device_reader::Device;
@@ -27,7 +29,9 @@ fn served<
     Y: Yard + 'static,
     X: DeviceIn + Send + 'static,
     Z: DeviceOut + Send + 'static,
->(rt: W, alloc: Global, yard: Y, devices: Vec<Device<X, Z>>) -> Option<Served> {
+>(rt: W, alloc: Global, yard: Y, devices: Vec<Device<X, Z>>) -> Option<Served>
+    requires { Y.records yard true }
+{
     let mut note = MemorySink::new(alloc, Vec::new(alloc));
     let ended = serve(rt, alloc, yard, devices, 5037, true, &mut note);
     (note.bytes() == LINE).then_some(ended.served)
