@@ -4,3 +4,4 @@ pub mod Explaining
 pub mod Notes
 pub mod Stopping
 pub mod Words
+pub mod Completed
