@@ -1,3 +1,4 @@
+pub mod Payloads
 pub mod Quiet
 mod Watching
 mod Alone
