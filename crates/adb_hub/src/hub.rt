@@ -23,16 +23,17 @@ pub const MAX_DUE_TO_CLIENT: usize = 1_048_576;
 /// `DUE_FOR_STREAM` for each open stream of the hub.
 pub const MAX_DUE_ON_LINK: usize = 4_194_304;
 
-/// The number of bytes that may be due on a link for each open stream. It is more than a stream can
-/// have due on its link, so streams alone never take a device's room.
-pub const DUE_FOR_STREAM: usize = 131_072;
+/// The number of bytes that may be due on a link for each open stream: twice the first credit of a
+/// stream, which is more than a write and its acknowledgements. So a stream alone takes no device's
+/// room unless the device gave it more credit.
+pub const DUE_FOR_STREAM: usize = 524_288;
 
 /// States the numbers that definitions take from the code.
 pub fn limits_are()
     ensures held { MAX_HELD ≡ 65540 }
     ensures due_to_client { MAX_DUE_TO_CLIENT ≡ 1048576 }
     ensures due_on_link { MAX_DUE_ON_LINK ≡ 4194304 }
-    ensures due_for_stream { DUE_FOR_STREAM ≡ 131072 }
+    ensures due_for_stream { DUE_FOR_STREAM ≡ 524288 }
 {}
 
 /// The hub: the live clients, links and streams, the devices and the forwards. Contracts see the
