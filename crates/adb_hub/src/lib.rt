@@ -8,6 +8,7 @@
 
 mod answers;
 mod clients;
+mod completing;
 mod endings;
 mod error;
 mod hand_outs;

@@ -1,5 +1,6 @@
-use Rattle.std.proofs.Common.{ℕ, ◌≡◌, length, sym, subst, ap, ◌∙◌}
+use Rattle.std.proofs.Common.{ℕ, length, sym, subst, ap, ◌∙◌}
 use Rattle.adb_history.specs.Kept.{Kept, IsLawful}
+use Rattle.adb_history.specs.Machine.{state}
 use Rattle.adb_history.specs.Rows.{State}
 use Rattle.adb_hub_tables.specs.Tables.{state_of}
 use Rattle.adb_hub.specs.Answers.{link_room_in, open_streams}
@@ -14,4 +15,4 @@ returns c h lawful =
     let counted = ap (λ (s : Summary). s.streams) c.summary.ensures ∙ ap (λ (k : Kept). length k.streams.streams) lawful.seen in
     c.link_room.ensures
     ∙ (ap (λ (n : ℕ). link_room_in n ((state_of t).links c.args.link)) counted
-    ∙ ap (λ (s : State). link_room_in (open_streams s) (s.links c.args.link)) is)
+    ∙ ap (λ (s : State). link_room_in (open_streams (state h)) (s.links c.args.link)) is)
