@@ -1,4 +1,4 @@
-pub mod Payloads
+pub mod ConsecutivePayloads
 pub mod Quiet
 mod Watching
 mod Alone

@@ -1,4 +1,4 @@
-use Rattle.adb_laws_alone.proofs.Payloads.{are_enough}
+use Rattle.adb_laws_alone.proofs.ConsecutivePayloads.{are_enough}
 use Rattle.adb_laws_alone.proofs.payloads.an_ended_service_takes_no_more.Goals as goal
 
 pub returns : goal.returns
