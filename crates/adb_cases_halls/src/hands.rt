@@ -1,10 +1,10 @@
 //! Calls on a hall that several cases make.
 
 use adb_desk::Progress;
-use adb_desk_log::{ClientIn, ClientOut, DeskError, Marks};
-use adb_hall::Hall;
 use adb_hub::{Handed, Life, MAX_HELD};
 use adb_outside::HandOut;
+use adb_server_hall::Hall;
+use adb_server_log::{ClientIn, ClientOut, DeskError, Marks};
 use std::sync::ledger::Ledger;
 
 /// The passes of a client.

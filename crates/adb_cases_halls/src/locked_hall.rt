@@ -1,17 +1,17 @@
 //! A locked hall: which workers are notified, and two handles in two threads.
 
 ghost use Rattle.std.specs.Prelude.{◌≡◌, ◌≤◌, length};
-ghost use Rattle.adb_desk_log.specs.declared.marks.TheConstants.{ALL_PARTS};
+ghost use Rattle.adb_server_log.specs.declared.marks.TheConstants.{ALL_PARTS};
 
 use crate::hands::{Client, asks, is_answered, lives};
-use adb_bells::{Bells, Locked, Pair, Side};
 use adb_desk::{Act, Comer, Desk};
-use adb_desk_log::{ALL_PARTS, ClientIn, ClientOut, Marks};
-use adb_hall::Hall;
 use adb_hub::Owner;
-use adb_locked_hall::LockedHall;
 use adb_outside::Kind;
 use adb_recorder::NullRecorder;
+use adb_server_bells::{Bells, Locked, Pair, Side};
+use adb_server_hall::Hall;
+use adb_server_locked_hall::LockedHall;
+use adb_server_log::{ALL_PARTS, ClientIn, ClientOut, Marks};
 use std::alloc::{AllocError, Global};
 use std::marker::Brand;
 use std::sync::Wait;

@@ -1,16 +1,16 @@
 //! A hall of one thread: its answers, the entries that it keeps, and its counts.
 
 ghost use Rattle.std.specs.Prelude.{◌≡◌};
-ghost use Rattle.adb_desk_log.specs.declared.marks.TheConstants.{ALL_PARTS};
+ghost use Rattle.adb_server_log.specs.declared.marks.TheConstants.{ALL_PARTS};
 
 use crate::hands::{Client, asks, hands_out, is_answered, len_of};
 use adb_desk::Progress;
-use adb_desk_log::{ALL_PARTS, ClientIn, ClientOut, DeskError, LinkIn, LinkOut, Marks};
-use adb_hall::Hall;
 use adb_hub::{Handed, MAX_HELD, Room};
-use adb_one_desk::OneDesk;
 use adb_outside::{Cause, Kind};
 use adb_recorder::MemoryRecorder;
+use adb_server_hall::Hall;
+use adb_server_log::{ALL_PARTS, ClientIn, ClientOut, DeskError, LinkIn, LinkOut, Marks};
+use adb_server_one_desk::OneDesk;
 use std::alloc::{AllocError, Global};
 use std::marker::Brand;
 use std::sync::ledger::{Blank, Ledger};

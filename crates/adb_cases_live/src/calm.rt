@@ -1,10 +1,10 @@
 //! A server over a yard in which nothing fails, and its record.
 
 use adb_connections::{MemoryDeviceIn, MemoryDeviceOut};
-use adb_device_reader::Device;
 use adb_fakes::{CalmYard, lines_of};
 use adb_outside::MemorySink;
 use adb_server::{Ended, Served, serve};
+use adb_server_device_reader::Device;
 use std::alloc::{AllocError, Global};
 use std::sync::Wait;
 use std::thread::Threads;

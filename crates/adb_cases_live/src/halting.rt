@@ -8,11 +8,11 @@ use adb_connections::{
     Came, Door, MemoryDeviceIn, MemoryDeviceOut, MemoryIn, MemoryOut, OpenGate, PortIn, PortOut,
     SilentBell,
 };
-use adb_device_reader::Device;
 use adb_outside::{Failing, Got, MemorySink, Wrote};
 use adb_recorder::NullRecorder;
 use adb_server::{Served, serve};
-use adb_yard::{Dialled, Listening, Staff, Yard};
+use adb_server_device_reader::Device;
+use adb_server_yard::{Dialled, Listening, Staff, Yard};
 use std::alloc::{AllocError, Global};
 use std::marker::Model;
 use std::sync::{Arc, Condvar, Mutex, Wait};

@@ -1,10 +1,10 @@
 //! Three clients of one server, and the bytes that each port holds at the end.
 
 use adb_connections::{MemoryDeviceIn, MemoryDeviceOut};
-use adb_device_reader::Device;
 use adb_fakes::{FakeYard, Kept};
 use adb_outside::MemorySink;
 use adb_server::{Served, serve};
+use adb_server_device_reader::Device;
 use std::alloc::{AllocError, Global};
 use std::sync::Wait;
 use std::thread::Threads;

@@ -6,7 +6,7 @@ use adb_capture::{Entry, Owner};
 use adb_outside::MemorySink;
 use adb_ports::{Begun, Ending, Named, PipeSink, RealYard, Settled, begin_record, end_record};
 use adb_recorder::{Recorder, SinkRecorder};
-use adb_yard::Yard;
+use adb_server_yard::Yard;
 use std::alloc::{AllocError, Global};
 use std::marker::Brand;
 use std::net::{Net, TcpListener, TcpStream};

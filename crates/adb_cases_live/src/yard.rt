@@ -4,7 +4,7 @@ use adb_binder::{Binder, Binding};
 use adb_connections::{Bell, Came, Door, PortIn, PortOut};
 use adb_outside::{Got, Wrote};
 use adb_ports::{Ending, RealYard};
-use adb_yard::{Dialled, Listening, Staff, Yard};
+use adb_server_yard::{Dialled, Listening, Staff, Yard};
 use std::alloc::{AllocError, Global};
 use std::marker::Brand;
 use std::net::{Net, TcpListener, TcpStream};

@@ -6,15 +6,15 @@ ghost use Rattle.adb_history.specs.Accepted.{is_drawn};
 ghost use Rattle.adb_history.specs.Kept.{IsLawful};
 ghost use Rattle.adb_history.specs.Machine.{state};
 ghost use Rattle.adb_hub.specs.Answers.{room_of, port_of};
-ghost use Rattle.adb_desk_log.specs.declared.error.DeskError.{DeskError};
-ghost use Rattle.adb_desk_log.specs.Log.{shut_with};
-ghost use Rattle.adb_desk_log.specs.Marked.{marks_error, marks_room};
+ghost use Rattle.adb_server_log.specs.declared.error.DeskError.{DeskError};
+ghost use Rattle.adb_server_log.specs.Log.{shut_with};
+ghost use Rattle.adb_server_log.specs.Marked.{marks_error, marks_room};
 ghost use Rattle.adb_desk.specs.Desk.{rung, or_given_by, is_later};
 
 use crate::desk::Desk;
-use adb_desk_log::{DeskError, Marks, marks_error, marks_room};
 use adb_hub::Room;
 use adb_recorder::Recorder;
+use adb_server_log::{DeskError, Marks, marks_error, marks_room};
 use std::sync::ledger::Ledger;
 
 impl<R: Recorder, E: Ledger, M: Ledger, K: Marks> Desk<R, E, M, K> {

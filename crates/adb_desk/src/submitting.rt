@@ -7,8 +7,8 @@ ghost use Rattle.adb_history.specs.Kept.{IsLawful};
 ghost use Rattle.adb_history.specs.Machine.{state};
 ghost use Rattle.adb_hub.specs.Answers.{Answers};
 ghost use Rattle.adb_hub.specs.declared.error.HubError.{HubError};
-ghost use Rattle.adb_desk_log.specs.declared.error.DeskError.{DeskError};
-ghost use Rattle.adb_desk_log.specs.Log.{HasKept, Keeps, moves, shut_with};
+ghost use Rattle.adb_server_log.specs.declared.error.DeskError.{DeskError};
+ghost use Rattle.adb_server_log.specs.Log.{HasKept, Keeps, moves, shut_with};
 ghost use Rattle.adb_desk.specs.Acts.{IsLateBy, Submits, entry_of, life_at, link_room};
 ghost use Rattle.adb_desk.specs.Acts.{is_end, marks_progress, progress_at};
 ghost use Rattle.adb_desk.specs.Desk.{Rung, desk_refusal};
@@ -16,9 +16,9 @@ ghost use Rattle.adb_desk.specs.Desk.{Rung, desk_refusal};
 use crate::act::{Act, Progress};
 use crate::desk::Desk;
 use adb_capture::{Entry, MAX_DATA, Owner};
-use adb_desk_log::{DeskError, Log, Marks, is_marked};
 use adb_hub::{Hub, HubError, Life, MAX_HELD, Room};
 use adb_recorder::Recorder;
+use adb_server_log::{DeskError, Log, Marks, is_marked};
 use std::sync::ledger::Ledger;
 
 impl<R: Recorder, E: Ledger, M: Ledger, K: Marks> Desk<R, E, M, K> {

@@ -7,7 +7,7 @@ use crate::yard::listening_port;
 use adb_connections::{MemoryIn, OpenGate, SilentBell};
 use adb_outside::Text;
 use adb_recorder::MemoryRecorder;
-use adb_yard::{Dialled, Listening, Staff, Yard};
+use adb_server_yard::{Dialled, Listening, Staff, Yard};
 use std::alloc::{AllocError, Global};
 use std::collections::VecDeque;
 use std::marker::Model;

@@ -10,7 +10,7 @@ use crate::sent::{Sent, SharedOut};
 use adb_binder::MemoryBinder;
 use adb_connections::{MemoryIn, OpenGate};
 use adb_outside::{Failing, Text};
-use adb_yard::{Dialled, Listening, Staff, Yard};
+use adb_server_yard::{Dialled, Listening, Staff, Yard};
 use std::alloc::{AllocError, Global};
 use std::collections::VecDeque;
 use std::marker::Model;

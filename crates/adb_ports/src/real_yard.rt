@@ -1,13 +1,13 @@
 //! The yard of a live server.
 
 ghost use Rattle.std.specs.Prelude.{◌≡◌, false, IfSome};
-ghost use Rattle.adb_yard.specs.Yard.{FitsPort, is_deaf};
+ghost use Rattle.adb_server_yard.specs.Yard.{FitsPort, is_deaf};
 
 use adb_connections::OpenGate;
-use adb_live::{Entrance, Listeners, TcpBell, TcpBinder, TcpDoor};
-use adb_record::{LiveRecorder, Named, PipeSink};
-use adb_sockets::{Ending, TcpIn, TcpOut, halves};
-use adb_yard::{Dialled, Listening, Staff, Yard};
+use adb_os_door::{Entrance, Listeners, TcpBell, TcpBinder, TcpDoor};
+use adb_os_record::{LiveRecorder, Named, PipeSink};
+use adb_os_sockets::{Ending, TcpIn, TcpOut, halves};
+use adb_server_yard::{Dialled, Listening, Staff, Yard};
 use std::alloc::Global;
 use std::io;
 use std::net::{Net, SocketAddr, TcpListener, TcpStream};
@@ -135,7 +135,7 @@ impl<
     type DialOut = TcpOut;
 
     ghost use Rattle.std.specs.Prelude.{◌≡◌, true, false, None};
-    ghost use Rattle.adb_record.specs.Live.{IsUnused};
+    ghost use Rattle.adb_os_record.specs.Live.{IsUnused};
 
     ghost faults = { λ yard. yard.faults };
 

@@ -3,10 +3,10 @@ use Rattle.std.proofs.Common.{List, Option, Some, None}
 use Rattle.adb_outside.specs.Outside.{TellsOneMore}
 use Rattle.adb_connections.specs.declared.door.Arrival.{Arrival}
 use Rattle.adb_connections.specs.declared.door.Arrival.TheVariants as came
-use Rattle.adb_hall.specs.Telling.{Telling}
-use Rattle.adb_client_reader.specs.declared.admitting.Admitted.{Admitted}
-use Rattle.adb_client_reader.specs.declared.admitting.Admitted.TheVariants.{Closed}
-use Rattle.adb_client_reader.specs.Admitting.{ComesBy, IsAdmission}
+use Rattle.adb_server_hall.specs.Telling.{Telling}
+use Rattle.adb_server_client_reader.specs.declared.admitting.Admitted.{Admitted}
+use Rattle.adb_server_client_reader.specs.declared.admitting.Admitted.TheVariants.{Closed}
+use Rattle.adb_server_client_reader.specs.Admitting.{ComesBy, IsAdmission}
 use Rattle.adb_server.specs.Served.{HasClosed}
 
 closed_by : (I O E M K : Type 0) (arrival : Arrival) (before after : Option (List Arrival)) → ComesBy {I = I} {O = O} {E = E} {M = M} {K = K} arrival Closed

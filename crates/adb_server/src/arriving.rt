@@ -6,12 +6,12 @@ ghost use Rattle.adb_server.specs.Served.{HasClosed};
 
 use crate::refusals::go_on;
 use crate::server::Served;
-use adb_client_reader::{Admitted, admit};
 use adb_connections::{DeviceOut, Door};
-use adb_desk_log::{ClientIn, ClientOut, LinkIn, LinkOut};
-use adb_device_reader::{Device, Packets, Plugged, plug_in};
-use adb_hall::Hall;
-use adb_work::Parts;
+use adb_server_client_reader::{Admitted, admit};
+use adb_server_device_reader::{Device, Packets, Plugged, plug_in};
+use adb_server_hall::Hall;
+use adb_server_log::{ClientIn, ClientOut, LinkIn, LinkOut};
+use adb_server_work::Parts;
 
 /// A client that was admitted: the two halves of its connection and the passes of its reader and
 /// its writer.

@@ -1,13 +1,13 @@
 //! The decision whether the server continues after its hall refused a client or a device.
 
 ghost use Rattle.std.specs.Prelude.{◌≢◌, Err};
-ghost use Rattle.adb_desk_log.specs.declared.error.DeskError.{DeskError};
+ghost use Rattle.adb_server_log.specs.declared.error.DeskError.{DeskError};
 
 use crate::server::Served;
-use adb_desk_log::DeskError;
-use adb_hall::Hall;
 use adb_hub::HubError;
-use adb_work::Parts;
+use adb_server_hall::Hall;
+use adb_server_log::DeskError;
+use adb_server_work::Parts;
 
 /// Returns `Ok` if the server continues after this refusal.
 ///

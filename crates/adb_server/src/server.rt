@@ -2,8 +2,8 @@
 
 ghost use Rattle.std.specs.Prelude.{◌≡◌, ◌≢◌, []};
 ghost use Rattle.adb_outside.specs.Outside.{Counts, Rises};
-ghost use Rattle.adb_desk_log.specs.declared.marks.TheConstants.{ALL_PARTS};
-ghost use Rattle.adb_desk_log.specs.Log.{IsFresh};
+ghost use Rattle.adb_server_log.specs.declared.marks.TheConstants.{ALL_PARTS};
+ghost use Rattle.adb_server_log.specs.Log.{IsFresh};
 ghost use Rattle.adb_server.specs.Ended.{KeepsHistory};
 ghost use Rattle.adb_server.specs.Served.{Announces, HasClosed, NamesPort, is_write_fault};
 
@@ -13,13 +13,13 @@ use crate::listening::announce;
 use crate::workers::{Over, Workers, pool_of};
 use adb_binder::Binder;
 use adb_connections::{Bell, DeviceIn, DeviceOut, Door, Gate, PortIn, PortOut};
-use adb_desk_log::{ALL_PARTS, Marks};
-use adb_device_reader::Device;
-use adb_locked_hall::LockedHall;
 use adb_outside::Sink;
 use adb_recorder::Recorder;
-use adb_work::BellHandle;
-use adb_yard::{Listening, Yard};
+use adb_server_device_reader::Device;
+use adb_server_locked_hall::LockedHall;
+use adb_server_log::{ALL_PARTS, Marks};
+use adb_server_work::BellHandle;
+use adb_server_yard::{Listening, Yard};
 use std::alloc::Global;
 use std::marker::Brand;
 use std::sync::Wait;

@@ -3,13 +3,13 @@
 use crate::arriving::{Arrival, Linked};
 use adb_binder::Binder;
 use adb_connections::{Bell, DeviceIn, DeviceOut, Gate, PortIn, PortOut};
-use adb_desk_log::Marks;
-use adb_hall::Hall;
 use adb_hub::Owner;
 use adb_recorder::Recorder;
+use adb_server_hall::Hall;
+use adb_server_log::Marks;
+use adb_server_work::{BellHandle, Contexts, HallOf, Parts, Ringing, Task, Work};
+use adb_server_yard::Staff;
 use adb_spawner::{Crew, Job};
-use adb_work::{BellHandle, Contexts, HallOf, Parts, Ringing, Task, Work};
-use adb_yard::Staff;
 use std::alloc::{AllocError, Global};
 use std::marker::PhantomData;
 use std::sync::Wait;

@@ -2,7 +2,7 @@
 use Rattle.std.proofs.Common.{ℕ, ◌≡◌, ◌≢◌, Bool, true, List, Option, Some, None, reverse, refl, sym, ap, subst, ◌∙◌}
 use Rattle.adb_capture.specs.declared.entry.Entry.{Entry}
 use Rattle.adb_desk.specs.Left.{HasRecorded}
-use Rattle.adb_record.specs.Live.{ServesCapture}
+use Rattle.adb_os_record.specs.Live.{ServesCapture}
 use Rattle.adb_words.specs.Serve.{Serving}
 use Rattle.adb_top.specs.declared.status.Status.{Status}
 use Rattle.adb_top.specs.declared.status.Status.TheVariants.{Done, WriteFault, RecordFault}

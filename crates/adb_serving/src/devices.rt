@@ -3,7 +3,7 @@
 
 use crate::either::{EitherIn, EitherOut};
 use adb_daemon::Daemon;
-use adb_device_reader::Device;
+use adb_server_device_reader::Device;
 use adb_files::Files;
 use adb_outside::{Kind, Text};
 use adb_pipe::{PipeIn, PipeOut, pipe};

@@ -10,6 +10,6 @@ mod serving;
 mod started;
 mod starting;
 
-pub use adb_streams::Stream;
+pub use adb_os_streams::Stream;
 pub use started::Started;
 pub use starting::{start, words_of};

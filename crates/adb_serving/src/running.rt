@@ -18,7 +18,7 @@ use crate::started::Started;
 use adb_outside::{Sink, Source};
 use adb_top::{Status, run};
 use adb_words::{is_serve, names_tool};
-use adb_yard::NoYard;
+use adb_server_yard::NoYard;
 use std::alloc::Global;
 use std::net::{Net, TcpListener, TcpStream};
 use std::sync::Wait;

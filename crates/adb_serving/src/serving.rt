@@ -4,7 +4,7 @@ ghost use Rattle.std.specs.Prelude.{◌≡◌, ◌≢◌, [], IfOk, None, Some, 
 ghost use Rattle.adb_asking.specs.Telling.{seen};
 ghost use Rattle.adb_serving.specs.Live.{Ended, ServesLive};
 ghost use Rattle.adb_serving.specs.History.{GivesRecord, asks_record};
-ghost use Rattle.adb_record.specs.Live.{Keeps, live_faults};
+ghost use Rattle.adb_os_record.specs.Live.{Keeps, live_faults};
 ghost use Rattle.adb_top.specs.Kept.{KeepsRecord};
 ghost use Rattle.adb_top.specs.Usage.{SaysUsage};
 ghost use Rattle.adb_words.specs.Serve.{Serving, is_serve, serve_of};

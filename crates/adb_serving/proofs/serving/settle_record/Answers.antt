@@ -1,7 +1,7 @@
 use Rattle.std.proofs.Common.{Option, inl, refl, subst, reverse}
 use Rattle.adb_recorder.specs.Recording.{SinkRecording}
-use Rattle.adb_record.specs.Live.{Keeps, live_faults}
-use Rattle.adb_record.specs.Written.{PipeSinkView}
+use Rattle.adb_os_record.specs.Live.{Keeps, live_faults}
+use Rattle.adb_os_record.specs.Written.{PipeSinkView}
 use Rattle.adb_top.specs.Kept.{KeepsRecord}
 use Rattle.adb_serving.proofs.Record.{recorded_of, serves_history}
 use Rattle.adb_serving.proofs.serving.settle_record.Goals as goal

@@ -1,0 +1,131 @@
+//! The door of a server, and its bell.
+
+ghost use Rattle.std.specs.Prelude.{◌≡◌, false, IfOk, IfSome};
+ghost use Rattle.adb_connections.specs.Door.{FitsCame, is_failed_came};
+
+use crate::accept_queue::{AcceptQueue, Next};
+use crate::listeners::{Listeners, OWN};
+use adb_connections::{Bell, Came, Door};
+use adb_os_sockets::{Ending, TcpIn, TcpOut, accepted};
+use mio::Poll;
+use std::alloc::Global;
+use std::io;
+use std::net::{Net, TcpListener, TcpStream};
+use std::sync::{Arc, Wait};
+
+/// The door of a server, at its own listener and those of its forwards. If an allocation fails, the
+/// connection is closed, and the door waits for the next. Contracts do not see which connections
+/// come.
+#[derive(Drop)]
+pub struct TcpDoor<W: Wait + Drop> {
+    rt: W,
+    alloc: Global,
+    queue: AcceptQueue,
+    listeners: Arc<Listeners, Global>,
+    faults: u64,
+}
+
+/// The bell of a `TcpDoor`. After it has rung, writes to peers that do not read fail.
+#[derive(Drop)]
+pub struct TcpBell {
+    listeners: Arc<Listeners, Global>,
+}
+
+/// A door with its bell, and the listeners that they share with the binders of the same server.
+#[derive(Drop)]
+pub struct Entrance<W: Wait + Drop> {
+    pub door: TcpDoor<W>,
+    pub bell: TcpBell,
+    pub listeners: Arc<Listeners, Global>,
+}
+
+impl<W: Net<Listener = TcpListener, Stream = TcpStream> + Wait + Drop> Entrance<W> {
+    /// Makes the door at a listener, and its bell. The bell sets `ending` when it rings.
+    ///
+    /// Fails if the system refuses a descriptor, or if an allocation fails. The listener is then
+    /// closed.
+    pub fn new(rt: W, alloc: Global, own: TcpListener, ending: &Ending) -> io::Result<Entrance<W>>
+        ensures { IfOk result (λ made. made.door.faults ≡ 0) }
+    {
+        let poll = Poll::new(&rt)?;
+        let registry = poll.registry().try_clone()?;
+        let listeners = Listeners::new(alloc, registry, own, ending.share()?)?;
+        let listeners = Arc::new(alloc, listeners)?;
+        let queue = AcceptQueue::new(alloc, poll, Arc::try_clone(&listeners)?)?;
+        let door = TcpDoor {
+            rt,
+            alloc,
+            queue,
+            listeners: Arc::try_clone(&listeners)?,
+            faults: 0,
+        };
+        let bell = TcpBell {
+            listeners: Arc::try_clone(&listeners)?,
+        };
+        Ok(Entrance {
+            door,
+            bell,
+            listeners,
+        })
+    }
+}
+
+impl<W: Wait + Drop> TcpDoor<W> {
+    /// Returns how many calls of `accept` failed for lack of a descriptor or of memory.
+    pub fn shortages(&self) -> u64 {
+        self.queue.shortages()
+    }
+
+    /// Makes the two halves of a connection that came to a listener. If an allocation fails, the
+    /// connection is closed.
+    fn let_in(&self, number: u16, stream: TcpStream) -> Option<Came<TcpIn, TcpOut>>
+        ensures { IfSome result (λ came. FitsCame came × (is_failed_came came ≡ false)) }
+    {
+        let (input, output) = accepted(self.alloc, stream, self.listeners.ending()).ok()?;
+        if number == OWN {
+            return Some(Came::Port(input, output));
+        }
+        Some(Came::Forward(number, input, output))
+    }
+}
+
+impl<W: Wait + Drop> Door for TcpDoor<W> {
+    type In = TcpIn;
+
+    type Out = TcpOut;
+
+    ghost use Rattle.std.specs.Prelude.{None};
+
+    ghost faults = { λ door. door.faults };
+
+    ghost came = { λ door. None };
+
+    ghost lasting = { λ door. ⊥ };
+
+    ghost steady = { λ door. ⊥ };
+
+    /// Returns `Closed` after the bell has rung, and `Failed` if the server's own listener is
+    /// broken. A shortage of descriptors or of memory is no failure: the door continues.
+    fn accept(&mut self) -> Came<TcpIn, TcpOut> {
+        for _ in 0..u64::MAX {
+            match self.queue.next(&self.rt) {
+                Next::Came(number, stream) => {
+                    if let Some(came) = self.let_in(number, stream) {
+                        return came;
+                    }
+                }
+                Next::Nothing => {}
+                Next::Over => return Came::Closed,
+                Next::Broken => break,
+            }
+        }
+        self.faults = self.faults.saturating_add(1);
+        Came::Failed
+    }
+}
+
+impl Bell for TcpBell {
+    fn ring(&self) {
+        self.listeners.ring();
+    }
+}
