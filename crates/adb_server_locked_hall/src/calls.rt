@@ -4,12 +4,12 @@ ghost use Rattle.std.specs.Prelude.{◌≡◌, true};
 ghost use Rattle.adb_server_hall.specs.Passes.{or_marked};
 
 use crate::locked_hall::LockedHall;
-use adb_server_bells::{Bells, Pair, Side};
 use adb_desk::{Desk, Half};
-use adb_server_log::{DeskError, Mark, Marks, Pass, marks_error};
-use adb_server_hall::{Arrival, Call, Hall, Section, mark_handle};
 use adb_hub::{HubError, Owner};
 use adb_recorder::Recorder;
+use adb_server_bells::{Bells, Pair, Side};
+use adb_server_hall::{Arrival, Call, Hall, Section, mark_handle};
+use adb_server_log::{DeskError, Mark, Marks, Pass, marks_error};
 use std::sync::ledger::Ledger;
 use std::sync::{Mutex, Wait};
 

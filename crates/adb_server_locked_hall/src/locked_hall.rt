@@ -8,12 +8,12 @@ ghost use Rattle.adb_desk.specs.Left.{IsLeft};
 ghost use Rattle.adb_server_hall.specs.Passes.{or_marked};
 
 use crate::calls::mark_own;
-use adb_server_bells::{Bells, Locked, Side};
 use adb_desk::{Desk, Left};
-use adb_server_log::{ClientIn, ClientOut, DeskError, LinkIn, LinkOut, Mark, Marks, Pass};
-use adb_server_hall::{Call, Over};
 use adb_hub::Owner;
 use adb_recorder::Recorder;
+use adb_server_bells::{Bells, Locked, Side};
+use adb_server_hall::{Call, Over};
+use adb_server_log::{ClientIn, ClientOut, DeskError, LinkIn, LinkOut, Mark, Marks, Pass};
 use std::alloc::{AllocError, Global};
 use std::marker::Model;
 use std::sync::ledger::{Blank, Ledger};

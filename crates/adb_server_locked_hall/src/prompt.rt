@@ -1,9 +1,9 @@
 //! A handle that never waits.
 
 use crate::locked_hall::LockedHall;
-use adb_server_log::{DeskError, Marks, Pass};
-use adb_server_hall::{Arrival, Call, Hall, Section};
 use adb_recorder::Recorder;
+use adb_server_hall::{Arrival, Call, Hall, Section};
+use adb_server_log::{DeskError, Marks, Pass};
 use std::sync::Wait;
 use std::sync::ledger::Ledger;
 

@@ -1,9 +1,9 @@
 //! The sections that a hall of one thread runs.
 
 use crate::one_desk::OneDesk;
-use adb_server_log::{DeskError, Marks, Pass, marks_error};
-use adb_server_hall::{Arrival, Call, Hall, Section, mark_handle};
 use adb_recorder::Recorder;
+use adb_server_hall::{Arrival, Call, Hall, Section, mark_handle};
+use adb_server_log::{DeskError, Marks, Pass, marks_error};
 use std::sync::ledger::Ledger;
 
 impl<R: Recorder, E: Ledger, M: Ledger, K: Marks> Hall<E, M, K> for OneDesk<R, E, M, K> {

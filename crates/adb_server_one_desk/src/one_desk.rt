@@ -9,8 +9,8 @@ ghost use Rattle.adb_desk.specs.Sound.{IsSound, TellsPromises};
 ghost use Rattle.adb_server_one_desk.specs.OneDesk.{OneView};
 
 use adb_desk::Desk;
-use adb_server_log::{ClientIn, ClientOut, LinkIn, LinkOut, Mark, Marks, Pass};
 use adb_recorder::Recorder;
+use adb_server_log::{ClientIn, ClientOut, LinkIn, LinkOut, Mark, Marks, Pass};
 use std::alloc::Global;
 use std::marker::Model;
 use std::sync::ledger::{Blank, Ledger};

@@ -3,9 +3,9 @@
 use crate::context::Ringing;
 use adb_binder::Binder;
 use adb_connections::{DeviceIn, DeviceOut, Gate, PortIn, PortOut};
-use adb_server_log::Marks;
-use adb_server_locked_hall::LockedHall;
 use adb_recorder::Recorder;
+use adb_server_locked_hall::LockedHall;
+use adb_server_log::Marks;
 use std::sync::Wait;
 use std::sync::ledger::Ledger;
 

@@ -3,10 +3,10 @@
 use crate::context::Context;
 use crate::parts::Parts;
 use adb_server_client_reader::read_client;
-use adb_server_log::{ClientIn, ClientOut, LinkIn, LinkOut};
 use adb_server_device_reader::{Packets, read_device};
-use adb_spawner::Job;
+use adb_server_log::{ClientIn, ClientOut, LinkIn, LinkOut};
 use adb_server_writers::{write_client, write_device};
+use adb_spawner::Job;
 use std::sync::Wait;
 
 /// The inputs of one worker: its context, its pass, its half of the connection, and an aid that

@@ -11,8 +11,8 @@ use crate::outlets::Clients;
 use crate::writer::write;
 use adb_connections::{Gate, PortOut};
 use adb_desk::Half;
-use adb_server_log::{ClientOut, Marks};
 use adb_server_hall::Hall;
+use adb_server_log::{ClientOut, Marks};
 use std::sync::Wait;
 use std::sync::ledger::Ledger;
 

@@ -11,8 +11,8 @@ use crate::outlets::Devices;
 use crate::writer::write;
 use adb_connections::{DeviceOut, Gate};
 use adb_desk::Half;
-use adb_server_log::{LinkOut, Marks};
 use adb_server_hall::Hall;
+use adb_server_log::{LinkOut, Marks};
 use std::sync::Wait;
 use std::sync::ledger::Ledger;
 
