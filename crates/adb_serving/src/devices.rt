@@ -6,10 +6,10 @@ use adb_daemon::Daemon;
 use adb_files::Files;
 use adb_outside::{Kind, Text};
 use adb_pipe::{PipeIn, PipeOut, pipe};
-use adb_server_device_reader::Device;
 use adb_ports::{
     Ending, PipeDeviceIn, PipeDeviceOut, TcpDeviceIn, TcpDeviceOut, run_device, tcp_device,
 };
+use adb_server_device_reader::Device;
 use adb_wire::MAX_PAYLOAD;
 use adb_words::Ports;
 use itoa::Buffer;
