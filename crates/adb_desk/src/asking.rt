@@ -1,4 +1,4 @@
-//! Queries about clients. None of them makes an entry or allocates.
+//! Queries about clients and forwards. None of them makes an entry or allocates.
 
 ghost use Rattle.std.specs.Prelude.{◌≡◌, ◌≢◌, ◌&&◌, List, Err};
 ghost use Rattle.adb_capture.specs.declared.entry.Entry.{Entry};
@@ -9,7 +9,7 @@ ghost use Rattle.adb_hub.specs.Answers.{room_of, port_of};
 ghost use Rattle.adb_server_log.specs.declared.error.DeskError.{DeskError};
 ghost use Rattle.adb_server_log.specs.Log.{shut_with};
 ghost use Rattle.adb_server_log.specs.Marked.{marks_error, marks_room};
-ghost use Rattle.adb_desk.specs.Desk.{rung, or_given_by, is_later};
+ghost use Rattle.adb_desk.specs.Desk.{has_forward, is_later, or_given_by, rung};
 
 use crate::desk::Desk;
 use adb_hub::Room;
@@ -50,6 +50,23 @@ impl<R: Recorder, E: Ledger, M: Ledger, K: Marks> Desk<R, E, M, K> {
         let answer = match self.log.shut() {
             Some(error) => Err(error),
             None => Ok(self.hub.waiting_port(client)),
+        };
+        self.log.ring(marks_error(&answer));
+        answer
+    }
+
+    /// Returns whether the hub has a forward of this local port.
+    ///
+    /// A desk that is shut returns the answer with which it was shut.
+    pub fn has_forward(&mut self, port: u16) -> Result<bool, DeskError>
+        ensures answer { (h : List Entry) → IsLawful self.old.hub h
+            → result ≡ or_given_by (shut_with self.old.log) (has_forward port (state h)) }
+        ensures rung { self.new ≡ rung (marks_error result) self.old }
+        ensures steady { K.steady → result ≢ Err DeskError.RecordFault }
+    {
+        let answer = match self.log.shut() {
+            Some(error) => Err(error),
+            None => Ok(self.hub.has_forward(port)),
         };
         self.log.ring(marks_error(&answer));
         answer

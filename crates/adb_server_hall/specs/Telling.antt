@@ -24,7 +24,7 @@ use Rattle.adb_desk.specs.declared.act.Progress.{Progress}
 use Rattle.adb_desk.specs.declared.act.Piece.{Piece}
 use Rattle.adb_desk.specs.declared.act.Piece.TheVariants.{All, Front}
 use Rattle.adb_desk.specs.Acts.{progress_at}
-use Rattle.adb_desk.specs.Desk.{DeskView, desk_refusal, or_given_by, or_stopped}
+use Rattle.adb_desk.specs.Desk.{DeskView, desk_refusal, has_forward, or_given_by, or_stopped}
 
 -- what a hall tells: what its hub holds, the entries that its recorder tells, and the answer with which it is shut
 pub record Telling : Type 0 where
@@ -118,6 +118,11 @@ pub record Rooms (n : ℕ) (answer : Result Room DeskError) (a b : Telling) : Ty
   pub same : b ≡ a
   pub told : (h : History) → IsLawful a.hub h
       → answer ≡ drawn_room (is_drawn a.hub.joined n) a.shut (room_of ((state h).clients n)) (NoClient n)
+
+-- whether there is a forward of a local port; a hall that is shut gives its answer
+pub record Forwards (port : ℕ) (answer : Result Bool DeskError) (a b : Telling) : Type 0 where
+  pub same : b ≡ a
+  pub told : (h : History) → IsLawful a.hub h → answer ≡ or_given_by a.shut (has_forward port (state h))
 
 -- the answer with which the hall is shut, or Stopped if a kill was made
 pub record Overs (answer : Option DeskError) (a b : Telling) : Type 0 where

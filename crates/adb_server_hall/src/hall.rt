@@ -1,6 +1,6 @@
 //! The calls that the workers of a server make.
 
-use crate::alone::{Halt, Over, Strand};
+use crate::alone::{Halt, HasForward, Over, Strand};
 use crate::sections::{Arrival, Call, Section};
 use crate::with_pass::{AskRoom, HandOut, Submit};
 use adb_capture::Owner;
@@ -45,7 +45,7 @@ pub trait Hall<E: Ledger, M: Ledger, K: Marks> {
     ghost use Rattle.adb_desk.specs.Acts.{is_end, out_entry};
     ghost use Rattle.adb_server_hall.specs.Telling.{Telling, Where, Submits, Draws, Hands, HandsFront, HandsPiece};
     ghost use Rattle.adb_server_hall.specs.Telling.{IsAt, IsShutAt, ends_of};
-    ghost use Rattle.adb_server_hall.specs.Telling.{Rooms, Overs, Halts, IsSomeRoom, IsSomeHanded, IsSomeProgress};
+    ghost use Rattle.adb_server_hall.specs.Telling.{Rooms, Overs, Forwards, Halts, IsSomeRoom, IsSomeHanded, IsSomeProgress};
     ghost use Rattle.adb_server_hall.specs.Passes.{ArePair, after_submit, after_handed};
     ghost use Rattle.adb_server_hall.specs.Passes.{after_room, or_marked};
 
@@ -200,6 +200,18 @@ pub trait Hall<E: Ledger, M: Ledger, K: Marks> {
         ensures mark { marked self.new ≡ or_marked (is_some result) (marked self.old) }
     {
         self.ask(&Over {})
+    }
+
+    /// Returns whether the hub has a forward of this local port. It makes no entry and allocates
+    /// nothing.
+    ///
+    /// A hall that is shut returns the answer with which it was shut.
+    final fn has_forward(&mut self, port: u16) -> Result<bool, DeskError>
+        ensures told { Where (tells self.old) (Forwards port result) (tells self.new) }
+        ensures steady { K.steady → result ≢ Err DeskError.RecordFault }
+        ensures mark { marked self.new ≡ or_marked (marks_error result) (marked self.old) }
+    {
+        self.ask(&HasForward { port })
     }
 
     /// Shuts the hall with `Halted`, unless it is shut.
