@@ -5,6 +5,7 @@ mod case;
 mod hands;
 mod locked_hall;
 mod one_desk;
+mod waiting;
 
 use case::{CASES, Case};
 use std::io;
