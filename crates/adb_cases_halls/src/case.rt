@@ -1,6 +1,6 @@
 //! The cases, each of which is tried by itself.
 
-use crate::{locked_hall, one_desk, waiting};
+use crate::{locked_hall, many_waiters, one_desk, waiting};
 use std::alloc::{AllocError, Global};
 use std::sync::Wait;
 use std::thread::Threads;
@@ -11,6 +11,7 @@ pub enum Case {
     BellsAreRung,
     AClientIsServedByTwoThreads,
     EveryWaitEnds,
+    AHaltEndsManyWaits,
     ADeskAnswersKeepsAndCounts,
 }
 
@@ -18,6 +19,7 @@ pub const CASES: &[Case] = &[
     Case::BellsAreRung,
     Case::AClientIsServedByTwoThreads,
     Case::EveryWaitEnds,
+    Case::AHaltEndsManyWaits,
     Case::ADeskAnswersKeepsAndCounts,
 ];
 
@@ -40,6 +42,7 @@ impl Case {
                 fault_of(locked_hall::serves_by_brand(rt, alloc)?)
             }
             Case::EveryWaitEnds => waiting::first_stuck(rt, alloc)?,
+            Case::AHaltEndsManyWaits => fault_of(many_waiters::holds_by_brand(rt, alloc)?),
             Case::ADeskAnswersKeepsAndCounts => one_desk::first_fault(alloc)?,
         })
     }

@@ -4,6 +4,7 @@
 mod case;
 mod hands;
 mod locked_hall;
+mod many_waiters;
 mod one_desk;
 mod waiting;
 
