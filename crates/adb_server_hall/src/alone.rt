@@ -15,7 +15,7 @@ use adb_capture::Owner;
 use adb_desk::{Act, Comer, Desk, Progress, marks_progress};
 use adb_outside::Cause;
 use adb_recorder::Recorder;
-use adb_server_log::{DeskError, Mark, Marks, Pass};
+use adb_server_log::{DeskError, Mark, Marks, Pass, marks_error};
 use std::sync::ledger::Ledger;
 
 impl Arrival for Comer<'_> {
@@ -97,6 +97,36 @@ impl Call<Option<DeskError>> for Over {
 
     fn is_marked(&self, answer: &Option<DeskError>) -> bool {
         answer.is_some()
+    }
+}
+
+/// The section that returns whether the hub has a forward of a local port.
+#[derive(Drop)]
+pub struct HasForward {
+    pub port: u16,
+}
+
+impl Call<Result<bool, DeskError>> for HasForward {
+    ghost use Rattle.std.specs.Prelude.{◌≢◌, Err};
+    ghost use Rattle.adb_server_log.specs.declared.error.DeskError.{DeskError};
+    ghost use Rattle.adb_server_log.specs.Marked.{marks_error};
+    ghost use Rattle.adb_server_hall.specs.Telling.{Forwards};
+
+    ghost does = { λ s answer a b. Forwards s.port answer a b };
+
+    ghost marks = { λ answer. marks_error answer };
+
+    ghost sound = { λ answer. answer ≢ Err DeskError.RecordFault };
+
+    fn run<R: Recorder, E: Ledger, M: Ledger, K: Marks>(
+        &self,
+        desk: &mut Desk<R, E, M, K>,
+    ) -> Result<bool, DeskError> {
+        desk.has_forward(self.port)
+    }
+
+    fn is_marked(&self, answer: &Result<bool, DeskError>) -> bool {
+        marks_error(answer)
     }
 }
 

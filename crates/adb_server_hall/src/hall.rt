@@ -1,6 +1,6 @@
 //! The calls that the workers of a server make.
 
-use crate::alone::{Halt, Over, Strand};
+use crate::alone::{Halt, HasForward, Over, Strand};
 use crate::sections::{Arrival, Call, Section};
 use crate::with_pass::{AskRoom, HandOut, Submit};
 use adb_capture::Owner;
@@ -32,6 +32,7 @@ pub trait Hall<E: Ledger, M: Ledger, K: Marks> {
     ghost use Rattle.adb_outside.specs.declared.kinds.Kind.{Kind};
     ghost use Rattle.adb_outside.specs.Serial.{is_serial};
     ghost use Rattle.adb_capture.specs.declared.entry.Entry.{Entry};
+    ghost use Rattle.adb_capture.specs.declared.entry.Owner.{Owner};
     ghost use Rattle.adb_capture.specs.declared.limits.TheConstants.{MAX_DATA};
     ghost use Rattle.adb_history.specs.Rows.{State};
     ghost use Rattle.adb_hub.specs.declared.answers.Handed.{Handed};
@@ -45,7 +46,7 @@ pub trait Hall<E: Ledger, M: Ledger, K: Marks> {
     ghost use Rattle.adb_desk.specs.Acts.{is_end, out_entry};
     ghost use Rattle.adb_server_hall.specs.Telling.{Telling, Where, Submits, Draws, Hands, HandsFront, HandsPiece};
     ghost use Rattle.adb_server_hall.specs.Telling.{IsAt, IsShutAt, ends_of};
-    ghost use Rattle.adb_server_hall.specs.Telling.{Rooms, Overs, Halts, IsSomeRoom, IsSomeHanded, IsSomeProgress};
+    ghost use Rattle.adb_server_hall.specs.Telling.{Rooms, Overs, Forwards, Halts, IsSomeRoom, IsSomeHanded, IsSomeProgress};
     ghost use Rattle.adb_server_hall.specs.Passes.{ArePair, after_submit, after_handed};
     ghost use Rattle.adb_server_hall.specs.Passes.{after_room, or_marked};
 
@@ -169,12 +170,29 @@ pub trait Hall<E: Ledger, M: Ledger, K: Marks> {
         ensures late { result ≡ Ok Room.Later → waits ≡ false }
         ensures some { IsSomeRoom result }
         ensures pass { pass.new.pass ≡ after_room pass.old.pass result }
-        ensures told { Where (tells self.old) (Rooms pass.old.pass.number result)
+        ensures told { Where (tells self.old) (Rooms (Owner.Client pass.old.pass.number) result)
             (tells self.new) }
         ensures steady { K.steady → result ≢ Err DeskError.RecordFault }
         ensures mark { marked self.new ≡ marked self.old }
     {
-        self.run(&mut pass.pass, &AskRoom {})
+        self.run(&mut pass.pass, &AskRoom { half: Half::Client })
+    }
+
+    /// Returns how many more bytes the device of a link may send at once. It makes no entry. A hall
+    /// that waits does so while too much is due on the link; the wait ends when the link's queue
+    /// has drained, the link is gone, a kill was made, or the hall is shut.
+    ///
+    /// `Hub(NoLink)`: the number was never drawn.
+    final fn room_on(&mut self, pass: &mut LinkIn<E, M, K>) -> Result<Room, DeskError>
+        ensures late { result ≡ Ok Room.Later → waits ≡ false }
+        ensures some { IsSomeRoom result }
+        ensures pass { pass.new.pass ≡ after_room pass.old.pass result }
+        ensures told { Where (tells self.old) (Rooms (Owner.Link pass.old.pass.number) result)
+            (tells self.new) }
+        ensures steady { K.steady → result ≢ Err DeskError.RecordFault }
+        ensures mark { marked self.new ≡ marked self.old }
+    {
+        self.run(&mut pass.pass, &AskRoom { half: Half::Link })
     }
 
     /// Ends a client or a link for which no thread started: one End or Detach by `NoThread`,
@@ -200,6 +218,18 @@ pub trait Hall<E: Ledger, M: Ledger, K: Marks> {
         ensures mark { marked self.new ≡ or_marked (is_some result) (marked self.old) }
     {
         self.ask(&Over {})
+    }
+
+    /// Returns whether the hub has a forward of this local port. It makes no entry and allocates
+    /// nothing.
+    ///
+    /// A hall that is shut returns the answer with which it was shut.
+    final fn has_forward(&mut self, port: u16) -> Result<bool, DeskError>
+        ensures told { Where (tells self.old) (Forwards port result) (tells self.new) }
+        ensures steady { K.steady → result ≢ Err DeskError.RecordFault }
+        ensures mark { marked self.new ≡ or_marked (marks_error result) (marked self.old) }
+    {
+        self.ask(&HasForward { port })
     }
 
     /// Shuts the hall with `Halted`, unless it is shut.
