@@ -120,6 +120,6 @@ pub fn a_yard_gives_what_it_is_asked<
         + Drop
         + 'static,
 >(rt: W, alloc: Global) -> Result<bool, AllocError> {
-    let mut yard = RealYard::<W, Brand>::new(rt, alloc, Ending::new(alloc)?, None);
+    let mut yard = RealYard::<W, Brand>::new(rt, alloc, Ending::new(alloc)?, None, None);
     Ok(gives(&rt, &mut yard))
 }

@@ -7,6 +7,7 @@ mod feeding;
 mod packets;
 mod reader;
 
-pub use device::{Device, Plugged, plug_in};
+pub use adb_connections::Device;
+pub use device::{Plugged, plug_in};
 pub use packets::Packets;
 pub use reader::read_device;
