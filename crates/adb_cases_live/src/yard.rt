@@ -24,7 +24,12 @@ fn next<Y: Yard>(
     yard: &mut Y,
     door: &mut Y::Door,
     port: u16,
-) -> Came<<Y::Door as Door>::In, <Y::Door as Door>::Out> {
+) -> Came<
+    <Y::Door as Door>::In,
+    <Y::Door as Door>::Out,
+    <Y::Door as Door>::DeviceIn,
+    <Y::Door as Door>::DeviceOut,
+> {
     if port == 0 {
         return Came::Failed;
     }
@@ -59,7 +64,7 @@ fn meets<W: Wait + Clock, Y: Yard>(
             }
             Came::Port(mut input, _) if forward == 0 => return carries(&mut output, &mut input),
             Came::Port(..) => sleep(rt, Duration::from_millis(100)),
-            Came::Closed | Came::Failed => return false,
+            Came::Device(..) | Came::Closed | Came::Failed => return false,
         }
     }
     false
