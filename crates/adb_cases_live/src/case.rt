@@ -1,7 +1,8 @@
 //! The cases, in the order in which they run.
 
 use crate::{
-    binder, calm, connections, halting, pipes, ports, recording, served, spawner, streams, yard,
+    binder, calm, connections, deliveries, halting, pipes, ports, recording, served, spawner,
+    streams, yard,
 };
 use std::alloc::{AllocError, Global};
 use std::net::{Net, TcpListener, TcpStream};
@@ -22,6 +23,7 @@ pub enum Case {
     PipesRefuse,
     AServerEndsAsTold,
     PortsAreServedInOrder,
+    ADeliveredDeviceIsAttached,
     ACalmServerIsDone,
     AHaltEndsAServer,
     ReadsStopShort,
@@ -42,6 +44,7 @@ pub const CASES: &[Case] = &[
     Case::PipesRefuse,
     Case::AServerEndsAsTold,
     Case::PortsAreServedInOrder,
+    Case::ADeliveredDeviceIsAttached,
     Case::ACalmServerIsDone,
     Case::AHaltEndsAServer,
     Case::ReadsStopShort,
@@ -80,6 +83,9 @@ impl Case {
             Case::PipesRefuse => fault_of(pipes::pipes_refuse(rt, alloc)?),
             Case::AServerEndsAsTold => served::first_fault(rt, alloc)?,
             Case::PortsAreServedInOrder => fault_of(ports::ports_are_served_in_order(rt, alloc)?),
+            Case::ADeliveredDeviceIsAttached => {
+                fault_of(deliveries::a_delivered_device_is_attached(rt, alloc)?)
+            }
             Case::ACalmServerIsDone => fault_of(calm::a_calm_server_is_done(rt, alloc)?),
             Case::AHaltEndsAServer => fault_of(halting::a_halt_ends_a_server(rt, alloc)?),
             Case::ReadsStopShort => streams::first_bad_read(alloc)?,

@@ -108,6 +108,10 @@ impl<W: Wait + Clock + Copy + Send + Sync + Drop + 'static> Door for FailingDoor
 
     type Out = SilentOut<W>;
 
+    type DeviceIn = MemoryDeviceIn;
+
+    type DeviceOut = MemoryDeviceOut;
+
     ghost use Rattle.std.specs.Prelude.{None};
 
     ghost faults = { λ door. door };
@@ -118,7 +122,7 @@ impl<W: Wait + Clock + Copy + Send + Sync + Drop + 'static> Door for FailingDoor
 
     ghost steady = { λ door. ⊥ };
 
-    fn accept(&mut self) -> Came<SilentIn<W>, SilentOut<W>> {
+    fn accept(&mut self) -> Came<SilentIn<W>, SilentOut<W>, MemoryDeviceIn, MemoryDeviceOut> {
         if self.failing.fails() {
             sleep(&self.rt, Duration::from_millis(200));
             return Came::Failed;

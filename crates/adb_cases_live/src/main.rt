@@ -6,6 +6,7 @@ mod binder;
 mod calm;
 mod case;
 mod connections;
+mod deliveries;
 mod halting;
 mod pipes;
 mod ports;

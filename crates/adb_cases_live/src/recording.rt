@@ -48,7 +48,7 @@ fn records<
         writing,
     } = begun;
     let into = PipeSink::<W, B>::new(alloc, out, failure);
-    let mut yard = RealYard::<W, B>::new(rt, alloc, ending, Some(into));
+    let mut yard = RealYard::<W, B>::new(rt, alloc, ending, None, Some(into));
     let mut recorder = yard.recorder(true);
     let kept = keeps(&mut recorder);
     let Settled { sink, whole } = end_record(&rt, recorder, writing);
@@ -66,7 +66,7 @@ fn discards<
         + Drop
         + 'static,
 >(rt: W, alloc: Global, ending: Ending) -> bool {
-    let mut yard = RealYard::<W, Brand>::new(rt, alloc, ending, None);
+    let mut yard = RealYard::<W, Brand>::new(rt, alloc, ending, None, None);
     keeps(&mut yard.recorder(false))
 }
 

@@ -24,7 +24,12 @@ fn next<Y: Yard>(
     yard: &mut Y,
     door: &mut Y::Door,
     port: u16,
-) -> Came<<Y::Door as Door>::In, <Y::Door as Door>::Out> {
+) -> Came<
+    <Y::Door as Door>::In,
+    <Y::Door as Door>::Out,
+    <Y::Door as Door>::DeviceIn,
+    <Y::Door as Door>::DeviceOut,
+> {
     if port == 0 {
         return Came::Failed;
     }
@@ -59,7 +64,7 @@ fn meets<W: Wait + Clock, Y: Yard>(
             }
             Came::Port(mut input, _) if forward == 0 => return carries(&mut output, &mut input),
             Came::Port(..) => sleep(rt, Duration::from_millis(100)),
-            Came::Closed | Came::Failed => return false,
+            Came::Device(..) | Came::Closed | Came::Failed => return false,
         }
     }
     false
@@ -120,6 +125,6 @@ pub fn a_yard_gives_what_it_is_asked<
         + Drop
         + 'static,
 >(rt: W, alloc: Global) -> Result<bool, AllocError> {
-    let mut yard = RealYard::<W, Brand>::new(rt, alloc, Ending::new(alloc)?, None);
+    let mut yard = RealYard::<W, Brand>::new(rt, alloc, Ending::new(alloc)?, None, None);
     Ok(gives(&rt, &mut yard))
 }

@@ -3,7 +3,7 @@
 ghost use Rattle.std.specs.Prelude.{◌≡◌, ◌≢◌, [], Some};
 
 use adb_binder::{Binder, Binding};
-use adb_connections::{Arrival, Came, Door, MemoryIn, PortOut};
+use adb_connections::{Arrival, Came, Door, MemoryDeviceIn, MemoryDeviceOut, MemoryIn, PortOut};
 use adb_outside::{Answers, Text, Wrote};
 use std::alloc::Global;
 use std::collections::VecDeque;
@@ -121,6 +121,10 @@ impl Door for CalmDoor {
 
     type Out = CalmOut;
 
+    type DeviceIn = MemoryDeviceIn;
+
+    type DeviceOut = MemoryDeviceOut;
+
     ghost use Rattle.std.specs.Prelude.{◌≡◌, true, ⊤};
 
     ghost faults = { λ door. 0 };
@@ -131,7 +135,7 @@ impl Door for CalmDoor {
 
     ghost steady = { λ door. ⊤ };
 
-    fn accept(&mut self) -> Came<MemoryIn, CalmOut> {
+    fn accept(&mut self) -> Came<MemoryIn, CalmOut, MemoryDeviceIn, MemoryDeviceOut> {
         let next = match self.coming.pop_front() {
             Some(input) => input,
             None if self.lasts => MemoryIn::new(Text::new(self.alloc), 1, Vec::new(self.alloc)),

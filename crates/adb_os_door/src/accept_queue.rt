@@ -1,5 +1,6 @@
-//! Accepted connections from all listeners of a server.
+//! Accepted connections from all listeners of a server, and delivered devices.
 
+use crate::deliveries::{Deliveries, TcpDevice};
 use crate::listeners::{Listeners, OWN};
 use crate::troubles::{Trouble, trouble_of};
 use mio::{Events, Poll};
@@ -15,12 +16,14 @@ const FIRST_DELAY: u64 = 10;
 /// The longest of these waits in milliseconds.
 const MOST_DELAY: u64 = 1_000;
 
-/// The next event at the listeners.
+/// The next event at a door.
 #[derive(Drop)]
 pub enum Next {
     /// A connection that came to the listener with this number.
     Came(u16, TcpStream),
-    /// No connection yet.
+    /// A device that was delivered.
+    Device(TcpDevice),
+    /// No connection and no device yet.
     Nothing,
     /// The server ends.
     Over,
@@ -28,7 +31,8 @@ pub enum Next {
     Broken,
 }
 
-/// The connections that wait at the listeners of a server, taken from one listener after the other.
+/// The connections that wait at the listeners of a server, taken from one listener after the other,
+/// and the devices that dialers deliver. A device that is queued is taken first.
 ///
 /// If no descriptor is left for a connection, the queue accepts the connection with the descriptor
 /// that it keeps in reserve, closes it, and takes the reserve again. If that fails too, it waits,
@@ -36,6 +40,7 @@ pub enum Next {
 #[derive(Drop)]
 pub struct AcceptQueue {
     listeners: Arc<Listeners, Global>,
+    deliveries: Option<Arc<Deliveries, Global>>,
     poll: Poll,
     events: Events,
     reserve: Option<TcpListener>,
@@ -47,17 +52,20 @@ pub struct AcceptQueue {
 }
 
 impl AcceptQueue {
-    /// Makes the queue of these listeners, which are in the registry of `poll`.
+    /// Makes the queue of these listeners, which are in the registry of `poll`, and of these
+    /// deliveries.
     ///
     /// Fails if an allocation fails.
     pub fn new(
         alloc: Global,
         poll: Poll,
         listeners: Arc<Listeners, Global>,
+        deliveries: Option<Arc<Deliveries, Global>>,
     ) -> io::Result<AcceptQueue> {
         let reserve = listeners.spare().ok();
         Ok(AcceptQueue {
             listeners,
+            deliveries,
             poll,
             events: Events::with_capacity(alloc, 1)?,
             reserve,
@@ -72,10 +80,13 @@ impl AcceptQueue {
         self.shortages
     }
 
-    /// Waits for the next connection, for a shortage to pass, or for the bell.
+    /// Waits for the next connection or device, for a shortage to pass, or for the bell.
     pub fn next<W: Wait>(&mut self, rt: &W) -> Next {
         if self.listeners.is_over() {
             return Next::Over;
+        }
+        if let Some(device) = self.delivered(rt) {
+            return Next::Device(device);
         }
         let Some(number) = self.ready else {
             return self.wait();
@@ -86,7 +97,12 @@ impl AcceptQueue {
         }
     }
 
-    /// Waits until a listener is ready or the bell rings.
+    /// Takes a device that was delivered.
+    fn delivered<W: Wait>(&self, rt: &W) -> Option<TcpDevice> {
+        self.deliveries.as_ref()?.take(rt)
+    }
+
+    /// Waits until a listener is ready, a device is delivered, or the bell rings.
     fn wait(&mut self) -> Next {
         if self.reserve.is_none() {
             self.reserve = self.listeners.spare().ok();

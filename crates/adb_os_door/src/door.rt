@@ -4,18 +4,19 @@ ghost use Rattle.std.specs.Prelude.{◌≡◌, false, IfOk, IfSome};
 ghost use Rattle.adb_connections.specs.Door.{FitsCame, is_failed_came};
 
 use crate::accept_queue::{AcceptQueue, Next};
+use crate::deliveries::Deliveries;
 use crate::listeners::{Listeners, OWN};
 use adb_connections::{Bell, Came, Door};
-use adb_os_sockets::{Ending, TcpIn, TcpOut, accepted};
+use adb_os_sockets::{Ending, TcpDeviceIn, TcpDeviceOut, TcpIn, TcpOut, accepted};
 use mio::Poll;
-use std::alloc::Global;
+use std::alloc::{AllocError, Global};
 use std::io;
 use std::net::{Net, TcpListener, TcpStream};
 use std::sync::{Arc, Wait};
 
-/// The door of a server, at its own listener and those of its forwards. If an allocation fails, the
-/// connection is closed, and the door waits for the next. Contracts do not see which connections
-/// come.
+/// The door of a server, at its own listener, those of its forwards, and the deliveries of its
+/// dialers. If an allocation fails, the connection is closed, and the door waits for the next.
+/// Contracts do not see which connections and devices come.
 #[derive(Drop)]
 pub struct TcpDoor<W: Wait + Drop> {
     rt: W,
@@ -40,18 +41,29 @@ pub struct Entrance<W: Wait + Drop> {
 }
 
 impl<W: Net<Listener = TcpListener, Stream = TcpStream> + Wait + Drop> Entrance<W> {
-    /// Makes the door at a listener, and its bell. The bell sets `ending` when it rings.
+    /// Makes the door at a listener, and its bell. The bell sets `ending` when it rings. The door
+    /// takes the devices of the deliveries, which are open from then on.
     ///
     /// Fails if the system refuses a descriptor, or if an allocation fails. The listener is then
     /// closed.
-    pub fn new(rt: W, alloc: Global, own: TcpListener, ending: &Ending) -> io::Result<Entrance<W>>
+    pub fn new(
+        rt: W,
+        alloc: Global,
+        own: TcpListener,
+        ending: &Ending,
+        deliveries: &Option<Arc<Deliveries, Global>>,
+    ) -> io::Result<Entrance<W>>
         ensures { IfOk result (λ made. made.door.faults ≡ 0) }
     {
         let poll = Poll::new(&rt)?;
         let registry = poll.registry().try_clone()?;
         let listeners = Listeners::new(alloc, registry, own, ending.share()?)?;
         let listeners = Arc::new(alloc, listeners)?;
-        let queue = AcceptQueue::new(alloc, poll, Arc::try_clone(&listeners)?)?;
+        let deliveries = match deliveries {
+            Some(deliveries) => Some(opened(&rt, deliveries, &listeners)?),
+            None => None,
+        };
+        let queue = AcceptQueue::new(alloc, poll, Arc::try_clone(&listeners)?, deliveries)?;
         let door = TcpDoor {
             rt,
             alloc,
@@ -70,6 +82,20 @@ impl<W: Net<Listener = TcpListener, Stream = TcpStream> + Wait + Drop> Entrance<
     }
 }
 
+/// Opens deliveries for the door of these listeners, and returns another handle of them.
+fn opened<W: Wait>(
+    rt: &W,
+    deliveries: &Arc<Deliveries, Global>,
+    listeners: &Arc<Listeners, Global>,
+) -> Result<Arc<Deliveries, Global>, AllocError> {
+    let theirs = Arc::try_clone(deliveries)?;
+    deliveries.open(rt, Arc::try_clone(listeners)?);
+    Ok(theirs)
+}
+
+/// The answer of a `TcpDoor`.
+type TcpCame = Came<TcpIn, TcpOut, TcpDeviceIn, TcpDeviceOut>;
+
 impl<W: Wait + Drop> TcpDoor<W> {
     /// Returns how many calls of `accept` failed for lack of a descriptor or of memory.
     pub fn shortages(&self) -> u64 {
@@ -78,7 +104,7 @@ impl<W: Wait + Drop> TcpDoor<W> {
 
     /// Makes the two halves of a connection that came to a listener. If an allocation fails, the
     /// connection is closed.
-    fn let_in(&self, number: u16, stream: TcpStream) -> Option<Came<TcpIn, TcpOut>>
+    fn let_in(&self, number: u16, stream: TcpStream) -> Option<TcpCame>
         ensures { IfSome result (λ came. FitsCame came × (is_failed_came came ≡ false)) }
     {
         let (input, output) = accepted(self.alloc, stream, self.listeners.ending()).ok()?;
@@ -94,6 +120,10 @@ impl<W: Wait + Drop> Door for TcpDoor<W> {
 
     type Out = TcpOut;
 
+    type DeviceIn = TcpDeviceIn;
+
+    type DeviceOut = TcpDeviceOut;
+
     ghost use Rattle.std.specs.Prelude.{None};
 
     ghost faults = { λ door. door.faults };
@@ -106,7 +136,7 @@ impl<W: Wait + Drop> Door for TcpDoor<W> {
 
     /// Returns `Closed` after the bell has rung, and `Failed` if the server's own listener is
     /// broken. A shortage of descriptors or of memory is no failure: the door continues.
-    fn accept(&mut self) -> Came<TcpIn, TcpOut> {
+    fn accept(&mut self) -> TcpCame {
         for _ in 0..u64::MAX {
             match self.queue.next(&self.rt) {
                 Next::Came(number, stream) => {
@@ -114,6 +144,7 @@ impl<W: Wait + Drop> Door for TcpDoor<W> {
                         return came;
                     }
                 }
+                Next::Device(device) => return Came::Device(device),
                 Next::Nothing => {}
                 Next::Over => return Came::Closed,
                 Next::Broken => break,

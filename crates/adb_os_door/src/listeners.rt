@@ -15,7 +15,7 @@ use std::time::Duration;
 /// is not 0.
 pub const OWN: u16 = 0;
 
-/// The token of the bell, which is no port number.
+/// The token of the bell and of deliveries, which is no port number.
 const BELL: usize = 65_536;
 
 /// The listener of a forward.
@@ -141,6 +141,11 @@ impl Listeners {
         if !self.is_over() {
             self.pause.park_timeout(rt, time);
         }
+    }
+
+    /// Wakes the door, which looks for a delivered device.
+    pub fn wake(&self) {
+        let _ = self.waker.wake();
     }
 
     /// Ends the server's accepts, and wakes the door. Only the first call does anything.

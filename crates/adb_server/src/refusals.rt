@@ -30,3 +30,28 @@ pub(crate) fn go_on<P: Parts, H: Hall<P::Entries, P::Moved, P::Marks>>(
         _ => Ok(()),
     }
 }
+
+/// Returns `Ok` if the server continues after this refusal of a device that came through the door.
+/// It does so after an allocation failure too, unless that shut the hall: the device is dialled
+/// again later.
+///
+/// - `OutOfMemory`: an allocation of the recorder failed, which shut the hall.
+/// - `RecordFault`: the recorder failed, which shut the hall.
+pub(crate) fn go_on_without<P: Parts, H: Hall<P::Entries, P::Moved, P::Marks>>(
+    hall: &mut H,
+    error: DeskError,
+) -> Result<(), Served>
+    ensures record { P.Marks.steady → error ≢ DeskError.RecordFault
+        → result ≢ Err Served.RecordFault }
+    ensures other { (result ≢ Err Served.DoorFault) × (result ≢ Err Served.Done)
+        × (result ≢ Err Served.WriteFault) }
+{
+    match error {
+        DeskError::RecordFault => Err(Served::RecordFault),
+        DeskError::Hub(HubError::OutOfMemory) => match hall.over() {
+            Some(over) => go_on::<P, H>(hall, over),
+            None => Ok(()),
+        },
+        _ => Ok(()),
+    }
+}

@@ -1,4 +1,4 @@
-//! The admission of one client.
+//! The admission of one client or device.
 
 ghost use Rattle.std.specs.Prelude.{◌≡◌, ◌≢◌};
 ghost use Rattle.adb_outside.specs.Outside.{Counts};
@@ -8,14 +8,14 @@ ghost use Rattle.adb_server_client_reader.specs.declared.admitting.Admitted.{Adm
 ghost use Rattle.adb_server_client_reader.specs.Admitting.{HasPair, IsAdmission, is_closed, is_failed};
 ghost use Rattle.adb_server_client_reader.specs.Admitting.{marked_by};
 
-use adb_connections::{Came, Door};
+use adb_connections::{Came, Device, DeviceIn, DeviceOut, Door};
 use adb_server_hall::Hall;
 use adb_server_log::{ClientIn, ClientOut, DeskError, Marks};
 use std::sync::ledger::Ledger;
 
 /// The result of `admit`.
 #[derive(Drop)]
-pub enum Admitted<I: Drop, O: Drop, E: Ledger, M: Ledger, K: Marks> {
+pub enum Admitted<I: Drop, O: Drop, X: DeviceIn, Z: DeviceOut, E: Ledger, M: Ledger, K: Marks> {
     /// A client: the two halves of its connection, and the passes of its reader and its writer.
     Client {
         input: I,
@@ -23,6 +23,8 @@ pub enum Admitted<I: Drop, O: Drop, E: Ledger, M: Ledger, K: Marks> {
         reading: ClientIn<E, M, K>,
         writing: ClientOut<E, M, K>,
     },
+    /// A device, which has no link yet. The hall was not asked.
+    Device(Device<X, Z>),
     /// The door reported that no more connections come.
     Closed,
     /// The door failed.
@@ -32,15 +34,16 @@ pub enum Admitted<I: Drop, O: Drop, E: Ledger, M: Ledger, K: Marks> {
     Refused(DeskError),
 }
 
-/// Accepts one connection at the door and admits its client. A client that comes to the port of a
-/// forward enters through that forward; any other client joins the hall.
+/// Accepts one client or device at the door and admits a client. A client that comes to the port of
+/// a forward enters through that forward; any other client joins the hall. A device is returned as
+/// it came.
 ///
-/// Each answer of the door has its result: `Closed` and `Failed` are the door's, and a client that
-/// came is admitted or refused. That also holds over a hall that shows nothing to contracts.
+/// Each answer of the door has its result: `Closed` and `Failed` are the door's, a device that came
+/// is returned, and a client that came is admitted or refused. That also holds over a hall that shows nothing to contracts.
 pub fn admit<E: Ledger, M: Ledger, K: Marks, H: Hall<E, M, K>, D: Door>(
     hall: &mut H,
     door: &mut D,
-) -> Admitted<D::In, D::Out, E, M, K>
+) -> Admitted<D::In, D::Out, D::DeviceIn, D::DeviceOut, E, M, K>
     ensures told { IsAdmission result (H.tells hall.old) (H.tells hall.new) (D.came door.old)
         (D.came door.new) }
     ensures passes { HasPair result }
@@ -52,6 +55,7 @@ pub fn admit<E: Ledger, M: Ledger, K: Marks, H: Hall<E, M, K>, D: Door>(
     match door.accept() {
         Came::Closed => Admitted::Closed,
         Came::Failed => Admitted::Failed,
+        Came::Device(device) => Admitted::Device(device),
         Came::Port(input, output) => match hall.join() {
             Err(error) => Admitted::Refused(error),
             Ok((reading, writing)) => Admitted::Client {

@@ -9,19 +9,10 @@ ghost use Rattle.adb_server_device_reader.specs.Plugging.{Plugs, HasPasses, plug
 ghost use Rattle.adb_server_device_reader.specs.Plugging.{is_failed_plugged, marks_plugged};
 
 use adb_connections::{DeviceIn, DeviceOut, Plug};
-use adb_outside::{Kind, Text};
+use adb_outside::Kind;
 use adb_server_hall::Hall;
 use adb_server_log::{DeskError, LinkIn, LinkOut, Marks};
 use std::sync::ledger::Ledger;
-
-/// A device: its kind, its serial, and the two halves of its link.
-#[derive(Drop)]
-pub struct Device<I: DeviceIn, O: DeviceOut> {
-    pub kind: Kind,
-    pub serial: Text,
-    pub input: I,
-    pub output: O,
-}
 
 /// The result of plugging in a device.
 #[derive(Drop)]

@@ -8,6 +8,7 @@ mod next;
 mod packets;
 mod reader;
 
-pub use device::{Device, Plugged, plug_in};
+pub use adb_connections::Device;
+pub use device::{Plugged, plug_in};
 pub use packets::Packets;
 pub use reader::read_device;

@@ -1,7 +1,7 @@
 //! One job for each worker of a server.
 
 use crate::context::Context;
-use crate::parts::Parts;
+use crate::parts::{DeviceInOf, DeviceOutOf, Parts};
 use adb_server_client_reader::read_client;
 use adb_server_device_reader::{Packets, read_device};
 use adb_server_log::{ClientIn, ClientOut, LinkIn, LinkOut};
@@ -27,8 +27,8 @@ pub enum Work<W: Wait + Copy + Drop, P: Parts> {
         Task<Context<W, P>, ClientIn<P::Entries, P::Moved, P::Marks>, P::ClientIn, P::Binder>,
     ),
     WriteClient(Task<Context<W, P>, ClientOut<P::Entries, P::Moved, P::Marks>, P::ClientOut, ()>),
-    ReadDevice(Task<Context<W, P>, LinkIn<P::Entries, P::Moved, P::Marks>, P::DeviceIn, Packets>),
-    WriteDevice(Task<Context<W, P>, LinkOut<P::Entries, P::Moved, P::Marks>, P::DeviceOut, ()>),
+    ReadDevice(Task<Context<W, P>, LinkIn<P::Entries, P::Moved, P::Marks>, DeviceInOf<P>, Packets>),
+    WriteDevice(Task<Context<W, P>, LinkOut<P::Entries, P::Moved, P::Marks>, DeviceOutOf<P>, ()>),
 }
 
 impl<W: Wait + Copy + Drop, P: Parts> Job for Work<W, P> {
@@ -84,7 +84,7 @@ fn write_one_client<W: Wait + Copy + Drop, P: Parts>(
 }
 
 fn read_one_device<W: Wait + Copy + Drop, P: Parts>(
-    task: Task<Context<W, P>, LinkIn<P::Entries, P::Moved, P::Marks>, P::DeviceIn, Packets>,
+    task: Task<Context<W, P>, LinkIn<P::Entries, P::Moved, P::Marks>, DeviceInOf<P>, Packets>,
 ) {
     let Task {
         context,
@@ -100,7 +100,7 @@ fn read_one_device<W: Wait + Copy + Drop, P: Parts>(
 }
 
 fn write_one_device<W: Wait + Copy + Drop, P: Parts>(
-    task: Task<Context<W, P>, LinkOut<P::Entries, P::Moved, P::Marks>, P::DeviceOut, ()>,
+    task: Task<Context<W, P>, LinkOut<P::Entries, P::Moved, P::Marks>, DeviceOutOf<P>, ()>,
 ) {
     let Task {
         context,

@@ -5,7 +5,9 @@ ghost use Rattle.adb_outside.specs.Outside.{Counts};
 
 use crate::yard::{Dialled, Listening, Staff, Yard};
 use adb_binder::MemoryBinder;
-use adb_connections::{Came, Door, MemoryIn, MemoryOut, OpenGate, SilentBell};
+use adb_connections::{
+    Came, Door, MemoryDeviceIn, MemoryDeviceOut, MemoryIn, MemoryOut, OpenGate, SilentBell,
+};
 use adb_recorder::NullRecorder;
 use std::alloc::Global;
 
@@ -18,6 +20,10 @@ impl Door for NoDoor {
 
     type Out = MemoryOut;
 
+    type DeviceIn = MemoryDeviceIn;
+
+    type DeviceOut = MemoryDeviceOut;
+
     ghost use Rattle.std.specs.Prelude.{None, ⊤};
 
     ghost faults = { λ door. 0 };
@@ -29,7 +35,7 @@ impl Door for NoDoor {
     ghost steady = { λ door. ⊤ };
 
     /// Returns `Closed`.
-    fn accept(&mut self) -> Came<MemoryIn, MemoryOut> {
+    fn accept(&mut self) -> Came<MemoryIn, MemoryOut, MemoryDeviceIn, MemoryDeviceOut> {
         Came::Closed
     }
 }

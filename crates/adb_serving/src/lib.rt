@@ -4,7 +4,6 @@
 
 mod calling;
 mod devices;
-mod either;
 mod running;
 mod serving;
 mod started;

@@ -10,19 +10,19 @@ ghost use Rattle.adb_top.specs.Usage.{SaysUsage};
 ghost use Rattle.adb_words.specs.Serve.{Serving, is_serve, serve_of};
 ghost use Rattle.adb_words.specs.Words.{texts};
 
-use crate::devices::{LocalDevice, devices_of};
+use crate::devices::{Devices, LocalDevice, devices_of};
 use crate::started::Started;
 use adb_outside::{Sink, Source};
 use adb_ports::{
-    Begun, Ending, LiveRecorder, Named, PipeSink, RealYard, Settled, WillWrite, Written,
-    begin_record, end_record,
+    Begun, Deliveries, Ending, LiveRecorder, Named, PipeSink, RealYard, Settled, WillWrite,
+    Written, begin_record, end_record,
 };
 use adb_top::{Ran, Status, run, say_out_of_memory, say_record_fault, wanted};
-use adb_words::{WordsError, read_serve};
+use adb_words::{Ports, WordsError, read_serve};
 use std::alloc::{AllocError, Global};
 use std::marker::Brand;
 use std::net::{Net, TcpListener, TcpStream};
-use std::sync::Wait;
+use std::sync::{Arc, Wait};
 use std::thread::{PromisedHandle, Threads};
 
 /// Runs the server of the words, with the devices that they request: `adb_top::run` over a yard of
@@ -80,6 +80,7 @@ pub(crate) fn serve_live<
         };
     }
     let Ok(begun) = begin_record(rt, alloc, history) else {
+        prepared.closing.close(&rt);
         return Started {
             status: say_out_of_memory(note),
             history: None,
@@ -89,6 +90,7 @@ pub(crate) fn serve_live<
 }
 
 /// The flag that says whether a server ends, its devices, and whether its words request a record.
+/// The dialers end when `closing` is closed.
 #[derive(Drop)]
 struct Prepared<
     W: Net<Listener = TcpListener, Stream = TcpStream>
@@ -101,7 +103,9 @@ struct Prepared<
         + 'static,
 > {
     ending: Ending,
-    devices: Vec<LocalDevice<W>>,
+    models: Vec<LocalDevice<W>>,
+    deliveries: Arc<Deliveries, Global>,
+    closing: Arc<Deliveries, Global>,
     records: bool,
 }
 
@@ -120,11 +124,14 @@ fn prepare<
     ensures { IfOk result (λ prepared. prepared.records ≡ asks_record (texts words.now)) }
 {
     let ending = Ending::new(alloc)?;
-    let devices = devices_for(rt, alloc, words, &ending)?;
     let records = is_recorded(alloc, words)?;
+    let Devices { models, deliveries } = devices_for(rt, alloc, words, &ending)?;
+    let closing = Arc::try_clone(&deliveries)?;
     Ok(Prepared {
         ending,
-        devices,
+        models,
+        deliveries,
+        closing,
         records,
     })
 }
@@ -173,11 +180,14 @@ fn serve_unrecorded<
 {
     let Prepared {
         ending,
-        devices,
+        models,
+        deliveries,
+        closing,
         records: _,
     } = prepared;
-    let yard = RealYard::<W, Brand>::new(rt, alloc, ending, None);
-    let ran = run(rt, alloc, words, source, sink, note, yard, devices);
+    let yard = RealYard::<W, Brand>::new(rt, alloc, ending, Some(deliveries), None);
+    let ran = run(rt, alloc, words, source, sink, note, yard, models);
+    closing.close(&rt);
     ran.status
 }
 
@@ -222,7 +232,9 @@ fn serve_recorded<
 {
     let Prepared {
         ending,
-        devices,
+        models,
+        deliveries,
+        closing,
         records: _,
     } = prepared;
     let Begun {
@@ -231,8 +243,9 @@ fn serve_recorded<
         writing,
     } = begun;
     let into = PipeSink::<W, B>::new(alloc, out, failure);
-    let yard = RealYard::<W, B>::new(rt, alloc, ending, Some(into));
-    let Ran { status, recorder } = run(rt, alloc, words, source, sink, note, yard, devices);
+    let yard = RealYard::<W, B>::new(rt, alloc, ending, Some(deliveries), Some(into));
+    let Ran { status, recorder } = run(rt, alloc, words, source, sink, note, yard, models);
+    closing.close(&rt);
     settle_record::<W, B, N, R>(&rt, note, status, recorder, writing)
 }
 
@@ -289,15 +302,17 @@ fn devices_for<
         + Sync
         + Drop
         + 'static,
->(
-    rt: W,
-    alloc: Global,
-    words: &[String],
-    ending: &Ending,
-) -> Result<Vec<LocalDevice<W>>, AllocError> {
+>(rt: W, alloc: Global, words: &[String], ending: &Ending) -> Result<Devices<W>, AllocError> {
     match wanted(alloc, words) {
         Ok(ports) => devices_of(rt, alloc, &ports, ending),
-        Err(WordsError::Usage) => Ok(Vec::new(alloc)),
+        Err(WordsError::Usage) => devices_of(rt, alloc, &no_ports(alloc), ending),
         Err(WordsError::OutOfMemory) => Err(AllocError),
+    }
+}
+
+fn no_ports(alloc: Global) -> Ports {
+    Ports {
+        devices: Vec::new(alloc),
+        connects: Vec::new(alloc),
     }
 }

@@ -1,8 +1,8 @@
 -- What a device of one of two kinds tells.
-use Rattle.adb_serving.specs.declared.either.EitherIn.{EitherIn}
-use Rattle.adb_serving.specs.declared.either.EitherIn.TheVariants as input
-use Rattle.adb_serving.specs.declared.either.EitherOut.{EitherOut}
-use Rattle.adb_serving.specs.declared.either.EitherOut.TheVariants as output
+use Rattle.adb_connections.specs.declared.either.EitherIn.{EitherIn}
+use Rattle.adb_connections.specs.declared.either.EitherIn.TheVariants as input
+use Rattle.adb_connections.specs.declared.either.EitherOut.{EitherOut}
+use Rattle.adb_connections.specs.declared.either.EitherOut.TheVariants as output
 
 -- a value that devices of either kind have
 abbrev pub of_in : {A B R : Type 0} → (A → R) → (B → R) → EitherIn A B → R

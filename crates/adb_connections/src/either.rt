@@ -1,6 +1,6 @@
-//! Devices of two kinds, in one list.
+//! The halves of a device of one of two types.
 
-use adb_connections::{DeviceIn, DeviceOut, Plug};
+use crate::device::{DeviceIn, DeviceOut, Plug};
 use adb_outside::{Got, Wrote};
 
 /// The input half of a device of one of two kinds. Contracts see it as the half of that device.
@@ -11,7 +11,7 @@ pub enum EitherIn<A: DeviceIn, B: DeviceIn> {
 }
 
 impl<A: DeviceIn, B: DeviceIn> DeviceIn for EitherIn<A, B> {
-    ghost use Rattle.adb_serving.specs.Either.{holds_in, of_in};
+    ghost use Rattle.adb_connections.specs.Either.{holds_in, of_in};
 
     ghost faults = { λ device. of_in A.faults B.faults device };
 
@@ -44,7 +44,7 @@ pub enum EitherOut<A: DeviceOut, B: DeviceOut> {
 }
 
 impl<A: DeviceOut, B: DeviceOut> DeviceOut for EitherOut<A, B> {
-    ghost use Rattle.adb_serving.specs.Either.{holds_out, of_out};
+    ghost use Rattle.adb_connections.specs.Either.{holds_out, of_out};
 
     ghost faults = { λ device. of_out A.faults B.faults device };
 
