@@ -6,10 +6,12 @@
 
 mod device;
 mod ending;
+mod lookout;
 mod port;
 mod socket;
 
 pub use device::{TcpDeviceIn, TcpDeviceOut, tcp_device};
 pub use ending::Ending;
+pub use lookout::Lookout;
 pub use port::{TcpIn, TcpOut, accepted, halves};
 pub use socket::set_up_listener;

@@ -77,12 +77,14 @@ fn open<W: Net<Listener = TcpListener, Stream = TcpStream>>(
     Ok((listener, address))
 }
 
-/// Returns a door and its bell at a port of this machine, and the listeners that they share.
+/// Returns a door and its bell at a port of this machine, and the listeners that they share. If the
+/// server is recorded, the lookout watches the port.
 fn listen<W: Net<Listener = TcpListener, Stream = TcpStream> + Wait + Copy + Drop>(
     rt: W,
     alloc: Global,
     ending: &Ending,
     port: u16,
+    is_recorded: bool,
 ) -> Option<(Listening<TcpDoor<W>, TcpBell>, Arc<Listeners, Global>)>
     ensures { IfSome result (λ here. FitsPort port here.0 × (is_deaf here.0 ≡ false)) }
 {
@@ -90,6 +92,9 @@ fn listen<W: Net<Listener = TcpListener, Stream = TcpStream> + Wait + Copy + Dro
     let bound = address.port();
     if bound == 0 || port != 0 && bound != port {
         return None;
+    }
+    if is_recorded {
+        ending.lookout().watch(&listener).ok()?;
     }
     let Entrance {
         door,
@@ -152,7 +157,8 @@ impl<
 
     /// Listens on the loopback interface only.
     fn listen(&mut self, port: u16) -> Listening<TcpDoor<W>, TcpBell> {
-        match listen(self.rt, self.alloc, &self.ending, port) {
+        let is_recorded = self.sink.is_some();
+        match listen(self.rt, self.alloc, &self.ending, port, is_recorded) {
             Some((listening, listeners)) => {
                 self.listeners = Some(listeners);
                 listening
