@@ -102,12 +102,7 @@ fn finish_out<W: Wait + Drop>(rt: &W, out: PipeOut<W>, progress: &Progress) -> O
 
 /// Puts a chunk, and waits while the pipe is full. Returns whether it was put: not if the pipe
 /// refuses it, and not if a server that ends or is asked to end has waited for a second.
-fn put_out<W: Wait + Drop>(
-    rt: &W,
-    out: &mut PipeOut<W>,
-    progress: &Progress,
-    chunk: Text,
-) -> bool
+fn put_out<W: Wait + Drop>(rt: &W, out: &mut PipeOut<W>, progress: &Progress, chunk: Text) -> bool
     ensures pipe { out.new.pipe ≡ out.old.pipe }
     ensures put { result ≡ true → out.new.put ≡ out.old.put ++ chunk ∷ [] }
     ensures unput { result ≡ false → out.new.put ≡ out.old.put }

@@ -122,7 +122,9 @@ impl Progress {
     /// Takes one of the slices that are left. Only one thread waits at a time.
     fn spend(&self) -> bool {
         let left = self.shared.left.load(Ordering::SeqCst);
-        self.shared.left.store(left.saturating_sub(1), Ordering::SeqCst);
+        self.shared
+            .left
+            .store(left.saturating_sub(1), Ordering::SeqCst);
         left > 0
     }
 }
