@@ -102,12 +102,21 @@ impl<W: Wait + Drop> TcpDoor<W> {
         self.queue.shortages()
     }
 
+    /// Returns the next event at the listeners, and first each connection that the lookout accepted.
+    fn next(&mut self) -> Next {
+        match self.listeners.ending().lookout().take_early(&self.rt) {
+            Some(stream) => Next::Came(OWN, stream),
+            None => self.queue.next(&self.rt),
+        }
+    }
+
     /// Makes the two halves of a connection that came to a listener. If an allocation fails, the
     /// connection is closed.
     fn let_in(&self, number: u16, stream: TcpStream) -> Option<TcpCame>
         ensures { IfSome result (λ came. FitsCame came × (is_failed_came came ≡ false)) }
     {
         let (input, output) = accepted(self.alloc, stream, self.listeners.ending()).ok()?;
+        input.enter(&self.rt);
         if number == OWN {
             return Some(Came::Port(input, output));
         }
@@ -138,7 +147,7 @@ impl<W: Wait + Drop> Door for TcpDoor<W> {
     /// broken. A shortage of descriptors or of memory is no failure: the door continues.
     fn accept(&mut self) -> TcpCame {
         for _ in 0..u64::MAX {
-            match self.queue.next(&self.rt) {
+            match self.next() {
                 Next::Came(number, stream) => {
                     if let Some(came) = self.let_in(number, stream) {
                         return came;

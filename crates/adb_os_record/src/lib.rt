@@ -6,16 +6,19 @@
 //! magic and the records of the entries that the recorder has kept, or a prefix of them if a write
 //! failed.
 //!
-//! Not claimed: that the thread runs, that a call which waits returns, and that a failed write ends
-//! the server early. Tests show these.
+//! If nobody reads what the thread writes, the pipe fills, and the recorder waits. A server that
+//! ends, or is asked to end, waits for its record for a second at most, and then goes without it.
+//!
+//! Not claimed: that the thread runs, how long a call waits, and that a failed write ends the
+//! server early. Tests show these.
 #![tactic(auto)]
 
-mod failure;
 mod live;
 mod pipe_sink;
+mod progress;
 mod writing;
 
-pub use failure::Failure;
 pub use live::{LiveRecorder, end_record};
 pub use pipe_sink::{Named, PipeSink};
-pub use writing::{Begun, Settled, WillWrite, Written, begin_record, settle, write_out};
+pub use progress::Progress;
+pub use writing::{Begun, Settled, WillWrite, Writing, Written, begin_record};

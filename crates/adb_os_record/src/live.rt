@@ -6,14 +6,14 @@ ghost use Rattle.adb_os_record.specs.Written.{joined};
 ghost use Rattle.adb_os_record.specs.Live.{IsPut, Keeps, ServesCapture, live_faults};
 
 use crate::pipe_sink::{Named, PipeSink};
-use crate::writing::{Settled, WillWrite, Written, settle};
+use crate::writing::{Settled, Writing};
 use adb_capture::{Entry, Owner};
 use adb_outside::Sink;
 use adb_pipe::PipeEnd;
 use adb_recorder::{RecordError, Recorder, SinkRecorder};
 use std::marker::Model;
 use std::sync::Wait;
-use std::thread::{PromisedHandle, Threads};
+use std::thread::Threads;
 
 /// The recorder of a live server. It is on and writes a capture into the pipe named by `B`, or it
 /// is off and discards every entry. It is off only if `B` names no pipe.
@@ -56,17 +56,15 @@ impl<W: Wait + Drop, B: Named> LiveRecorder<W, B> {
     }
 
     /// Puts the end mark after the capture and returns the finished output end. Returns `None` if
-    /// the recorder was off.
+    /// the recorder was off, or if the pipe was full for a second after the server ended.
     pub fn finish(self) -> Option<PipeEnd>
-        ensures none { result ≡ None → B.pipe ≡ None }
         ensures named { IfSome result (λ end. Some end.pipe ≡ B.pipe) }
         ensures put { IfSome result (λ end. (kept : List Entry) → Keeps self kept
             → IsPut (live_faults self) kept (joined end.put)) }
     {
-        match self.recorder {
-            Some(recorder) => Some(recorder.into_sink().finish()),
-            None => None,
-        }
+        let recorder = self.recorder?;
+        let end = recorder.into_sink().finish()?;
+        Some(end)
     }
 }
 
@@ -75,20 +73,23 @@ impl<W: Wait + Drop, B: Named> LiveRecorder<W, B> {
 ///
 /// The sink was given the magic and the records of the entries that the recorder has kept. If a
 /// write failed it was given a prefix of them, after which a prefix of one more record may follow.
+///
+/// `None`: the thread has not returned within a second, for example because nobody reads what it
+/// writes. It keeps the sink, and the record isn't whole.
 pub fn end_record<W: Threads + Wait + Drop, K: Sink + Drop, B: Named>(
     rt: &W,
     recorder: LiveRecorder<W, B>,
-    writing: PromisedHandle<Written<W, K>, WillWrite<W, K>>,
-) -> Settled<K>
-    requires { Some writing.promise.input.value.pipe ≡ B.pipe }
-    ensures { (kept : List Entry) → Keeps recorder kept → (had : List ℕ)
-        → K.written writing.promise.sink.value ≡ Some had
-        → ServesCapture had (K.written result.sink) result.whole (live_faults recorder) kept }
+    writing: Writing<W, K>,
+) -> Option<Settled<K>>
+    requires { Some writing.thread.promise.input.value.pipe ≡ B.pipe }
+    ensures { IfSome result (λ settled. (kept : List Entry) → Keeps recorder kept
+        → (had : List ℕ) → K.written writing.thread.promise.sink.value ≡ Some had
+        → ServesCapture had (K.written settled.sink) settled.whole (live_faults recorder) kept) }
 {
-    let Some(end) = recorder.finish() else {
-        unreachable!()
-    };
-    settle(rt, end, writing)
+    writing.progress.end();
+    let end = recorder.finish()?;
+    let settled = writing.settle(rt, end)?;
+    Some(settled)
 }
 
 impl<W: Wait + Drop, B: Named> Recorder for LiveRecorder<W, B> {

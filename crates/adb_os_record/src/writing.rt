@@ -5,7 +5,8 @@ ghost use Rattle.adb_outside.specs.Outside.{Counts};
 ghost use Rattle.adb_outside.specs.Sink.{FitsPiece, TellsWrite, is_failed_write};
 ghost use Rattle.adb_os_record.specs.Written.{GoesOut, Settles, joined, with_left, with_next};
 
-use crate::failure::Failure;
+use crate::progress::Progress;
+use adb_os_sockets::Ending;
 use adb_outside::{Sink, Text, Wrote};
 use adb_pipe::{PipeEnd, PipeIn, PipeOut, Taken, pipe};
 use std::alloc::{AllocError, Global};
@@ -165,14 +166,14 @@ fn turn<W: Wait + Drop, K: Sink>(
     }
 }
 
-/// Takes every chunk and writes it. Returns whether the end mark was taken, and whether a write
-/// failed.
+/// Takes every chunk and writes it, and reports after each write. Returns whether the end mark was
+/// taken, and whether a write failed.
 #[tactic(auto, using(crate::proofs::GoingOut::begins))]
 fn take_all<W: Wait + Drop, K: Sink>(
     rt: &W,
     input: &mut PipeIn<W>,
     sink: &mut K,
-    failure: &Failure,
+    progress: &Progress,
 ) -> (bool, bool)
     requires { input.old.taken ≡ [] }
     ensures pipe { input.new.pipe ≡ input.old.pipe }
@@ -185,8 +186,9 @@ fn take_all<W: Wait + Drop, K: Sink>(
     for _ in rt.forever() {
         let (over, failed) = turn(input, sink, torn);
         torn = failed;
+        progress.take();
         if torn {
-            failure.report();
+            progress.fail();
         }
         if let Some(ended) = over {
             return (ended, torn);
@@ -197,12 +199,12 @@ fn take_all<W: Wait + Drop, K: Sink>(
 
 /// Writes the chunks of a pipe to a sink, until the output end is finished or dropped. After a
 /// failed write it reports the failure, writes nothing more and discards the chunks, so that no
-/// recorder blocks on a full pipe.
+/// recorder blocks on a full pipe. It reports when it returns.
 pub fn write_out<W: Wait + Drop, K: Sink + Drop>(
     rt: W,
     input: PipeIn<W>,
     sink: K,
-    failure: Failure,
+    progress: Progress,
 ) -> Written<W, K>
     requires { input.taken ≡ [] }
     ensures pipe { result.input.pipe ≡ input.pipe }
@@ -212,7 +214,8 @@ pub fn write_out<W: Wait + Drop, K: Sink + Drop>(
         (joined result.input.taken) }
 {
     let (mut input, mut sink) = (input, sink);
-    let (ended, torn) = take_all(&rt, &mut input, &mut sink, &failure);
+    let (ended, torn) = take_all(&rt, &mut input, &mut sink, &progress);
+    progress.finish();
     Written {
         input,
         sink,
@@ -246,7 +249,7 @@ fn start<W: Threads + Wait + Copy + Send + Sync + Drop + 'static, K: Sink + Send
     rt: W,
     input: PipeIn<W>,
     sink: K,
-    failure: Failure,
+    progress: Progress,
 ) -> Option<PromisedHandle<Written<W, K>, WillWrite<W, K>>>
     requires { input.taken ≡ [] }
     ensures { IfSome result (λ h. (h.promise.input.value ≡ input)
@@ -266,42 +269,56 @@ fn start<W: Threads + Wait + Copy + Send + Sync + Drop + 'static, K: Sink + Send
                 × ((had : List ℕ) → K.written sink ≡ Some had
                 → GoesOut had (K.faults sink) result.torn (K.written result.sink) (K.faults result.sink)
                 (joined result.input.taken)) }
-        { write_out(rt, input, sink, failure) },
+        { write_out(rt, input, sink, progress) },
     );
     started.ok()
 }
 
-/// A record that was begun: the output end of its pipe, the flag of its thread, and the thread.
+/// A record that was begun: the output end of its pipe, the state for its recorder, and the thread
+/// that writes.
 #[derive(Drop)]
 pub struct Begun<W: Wait + Drop, K: Sink + Drop> {
     pub out: PipeOut<W>,
-    pub failure: Failure,
-    pub writing: PromisedHandle<Written<W, K>, WillWrite<W, K>>,
+    pub progress: Progress,
+    pub writing: Writing<W, K>,
 }
 
-/// Opens the pipe of a record and starts the thread that writes it to a sink.
+/// A thread that writes a record, and what it reports.
+#[derive(Drop)]
+pub struct Writing<W: Wait + Drop, K: Sink + Drop> {
+    pub thread: PromisedHandle<Written<W, K>, WillWrite<W, K>>,
+    pub progress: Progress,
+}
+
+/// Opens the pipe of a record and starts the thread that writes it to a sink. `ending` says whether
+/// the server ends.
 ///
 /// `Err`: an allocation failed, or the system cannot start a thread. The sink is dropped, and
 /// nothing was written to it.
 pub fn begin_record<
     W: Threads + Wait + Copy + Send + Sync + Drop + 'static,
     K: Sink + Send + Drop + 'static,
->(rt: W, alloc: Global, sink: K) -> Result<Begun<W, K>, AllocError>
+>(rt: W, alloc: Global, ending: &Ending, sink: K) -> Result<Begun<W, K>, AllocError>
     ensures { IfOk result (λ begun. (begun.out.put ≡ [])
-        × (begun.writing.promise.input.value.pipe ≡ begun.out.pipe)
-        × (begun.writing.promise.sink.value ≡ sink)) }
+        × (begun.writing.thread.promise.input.value.pipe ≡ begun.out.pipe)
+        × (begun.writing.thread.promise.sink.value ≡ sink)) }
 {
-    let failure = Failure::new(alloc)?;
-    let theirs = failure.share()?;
+    let progress = Progress::new(alloc, ending)?;
+    let theirs = progress.share()?;
+    let ends = progress.share()?;
     let (out, input) = pipe(rt, alloc, MAX_CHUNKS)?;
-    match start(rt, input, sink, theirs) {
-        Some(writing) => Ok(Begun {
-            out,
-            failure,
-            writing,
-        }),
-        None => Err(AllocError),
-    }
+    let Some(thread) = start(rt, input, sink, theirs) else {
+        return Err(AllocError);
+    };
+    let writing = Writing {
+        thread,
+        progress: ends,
+    };
+    Ok(Begun {
+        out,
+        progress,
+        writing,
+    })
 }
 
 /// The result of a thread that has written: its sink, and whether every chunk was written.
@@ -311,14 +328,39 @@ pub struct Settled<K: Drop> {
     pub whole: bool,
 }
 
-/// Waits for the writing thread after the output end is finished.
-pub fn settle<W: Threads + Wait + Drop, K: Sink + Drop>(
+impl<W: Threads + Wait + Drop, K: Sink + Drop> Writing<W, K> {
+    /// Waits until the thread returns after the output end was dropped, for a second at most since
+    /// the server ends. Its sink is dropped.
+    pub fn abandon(self, rt: &W) {
+        self.progress.await_return(rt);
+    }
+
+    /// Waits until the thread returns after the output end is finished, for a second at most since
+    /// the server ends.
+    ///
+    /// `None`: the thread has not returned. It keeps its sink.
+    pub fn settle(self, rt: &W, end: PipeEnd) -> Option<Settled<K>>
+        requires { end.pipe ≡ self.thread.promise.input.value.pipe }
+        ensures { IfSome result (λ settled. (had : List ℕ)
+            → K.written self.thread.promise.sink.value ≡ Some had
+            → Settles had (K.written settled.sink) settled.whole (joined end.put)) }
+    {
+        let Writing { thread, progress } = self;
+        if !progress.await_return(rt) {
+            return None;
+        }
+        Some(join_thread(rt, end, thread))
+    }
+}
+
+/// Joins the writing thread after the output end is finished.
+fn join_thread<W: Threads + Wait + Drop, K: Sink + Drop>(
     rt: &W,
     end: PipeEnd,
-    writing: PromisedHandle<Written<W, K>, WillWrite<W, K>>,
+    thread: PromisedHandle<Written<W, K>, WillWrite<W, K>>,
 ) -> Settled<K>
-    requires { end.pipe ≡ writing.promise.input.value.pipe }
-    ensures { (had : List ℕ) → K.written writing.promise.sink.value ≡ Some had
+    requires { end.pipe ≡ thread.promise.input.value.pipe }
+    ensures { (had : List ℕ) → K.written thread.promise.sink.value ≡ Some had
         → Settles had (K.written result.sink) result.whole (joined end.put) }
 {
     let Written {
@@ -326,7 +368,7 @@ pub fn settle<W: Threads + Wait + Drop, K: Sink + Drop>(
         sink,
         ended,
         torn,
-    } = writing.join(rt);
+    } = thread.join(rt);
     end.compare(input);
     Settled {
         sink,

@@ -7,11 +7,13 @@
 mod device;
 mod ending;
 mod line;
+mod lookout;
 mod port;
 mod socket;
 
 pub use device::{TcpDeviceIn, TcpDeviceOut, connected_device};
 pub use ending::Ending;
 pub use line::Line;
+pub use lookout::Lookout;
 pub use port::{TcpIn, TcpOut, accepted, halves};
 pub use socket::set_up_listener;

@@ -3,18 +3,22 @@
 ghost use Rattle.std.specs.Prelude.{◌≡◌, false, IfOk};
 
 use crate::ending::Ending;
+use crate::lookout::KILL;
 use crate::socket::{receive, send, set_up};
 use adb_connections::{PortIn, PortOut};
 use adb_outside::{Got, Wrote};
 use std::alloc::{AllocError, Global};
 use std::io;
 use std::net::{Shutdown, TcpStream};
-use std::sync::Arc;
+use std::sync::{Arc, Wait};
 
-/// The read half of a client's connection. Contracts do not see its bytes.
+/// The read half of a client's connection. If the first piece that it reads is a request to end the
+/// server, it hurries the server. Contracts do not see its bytes.
 #[derive(Drop)]
 pub struct TcpIn {
     stream: Arc<TcpStream, Global>,
+    ending: Ending,
+    is_first: bool,
     faults: u64,
 }
 
@@ -54,6 +58,8 @@ pub fn accepted(
     let stream = Arc::new(alloc, stream)?;
     let input = TcpIn {
         stream: Arc::try_clone(&stream)?,
+        ending: ending.share()?,
+        is_first: true,
         faults: 0,
     };
     let output = TcpOut {
@@ -63,6 +69,23 @@ pub fn accepted(
         faults: 0,
     };
     Ok((input, output))
+}
+
+impl TcpIn {
+    /// Tells the lookout of the server that this connection has come, and is not read yet.
+    pub fn enter<W: Wait>(&self, rt: &W) {
+        self.ending.lookout().enter(rt, &self.stream);
+    }
+
+    /// Hurries the server if this is the connection's first piece and asks for a kill.
+    fn look_at(&mut self, piece: &[u8])
+        ensures { self.new.faults ≡ self.old.faults }
+    {
+        if self.is_first && piece == KILL.as_slice() {
+            self.ending.hurry();
+        }
+        self.is_first = false;
+    }
 }
 
 impl PortIn for TcpIn {
@@ -76,8 +99,10 @@ impl PortIn for TcpIn {
 
     fn read(&mut self, into: &mut [u8]) -> Got {
         let got = receive(&self.stream, into);
-        if got == Got::Failed {
-            self.faults = self.faults.saturating_add(1);
+        match got {
+            Got::Bytes(count) => self.look_at(&into[..count]),
+            Got::Failed => self.faults = self.faults.saturating_add(1),
+            Got::End => {}
         }
         got
     }

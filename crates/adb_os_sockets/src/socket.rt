@@ -13,9 +13,9 @@ use std::net::{TcpListener, TcpStream};
 use std::os::fd::OwnedFd;
 use std::time::Duration;
 
-/// The number of seconds that a write waits for a peer that does not read, before it checks whether
-/// the server ends.
-const PATIENCE: u64 = 1;
+/// The number of milliseconds that a write waits for a peer that does not read, before it checks
+/// whether the server ends. A stuck write delays the end by no more.
+const PATIENCE: u64 = 250;
 
 /// Sets up a listener, and with it the connections that it accepts: the system copies the options
 /// of a listener to each connection. Fails if the system refuses an option or a descriptor.
@@ -26,10 +26,11 @@ pub fn set_up_listener(listener: &TcpListener) -> io::Result<()> {
 /// Turns Nagle's algorithm off, and sets how long a write waits.
 pub fn set_up(stream: &TcpStream) -> io::Result<()> {
     stream.set_nodelay(true)?;
-    stream.set_write_timeout(Some(Duration::from_secs(PATIENCE)))
+    stream.set_write_timeout(Some(Duration::from_millis(PATIENCE)))
 }
 
-/// Waits for bytes and reads them. An interrupted read is repeated.
+/// Waits for bytes and reads them. An interrupted read is repeated, and so is one during which the
+/// lookout peeked at the stream, which doesn't block then.
 pub fn receive(stream: &TcpStream, into: &mut [u8]) -> Got
     requires { 0 < length into.old }
     ensures { FitsBuffer into.old result }
@@ -39,7 +40,7 @@ pub fn receive(stream: &TcpStream, into: &mut [u8]) -> Got
         match stream.read(into) {
             Ok(0) => return Got::End,
             Ok(count) => return Got::Bytes(count),
-            Err(error) if error.kind() == ErrorKind::Interrupted => {}
+            Err(error) if is_passing(error.kind()) => {}
             Err(_) => break,
         }
     }
@@ -77,6 +78,11 @@ fn left<'a>(start: &'a [u8], rest: &'a [u8], taken: usize) -> [IoSlice<'a>; 2]
         IoSlice::new(&start[taken.min(start.len())..]),
         IoSlice::new(&rest[taken.saturating_sub(start.len())..]),
     ]
+}
+
+/// Returns whether a read that failed with this error is repeated.
+fn is_passing(kind: ErrorKind) -> bool {
+    matches!(kind, ErrorKind::Interrupted | ErrorKind::WouldBlock)
 }
 
 /// Returns whether a write that failed with this error is repeated.

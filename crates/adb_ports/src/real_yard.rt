@@ -87,13 +87,14 @@ fn open<W: Net<Listener = TcpListener, Stream = TcpStream>>(
 }
 
 /// Returns a door and its bell at a port of this machine, and the listeners that they share. The
-/// deliveries are open from then on.
+/// deliveries are open from then on. If the server is recorded, the lookout watches the port.
 fn listen<W: Net<Listener = TcpListener, Stream = TcpStream> + Wait + Copy + Drop>(
     rt: W,
     alloc: Global,
     ending: &Ending,
     deliveries: &Option<Arc<Deliveries, Global>>,
     port: u16,
+    is_recorded: bool,
 ) -> Option<(Listening<TcpDoor<W>, TcpBell>, Arc<Listeners, Global>)>
     ensures { IfSome result (λ here. FitsPort port here.0 × (is_deaf here.0 ≡ false)) }
 {
@@ -101,6 +102,9 @@ fn listen<W: Net<Listener = TcpListener, Stream = TcpStream> + Wait + Copy + Dro
     let bound = address.port();
     if bound == 0 || port != 0 && bound != port {
         return None;
+    }
+    if is_recorded {
+        ending.lookout().watch(&listener).ok()?;
     }
     let Entrance {
         door,
@@ -163,7 +167,15 @@ impl<
 
     /// Listens on the loopback interface only.
     fn listen(&mut self, port: u16) -> Listening<TcpDoor<W>, TcpBell> {
-        match listen(self.rt, self.alloc, &self.ending, &self.deliveries, port) {
+        let is_recorded = self.sink.is_some();
+        match listen(
+            self.rt,
+            self.alloc,
+            &self.ending,
+            &self.deliveries,
+            port,
+            is_recorded,
+        ) {
             Some((listening, listeners)) => {
                 self.listeners = Some(listeners);
                 listening

@@ -10,5 +10,5 @@ mod started;
 mod starting;
 
 pub use adb_os_streams::Stream;
-pub use started::Started;
+pub use started::{HistorySink, Started};
 pub use starting::{start, words_of};

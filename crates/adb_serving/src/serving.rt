@@ -11,11 +11,11 @@ ghost use Rattle.adb_words.specs.Serve.{Serving, is_serve, serve_of};
 ghost use Rattle.adb_words.specs.Words.{texts};
 
 use crate::devices::{Devices, LocalDevice, devices_of};
-use crate::started::Started;
+use crate::started::{HistorySink, Started};
 use adb_outside::{Sink, Source};
 use adb_ports::{
-    Begun, Deliveries, Ending, LiveRecorder, Named, PipeSink, RealYard, Settled, WillWrite,
-    Written, begin_record, end_record,
+    Begun, Deliveries, Ending, LiveRecorder, Named, PipeSink, RealYard, Settled, Writing,
+    begin_record, end_record,
 };
 use adb_top::{Ran, Status, run, say_out_of_memory, say_record_fault, wanted};
 use adb_words::{Ports, WordsError, read_serve};
@@ -23,16 +23,16 @@ use std::alloc::{AllocError, Global};
 use std::marker::Brand;
 use std::net::{Net, TcpListener, TcpStream};
 use std::sync::{Arc, Wait};
-use std::thread::{PromisedHandle, Threads};
+use std::thread::Threads;
 
 /// Runs the server of the words, with the devices that they request: `adb_top::run` over a yard of
 /// this machine. If the words request a record, it goes to `history` through a pipe and a thread of
 /// its own, and the sink is returned when the server has ended and the record is written. Otherwise
 /// `history` is returned as it was.
 ///
-/// If a write of the record failed, a status of Done becomes RecordFault. If an allocation fails
-/// before the yard exists, or the system has no thread for the record, the server listens on no
-/// port, and the status is OutOfMemory.
+/// If a write of the record failed, or had not returned a second after the server's end, a status
+/// of Done becomes RecordFault. If an allocation fails before the yard exists, or the system has no
+/// thread for the record, the server listens on no port, and the status is OutOfMemory.
 pub(crate) fn serve_live<
     W: Net<Listener = TcpListener, Stream = TcpStream>
         + Threads
@@ -62,28 +62,28 @@ pub(crate) fn serve_live<
     ensures command { result.status ≡ Status.Usage → serve_of (texts words.now) ≡ None }
     ensures serves { (asked : Serving) → serve_of (texts words.now) ≡ Some asked
         → ServesLive asked.port result.status (seen N.steady N.faults N.written) note.old note.new }
-    ensures unasked { asks_record (texts words.now) ≡ false → result.history ≡ Some history }
+    ensures unasked { asks_record (texts words.now) ≡ false → result.history ≡ HistorySink.Returned history }
     ensures record { asks_record (texts words.now) ≡ true
         → GivesRecord R.written history result.status result.history }
 {
     let Ok(prepared) = prepare(rt, alloc, words) else {
         return Started {
             status: say_out_of_memory(note),
-            history: Some(history),
+            history: HistorySink::Returned(history),
         };
     };
     if !prepared.records {
         let status = serve_unrecorded(rt, alloc, words, source, sink, note, prepared);
         return Started {
             status,
-            history: Some(history),
+            history: HistorySink::Returned(history),
         };
     }
-    let Ok(begun) = begin_record(rt, alloc, history) else {
+    let Ok(begun) = begin_record(rt, alloc, &prepared.ending, history) else {
         prepared.closing.close(&rt);
         return Started {
             status: say_out_of_memory(note),
-            history: None,
+            history: HistorySink::Dropped,
         };
     };
     serve_recorded::<W, Brand, S, K, N, R>(rt, alloc, words, source, sink, note, prepared, begun)
@@ -220,14 +220,14 @@ fn serve_recorded<
     requires asked { asks_record (texts words.now) ≡ true }
     requires pipe { Some begun.out.pipe ≡ B.pipe }
     requires begun { (begun.out.put ≡ [])
-        × (begun.writing.promise.input.value.pipe ≡ begun.out.pipe) }
+        × (begun.writing.thread.promise.input.value.pipe ≡ begun.out.pipe) }
     ensures untouched { (source.new ≡ source.old) × (sink.new ≡ sink.old) }
     ensures usage { serve_of (texts words.now) ≡ None
         → SaysUsage result.status (seen N.steady N.faults N.written) note.old note.new }
     ensures command { result.status ≡ Status.Usage → serve_of (texts words.now) ≡ None }
     ensures serves { (asked : Serving) → serve_of (texts words.now) ≡ Some asked
         → ServesLive asked.port result.status (seen N.steady N.faults N.written) note.old note.new }
-    ensures record { GivesRecord R.written begun.writing.promise.sink.value
+    ensures record { GivesRecord R.written begun.writing.thread.promise.sink.value
         result.status result.history }
 {
     let Prepared {
@@ -239,10 +239,10 @@ fn serve_recorded<
     } = prepared;
     let Begun {
         out,
-        failure,
+        progress,
         writing,
     } = begun;
-    let into = PipeSink::<W, B>::new(alloc, out, failure);
+    let into = PipeSink::<W, B>::new(rt, alloc, out, progress);
     let yard = RealYard::<W, B>::new(rt, alloc, ending, Some(deliveries), Some(into));
     let Ran { status, recorder } = run(rt, alloc, words, source, sink, note, yard, models);
     closing.close(&rt);
@@ -250,32 +250,38 @@ fn serve_recorded<
 }
 
 /// Ends the record of a server that has ended, and returns its sink. If the server did not serve,
-/// there is no recorder, and the sink is dropped.
+/// there is no recorder, and the sink is dropped. If the thread that writes is stuck, it keeps the
+/// sink, and a status of Done becomes RecordFault.
 fn settle_record<W: Threads + Wait + Drop, B: Named, N: Sink, R: Sink + Drop>(
     rt: &W,
     note: &mut N,
     status: Status,
     recorder: Option<LiveRecorder<W, B>>,
-    writing: PromisedHandle<Written<W, R>, WillWrite<W, R>>,
+    writing: Writing<W, R>,
 ) -> Started<R>
-    requires { Some writing.promise.input.value.pipe ≡ B.pipe }
+    requires { Some writing.thread.promise.input.value.pipe ≡ B.pipe }
     ensures ended { Ended status result.status
         (seen N.steady N.faults N.written) note.old note.new }
     ensures command { result.status ≡ Status.Usage → status ≡ Status.Usage }
     ensures record { KeepsRecord Keeps live_faults status recorder
-        → GivesRecord R.written writing.promise.sink.value result.status result.history }
+        → GivesRecord R.written writing.thread.promise.sink.value result.status result.history }
 {
     let Some(recorder) = recorder else {
-        drop(writing.join(rt));
+        writing.abandon(rt);
         return Started {
             status,
-            history: None,
+            history: HistorySink::Dropped,
         };
     };
-    let Settled { sink, whole } = end_record(rt, recorder, writing);
+    let Some(Settled { sink, whole }) = end_record(rt, recorder, writing) else {
+        return Started {
+            status: ended(note, status, false),
+            history: HistorySink::Stuck,
+        };
+    };
     Started {
         status: ended(note, status, whole),
-        history: Some(sink),
+        history: HistorySink::Returned(sink),
     }
 }
 

@@ -1,5 +1,5 @@
 use Rattle.adb_os_record.proofs.GoingOut.{settles}
-use Rattle.adb_os_record.proofs.writing.settle.Goals as goal
+use Rattle.adb_os_record.proofs.writing.join_thread.Goals as goal
 
 pub returns : goal.returns
 returns g c = λ had at_first.
