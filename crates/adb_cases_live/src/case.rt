@@ -1,7 +1,8 @@
 //! The cases, in the order in which they run.
 
 use crate::{
-    binder, calm, connections, halting, pipes, ports, recording, served, spawner, streams, yard,
+    binder, calm, connections, gated, halting, pipes, ports, recording, served, spawner, streams,
+    tools, workers, yard,
 };
 use std::alloc::{AllocError, Global};
 use std::net::{Net, TcpListener, TcpStream};
@@ -22,7 +23,10 @@ pub enum Case {
     PipesRefuse,
     AServerEndsAsTold,
     PortsAreServedInOrder,
+    ClientsAreServedAtOnce,
     ACalmServerIsDone,
+    ToolsAskAndTell,
+    WorkersMakeTheirEntries,
     AHaltEndsAServer,
     ReadsStopShort,
     WritesStopShort,
@@ -42,7 +46,10 @@ pub const CASES: &[Case] = &[
     Case::PipesRefuse,
     Case::AServerEndsAsTold,
     Case::PortsAreServedInOrder,
+    Case::ClientsAreServedAtOnce,
     Case::ACalmServerIsDone,
+    Case::ToolsAskAndTell,
+    Case::WorkersMakeTheirEntries,
     Case::AHaltEndsAServer,
     Case::ReadsStopShort,
     Case::WritesStopShort,
@@ -80,7 +87,12 @@ impl Case {
             Case::PipesRefuse => fault_of(pipes::pipes_refuse(rt, alloc)?),
             Case::AServerEndsAsTold => served::first_fault(rt, alloc)?,
             Case::PortsAreServedInOrder => fault_of(ports::ports_are_served_in_order(rt, alloc)?),
-            Case::ACalmServerIsDone => fault_of(calm::a_calm_server_is_done(rt, alloc)?),
+            Case::ClientsAreServedAtOnce => {
+                fault_of(gated::clients_are_served_at_once(rt, alloc)?)
+            }
+            Case::ACalmServerIsDone => calm::first_fault(rt, alloc)?,
+            Case::ToolsAskAndTell => tools::first_fault(rt, alloc)?,
+            Case::WorkersMakeTheirEntries => workers::first_fault(rt, alloc)?,
             Case::AHaltEndsAServer => fault_of(halting::a_halt_ends_a_server(rt, alloc)?),
             Case::ReadsStopShort => streams::first_bad_read(alloc)?,
             Case::WritesStopShort => streams::first_bad_write(alloc)?,
