@@ -1,8 +1,8 @@
 //! The cases, in the order in which they run.
 
 use crate::{
-    binder, calm, connections, deliveries, halting, pipes, ports, recording, served, spawner,
-    streams, yard,
+    binder, calm, connections, deliveries, gated, halting, pipes, ports, recording, served, spawner,
+    streams, tools, workers, yard,
 };
 use std::alloc::{AllocError, Global};
 use std::net::{Net, TcpListener, TcpStream};
@@ -24,7 +24,10 @@ pub enum Case {
     AServerEndsAsTold,
     PortsAreServedInOrder,
     ADeliveredDeviceIsAttached,
+    ClientsAreServedAtOnce,
     ACalmServerIsDone,
+    ToolsAskAndTell,
+    WorkersMakeTheirEntries,
     AHaltEndsAServer,
     ReadsStopShort,
     WritesStopShort,
@@ -45,7 +48,10 @@ pub const CASES: &[Case] = &[
     Case::AServerEndsAsTold,
     Case::PortsAreServedInOrder,
     Case::ADeliveredDeviceIsAttached,
+    Case::ClientsAreServedAtOnce,
     Case::ACalmServerIsDone,
+    Case::ToolsAskAndTell,
+    Case::WorkersMakeTheirEntries,
     Case::AHaltEndsAServer,
     Case::ReadsStopShort,
     Case::WritesStopShort,
@@ -86,7 +92,12 @@ impl Case {
             Case::ADeliveredDeviceIsAttached => {
                 fault_of(deliveries::a_delivered_device_is_attached(rt, alloc)?)
             }
-            Case::ACalmServerIsDone => fault_of(calm::a_calm_server_is_done(rt, alloc)?),
+            Case::ClientsAreServedAtOnce => {
+                fault_of(gated::clients_are_served_at_once(rt, alloc)?)
+            }
+            Case::ACalmServerIsDone => calm::first_fault(rt, alloc)?,
+            Case::ToolsAskAndTell => tools::first_fault(rt, alloc)?,
+            Case::WorkersMakeTheirEntries => workers::first_fault(rt, alloc)?,
             Case::AHaltEndsAServer => fault_of(halting::a_halt_ends_a_server(rt, alloc)?),
             Case::ReadsStopShort => streams::first_bad_read(alloc)?,
             Case::WritesStopShort => streams::first_bad_write(alloc)?,

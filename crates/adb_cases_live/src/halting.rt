@@ -3,15 +3,12 @@
 ghost use Rattle.std.specs.Prelude.{true};
 ghost use Rattle.adb_outside.specs.Outside.{Counts};
 
+use crate::clients::serve_clients;
 use adb_binder::MemoryBinder;
-use adb_connections::{
-    Came, Door, MemoryDeviceIn, MemoryDeviceOut, MemoryIn, MemoryOut, OpenGate, PortIn, PortOut,
-    SilentBell,
-};
+use adb_connections::{Came, Door, MemoryIn, MemoryOut, OpenGate, PortIn, PortOut, SilentBell};
 use adb_outside::{Failing, Got, MemorySink, Wrote};
 use adb_recorder::NullRecorder;
-use adb_server::{Served, serve};
-use adb_server_device_reader::Device;
+use adb_server::Served;
 use adb_server_yard::{Dialled, Listening, Staff, Yard};
 use std::alloc::{AllocError, Global};
 use std::marker::Model;
@@ -258,8 +255,7 @@ pub fn a_halt_ends_a_server<W: Threads + Wait + Clock + Copy + Send + Sync + Dro
         door: Some(door(rt, alloc, &line)?),
         faults: 0,
     };
-    let devices: Vec<Device<MemoryDeviceIn, MemoryDeviceOut>> = Vec::new(alloc);
     let mut note = MemorySink::new(alloc, Vec::new(alloc));
-    let ended = serve(rt, alloc, yard, devices, 5037, false, &mut note);
+    let ended = serve_clients(rt, alloc, yard, false, &mut note);
     Ok(ended.served == Served::DoorFault && *line.closed.lock(&rt))
 }

@@ -16,8 +16,8 @@ use std::collections::VecDeque;
 use std::marker::Model;
 use std::sync::Wait;
 
-/// The maximum number of bytes that a client of a yard sends at once.
-const PIECE: usize = 65_536;
+/// The maximum number of bytes that a connection of a yard in memory yields at once.
+pub(crate) const PIECE: usize = 65_536;
 
 /// The port to which the first forward of a client is bound if it asks for any.
 const FIRST_PORT: u16 = 40_000;
