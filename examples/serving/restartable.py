@@ -7,6 +7,13 @@ from device import packet
 from model_device import CNXN, HEADER, IDENTITY, MOST_OF_PACKET, VERSION, Link
 from server import free_port
 
+SMALL = 1 << 18
+
+def narrow(connection):
+    """Makes the buffers of a socket small, before it is connected, so that little is on its way."""
+    for option in (socket.SO_SNDBUF, socket.SO_RCVBUF):
+        connection.setsockopt(socket.SOL_SOCKET, option, SMALL)
+
 
 class Listening:
     """A device at one port, in this process. Each connection is served by a thread."""
@@ -25,8 +32,12 @@ class Listening:
 
     def start(self):
         self.listener = socket.create_server(("127.0.0.1", self.port))
+        self.prepare(self.listener)
         self.accepting = threading.Thread(target=self.accept, daemon=True)
         self.accepting.start()
+
+    def prepare(self, listener):
+        """Sets options that connections take over."""
 
     def accept(self):
         with contextlib.suppress(OSError):
@@ -82,6 +93,9 @@ class Flooding(Listening):
     def __init__(self):
         super().__init__()
         self.link, self.is_online = None, threading.Event()
+
+    def prepare(self, listener):
+        narrow(listener)
 
     def serve(self, connection):
         length = HEADER.unpack(connection.recv(HEADER.size, socket.MSG_WAITALL))[3]

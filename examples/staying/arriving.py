@@ -17,7 +17,7 @@ class Tracker:
     def __init__(self, port):
         self.client = Client(port, PATIENCE)
         self.client.ask("host:track-devices")
-        self.listed = self.client.string()
+        self.listed = self.client.string().decode()
 
     def __enter__(self):
         return self
@@ -29,7 +29,7 @@ class Tracker:
         """Waits until a device is in the list, or is not. Returns the seconds."""
         began = time.time()
         while (f"{serial}\tdevice\n" in self.listed) != is_there:
-            self.listed = self.client.string()
+            self.listed = self.client.string().decode()
         return time.time() - began
 
 

@@ -8,22 +8,18 @@ from checks import check
 from client import Client, shell
 from device import packet
 from judged import ONE, PATIENCE, flood, is_answered, serving
-from restartable import Flooding, Restartable
+from restartable import Flooding, Restartable, narrow
 from server import is_listed, until
 
-ASKED = b"0012host:transport-any"
+ASKED = b"0016host:transport:model-1"
 ANSWER = b"OKAY"
-MOST_SENT = 64 << 20
+MOST_OF_RECEIVED = 1 << 18
+MOST_SENT_BY_CLIENT = 64 << 20
+MOST_SENT_BY_DEVICE = 24 << 20
 GROWN_BY_CLIENT = 32 << 10  # KiB: the bound, and what the record of the case has waiting
 GROWN_BY_DEVICE = 64 << 10  # KiB: the bound in packets of 24 bytes, each a row of its own
-SMALL = 1 << 16  # bytes of the buffers of a connection, so that little is on its way
 CARRIED = 24 << 20
 INJECTED = 4 << 20
-
-
-def narrow(connection):
-    for option in (socket.SO_SNDBUF, socket.SO_RCVBUF):
-        connection.setsockopt(socket.SOL_SOCKET, option, SMALL)
 
 
 def narrow_client(port):
@@ -38,10 +34,10 @@ def narrow_client(port):
 def is_all_there(connection, piece, count):
     """Whether a piece comes so many times, and nothing else, as far as that."""
     left = count * len(piece)
-    pattern = piece * (1 << 16)
+    pattern = piece * (MOST_OF_RECEIVED // len(piece) + 2)
     at = 0
     while left:
-        got = connection.recv(min(left, 1 << 18))
+        got = connection.recv(min(left, MOST_OF_RECEIVED))
         if not got:
             return False
         start = at % len(piece)
@@ -59,9 +55,9 @@ def others_are_served(server):
 def client_that_never_reads(program):
     with serving(program) as server, narrow_client(server.port) as client:
         before = server.taken()[2]
-        sent = flood(client, ASKED * 5_000, MOST_SENT)
+        sent = flood(client, ASKED * 5_000, MOST_SENT_BY_CLIENT)
         grown = server.taken()[2] - before
-        check("no more is read from a client that asks and never reads", sent < MOST_SENT, f"after {sent} bytes")
+        check("no more is read from a client that asks and never reads", sent < MOST_SENT_BY_CLIENT, f"after {sent} bytes")
         check(f"it costs at most {GROWN_BY_CLIENT} KiB", grown < GROWN_BY_CLIENT, f"{grown} KiB")
         check("others are served", others_are_served(server))
         check("when it reads, each of its requests is answered", is_all_there(client, ANSWER, sent // len(ASKED)))
@@ -71,12 +67,11 @@ def device_that_never_reads(program):
     with Flooding() as device, serving(program, "--connect", str(device.port)) as server:
         device.is_online.wait(PATIENCE)
         until(lambda: is_listed(server.port, device.serial), PATIENCE)
-        narrow(device.link)
         before = server.taken()[2]
         opening = packet(b"OPEN", 1, 0, b"x\0")
-        sent = flood(device.link, opening * 5_000, MOST_SENT)
+        sent = flood(device.link, opening * 5_000, MOST_SENT_BY_DEVICE)
         grown = server.taken()[2] - before
-        check("no more is read from a device that opens streams and never reads", sent < MOST_SENT, f"after {sent} bytes")
+        check("no more is read from a device that opens streams and never reads", sent < MOST_SENT_BY_DEVICE, f"after {sent} bytes")
         check(f"it costs at most {GROWN_BY_DEVICE} KiB", grown < GROWN_BY_DEVICE, f"{grown} KiB")
         check("others are served", others_are_served(server))
         closed = packet(b"CLSE", 0, 1)

@@ -7,7 +7,7 @@ import subprocess
 import time
 
 from arriving import Tracker, full_port
-from bounds import ASKED, narrow, narrow_client
+from bounds import ASKED, narrow_client
 from checks import check
 from client import Client, ask_sync, host, push
 from device import packet
@@ -52,7 +52,6 @@ def killed_whatever_hangs(program):
         ports = [str(port) for port in (full, mute.port, flooding.port, free_port())]
         with serving(program, *(word for port in ports for word in ("--connect", port))) as server, hanging_clients(server):
             if flooding.is_online.wait(PATIENCE):
-                narrow(flooding.link)
                 flood(flooding.link, packet(b"OPEN", 1, 0, b"x\0") * 5_000, MOST_SENT, 1)
             check("a client is served beside clients and devices that hang", is_answered(server.port))
             is_killed(server)
