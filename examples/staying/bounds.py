@@ -11,8 +11,8 @@ from judged import ONE, PATIENCE, flood, is_answered, serving
 from restartable import Flooding, Restartable, narrow
 from server import is_listed, until
 
-ASKED = b"0016host:transport:model-1"
-ANSWER = b"OKAY"
+ASKED = b"0019host:tport:serial:model-1"
+ANSWER = b"OKAY" + (1).to_bytes(8, "little")
 MOST_OF_RECEIVED = 1 << 18
 MOST_SENT_BY_CLIENT = 64 << 20
 MOST_SENT_BY_DEVICE = 24 << 20

@@ -43,7 +43,7 @@ def hanging_clients(server):
         ask_sync(large.select(ONE, "sync:"), b"RECV", b"/large")
         stack.enter_context(Tracker(port))
         stack.enter_context(socket.create_connection(("127.0.0.1", forward(port)), PATIENCE))
-        flood(stack.enter_context(narrow_client(port)), ASKED * 5_000, MOST_SENT, 1)
+        flood(stack.enter_context(narrow_client(port)), ASKED * 5_000, MOST_SENT)
         yield
 
 
@@ -52,7 +52,7 @@ def killed_whatever_hangs(program):
         ports = [str(port) for port in (full, mute.port, flooding.port, free_port())]
         with serving(program, *(word for port in ports for word in ("--connect", port))) as server, hanging_clients(server):
             if flooding.is_online.wait(PATIENCE):
-                flood(flooding.link, packet(b"OPEN", 1, 0, b"x\0") * 5_000, MOST_SENT, 1)
+                flood(flooding.link, packet(b"OPEN", 1, 0, b"x\0") * 5_000, MOST_SENT)
             check("a client is served beside clients and devices that hang", is_answered(server.port))
             is_killed(server)
 
@@ -120,5 +120,8 @@ def connects_of_an_end(program):
 
 def one_knock(program):
     """A server of 400 jobs does not connect for each of them when it ends. Others may connect meanwhile."""
-    least = min(connects_of_an_end(program) for _ in range(TRIES))
-    check(f"the end of a server with {SILENT} clients connects fewer than 100 times", least < 100, f"{least} times, with the kill's own")
+    for _ in range(TRIES):
+        count = connects_of_an_end(program)
+        if count < SILENT // 2:
+            break
+    check(f"the end of a server with {SILENT} clients connects less than {SILENT // 2} times", count < SILENT // 2, f"{count} times")

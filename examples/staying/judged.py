@@ -151,7 +151,7 @@ class Silent:
             one.close()
 
 
-def flood(connection, piece, most, rest=2):
+def flood(connection, piece, most, rest=1):
     """Sends a piece again and again, until nothing was taken for `rest` seconds or `most` bytes were. Returns how many were."""
     connection.settimeout(rest)
     view, sent = memoryview(piece), 0

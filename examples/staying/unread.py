@@ -15,7 +15,7 @@ CHUNK = b"DATA" + MOST_OF_CHUNK.to_bytes(4, "little") + bytes(MOST_OF_CHUNK)
 def fill(client):
     """Sends a file until the server takes no more of it. Returns how many bytes it took."""
     ask_sync(client.select(ONE, "sync:"), b"SEND", b"/unread,33188")
-    return flood(client.socket, CHUNK, UNREAD, 1)
+    return flood(client.socket, CHUNK, UNREAD)
 
 
 def record_that_is_not_read(program):
