@@ -34,9 +34,9 @@ def descriptors(count):
 
 
 @contextlib.contextmanager
-def serving(program, *words, most=None):
+def serving(program, *words, most=None, recorded=None):
     """A server with a model device, these words, and at most so many descriptors. If it still runs at the end it is killed.
-    Its end and its record are checked."""
+    Its end and its record are checked; `recorded` is called with the record."""
     with contextlib.ExitStack() as stack:
         record = stack.enter_context(tempfile.TemporaryFile())
         with descriptors(most) if most else contextlib.nullcontext():
@@ -46,7 +46,10 @@ def serving(program, *words, most=None):
         if server.process.poll() is None:
             is_killed(server)
         record.seek(0)
-        is_legal(program, record)
+        history = record.read()
+        is_legal(program, history)
+        if recorded:
+            recorded(history)
 
 
 def ended(server):
@@ -73,9 +76,7 @@ def is_killed(server, status=0):
 
 
 def is_legal(program, record):
-    """Checks a record: a file, or its bytes."""
-    source = {"input": record} if isinstance(record, bytes) else {"stdin": record}
-    judged = subprocess.run([program, "check"], capture_output=True, text=False, check=False, **source)
+    judged = subprocess.run([program, "check"], input=record, capture_output=True, check=False)
     told = (judged.stdout or judged.stderr).decode().strip()
     check("the record is legal", judged.returncode == 0, told)
 

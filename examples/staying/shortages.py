@@ -4,11 +4,13 @@ import resource
 from checks import check
 from client import Client
 from judged import ONE, PATIENCE, Silent, comes_back, forward, is_answered, serving
+from recorded import entries
 from server import until
 
 DESCRIPTORS = 64
 SILENT = 200
 ROOM_FOR_THREADS = 64 << 20
+STARVED, NO_THREAD = b"\2", b"\3"
 
 
 def lacking_descriptors(program):
@@ -43,8 +45,14 @@ def limit_memory(server, more):
     resource.prlimit(server.process.pid, resource.RLIMIT_AS, (hard if more is None else mapped + more, hard))
 
 
+def has_causes(history):
+    """Checks that clients for which there was no memory or no thread ended by just this cause."""
+    causes = {entry.data for entry in entries(history) if entry.letter == b"E"}
+    check("the record says why", causes & {STARVED, NO_THREAD}, f"causes {sorted(cause[0] for cause in causes)}")
+
+
 def lacking_threads(program):
-    with serving(program) as server:
+    with serving(program, recorded=has_causes) as server:
         with Client(server.port) as echo:
             echo.select(ONE, "echo:")
             limit_memory(server, ROOM_FOR_THREADS)
