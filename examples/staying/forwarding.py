@@ -8,13 +8,14 @@ from checks import check
 from judged import PATIENCE, comes_back, forward, is_answered, is_within, kill_forward, serving
 
 CYCLES = 500
+LASTING = 60  # of at most 64 forwards
 IDLE_LISTENERS = 64
 AT_ONCE = 200
 
 
 def forwards_that_come_and_go(program):
     with serving(program) as server:
-        lasting = [forward(server.port) for _ in range(3)]
+        lasting = [forward(server.port) for _ in range(LASTING)]
         kill_forward(server.port, forward(server.port))
         before = server.rested(1)
         for _ in range(CYCLES):
@@ -24,7 +25,7 @@ def forwards_that_come_and_go(program):
         check(f"{CYCLES} forwards that come and go leave at most 8 threads", after[0] <= before[0] + 8, told[0])
         most = before[1] + IDLE_LISTENERS
         check(f"they leave at most {IDLE_LISTENERS} descriptors", after[1] <= most, told[1])
-        check("the forwards that stayed answer", all(map(comes_back, lasting)))
+        check(f"the {LASTING} forwards that stayed answer", all(map(comes_back, lasting)))
         check("a forward after them", comes_back(forward(server.port)))
 
 
