@@ -55,7 +55,7 @@ def others_are_served(server):
 def client_that_never_reads(program):
     with serving(program) as server, narrow_client(server.port) as client:
         before = server.taken()[2]
-        sent = flood(client, ASKED * 5_000, MOST_SENT_BY_CLIENT)
+        sent = flood(server, client, ASKED * 5_000, MOST_SENT_BY_CLIENT)
         grown = server.taken()[2] - before
         check("no more is read from a client that asks and never reads", sent < MOST_SENT_BY_CLIENT, f"after {sent} bytes")
         check(f"it costs at most {GROWN_BY_CLIENT} KiB", grown < GROWN_BY_CLIENT, f"{grown} KiB")
@@ -69,7 +69,7 @@ def device_that_never_reads(program):
         until(lambda: is_listed(server.port, device.serial), PATIENCE)
         before = server.taken()[2]
         opening = packet(b"OPEN", 1, 0, b"x\0")
-        sent = flood(device.link, opening * 5_000, MOST_SENT_BY_DEVICE)
+        sent = flood(server, device.link, opening * 5_000, MOST_SENT_BY_DEVICE)
         grown = server.taken()[2] - before
         check("no more is read from a device that opens streams and never reads", sent < MOST_SENT_BY_DEVICE, f"after {sent} bytes")
         check(f"it costs at most {GROWN_BY_DEVICE} KiB", grown < GROWN_BY_DEVICE, f"{grown} KiB")

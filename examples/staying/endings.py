@@ -43,7 +43,7 @@ def hanging_clients(server):
         ask_sync(large.select(ONE, "sync:"), b"RECV", b"/large")
         stack.enter_context(Tracker(port))
         stack.enter_context(socket.create_connection(("127.0.0.1", forward(port)), PATIENCE))
-        flood(stack.enter_context(narrow_client(port)), ASKED * 5_000, MOST_SENT)
+        flood(server, stack.enter_context(narrow_client(port)), ASKED * 5_000, MOST_SENT)
         yield
 
 
@@ -52,7 +52,7 @@ def killed_whatever_hangs(program):
         ports = [str(port) for port in (full, mute.port, flooding.port, free_port())]
         with serving(program, *(word for port in ports for word in ("--connect", port))) as server, hanging_clients(server):
             if flooding.is_online.wait(PATIENCE):
-                flood(flooding.link, packet(b"OPEN", 1, 0, b"x\0") * 5_000, MOST_SENT)
+                flood(server, flooding.link, packet(b"OPEN", 1, 0, b"x\0") * 5_000, MOST_SENT)
             check("a client is served beside clients and devices that hang", is_answered(server.port))
             is_killed(server)
 

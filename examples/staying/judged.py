@@ -14,6 +14,7 @@ from server import Server, is_listed, until
 VERSION = "0029"
 ONE = "model-1"
 PATIENCE = 20
+RESTING = 0.01  # processor seconds in a second of a server that waits
 IS_STRICT = "--strict" in sys.argv
 
 
@@ -152,12 +153,17 @@ class Silent:
             one.close()
 
 
-def flood(connection, piece, most, rest=1):
-    """Sends a piece again and again, until nothing was taken for `rest` seconds or `most` bytes were. Returns how many were."""
-    connection.settimeout(rest)
-    view, sent = memoryview(piece), 0
-    with contextlib.suppress(TimeoutError):
-        while sent < most:
+def flood(server, connection, piece, most):
+    """Sends a piece to a server again and again, until the server rests for a second without taking more of it, or has taken
+    `most` bytes. Returns how many it took."""
+    connection.settimeout(1)
+    view, sent, busy = memoryview(piece), 0, server.processor_seconds()
+    while sent < most:
+        try:
             sent += connection.send(view[sent % len(piece) :])
+        except TimeoutError:
+            before, busy = busy, server.processor_seconds()
+            if busy - before < RESTING:
+                break
     connection.settimeout(PATIENCE)
     return sent

@@ -12,17 +12,17 @@ UNREAD = 64 << 20  # bytes of a file that are more than what waits to be written
 CHUNK = b"DATA" + MOST_OF_CHUNK.to_bytes(4, "little") + bytes(MOST_OF_CHUNK)
 
 
-def fill(client):
+def fill(server, client):
     """Sends a file until the server takes no more of it. Returns how many bytes it took."""
     ask_sync(client.select(ONE, "sync:"), b"SEND", b"/unread,33188")
-    return flood(client.socket, CHUNK, UNREAD)
+    return flood(server, client.socket, CHUNK, UNREAD)
 
 
 def record_that_is_not_read(program):
     with Server(program, "--device", ONE, record=subprocess.PIPE) as server:
         until(lambda: is_listed(server.port, ONE), PATIENCE)
         with Client(server.port) as client:
-            sent = fill(client)
+            sent = fill(server, client)
             check("others wait if the record is not read", sent < UNREAD and not is_answered(server.port, 1), f"after {sent} bytes")
             ends, took = kill(server)
             told = f"status {ends} in {took:.2f} s"
@@ -36,7 +36,7 @@ def record_that_is_read_late(program):
     with Server(program, "--device", ONE, record=subprocess.PIPE) as server:
         until(lambda: is_listed(server.port, ONE), PATIENCE)
         with Client(server.port) as client:
-            sent = fill(client)
+            sent = fill(server, client)
             check("others wait if the record is not read", sent < UNREAD, f"after {sent} bytes")
             judge = subprocess.Popen([program, "check"], stdin=server.process.stdout, stdout=subprocess.PIPE)
             server.process.stdout.close()
