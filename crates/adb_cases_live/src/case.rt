@@ -1,8 +1,8 @@
 //! The cases, in the order in which they run.
 
 use crate::{
-    binder, calm, connections, deliveries, gated, halting, pipes, ports, recording, served, spawner,
-    streams, tools, workers, yard,
+    binder, calm, connections, deliveries, gated, halting, pipes, ports, recording, served,
+    spawner, streams, tools, workers, yard,
 };
 use std::alloc::{AllocError, Global};
 use std::net::{Net, TcpListener, TcpStream};
@@ -17,7 +17,7 @@ pub enum Case {
     PlacesHaveNumbers,
     BindersGiveWhatIsAsked,
     PortsAreOpened,
-    CrewsRunJobs,
+    APoolRunsJobs,
     PipesEnd,
     PipesAreLost,
     PipesRefuse,
@@ -41,7 +41,7 @@ pub const CASES: &[Case] = &[
     Case::PlacesHaveNumbers,
     Case::BindersGiveWhatIsAsked,
     Case::PortsAreOpened,
-    Case::CrewsRunJobs,
+    Case::APoolRunsJobs,
     Case::PipesEnd,
     Case::PipesAreLost,
     Case::PipesRefuse,
@@ -83,7 +83,7 @@ impl Case {
             Case::PlacesHaveNumbers => fault_of(connections::places_have_numbers()),
             Case::BindersGiveWhatIsAsked => fault_of(binder::binders_give_what_is_asked(alloc)?),
             Case::PortsAreOpened => fault_of(binder::ports_are_opened(alloc)?),
-            Case::CrewsRunJobs => fault_of(spawner::crews_run_jobs(rt, alloc)?),
+            Case::APoolRunsJobs => fault_of(spawner::a_pool_runs_jobs(rt, alloc)?),
             Case::PipesEnd => fault_of(pipes::pipes_end(rt, alloc)?),
             Case::PipesAreLost => fault_of(pipes::pipes_are_lost(rt, alloc)?),
             Case::PipesRefuse => fault_of(pipes::pipes_refuse(rt, alloc)?),

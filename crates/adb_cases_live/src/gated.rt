@@ -9,7 +9,7 @@ use adb_connections::{Gate, MemoryIn, Place};
 use adb_fakes::{FakeDoor, FakeYard, Kept, Rings, Sent, SharedOut, SharedRecorder};
 use adb_outside::MemorySink;
 use adb_server::Served;
-use adb_server_yard::{Dialled, Listening, Staff, Yard};
+use adb_server_yard::{Dialled, Listening, PoolKind, Yard};
 use std::alloc::{AllocError, Global};
 use std::marker::Model;
 use std::sync::atomic::{AtomicBool, Ordering};
@@ -118,8 +118,8 @@ impl<W: Wait + Clock + Copy + Send + Sync + Drop + 'static> Yard for GatedYard<W
         self.yard.recorder(wanted)
     }
 
-    fn staff(&mut self) -> Staff {
-        Staff::Threads
+    fn pool_kind(&mut self) -> PoolKind {
+        PoolKind::Threads
     }
 
     fn ports(&mut self) -> MemoryBinder {

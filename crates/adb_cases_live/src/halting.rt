@@ -9,7 +9,7 @@ use adb_connections::{Came, Door, MemoryIn, MemoryOut, OpenGate, PortIn, PortOut
 use adb_outside::{Failing, Got, MemorySink, Wrote};
 use adb_recorder::NullRecorder;
 use adb_server::Served;
-use adb_server_yard::{Dialled, Listening, Staff, Yard};
+use adb_server_yard::{Dialled, Listening, PoolKind, Yard};
 use std::alloc::{AllocError, Global};
 use std::marker::Model;
 use std::sync::{Arc, Condvar, Mutex, Wait};
@@ -198,8 +198,8 @@ impl<W: Wait + Clock + Copy + Send + Sync + Drop + 'static> Yard for FailingYard
         NullRecorder::new()
     }
 
-    fn staff(&mut self) -> Staff {
-        Staff::Threads
+    fn pool_kind(&mut self) -> PoolKind {
+        PoolKind::Threads
     }
 
     fn ports(&mut self) -> MemoryBinder {

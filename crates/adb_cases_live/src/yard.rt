@@ -4,7 +4,7 @@ use adb_binder::{Binder, Binding};
 use adb_connections::{Bell, Came, Door, PortIn, PortOut};
 use adb_outside::{Got, Wrote};
 use adb_ports::{Ending, RealYard};
-use adb_server_yard::{Dialled, Listening, Staff, Yard};
+use adb_server_yard::{Dialled, Listening, PoolKind, Yard};
 use std::alloc::{AllocError, Global};
 use std::marker::Brand;
 use std::net::{Net, TcpListener, TcpStream};
@@ -111,7 +111,7 @@ fn gives<
         + Drop
         + 'static,
 >(rt: &W, yard: &mut RealYard<W, Brand>) -> bool {
-    opens(rt, yard) && matches!(yard.staff(), Staff::Threads)
+    opens(rt, yard) && matches!(yard.pool_kind(), PoolKind::Threads)
 }
 
 pub fn a_yard_gives_what_it_is_asked<

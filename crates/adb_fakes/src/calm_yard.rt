@@ -9,7 +9,7 @@ use crate::yard::{PIECE, listening_port};
 use adb_connections::{MemoryIn, OpenGate, SilentBell};
 use adb_outside::Text;
 use adb_recorder::MemoryRecorder;
-use adb_server_yard::{Dialled, Listening, Staff, Yard};
+use adb_server_yard::{Dialled, Listening, PoolKind, Yard};
 use std::alloc::{AllocError, Global};
 use std::collections::VecDeque;
 use std::marker::Model;
@@ -136,8 +136,8 @@ impl<W: Wait + Copy + Send + Sync + Drop + 'static> Yard for CalmYard<W> {
         MemoryRecorder::new(self.alloc, Vec::new(self.alloc))
     }
 
-    fn staff(&mut self) -> Staff {
-        Staff::Inline {
+    fn pool_kind(&mut self) -> PoolKind {
+        PoolKind::Inline {
             failing: Vec::new(self.alloc),
         }
     }

@@ -10,7 +10,7 @@ use crate::sent::{Sent, SharedOut};
 use adb_binder::MemoryBinder;
 use adb_connections::{Device, MemoryDeviceIn, MemoryDeviceOut, MemoryIn, OpenGate};
 use adb_outside::{Failing, Text};
-use adb_server_yard::{Dialled, Listening, Staff, Yard};
+use adb_server_yard::{Dialled, Listening, PoolKind, Yard};
 use std::alloc::{AllocError, Global};
 use std::collections::VecDeque;
 use std::marker::Model;
@@ -183,8 +183,8 @@ impl<W: Wait + Copy + Send + Sync + Drop + 'static> Yard for FakeYard<W> {
         SharedRecorder::new(self.kept.handle().ok())
     }
 
-    fn staff(&mut self) -> Staff {
-        Staff::Inline {
+    fn pool_kind(&mut self) -> PoolKind {
+        PoolKind::Inline {
             failing: moved_out(self.alloc, &mut self.spawns),
         }
     }

@@ -7,7 +7,7 @@ use adb_connections::OpenGate;
 use adb_os_door::{Deliveries, Entrance, Listeners, TcpBell, TcpBinder, TcpDoor};
 use adb_os_record::{LiveRecorder, Named, PipeSink};
 use adb_os_sockets::{Ending, TcpIn, TcpOut, halves};
-use adb_server_yard::{Dialled, Listening, Staff, Yard};
+use adb_server_yard::{Dialled, Listening, PoolKind, Yard};
 use std::alloc::Global;
 use std::io;
 use std::net::{Net, SocketAddr, TcpListener, TcpStream};
@@ -198,8 +198,8 @@ impl<
         LiveRecorder::on(sink)
     }
 
-    fn staff(&mut self) -> Staff {
-        Staff::Threads
+    fn pool_kind(&mut self) -> PoolKind {
+        PoolKind::Threads
     }
 
     fn ports(&mut self) -> TcpBinder<W> {

@@ -13,7 +13,7 @@ use adb_server_device_reader::Packets;
 use adb_server_hall::Hall;
 use adb_server_work::{Contexts, HallOf, Parts, Work, make_contexts};
 use adb_server_yard::Yard;
-use adb_spawner::Crew;
+use adb_spawner::WorkerPool;
 use std::alloc::{AllocError, Global};
 use std::sync::Wait;
 use std::thread::Threads;
@@ -52,7 +52,7 @@ pub(crate) fn serve_all<
     S: Jobs<Work<W, P>>,
 >(
     supplies: &mut Supplies<W, P::Bell, S, Y>,
-    pool: &mut Crew<W, S::Job>,
+    pool: &mut WorkerPool<W, S::Job>,
     hall: &mut HallOf<W, P>,
     door: &mut D,
     devices: Vec<Device<P::DeviceIn, P::DeviceOut>>,
@@ -174,7 +174,7 @@ fn take<
     S: Jobs<Work<W, P>>,
 >(
     supplies: &mut Supplies<W, P::Bell, S, Y>,
-    pool: &mut Crew<W, S::Job>,
+    pool: &mut WorkerPool<W, S::Job>,
     hall: &mut HallOf<W, P>,
     door: &mut D,
 ) -> Result<(), Served>
@@ -211,7 +211,7 @@ fn serve_client<
     S: Jobs<Work<W, P>>,
 >(
     supplies: &mut Supplies<W, P::Bell, S, Y>,
-    pool: &mut Crew<W, S::Job>,
+    pool: &mut WorkerPool<W, S::Job>,
     hall: &mut HallOf<W, P>,
     contexts: Contexts<W, P>,
     arrival: Arrival<P>,
@@ -234,7 +234,7 @@ fn serve_device<
     S: Jobs<Work<W, P>>,
 >(
     supplies: &mut Supplies<W, P::Bell, S, Y>,
-    pool: &mut Crew<W, S::Job>,
+    pool: &mut WorkerPool<W, S::Job>,
     hall: &mut HallOf<W, P>,
     contexts: Contexts<W, P>,
     device: Device<P::DoorDeviceIn, P::DoorDeviceOut>,
@@ -274,7 +274,7 @@ fn take_all<
     S: Jobs<Work<W, P>>,
 >(
     supplies: &mut Supplies<W, P::Bell, S, Y>,
-    pool: &mut Crew<W, S::Job>,
+    pool: &mut WorkerPool<W, S::Job>,
     hall: &mut HallOf<W, P>,
     door: &mut D,
 ) -> Served

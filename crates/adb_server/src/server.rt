@@ -219,7 +219,7 @@ fn serve_with<
     let Ok(bell) = BellHandle::new(alloc, bell) else {
         return starved();
     };
-    let Ok(mut pool) = pool_of(rt, alloc, yard.staff()) else {
+    let Ok(mut pool) = pool_of(rt, alloc, yard.pool_kind()) else {
         return starved();
     };
     let hall = LockedHall::<R, E, M, K, W>::new(rt, alloc, recorder, entries, moved, marks);

@@ -8,8 +8,8 @@ use adb_recorder::Recorder;
 use adb_server_hall::Hall;
 use adb_server_log::Marks;
 use adb_server_work::{BellHandle, Contexts, HallOf, Parts, Ringing, Task, Work};
-use adb_server_yard::Staff;
-use adb_spawner::{Crew, Job};
+use adb_server_yard::PoolKind;
+use adb_spawner::{Job, WorkerPool};
 use std::alloc::{AllocError, Global};
 use std::marker::PhantomData;
 use std::sync::Wait;
@@ -189,10 +189,10 @@ pub(crate) fn device_jobs<W: Wait + Copy + Drop, P: Parts, S: Jobs<Work<W, P>>>(
 pub(crate) fn pool_of<
     W: Threads + Wait + Copy + Send + Sync + Drop + 'static,
     J: Job + Send + Drop + 'static,
->(rt: W, alloc: Global, staff: Staff) -> Result<Crew<W, J>, AllocError> {
-    match staff {
-        Staff::Threads => Crew::threads(rt, alloc),
-        Staff::Inline { failing } => Ok(Crew::inline(failing)),
+>(rt: W, alloc: Global, kind: PoolKind) -> Result<WorkerPool<W, J>, AllocError> {
+    match kind {
+        PoolKind::Threads => WorkerPool::threads(rt, alloc),
+        PoolKind::Inline { failing } => Ok(WorkerPool::inline(failing)),
     }
 }
 
@@ -206,18 +206,18 @@ pub(crate) fn start<
     W: Threads + Wait + Copy + Send + Sync + Drop + 'static,
     J: Job + Send + Drop + 'static,
     P: Parts,
->(pool: &mut Crew<W, J>, hall: &mut HallOf<W, P>, pair: Pair<J>) {
+>(pool: &mut WorkerPool<W, J>, hall: &mut HallOf<W, P>, pair: Pair<J>) {
     let Pair {
         owner,
         reader,
         writer,
     } = pair;
     if let Err(job) = pool.spawn(reader) {
-        let _ = hall.strand(owner, pool.no_thread());
+        let _ = hall.end_without_thread(owner, pool.no_thread());
         drop(job);
     }
     if let Err(job) = pool.spawn(writer) {
-        let _ = hall.strand(owner, pool.no_thread());
+        let _ = hall.end_without_thread(owner, pool.no_thread());
         job.run();
     }
 }
@@ -227,7 +227,7 @@ pub(crate) fn start_all<
     W: Threads + Wait + Copy + Send + Sync + Drop + 'static,
     J: Job + Send + Drop + 'static,
     P: Parts,
->(pool: &mut Crew<W, J>, hall: &mut HallOf<W, P>, pairs: Vec<Pair<J>>) {
+>(pool: &mut WorkerPool<W, J>, hall: &mut HallOf<W, P>, pairs: Vec<Pair<J>>) {
     for pair in pairs {
         start::<W, J, P>(pool, hall, pair);
     }

@@ -44,11 +44,11 @@ impl Arrival for Comer<'_> {
 
 /// The section that ends a client or a link for which no thread started.
 #[derive(Drop)]
-pub struct Strand {
+pub struct EndWithoutThread {
     pub owner: Owner,
 }
 
-impl Call<Result<Progress, DeskError>> for Strand {
+impl Call<Result<Progress, DeskError>> for EndWithoutThread {
     ghost use Rattle.std.specs.Prelude.{◌≢◌, Err};
     ghost use Rattle.adb_outside.specs.declared.kinds.Cause.{Cause};
     ghost use Rattle.adb_server_log.specs.declared.error.DeskError.{DeskError};

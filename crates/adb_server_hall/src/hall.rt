@@ -1,6 +1,6 @@
 //! The calls that the workers of a server make.
 
-use crate::alone::{Halt, HasForward, Over, Strand};
+use crate::alone::{EndWithoutThread, Halt, HasForward, Over};
 use crate::sections::{Arrival, Call, Section};
 use crate::with_pass::{AskRoom, HandOut, Submit};
 use adb_capture::Owner;
@@ -200,14 +200,18 @@ pub trait Hall<E: Ledger, M: Ledger, K: Marks> {
     ///
     /// - `Hub(Stopped)`: a kill was made.
     /// - `Hub(NoClient)`, `Hub(NoLink)`: the number was never drawn.
-    final fn strand(&mut self, owner: Owner, shown: NoThread) -> Result<Progress, DeskError>
+    final fn end_without_thread(
+        &mut self,
+        owner: Owner,
+        shown: NoThread,
+    ) -> Result<Progress, DeskError>
         ensures told { Where (tells self.old) (Submits (ends_of owner Cause.NoThread) result)
             (tells self.new) }
         ensures steady { K.steady → result ≢ Err DeskError.RecordFault }
         ensures mark { marked self.new ≡ or_marked (marks_progress result) (marked self.old) }
     {
         let _ = &shown;
-        self.ask(&Strand { owner })
+        self.ask(&EndWithoutThread { owner })
     }
 
     /// Returns the answer with which the hall is shut, or else `Stopped` if a kill was made. It

@@ -4,8 +4,8 @@ use Rattle.adb_server_yard.specs.declared.yard.Dialled.{Dialled}
 use Rattle.adb_server_yard.specs.declared.yard.Dialled.TheVariants as dialled
 use Rattle.adb_server_yard.specs.declared.yard.Listening.{Listening}
 use Rattle.adb_server_yard.specs.declared.yard.Listening.TheVariants.{Here, Failed}
-use Rattle.adb_server_yard.specs.declared.yard.Staff.{Staff}
-use Rattle.adb_server_yard.specs.declared.yard.Staff.TheVariants.{Threads, Inline}
+use Rattle.adb_server_yard.specs.declared.yard.PoolKind.{PoolKind}
+use Rattle.adb_server_yard.specs.declared.yard.PoolKind.TheVariants.{Threads, Inline}
 
 -- The port that is listened on is not 0, and is the one that was asked for, if one was.
 abbrev pub FitsPort : {D B : Type 0} → ℕ → Listening D B → Type 0
@@ -28,9 +28,9 @@ HasDoor P (Here door bell port) = P door
 HasDoor P Failed = ⊤
 
 -- It returns no job unrun.
-abbrev pub IsSteadyStaff : Staff → Type 0
-IsSteadyStaff Threads = ⊥
-IsSteadyStaff (Inline failing) = failing.items ≡ []
+abbrev pub IsSteadyKind : PoolKind → Type 0
+IsSteadyKind Threads = ⊥
+IsSteadyKind (Inline failing) = failing.items ≡ []
 
 -- whether the connection failed
 abbrev pub is_unreached : {I O : Type 0} → Dialled I O → Bool

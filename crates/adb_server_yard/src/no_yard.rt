@@ -3,7 +3,7 @@
 ghost use Rattle.std.specs.Prelude.{◌≡◌, true};
 ghost use Rattle.adb_outside.specs.Outside.{Counts};
 
-use crate::yard::{Dialled, Listening, Staff, Yard};
+use crate::yard::{Dialled, Listening, PoolKind, Yard};
 use adb_binder::MemoryBinder;
 use adb_connections::{
     Came, Door, MemoryDeviceIn, MemoryDeviceOut, MemoryIn, MemoryOut, OpenGate, SilentBell,
@@ -100,8 +100,8 @@ impl Yard for NoYard {
         NullRecorder::new()
     }
 
-    fn staff(&mut self) -> Staff {
-        Staff::Inline {
+    fn pool_kind(&mut self) -> PoolKind {
+        PoolKind::Inline {
             failing: Vec::new(self.alloc),
         }
     }

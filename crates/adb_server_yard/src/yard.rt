@@ -24,7 +24,7 @@ pub enum Dialled<I: Drop, O: Drop> {
 
 /// The worker pool that runs the jobs of a server.
 #[derive(Drop)]
-pub enum Staff {
+pub enum PoolKind {
     /// Each job runs in a thread of its own.
     Threads,
     /// Each job runs within the call that submits it. `failing` lists submissions by their numbers,
@@ -39,7 +39,7 @@ pub trait Yard: Drop {
     ghost use Rattle.std.specs.Prelude.{◌≡◌, ◌<◌, ℕ, List, [], Bool, Option, false, ⊤};
     ghost use Rattle.adb_outside.specs.Outside.{Counts};
     ghost use Rattle.adb_server_log.specs.Log.{IsFresh};
-    ghost use Rattle.adb_server_yard.specs.Yard.{FitsPort, HasDoor, IsHere, IsSteadyStaff, is_deaf};
+    ghost use Rattle.adb_server_yard.specs.Yard.{FitsPort, HasDoor, IsHere, IsSteadyKind, is_deaf};
     ghost use Rattle.adb_server_yard.specs.Yard.{HasDialled, is_unreached};
 
     type Door: Door;
@@ -99,9 +99,9 @@ pub trait Yard: Drop {
         ensures steady { steady self.old → Self.Keeper.steady result };
 
     /// Returns how the jobs of a server are run.
-    fn staff(&mut self) -> Staff
+    fn pool_kind(&mut self) -> PoolKind
         ensures counts { Counts steady faults self.old self.new false }
-        ensures steady { steady self.old → IsSteadyStaff result };
+        ensures steady { steady self.old → IsSteadyKind result };
 
     /// Returns a binder for the forwards of one more client.
     fn ports(&mut self) -> Self::Ports

@@ -2,7 +2,7 @@
 
 ghost use Rattle.std.specs.Prelude.{◌≡◌, ◌<◌, [], None, Some, IfOk, IfErr, is_err, option_map};
 ghost use Rattle.adb_outside.specs.Outside.{Counts};
-ghost use Rattle.adb_spawner.specs.Crew.{IsSteady, Spawns};
+ghost use Rattle.adb_spawner.specs.WorkerPool.{IsSteady, Spawns};
 
 use crate::job::Job;
 use crate::pool::Pool;
@@ -17,9 +17,9 @@ use std::thread::Threads;
 /// started.
 ///
 /// A thread that has run its job waits for the next one. `finish` ends the threads; the threads of
-/// a crew that is dropped without it wait on.
+/// a pool that is dropped without it wait on.
 #[derive(Drop)]
-pub struct Crew<
+pub struct WorkerPool<
     W: Threads + Wait + Copy + Send + Sync + Drop + 'static,
     J: Job + Send + Drop + 'static,
 > {
@@ -28,26 +28,26 @@ pub struct Crew<
 }
 
 impl<W: Threads + Wait + Copy + Send + Sync + Drop + 'static, J: Job + Send + Drop + 'static> Model
-    for Crew<W, J> {
-    ghost use Rattle.adb_spawner.specs.Crew.{Crewed};
+    for WorkerPool<W, J> {
+    ghost use Rattle.adb_spawner.specs.WorkerPool.{PoolView};
 
-    ghost Value = { Crewed };
+    ghost Value = { PoolView };
 
-    ghost view = { λ crew. record {
-      failing = crew.failing.failing;
-      calls = crew.failing.calls;
-      faults = crew.failing.faults;
-      threads = crew.pool;
+    ghost view = { λ pool. record {
+      failing = pool.failing.failing;
+      calls = pool.failing.calls;
+      faults = pool.failing.faults;
+      threads = pool.pool;
     } };
 }
 
-impl<W: Threads + Wait + Copy + Send + Sync + Drop + 'static, J: Job + Send + Drop + 'static> Crew<
-    W,
-    J,
-> {
-    /// Returns a crew that runs each job within the call, and hands back the jobs of the calls
+impl<
+    W: Threads + Wait + Copy + Send + Sync + Drop + 'static,
+    J: Job + Send + Drop + 'static,
+> WorkerPool<W, J> {
+    /// Returns a pool that runs each job within the call, and hands back the jobs of the calls
     /// listed in `failing` by number, counted from 1. Allocates nothing.
-    pub fn inline(failing: Vec<u64>) -> Crew<W, J>
+    pub fn inline(failing: Vec<u64>) -> WorkerPool<W, J>
         ensures { result ≡ record {
           failing = failing.items;
           calls = 0;
@@ -55,19 +55,19 @@ impl<W: Threads + Wait + Copy + Send + Sync + Drop + 'static, J: Job + Send + Dr
           threads = None;
         } }
     {
-        Crew {
+        WorkerPool {
             failing: Failing::new(failing),
             pool: None,
         }
     }
 
-    /// Returns a crew that runs each job in a thread of its own while it runs. Fails if an
+    /// Returns a pool that runs each job in a thread of its own while it runs. Fails if an
     /// allocation fails.
-    pub fn threads(rt: W, alloc: Global) -> Result<Crew<W, J>, AllocError>
-        ensures { IfOk result (λ crew. crew
+    pub fn threads(rt: W, alloc: Global) -> Result<WorkerPool<W, J>, AllocError>
+        ensures { IfOk result (λ pool. pool
             ≡ record { failing = []; calls = 0; faults = 0; threads = Some 0 }) }
     {
-        Ok(Crew {
+        Ok(WorkerPool {
             failing: Failing::new(Vec::new(alloc)),
             pool: Some(Pool::new(rt, alloc)?),
         })
@@ -77,7 +77,7 @@ impl<W: Threads + Wait + Copy + Send + Sync + Drop + 'static, J: Job + Send + Dr
     /// when it is returned.
     pub fn spawn(&mut self, job: J) -> Result<(), J>
         ensures back { IfErr result (λ back. back ≡ job) }
-        ensures counts { Counts IsSteady (λ crew. crew.faults)
+        ensures counts { Counts IsSteady (λ pool. pool.faults)
             self.old self.new (is_err result) }
         ensures spawns { Spawns self.old self.new (is_err result) }
         ensures ran { self.old.threads ≡ None → IfOk result (λ done. J.done job) }
@@ -100,7 +100,7 @@ impl<W: Threads + Wait + Copy + Send + Sync + Drop + 'static, J: Job + Send + Dr
         }
     }
 
-    /// Returns evidence that the crew handed a job back.
+    /// Returns evidence that the pool handed a job back.
     pub fn no_thread(&self) -> NoThread
         requires { 0 < self.now.faults }
     {
@@ -118,7 +118,7 @@ impl<W: Threads + Wait + Copy + Send + Sync + Drop + 'static, J: Job + Send + Dr
     }
 }
 
-/// Evidence that a crew handed a job back. Only such a crew returns it.
+/// Evidence that a pool handed a job back. Only such a pool returns it.
 #[derive(Drop)]
 pub struct NoThread {
     shown: (),
