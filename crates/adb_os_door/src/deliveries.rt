@@ -33,6 +33,24 @@ struct Queue {
     devices: VecDeque<TcpDevice>,
 }
 
+impl Queue {
+    /// Queues a device. Returns whether the door is open and has a place for it; otherwise the
+    /// device is dropped.
+    fn put(&mut self, device: TcpDevice) -> bool {
+        if self.door.is_none() || self.devices.len() >= self.devices.capacity() {
+            return false;
+        }
+        self.devices.push_back_reserved(device);
+        true
+    }
+
+    fn wake_door(&self) {
+        if let Some(door) = &self.door {
+            door.wake();
+        }
+    }
+}
+
 impl Deliveries {
     /// Makes an empty queue with this number of places. The door is not open yet. `ending` is the
     /// flag that says whether the server ends.
@@ -74,13 +92,9 @@ impl Deliveries {
     /// place for it.
     pub fn deliver<W: Wait>(&self, rt: &W, device: TcpDevice) {
         let mut queue = self.queue.lock(rt);
-        if queue.door.is_none() || queue.devices.len() >= queue.devices.capacity() {
-            return;
-        }
-        queue.devices.push_back_reserved(device);
-        self.waiting.store(true, Ordering::SeqCst);
-        if let Some(door) = &queue.door {
-            door.wake();
+        if queue.put(device) {
+            self.waiting.store(true, Ordering::SeqCst);
+            queue.wake_door();
         }
     }
 
