@@ -10,7 +10,7 @@ use std::time::Duration;
 /// The number of milliseconds that a wait lasts before it looks at the flags again.
 const SLICE: u64 = 100;
 
-/// The number of slices for which a server that ends waits for its record: one second.
+/// The number of slices after which a server that ends waits no longer for its record: one second.
 const SLICES: u64 = 10;
 
 /// The flags and wakes of `Progress`.
@@ -20,8 +20,8 @@ struct Shared {
     failed: AtomicBool,
     /// The writing thread returns.
     returned: AtomicBool,
-    /// The number of slices that are left.
-    left: AtomicU64,
+    /// The number of slices that were waited since the recorder last put a chunk.
+    waited: AtomicU64,
     /// Wakes a recorder, which waits for the thread to take a chunk.
     took: Parker,
     /// Wakes the end of the record, which waits for the thread to return.
@@ -31,8 +31,8 @@ struct Shared {
 /// The state that a recorder, its writing thread and the end of a record share: what the thread
 /// reports, and how long a server that ends waits for it. No clause constrains it.
 ///
-/// While the server runs, a wait has no bound. If it ends, or is asked to end, all waits of its
-/// record last one second together, since the recorder last put a chunk.
+/// While the server runs, a wait has no bound. If it ends, or is asked to end, the waits since the
+/// recorder last put a chunk last one second together.
 #[derive(Drop)]
 pub struct Progress {
     shared: Arc<Shared, Global>,
@@ -45,7 +45,7 @@ impl Progress {
         let shared = Shared {
             failed: AtomicBool::new(false),
             returned: AtomicBool::new(false),
-            left: AtomicU64::new(SLICES),
+            waited: AtomicU64::new(0),
             took: Parker::new(),
             back: Parker::new(),
         };
@@ -89,28 +89,29 @@ impl Progress {
         self.ending.hurry();
     }
 
-    /// Reports that the recorder put a chunk. A server that is asked to end waits a second again.
+    /// Reports that the recorder put a chunk.
     pub(crate) fn put(&self) {
-        self.shared.left.store(SLICES, Ordering::SeqCst);
+        self.shared.waited.store(0, Ordering::SeqCst);
     }
 
     /// Waits until the thread takes a chunk, for a slice at most. Returns `false` at once if the
-    /// server ends or is asked to end, and no slice is left.
+    /// record has waited for a second, and the server ends or is asked to end.
     pub(crate) fn await_room<W: Wait>(&self, rt: &W) -> bool {
-        if self.ending.is_hurried(rt) && !self.spend() {
+        if self.has_waited() && self.ending.is_hurried(rt) {
             return false;
         }
-        wait(rt, &self.shared.took);
+        self.wait(rt, &self.shared.took);
         true
     }
 
-    /// Waits until the thread returns. Returns `false` if it doesn't while a slice is left.
+    /// Waits until the thread returns, or the record has waited for a second. Returns whether the
+    /// thread returns.
     pub(crate) fn await_return<W: Wait>(&self, rt: &W) -> bool {
         for _ in 0..SLICES {
-            if self.has_returned() || !self.spend() {
+            if self.has_returned() || self.has_waited() {
                 break;
             }
-            wait(rt, &self.shared.back);
+            self.wait(rt, &self.shared.back);
         }
         self.has_returned()
     }
@@ -119,17 +120,13 @@ impl Progress {
         self.shared.returned.load(Ordering::SeqCst)
     }
 
-    /// Takes one of the slices that are left. Only one thread waits at a time.
-    fn spend(&self) -> bool {
-        let left = self.shared.left.load(Ordering::SeqCst);
-        self.shared
-            .left
-            .store(left.saturating_sub(1), Ordering::SeqCst);
-        left > 0
+    fn has_waited(&self) -> bool {
+        self.shared.waited.load(Ordering::SeqCst) >= SLICES
     }
-}
 
-/// Waits for a slice, or until the parker is notified.
-fn wait<W: Wait>(rt: &W, parker: &Parker) {
-    parker.park_timeout(rt, Duration::from_millis(SLICE));
+    /// Waits for a slice, or until the parker is notified. Only one thread waits at a time.
+    fn wait<W: Wait>(&self, rt: &W, parker: &Parker) {
+        self.shared.waited.fetch_add(1, Ordering::SeqCst);
+        parker.park_timeout(rt, Duration::from_millis(SLICE));
+    }
 }
