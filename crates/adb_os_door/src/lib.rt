@@ -9,6 +9,7 @@ mod binder;
 mod deliveries;
 mod dialer;
 mod door;
+mod forwards;
 mod listeners;
 mod troubles;
 
