@@ -51,6 +51,12 @@ impl Pair {
         })
     }
 
+    /// Adds the condition variables of both passes, if they sleep.
+    fn ring(&mut self, rings: &mut Rings) {
+        ring(&mut self.reader, rings);
+        ring(&mut self.writer, rings);
+    }
+
     fn bell(&mut self, side: Side) -> &mut Bell {
         match side {
             Side::Reader => &mut self.reader,
@@ -135,11 +141,10 @@ impl Bells {
     /// Adds the condition variables of all workers that sleep on their own.
     pub fn ring_all(&mut self, rings: &mut Rings) {
         for (_, pair) in self.clients.iter_mut() {
-            ring(&mut pair.reader, rings);
-            ring(&mut pair.writer, rings);
+            pair.ring(rings);
         }
         for (_, pair) in self.links.iter_mut() {
-            ring(&mut pair.writer, rings);
+            pair.ring(rings);
         }
     }
 

@@ -43,10 +43,8 @@ impl<R: Recorder, E: Ledger, M: Ledger, K: Marks> Locked<R, E, M, K> {
         if self.desk.is_owed(owner) {
             self.bells.ring(owner, Side::Writer, rings);
         }
-        if let Owner::Client(client) = owner {
-            if !self.desk.has_no_room_yet(client) {
-                self.bells.ring(owner, Side::Reader, rings);
-            }
+        if !self.desk.has_no_room_yet(owner) {
+            self.bells.ring(owner, Side::Reader, rings);
         }
     }
 }

@@ -7,6 +7,7 @@ use Rattle.std.proofs.lemmas.Bool.Decides.{nat_tests}
 use Rattle.adb_outside.specs.declared.kinds.Cause.{Cause}
 use Rattle.adb_capture.specs.declared.entry.Entry.{Entry}
 use Rattle.adb_capture.specs.declared.entry.Entry.TheVariants.{Read, Bound, End}
+use Rattle.adb_capture.specs.declared.entry.Owner.TheVariants as owner
 use Rattle.adb_client.specs.declared.phase.Phase.{Phase}
 use Rattle.adb_client.specs.declared.phase.Phase.TheVariants.{Asking, Opening, Streaming, Binding, Tracking, Closing, Gone as PhaseGone}
 use Rattle.adb_history.specs.Rows.{Client, State}
@@ -19,7 +20,7 @@ use Rattle.adb_hub.specs.declared.error.HubError.{HubError}
 use Rattle.adb_hub.specs.declared.error.HubError.TheVariants.{NoClient, OutOfMemory}
 use Rattle.adb_hub.specs.declared.answers.Room.{Room}
 use Rattle.adb_hub.specs.declared.answers.Room.TheVariants.{Bytes as Space, Shut, Later}
-use Rattle.adb_hub.specs.declared.hub.TheConstants.{MAX_HELD}
+use Rattle.adb_hub.specs.declared.hub.TheConstants.{MAX_HELD, MAX_DUE_TO_CLIENT}
 use Rattle.adb_hub.specs.Refusal.{unless_stopped, unless_drawn}
 use Rattle.adb_hub.specs.Answers.{port_of, room_in, room_of, room_past}
 use Rattle.adb_server_log.specs.declared.error.DeskError.{DeskError}
@@ -85,7 +86,7 @@ no_room_by false None room why error is = inr refl
 no_room_by false (Some other) room why error is = inl refl
 
 -- why a client is read no more, or has no room for now
-pub room_told : (c : ℕ) (r : Room) (a b : Telling) (entries : List Entry) → Tells a entries → Rooms c (Ok r) a b
+pub room_told : (c : ℕ) (r : Room) (a b : Telling) (entries : List Entry) → Tells a entries → Rooms (owner.Client c) (Ok r) a b
     → room_of ((state (reverse entries)).clients c) ≡ r
 room_told c r a b entries tells rooms =
     (rooms_by (is_drawn a.hub.joined c) a.shut (room_of ((state (reverse entries)).clients c)) r (NoClient c)
@@ -98,14 +99,14 @@ not_starved None true room c error is = cc
 not_starved None false room c error is = inr (let same : error ≡ Hub (NoClient c) = cc in ap is_starved same)
 
 -- The refusal is no allocation failure, unless the hall is shut.
-pub room_fed : (c : ℕ) (error : DeskError) (a b : Telling) (entries : List Entry) → Tells a entries → Rooms c (Err error) a b
+pub room_fed : (c : ℕ) (error : DeskError) (a b : Telling) (entries : List Entry) → Tells a entries → Rooms (owner.Client c) (Err error) a b
     → (is_some a.shut ≡ true) ⊎ (is_starved error ≡ false)
 room_fed c error a b entries tells rooms =
     not_starved a.shut (is_drawn a.hub.joined c) (room_of ((state (reverse entries)).clients c)) c error
     (rooms.told (reverse entries) tells.lawful)
 
 -- Why the hall refused to answer with the room.
-pub room_refused : (c : ℕ) (error : DeskError) (a b : Telling) (entries : List Entry) → Tells a entries → Rooms c (Err error) a b
+pub room_refused : (c : ℕ) (error : DeskError) (a b : Telling) (entries : List Entry) → Tells a entries → Rooms (owner.Client c) (Err error) a b
     → (room_of ((state (reverse entries)).clients c) ≡ Shut) ⊎ (is_some a.shut ≡ true)
 room_refused c error a b entries tells rooms =
     let room : Room = room_of ((state (reverse entries)).clients c) in
@@ -126,8 +127,15 @@ ended_fits : (ended : Bool) (held n m : ℕ) → (if ended then Shut else room_p
 ended_fits true held n m is le = cc
 ended_fits false held n m is le = past_fits held n m is le
 
+asking_fits : (ended much : Bool) (held n m : ℕ) → (if ended then Shut else (if much then Later else room_past held)) ≡ Space m → n ≤ m
+    → nat_lt MAX_HELD (held + n) ≡ false
+asking_fits true much held n m is le = cc
+asking_fits false true held n m is le = cc
+asking_fits false false held n m is le = past_fits held n m is le
+
 phase_fits : (phase : Phase) (client : Client) (n m : ℕ) → room_in phase client ≡ Space m → n ≤ m → nat_lt MAX_HELD (length client.held + n) ≡ false
-phase_fits Asking client n m is le = ended_fits client.about.ended (length client.held) n m is le
+phase_fits Asking client n m is le =
+    asking_fits client.about.ended (nat_lt MAX_DUE_TO_CLIENT (length client.due)) (length client.held) n m is le
 phase_fits (Opening l) client n m is le = ended_fits client.about.ended (length client.held) n m is le
 phase_fits (Streaming l) client n m is le = ended_fits client.about.ended (length client.held) n m is le
 phase_fits Binding client n m is le = ended_fits client.about.ended (length client.held) n m is le

@@ -5,6 +5,7 @@ use Rattle.std.proofs.lemmas.List.{append_assoc}
 use Rattle.adb_outside.specs.Outside.{Rises, TellsOneMore}
 use Rattle.adb_capture.specs.declared.entry.Entry.{Entry}
 use Rattle.adb_capture.specs.declared.entry.Entry.TheVariants.{Read, Bound}
+use Rattle.adb_capture.specs.declared.entry.Owner.TheVariants as owner
 use Rattle.adb_history.specs.Rows.{State}
 use Rattle.adb_history.specs.Machine.{History, state}
 use Rattle.adb_hub.specs.declared.answers.Room.{Room}
@@ -126,7 +127,7 @@ module _ {c : ℕ} {entries : List Entry} {piece coming rest : List ℕ} {asked 
 -- ---- room
 -- The hall refused to answer with the room.
 pub asked_refused : (c : ℕ) (entries : List Entry) (coming : List ℕ) (first : Shown) (now : Seen) (error : DeskError) (a b : Telling) (p q : PassView)
-    → now.tells ≡ Some b → Tells a entries → Rooms c (Err error) a b → q ≡ after_error p error → p.starved ≡ first.starved
+    → now.tells ≡ Some b → Tells a entries → Rooms (owner.Client c) (Err error) a b → q ≡ after_error p error → p.starved ≡ first.starved
     → now.left ≡ Some coming → now.shown.answered ≡ first.answered → first.bind_faults ≤ now.shown.bind_faults
     → now.shown.port_faults ≡ first.port_faults → now.shown.starved ≡ q.starved → Done c entries coming first now
 asked_refused c entries coming first now error a b p q tells told rooms same memory left answered le unfailed noted =

@@ -1,29 +1,30 @@
 -- What a desk hands out has a byte, and room for bytes is not empty: there is a history of which that is so.
 use Rattle.std.proofs.Common.{ℕ, ◌-◌, ◌≡◌, ◌<◌, Bool, true, false, List, [], ◌∷◌, length, Option, Some, None, Result, Ok, Err, refl, sym, subst, arith}
-use Rattle.std.specs.Prelude.{◌≢◌, is_none, nat_le, if◌then◌else◌}
+use Rattle.std.specs.Prelude.{◌≢◌, is_none, nat_le, nat_lt, if◌then◌else◌}
 use Rattle.std.proofs.lemmas.Bool.Decides.{nat_tests}
 use Rattle.adb_client.specs.declared.phase.Phase.{Phase}
 use Rattle.adb_client.specs.declared.phase.Phase.TheVariants as phase
 use Rattle.adb_capture.specs.declared.entry.Entry.{Entry}
 use Rattle.adb_capture.specs.declared.entry.Entry.TheVariants.{Join, Enter, Read, End, Bound, Attach, Recv, Detach, Put, Send}
-use Rattle.adb_history.specs.Rows.{Client, State}
+use Rattle.adb_capture.specs.declared.entry.Owner.{Owner}
+use Rattle.adb_capture.specs.declared.entry.Owner.TheVariants as owner
+use Rattle.adb_capture.specs.declared.limits.TheConstants.{MAX_DATA}
+use Rattle.adb_history.specs.Rows.{Client, Link, State}
 use Rattle.adb_history.specs.Machine.{History, state}
 use Rattle.adb_history.specs.Kept.{Kept, IsLawful}
 use Rattle.adb_hub.specs.declared.answers.Handed.{Handed}
 use Rattle.adb_hub.specs.declared.answers.Handed.TheVariants.{Bytes, Nothing, Done}
-use Rattle.adb_hub.specs.declared.answers.Life.{Life}
-use Rattle.adb_hub.specs.declared.answers.Life.TheVariants.{Live, Gone}
 use Rattle.adb_hub.specs.declared.answers.Room.{Room}
 use Rattle.adb_hub.specs.declared.answers.Room.TheVariants as room
-use Rattle.adb_hub.specs.declared.hub.TheConstants.{MAX_HELD}
-use Rattle.adb_hub.specs.Answers.{HandsOut, room_of, room_in, room_past}
+use Rattle.adb_hub.specs.declared.hub.TheConstants.{MAX_HELD, MAX_DUE_TO_CLIENT}
+use Rattle.adb_hub.specs.Answers.{HandsOut, due_allowed, link_room_in, open_streams, room_in, room_of, room_past}
 use Rattle.adb_server_log.specs.declared.error.DeskError.{DeskError}
 use Rattle.adb_server_log.specs.Log.{shut_with}
 use Rattle.adb_desk.specs.Desk as desk
-use Rattle.adb_desk.specs.Desk.{DeskView, or_given_by}
+use Rattle.adb_desk.specs.Desk.{DeskView, or_given_by, room_at}
 use Rattle.adb_desk.specs.Sound.{IsSound}
 use Rattle.adb_desk.specs.declared.act.Progress.{Progress}
-use Rattle.adb_desk.specs.Acts.{link_room, progress_at}
+use Rattle.adb_desk.specs.Acts.{progress_at}
 use Rattle.adb_desk.specs.Acts as acts
 use Rattle.adb_desk.proofs.Staying.{is_whole}
 use Rattle.adb_server_hall.specs.Telling.{IsSomeHanded, IsSomeProgress, IsSomeRoom}
@@ -51,65 +52,74 @@ hands_some e max all (Ok Nothing) d after sound gives = tt
 hands_some e max all (Ok Done) d after sound gives = tt
 hands_some e max all (Err error) d after sound gives = tt
 
-past_some : (held n : ℕ) (full : Bool) → nat_le MAX_HELD held ≡ full → (if full then room.Later else room.Bytes (MAX_HELD - held)) ≡ room.Bytes n → 0 < n
-past_some held n true is same = cc
-past_some held n false is same = let size : MAX_HELD - held ≡ n = cc in grind (arith, nat_tests)
+-- ---- room
+past_some : (held : ℕ) (full : Bool) → nat_le MAX_HELD held ≡ full → IsSomeRoom (Ok (if full then room.Later else room.Bytes (MAX_HELD - held)))
+past_some held true is = tt
+past_some held false is = grind (arith, nat_tests)
 
-ended_some : (held n : ℕ) (ended : Bool) → (if ended then room.Shut else room_past held) ≡ room.Bytes n → 0 < n
-ended_some held n true same = cc
-ended_some held n false same = past_some held n (nat_le MAX_HELD held) refl same
+asking_some : (much : Bool) (held : ℕ) → IsSomeRoom (Ok (if much then room.Later else room_past held))
+asking_some true held = tt
+asking_some false held = past_some held (nat_le MAX_HELD held) refl
 
-in_some : (phase : Phase) (client : Client) (n : ℕ) → room_in phase client ≡ room.Bytes n → 0 < n
-in_some phase.Closing client n same = cc
-in_some phase.Gone client n same = cc
-in_some phase.Asking client n same = ended_some (length client.held) n client.about.ended same
-in_some (phase.Opening l) client n same = ended_some (length client.held) n client.about.ended same
-in_some (phase.Streaming l) client n same = ended_some (length client.held) n client.about.ended same
-in_some phase.Tracking client n same = ended_some (length client.held) n client.about.ended same
-in_some phase.Binding client n same = ended_some (length client.held) n client.about.ended same
+ended_some : (ended : Bool) (r : Room) → IsSomeRoom (Ok r) → IsSomeRoom (Ok (if ended then room.Shut else r))
+ended_some true r some = tt
+ended_some false r some = some
 
-room_some : (row : Option Client) (n : ℕ) → room_of row ≡ room.Bytes n → 0 < n
-room_some None n same = cc
-room_some (Some client) n same = in_some client.about.phase client n same
+held_some : (client : Client) → IsSomeRoom (Ok (if client.about.ended then room.Shut else room_past (length client.held)))
+held_some client = ended_some client.about.ended _ (past_some (length client.held) (nat_le MAX_HELD (length client.held)) refl)
 
-answer_some : (shut : Option DeskError) (row : Option Client) (answer : Result Room DeskError)
-    → is_none shut ≡ true → answer ≡ or_given_by shut (room_of row) → IsSomeRoom answer
-answer_some (Some error) row answer going same = cc
-answer_some None row (Ok (room.Bytes n)) going same = room_some row n (let is : room_of row ≡ room.Bytes n = cc in is)
-answer_some None row (Ok room.Later) going same = tt
-answer_some None row (Ok room.Shut) going same = tt
-answer_some None row (Err error) going same = tt
+in_some : (phase : Phase) (client : Client) → IsSomeRoom (Ok (room_in phase client))
+in_some phase.Closing client = tt
+in_some phase.Gone client = tt
+in_some phase.Asking client =
+    ended_some client.about.ended _ (asking_some (nat_lt MAX_DUE_TO_CLIENT (length client.due)) (length client.held))
+in_some (phase.Opening l) client = held_some client
+in_some (phase.Streaming l) client = held_some client
+in_some phase.Tracking client = held_some client
+in_some phase.Binding client = held_some client
+
+client_some : (row : Option Client) → IsSomeRoom (Ok (room_of row))
+client_some None = tt
+client_some (Some client) = in_some client.about.phase client
+
+much_some : (much : Bool) → IsSomeRoom (Ok (if much then room.Later else room.Bytes MAX_DATA))
+much_some true = tt
+much_some false = omega arith
+
+link_some : (streams : ℕ) (row : Option Link) → IsSomeRoom (Ok (link_room_in streams row))
+link_some streams None = tt
+link_some streams (Some link) = much_some (nat_lt (due_allowed streams) (length link.due))
+
+room_some : (owner : Owner) (s : State) → IsSomeRoom (Ok (room_at owner s))
+room_some (owner.Client c) s = client_some (s.clients c)
+room_some (owner.Link t) s = link_some (open_streams s) (s.links t)
+
+given_some : (shut : Option DeskError) (r : Room) (answer : Result Room DeskError)
+    → is_none shut ≡ true → answer ≡ or_given_by shut r → IsSomeRoom (Ok r) → IsSomeRoom answer
+given_some (Some error) r answer going same some = cc
+given_some None r answer going same some = subst IsSomeRoom (sym same) some
 
 none_by : (shut : Option DeskError) → is_none shut ≡ true → shut ≡ None
 none_by None going = refl
 none_by (Some error) going = cc
 
-pub rooms_some : (client : ℕ) (answer : Result Room DeskError) (d : DeskView) → IsSound d → is_none (shut_with d.log) ≡ true
-    → ((h : History) → IsLawful d.hub h → answer ≡ or_given_by (shut_with d.log) (room_of ((state h).clients client))) → IsSomeRoom answer
-rooms_some client answer d sound going told = answer_some (shut_with d.log) ((state sound.history).clients client) answer going
-    (told sound.history (held_by d sound (none_by (shut_with d.log) going)))
+pub rooms_some : (owner : Owner) (answer : Result Room DeskError) (d : DeskView) → IsSound d → is_none (shut_with d.log) ≡ true
+    → ((h : History) → IsLawful d.hub h → answer ≡ or_given_by (shut_with d.log) (room_at owner (state h))) → IsSomeRoom answer
+rooms_some owner answer d sound going told = given_some (shut_with d.log) (room_at owner (state sound.history)) answer going
+    (told sound.history (held_by d sound (none_by (shut_with d.log) going))) (room_some owner (state sound.history))
 
--- ---- behind an act
-some_room : (row : Option Client) (r : Room) → r ≡ room_of row → IsSomeRoom (Ok r)
-some_room row (room.Bytes n) is = room_some row n (sym is)
-some_room row room.Later is = tt
-some_room row room.Shut is = tt
-
-some_link : (life : Life) → IsSomeRoom (Ok (link_room life))
-some_link Live = omega arith
-some_link Gone = tt
-
+-- ---- after an act
 some_at : (e : Entry) (s : State) → IsSomeRoom (Ok (progress_at e s).room)
-some_at (Join c) s = some_room (s.clients c) _ refl
-some_at (Enter c port) s = some_room (s.clients c) _ refl
-some_at (Read c bytes) s = some_room (s.clients c) _ refl
-some_at (End c cause) s = some_room (s.clients c) _ refl
-some_at (Bound c port) s = some_room (s.clients c) _ refl
-some_at (Put c bytes) s = some_room (s.clients c) _ refl
-some_at (Attach t kind serial) s = some_link _
-some_at (Recv t bytes) s = some_link _
-some_at (Detach t cause) s = some_link _
-some_at (Send t bytes) s = some_link _
+some_at (Join c) s = room_some (owner.Client c) s
+some_at (Enter c port) s = room_some (owner.Client c) s
+some_at (Read c bytes) s = room_some (owner.Client c) s
+some_at (End c cause) s = room_some (owner.Client c) s
+some_at (Bound c port) s = room_some (owner.Client c) s
+some_at (Put c bytes) s = room_some (owner.Client c) s
+some_at (Attach t kind serial) s = room_some (owner.Link t) s
+some_at (Recv t bytes) s = room_some (owner.Link t) s
+some_at (Detach t cause) s = room_some (owner.Link t) s
+some_at (Send t bytes) s = room_some (owner.Link t) s
 
 pub submit_some : (e : Entry) (answer : Result Progress DeskError) (d after : DeskView)
     → IsSound d → acts.Submits d e answer after → IsSomeProgress answer

@@ -8,15 +8,14 @@ use Rattle.adb_capture.specs.declared.entry.Owner.TheVariants.{Client, Link}
 use Rattle.adb_history.specs.Rows.{State}
 use Rattle.adb_history.specs.Machine.{History, state}
 use Rattle.adb_history.specs.Kept.{Kept, IsLawful}
-use Rattle.adb_history.specs.Accepted.{is_drawn}
 use Rattle.adb_hub.specs.declared.error.HubError.{HubError}
-use Rattle.adb_hub.specs.declared.error.HubError.TheVariants.{OutOfMemory, NoClient}
+use Rattle.adb_hub.specs.declared.error.HubError.TheVariants.{OutOfMemory, NoClient, NoLink}
 use Rattle.adb_hub.specs.declared.answers.Room.{Room}
 use Rattle.adb_hub.specs.declared.answers.Room.TheVariants.{Bytes as Space}
 use Rattle.adb_hub.specs.declared.answers.Handed.{Handed}
 use Rattle.adb_hub.specs.declared.answers.Handed.TheVariants.{Bytes, Nothing, Done}
 use Rattle.adb_hub.specs.Refusal.{refusal}
-use Rattle.adb_hub.specs.Answers.{HandsOut, room_of}
+use Rattle.adb_hub.specs.Answers.{HandsOut}
 use Rattle.adb_server_log.specs.declared.error.DeskError.{DeskError}
 use Rattle.adb_server_log.specs.declared.error.DeskError.TheVariants.{Hub, Halted}
 use Rattle.adb_server_log.specs.Log.{grown, or_given, shut_with}
@@ -24,7 +23,7 @@ use Rattle.adb_desk.specs.declared.act.Progress.{Progress}
 use Rattle.adb_desk.specs.declared.act.Piece.{Piece}
 use Rattle.adb_desk.specs.declared.act.Piece.TheVariants.{All, Front}
 use Rattle.adb_desk.specs.Acts.{progress_at}
-use Rattle.adb_desk.specs.Desk.{DeskView, desk_refusal, has_forward, or_given_by, or_stopped}
+use Rattle.adb_desk.specs.Desk.{DeskView, desk_refusal, has_forward, is_drawn_by, or_given_by, or_stopped, room_at}
 
 -- what a hall tells: what its hub holds, the entries that its recorder tells, and the answer with which it is shut
 pub record Telling : Type 0 where
@@ -108,16 +107,21 @@ HandsPiece All e max all answer a b = Hands e max all answer a b
 HandsPiece Front e max all answer a b = HandsFront e max all answer a b
 
 -- ---- questions
--- the room of a client; of one that was never drawn it is refused
+-- the error of a number that was never drawn
+abbrev pub undrawn : Owner → HubError
+undrawn (Client c) = NoClient c
+undrawn (Link t) = NoLink t
+
+-- the room of a client or of the device of a link; of a number that was never drawn it is refused
 abbrev pub drawn_room : Bool → Option DeskError → Room → HubError → Result Room DeskError
 drawn_room true shut room error = or_given_by shut room
 drawn_room false (Some why) room error = Err why
 drawn_room false None room error = Err (Hub error)
 
-pub record Rooms (n : ℕ) (answer : Result Room DeskError) (a b : Telling) : Type 0 where
+pub record Rooms (owner : Owner) (answer : Result Room DeskError) (a b : Telling) : Type 0 where
   pub same : b ≡ a
   pub told : (h : History) → IsLawful a.hub h
-      → answer ≡ drawn_room (is_drawn a.hub.joined n) a.shut (room_of ((state h).clients n)) (NoClient n)
+      → answer ≡ drawn_room (is_drawn_by owner a.hub) a.shut (room_at owner (state h)) (undrawn owner)
 
 -- whether there is a forward of a local port; a hall that is shut gives its answer
 pub record Forwards (port : ℕ) (answer : Result Bool DeskError) (a b : Telling) : Type 0 where

@@ -32,6 +32,7 @@ pub trait Hall<E: Ledger, M: Ledger, K: Marks> {
     ghost use Rattle.adb_outside.specs.declared.kinds.Kind.{Kind};
     ghost use Rattle.adb_outside.specs.Serial.{is_serial};
     ghost use Rattle.adb_capture.specs.declared.entry.Entry.{Entry};
+    ghost use Rattle.adb_capture.specs.declared.entry.Owner.{Owner};
     ghost use Rattle.adb_capture.specs.declared.limits.TheConstants.{MAX_DATA};
     ghost use Rattle.adb_history.specs.Rows.{State};
     ghost use Rattle.adb_hub.specs.declared.answers.Handed.{Handed};
@@ -169,12 +170,29 @@ pub trait Hall<E: Ledger, M: Ledger, K: Marks> {
         ensures late { result ≡ Ok Room.Later → waits ≡ false }
         ensures some { IsSomeRoom result }
         ensures pass { pass.new.pass ≡ after_room pass.old.pass result }
-        ensures told { Where (tells self.old) (Rooms pass.old.pass.number result)
+        ensures told { Where (tells self.old) (Rooms (Owner.Client pass.old.pass.number) result)
             (tells self.new) }
         ensures steady { K.steady → result ≢ Err DeskError.RecordFault }
         ensures mark { marked self.new ≡ marked self.old }
     {
-        self.run(&mut pass.pass, &AskRoom {})
+        self.run(&mut pass.pass, &AskRoom { half: Half::Client })
+    }
+
+    /// Returns how many more bytes the device of a link may send at once. It makes no entry. A hall
+    /// that waits does so while too much is due on the link; the wait ends when the link's queue
+    /// has drained, the link is gone, a kill was made, or the hall is shut.
+    ///
+    /// `Hub(NoLink)`: the number was never drawn.
+    final fn room_on(&mut self, pass: &mut LinkIn<E, M, K>) -> Result<Room, DeskError>
+        ensures late { result ≡ Ok Room.Later → waits ≡ false }
+        ensures some { IsSomeRoom result }
+        ensures pass { pass.new.pass ≡ after_room pass.old.pass result }
+        ensures told { Where (tells self.old) (Rooms (Owner.Link pass.old.pass.number) result)
+            (tells self.new) }
+        ensures steady { K.steady → result ≢ Err DeskError.RecordFault }
+        ensures mark { marked self.new ≡ marked self.old }
+    {
+        self.run(&mut pass.pass, &AskRoom { half: Half::Link })
     }
 
     /// Ends a client or a link for which no thread started: one End or Detach by `NoThread`,

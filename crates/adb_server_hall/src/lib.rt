@@ -12,4 +12,4 @@ mod with_pass;
 
 pub use alone::{Over, mark_handle};
 pub use hall::Hall;
-pub use sections::{Arrival, Call, Section};
+pub use sections::{Arrival, Awaits, Call, Section};

@@ -71,7 +71,7 @@ pub(crate) fn note_handed<R: Recorder, E: Ledger, M: Ledger, K: Marks>(
     }
 }
 
-/// Notes in a pass the answer to a query of its client's room.
+/// Notes in a pass the answer to a query for room.
 pub(crate) fn note_room<R: Recorder, E: Ledger, M: Ledger, K: Marks>(
     desk: &mut Desk<R, E, M, K>,
     pass: &mut Pass<E, M, K>,

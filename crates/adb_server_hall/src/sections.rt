@@ -6,6 +6,15 @@ use adb_recorder::Recorder;
 use adb_server_log::{DeskError, Marks, Pass};
 use std::sync::ledger::Ledger;
 
+/// An event that a section waits for: it concerns the owner of the pass.
+#[derive(Clone, Copy, Debug, PartialEq, Eq, Drop)]
+pub enum Awaits {
+    /// Bytes come due to the client or on the link. Its writer waits for them.
+    Output(Half),
+    /// The client, or the device of the link, has room. Its reader waits for it.
+    Room(Half),
+}
+
 /// A section with a pass. Its answer has the type `A`.
 pub trait Section<A: Drop> {
     ghost use Rattle.std.specs.Prelude.{◌≡◌, true, false};
@@ -49,9 +58,8 @@ pub trait Section<A: Drop> {
         ensures yes { result ≡ true → idles answer.now }
         ensures no { result ≡ false → idles answer.now → ⊥ };
 
-    /// Returns the event that a hall waits for after an answer that idles: bytes that come due to a
-    /// client or on a link, or, if `None`, room for the bytes of a client.
-    fn awaits(&self) -> Option<Half>;
+    /// Returns the event that a hall waits for after an answer that idles.
+    fn awaits(&self) -> Awaits;
 }
 
 /// A section without a pass. Its answer has the type `A`.

@@ -1,4 +1,4 @@
-//! Sections with a pass: submitting an act, handing bytes out, and querying a client's room.
+//! Sections with a pass: submitting an act, handing bytes out, and querying for room.
 
 ghost use Rattle.std.specs.Prelude.{◌≡◌, ◌≢◌, ◌<◌, ◌≤◌, true, Some, Err};
 ghost use Rattle.adb_capture.specs.declared.limits.TheConstants.{MAX_DATA};
@@ -6,13 +6,13 @@ ghost use Rattle.adb_hub.specs.declared.error.HubError.{HubError};
 ghost use Rattle.adb_server_log.specs.declared.error.DeskError.{DeskError};
 ghost use Rattle.adb_server_log.specs.Log.{moves};
 ghost use Rattle.adb_server_log.specs.Marked.{marks_room};
-ghost use Rattle.adb_desk.specs.Acts.{due_of, entry_of, is_end, out_entry};
+ghost use Rattle.adb_desk.specs.Acts.{due_of, entry_of, is_end, out_entry, owner_by};
 ghost use Rattle.adb_server_hall.specs.Telling.{Hands, HandsPiece, IsShutAt, IsSomeHanded};
-ghost use Rattle.adb_server_hall.specs.Telling.{IsSomeProgress, IsSomeRoom, Rooms, Submits, telling_of};
+ghost use Rattle.adb_server_hall.specs.Telling.{IsSomeProgress, IsSomeRoom, Rooms, Submits, telling_of, undrawn};
 ghost use Rattle.adb_server_hall.specs.Passes.{after_handed, after_room, after_submit};
 
 use crate::notes::{note_handed, note_room, note_submit};
-use crate::sections::Section;
+use crate::sections::{Awaits, Section};
 use adb_capture::Owner;
 use adb_desk::{Act, Desk, Half, Piece, Progress};
 use adb_hub::{Handed, HubError, Room};
@@ -62,8 +62,8 @@ impl Section<Result<Progress, DeskError>> for Submit<'_> {
         matches!(answer, Err(DeskError::Later))
     }
 
-    fn awaits(&self) -> Option<Half> {
-        None
+    fn awaits(&self) -> Awaits {
+        Awaits::Room(Half::Client)
     }
 }
 
@@ -110,19 +110,22 @@ impl Section<Result<Handed, DeskError>> for HandOut {
         matches!(answer, Ok(Handed::Nothing))
     }
 
-    fn awaits(&self) -> Option<Half> {
-        Some(self.half)
+    fn awaits(&self) -> Awaits {
+        Awaits::Output(self.half)
     }
 }
 
-/// The section that returns how many more bytes a client may send.
+/// The section that returns how many more bytes a client, or the device of a link, may send.
 #[derive(Drop)]
-pub struct AskRoom {}
+pub struct AskRoom {
+    pub half: Half,
+}
 
 impl Section<Result<Room, DeskError>> for AskRoom {
     ghost use Rattle.std.specs.Prelude.{◌≡◌, ◌≢◌, Ok, Err, ⊤};
     ghost use Rattle.adb_hub.specs.declared.answers.Room.{Room};
     ghost use Rattle.adb_server_log.specs.declared.error.DeskError.{DeskError};
+    ghost use Rattle.adb_desk.specs.Acts.{owner_by};
     ghost use Rattle.adb_server_hall.specs.Telling.{IsSomeRoom, Rooms};
     ghost use Rattle.adb_server_hall.specs.Passes.{after_room};
 
@@ -130,7 +133,7 @@ impl Section<Result<Room, DeskError>> for AskRoom {
 
     ghost seen = { λ s p answer after. IsSomeRoom answer × (after ≡ after_room p answer) };
 
-    ghost does = { λ s p answer a b. Rooms p.number answer a b };
+    ghost does = { λ s p answer a b. Rooms (owner_by s.half p.number) answer a b };
 
     ghost leaves = { λ s p answer t. ⊤ };
 
@@ -143,15 +146,15 @@ impl Section<Result<Room, DeskError>> for AskRoom {
         desk: &mut Desk<R, E, M, K>,
         pass: &mut Pass<E, M, K>,
     ) -> Result<Room, DeskError> {
-        room_with(desk, pass)
+        room_with(desk, pass, self.half)
     }
 
     fn is_idle(&self, answer: &Result<Room, DeskError>) -> bool {
         matches!(answer, Ok(Room::Later))
     }
 
-    fn awaits(&self) -> Option<Half> {
-        None
+    fn awaits(&self) -> Awaits {
+        Awaits::Room(self.half)
     }
 }
 
@@ -196,7 +199,7 @@ fn hand_out_with<R: Recorder, E: Ledger, M: Ledger, K: Marks>(
     match piece {
         Piece::All => hand(desk, pass, half, max),
         Piece::Front => {
-            let most = desk.front_len(owner_of(half, pass.number()), max);
+            let most = desk.front_len(half.owner(pass.number()), max);
             hand(desk, pass, half, most)
         }
     }
@@ -222,36 +225,30 @@ fn hand<R: Recorder, E: Ledger, M: Ledger, K: Marks>(
     answer
 }
 
-/// Returns the client or the link that has this number.
-fn owner_of(half: Half, number: u32) -> Owner {
-    match half {
-        Half::Client => Owner::Client(number),
-        Half::Link => Owner::Link(number),
-    }
-}
-
-/// Returns how many more bytes the client of a pass may send.
+/// Returns how many more bytes the owner of a pass may send.
 fn room_with<R: Recorder, E: Ledger, M: Ledger, K: Marks>(
     desk: &mut Desk<R, E, M, K>,
     pass: &mut Pass<E, M, K>,
+    half: Half,
 ) -> Result<Room, DeskError>
     ensures some { IsSomeRoom result }
     ensures pass { pass.new ≡ after_room pass.old result }
-    ensures told { Rooms pass.old.number result (telling_of desk.old) (telling_of desk.new) }
+    ensures told { Rooms (owner_by half pass.old.number) result (telling_of desk.old)
+        (telling_of desk.new) }
     ensures steady { K.steady → result ≢ Err DeskError.RecordFault }
 {
-    let answer = room_of_drawn(desk, pass.number());
+    let answer = room_of_drawn(desk, half.owner(pass.number()));
     note_room(desk, pass, &answer);
     answer
 }
 
-/// Returns the room of a client. Refuses a number that was never drawn.
+/// Returns the room of a client or of the device of a link. Refuses a number that was never drawn.
 fn room_of_drawn<R: Recorder, E: Ledger, M: Ledger, K: Marks>(
     desk: &mut Desk<R, E, M, K>,
-    client: u32,
+    owner: Owner,
 ) -> Result<Room, DeskError>
     ensures some { IsSomeRoom result }
-    ensures told { Rooms client result (telling_of desk.old) (telling_of desk.new) }
+    ensures told { Rooms owner result (telling_of desk.old) (telling_of desk.new) }
     ensures alarm { marks_room result ≡ true → desk.new.log.alarm ≡ true }
     ensures steady { K.steady → result ≢ Err DeskError.RecordFault }
 {
@@ -262,9 +259,19 @@ fn room_of_drawn<R: Recorder, E: Ledger, M: Ledger, K: Marks>(
             None => unreachable!(),
         };
     }
-    if desk.is_drawn(client) {
-        desk.room(client)
+    if desk.is_drawn(owner) {
+        desk.room(owner)
     } else {
-        Err(DeskError::Hub(HubError::NoClient(client)))
+        Err(DeskError::Hub(undrawn(owner)))
+    }
+}
+
+/// Returns the error of a number that was never drawn.
+fn undrawn(owner: Owner) -> HubError
+    ensures { result ≡ undrawn owner }
+{
+    match owner {
+        Owner::Client(client) => HubError::NoClient(client),
+        Owner::Link(link) => HubError::NoLink(link),
     }
 }

@@ -4,11 +4,11 @@ ghost use Rattle.std.specs.Prelude.{◌≡◌, true};
 ghost use Rattle.adb_server_hall.specs.Passes.{or_marked};
 
 use crate::locked_hall::LockedHall;
-use adb_desk::{Desk, Half};
+use adb_desk::Desk;
 use adb_hub::{HubError, Owner};
 use adb_recorder::Recorder;
 use adb_server_bells::{Bells, Pair, Side};
-use adb_server_hall::{Arrival, Call, Hall, Section, mark_handle};
+use adb_server_hall::{Arrival, Awaits, Call, Hall, Section, mark_handle};
 use adb_server_log::{DeskError, Mark, Marks, Pass, marks_error};
 use std::sync::ledger::Ledger;
 use std::sync::{Mutex, Wait};
@@ -66,11 +66,10 @@ impl<R: Recorder, E: Ledger, M: Ledger, K: Marks, W: Wait + Copy + Drop> Hall<E,
 }
 
 /// Returns the owner and the side of the pass that waits: for bytes that are due, or for room.
-fn sleeper(awaits: Option<Half>, number: u32) -> (Owner, Side) {
+fn sleeper(awaits: Awaits, number: u32) -> (Owner, Side) {
     match awaits {
-        Some(Half::Client) => (Owner::Client(number), Side::Writer),
-        Some(Half::Link) => (Owner::Link(number), Side::Writer),
-        None => (Owner::Client(number), Side::Reader),
+        Awaits::Output(half) => (half.owner(number), Side::Writer),
+        Awaits::Room(half) => (half.owner(number), Side::Reader),
     }
 }
 
