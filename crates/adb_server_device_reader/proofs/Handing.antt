@@ -1,32 +1,38 @@
 -- What calls of a hall do when pieces are handed in and a link's input is ended.
 use Rattle.std.proofs.Common.{ℕ, ◌≡◌, Bool, true, false, List, [], ◌∷◌, ◌++◌, length, Option, Some, None, Result, Ok, Err}
 use Rattle.std.proofs.Common.{refl, sym, ap, ◌∙◌, subst, ◌⊎◌, inl, inr, zero, suc, arith}
-use Rattle.std.specs.Prelude.{◌||◌, reverse, is_some}
+use Rattle.std.specs.Prelude.{◌||◌, nat_lt, if◌then◌else◌, reverse, is_some}
 use Rattle.std.proofs.lemmas.Bool.{cases_lt}
 use Rattle.std.proofs.lemmas.Bool.Decides.{nat_tests}
 use Rattle.std.proofs.lemmas.List.{append-nil, reverse-append}
 use Rattle.adb_outside.specs.declared.kinds.Cause.{Cause}
 use Rattle.adb_capture.specs.declared.entry.Entry.{Entry}
 use Rattle.adb_capture.specs.declared.entry.Entry.TheVariants.{Recv, Detach}
-use Rattle.adb_history.specs.Rows.{State}
+use Rattle.adb_capture.specs.declared.entry.Owner.TheVariants as owner
+use Rattle.adb_capture.specs.declared.limits.TheConstants.{MAX_DATA}
+use Rattle.adb_history.specs.Rows.{Link, State}
 use Rattle.adb_history.specs.Machine.{History, state, IsLegal}
 use Rattle.adb_history.specs.Kept.{Kept, IsLawful}
 use Rattle.adb_history.specs.Accepted.{is_drawn}
 use Rattle.adb_history.proofs.OrderlyStates.{orderly}
+use Rattle.adb_hub.specs.declared.error.HubError.{HubError}
 use Rattle.adb_hub.specs.declared.error.HubError.TheVariants.{OutOfMemory, NoLink}
 use Rattle.adb_hub.specs.declared.answers.Life.{Life}
 use Rattle.adb_hub.specs.declared.answers.Life.TheVariants.{Live, Gone}
+use Rattle.adb_hub.specs.declared.answers.Room.{Room}
+use Rattle.adb_hub.specs.declared.answers.Room.TheVariants as room
 use Rattle.adb_hub.specs.Refusal.{unless_stopped, unless_drawn}
-use Rattle.adb_hub.specs.Answers.{life_of}
+use Rattle.adb_hub.specs.Answers.{due_allowed, life_of, link_room_in, link_room_of, open_streams}
 use Rattle.adb_server_log.specs.declared.error.DeskError.{DeskError}
 use Rattle.adb_server_log.specs.declared.error.DeskError.TheVariants.{Halted, RecordFault, Hub, Later}
 use Rattle.adb_server_log.specs.Pass.{PassView}
 use Rattle.adb_desk.specs.declared.act.Progress.{Progress}
 use Rattle.adb_desk.specs.Desk.{desk_refusal, or_later}
-use Rattle.adb_server_hall.specs.Telling.{Telling, Where, Entered, Fails, IsShutAt, Submits}
-use Rattle.adb_server_hall.specs.Passes.{after_error, after_submit, is_starved}
+use Rattle.adb_server_hall.specs.Telling.{Telling, Where, Entered, Fails, IsShutAt, Rooms, Submits, drawn_room}
+use Rattle.adb_server_hall.specs.Passes.{after_error, after_room, after_submit, is_starved}
 use Rattle.adb_server_hall.proofs.Made.{where_some, tells_more}
-use Rattle.adb_server_device_reader.specs.Handing.{Stands, IsGone, IsOver, IsSpared, Finished, GivesUp, Answered, Handed, is_live, link_life}
+use Rattle.adb_server_device_reader.specs.Handing.{Stands, IsGone, IsOver, IsSpared, Finished, GivesUp, Answered, Handed, Waited}
+use Rattle.adb_server_device_reader.specs.Handing.{is_live, link_life, may_follow}
 
 -- ---- passes
 error_number : (p : PassView) (error : DeskError) → (after_error p error).number ≡ p.number
@@ -300,3 +306,101 @@ module _ {before : PassView} {piece : List ℕ} {entries : List Entry} {answer :
       refused before.number piece error (is_starved error) entries a.tells_before tells new before now (length piece) starved refl pass
       (rw is at a.told) a.stood keeps
       (λ (s : Stands entries tells). subst (λ (t : ℕ). GivesUp (is_starved error) t entries now.starved starved tells new) same (ends s))
+
+-- ---- room
+-- only a link that is gone is shut
+much_open : (much : Bool) → (if much then room.Later else room.Bytes MAX_DATA) ≡ room.Shut → ⊥
+much_open true is = cc
+much_open false is = cc
+
+room_gone : (streams : ℕ) (row : Option Link) → link_room_in streams row ≡ room.Shut → life_of row ≡ Gone
+room_gone streams None is = refl
+room_gone streams (Some link) is = absurd (much_open (nat_lt (due_allowed streams) (length link.due)) is)
+
+shut_room : (drawn : Bool) (shut : Option DeskError) (r : Room) (error : HubError) → Ok room.Shut ≡ drawn_room drawn shut r error → r ≡ room.Shut
+shut_room true None r error is = cc
+shut_room true (Some why) r error is = cc
+shut_room false None r error is = cc
+shut_room false (Some why) r error is = cc
+
+no_room : (drawn : Bool) (shut : Option DeskError) (r : Room) (why : DeskError) (error : HubError) → Err why ≡ drawn_room drawn shut r error
+    → (is_some shut ≡ true) ⊎ ((drawn ≡ false) × (why ≡ Hub error))
+no_room true None r why error is = cc
+no_room true (Some e) r why error is = inl refl
+no_room false None r why error is = inr (refl, let same : why ≡ Hub error = cc in same)
+no_room false (Some e) r why error is = inl refl
+
+-- a hall that was asked for the room of a link shows what it showed
+asked_now : (t : ℕ) (answer : Result Room DeskError) (old new : Option Telling) (a : Telling) → old ≡ Some a
+    → Where old (Rooms (owner.Link t) answer) new → (new ≡ Some a) × Rooms (owner.Link t) answer a a
+asked_now t answer old new a is told =
+    let w = where_some _ old new a is told in
+    (w.1 ∙ ap Some w.2.same, subst (λ (b : Telling). Rooms (owner.Link t) answer a b) w.2.same w.2)
+
+still_stands : (entries : List Entry) (old new : Option Telling) (s : Stands entries old) → new ≡ Some s.now → Stands entries new
+still_stands entries old new s is = record { now = s.now; tells_now = is; told = s.told; held = s.held }
+
+-- why there is no more room
+gone_by : (t : ℕ) (entries : List Entry) (a : Telling) → IsLawful a.hub (reverse entries) ⊎ (is_some a.shut ≡ true)
+    → Rooms (owner.Link t) (Ok room.Shut) a a → IsGone t entries ⊎ IsOver a
+gone_by t entries a (inr shut) asked = inr (inl shut)
+gone_by t entries a (inl lawful) asked =
+    let s = state (reverse entries) in
+    inl (room_gone (open_streams s) (s.links t) (shut_room _ a.shut (link_room_of t s) (NoLink t) (asked.told (reverse entries) lawful)))
+
+-- A refusal is that of a hall that is shut, or of a number that was not drawn.
+record NoRoom (t : ℕ) (entries : List Entry) (a : Telling) (was starved : Bool) : Type 0 where
+  pub memory : IsSpared was starved a
+  pub why : IsGone t entries ⊎ IsOver a
+
+no_room_by : (t : ℕ) (error : DeskError) (entries : List Entry) (a : Telling) (p : PassView)
+    → IsLawful a.hub (reverse entries) ⊎ (is_some a.shut ≡ true) → Rooms (owner.Link t) (Err error) a a
+    → NoRoom t entries a p.starved (after_error p error).starved
+no_room_by t error entries a p (inr shut) asked = record { memory = inr shut; why = inr (inl shut) }
+no_room_by t error entries a p (inl lawful) asked =
+    let h = reverse entries in
+    elim (no_room _ a.shut (link_room_of t (state h)) error (NoLink t) (asked.told h lawful)) [
+      | inl shut ↦ record { memory = inr shut; why = inr (inl shut) }
+      | inr undrawn ↦ record {
+        memory = inl (memory_by p error (ap is_starved undrawn.1));
+        why = inl (not_drawn h t lawful.legal (sym (ap (λ (k : Kept). is_drawn k.devices.drawn t) lawful.seen) ∙ undrawn.0));
+      }
+    ]
+
+room_keeps : (p : PassView) (q : PassView) → q ≡ p → q.starved ≡ p.starved
+room_keeps p q is = ap (λ (x : PassView). x.starved) is
+
+pub room_number : (p q : PassView) (answer : Result Room DeskError) → q ≡ after_room p answer → q.number ≡ p.number
+room_number p q (Ok (room.Bytes n)) is = ap (λ (x : PassView). x.number) is
+room_number p q (Ok room.Later) is = ap (λ (x : PassView). x.number) is
+room_number p q (Ok room.Shut) is = ap (λ (x : PassView). x.number) is
+room_number p q (Err error) is = ap (λ (x : PassView). x.number) is ∙ error_number p error
+
+-- the reader has waited
+pub waited : (t : ℕ) (answer : Result Room DeskError) (entries : List Entry) (old new : Option Telling) (p q : PassView) → q ≡ after_room p answer
+    → Where old (Rooms (owner.Link t) answer) new → Stands entries old → Waited (may_follow answer) t entries p.starved q.starved new
+waited t (Ok (room.Bytes n)) entries old new p q pass told s =
+    (still_stands entries old new s (asked_now t _ old new s.now s.tells_now told).0, room_keeps p q pass)
+waited t (Ok room.Later) entries old new p q pass told s =
+    (still_stands entries old new s (asked_now t _ old new s.now s.tells_now told).0, room_keeps p q pass)
+waited t (Ok room.Shut) entries old new p q pass told s =
+    let asked = asked_now t _ old new s.now s.tells_now told in
+    record {
+      hall = stands_at entries new s.now asked.0 s.told s.held;
+      stays = record {
+        none = refl;
+        memory = inl (ap (λ (x : PassView). x.starved) pass ∙ or_false p.starved false refl);
+        why = gone_by t entries s.now s.held asked.1;
+      };
+    }
+waited t (Err error) entries old new p q pass told s =
+    let asked = asked_now t _ old new s.now s.tells_now told in
+    let none = no_room_by t error entries s.now p s.held asked.1 in
+    record {
+      hall = stands_at entries new s.now asked.0 s.told s.held;
+      stays = record {
+        none = refl;
+        memory = subst (λ (b : Bool). IsSpared p.starved b s.now) (sym (ap (λ (x : PassView). x.starved) pass)) none.memory;
+        why = none.why;
+      };
+    }

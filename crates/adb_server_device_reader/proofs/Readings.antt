@@ -19,7 +19,8 @@ use Rattle.adb_capture.specs.declared.entry.Entry.TheVariants.{Recv}
 use Rattle.adb_history.specs.Kept.{IsLawful}
 use Rattle.adb_server_hall.specs.Telling.{Telling}
 use Rattle.adb_server_hall.specs.Made.{Tells}
-use Rattle.adb_server_device_reader.specs.Handing.{Stands, IsSpared, IsCutOff, Stays, Starves, Breaks, Finished, Handed, received}
+use Rattle.adb_server_device_reader.specs.Handing.{Stands, IsSpared, IsCutOff, Stays, Starves, Breaks, CutAfter}
+use Rattle.adb_server_device_reader.specs.Handing.{Finished, Handed, Waited, received}
 use Rattle.adb_server_device_reader.specs.Reading.{Start, HasEnded, EndsBy, IsRest, IsEnding, IsUnfailed, Rests, Ends, Done, SoFar, Cut, Fed, HasEndedBy}
 use Rattle.adb_server_device_reader.specs.Reading.{Turned}
 
@@ -95,11 +96,6 @@ pub so_far_as : (t : ℕ) (start : Start) (held xs ys coming : List ℕ) (starve
     → SoFar t start held (xs ++ coming) starved tells → SoFar t start held (ys ++ coming) starved tells
 so_far_as t start held xs ys coming starved tells same x = subst (λ (bs : List ℕ). SoFar t start held (bs ++ coming) starved tells) same x
 
--- these entries are the last, and the reader is cut off after them
-record CutAfter (t : ℕ) (entries : List Entry) (was starved : Bool) (tells : Option Telling) : Type 0 where
-  pub hall : Stands (entries ++ []) tells
-  pub stays : Stays t entries [] was starved hall.now
-
 -- the slice that was held was handed in, or the reader is cut off
 fed_by : (going : Bool) (t : ℕ) (start : Start) (held now coming : List ℕ) (was starved : Bool) (old new : Option Telling)
     (x : SoFar t start held coming was old) → IsSlice held
@@ -139,6 +135,28 @@ pub fed_piece : (going : Bool) (t : ℕ) (start : Start) (piece held now coming 
 fed_piece going t start piece held now coming was starved old new x same slice stands h =
     fed_by going t start held now coming was starved old new x (subst IsSlice same slice) stands
     (subst (λ (bs : List ℕ). Handed going t bs (start.entries ++ received t x.slices) was starved new) same h)
+
+-- the reader has waited
+pub fed_waited : (going : Bool) (t : ℕ) (start : Start) (held coming : List ℕ) (was starved : Bool) (old new : Option Telling)
+    (x : SoFar t start held coming was old) → Waited going t (start.entries ++ received t x.slices) was starved new
+    → Fed going t start held coming starved new
+fed_waited true t start held coming was starved old new x h = record {
+  fed = x.fed;
+  slices = x.slices;
+  sliced = x.sliced;
+  taken = x.taken;
+  hall = h.0;
+  memory = h.1 ∙ x.memory;
+}
+fed_waited false t start held coming was starved old new x h = record {
+  slices = x.slices;
+  last = [];
+  lost = held;
+  each = x.sliced.each;
+  taken = taken_less start.bytes x.fed held coming x.slices x.taken x.sliced.bytes;
+  breaks = subst (λ (b : Bool). Breaks t (start.entries ++ received t x.slices) [] b starved new) x.memory
+      (record { hall = h.hall; why = inl h.stays });
+}
 
 -- a read brought bytes
 pub so_far_read : (t : ℕ) (start : Start) (held piece coming : List ℕ) (n : ℕ) (starved : Bool) (tells : Option Telling) → piece ≡ take n coming

@@ -1,5 +1,5 @@
 -- What a hall shows when pieces are handed in and a link's input is ended.
-use Rattle.std.specs.Prelude.{ℕ, ◌≡◌, Bool, true, false, List, [], ◌∷◌, ◌++◌, map, reverse, length, Option, Some, is_some, Result, ◌⊎◌}
+use Rattle.std.specs.Prelude.{ℕ, ◌≡◌, Bool, true, false, List, [], ◌∷◌, ◌++◌, map, reverse, length, Option, Some, is_some, Result, Ok, Err, ◌⊎◌}
 use Rattle.adb_outside.specs.declared.kinds.Cause.{Cause}
 use Rattle.adb_outside.specs.declared.kinds.Cause.TheVariants.{Starved}
 use Rattle.adb_capture.specs.declared.entry.Entry.{Entry}
@@ -8,6 +8,8 @@ use Rattle.adb_history.specs.Machine.{state}
 use Rattle.adb_history.specs.Kept.{IsLawful}
 use Rattle.adb_hub.specs.declared.answers.Life.{Life}
 use Rattle.adb_hub.specs.declared.answers.Life.TheVariants.{Live, Gone}
+use Rattle.adb_hub.specs.declared.answers.Room.{Room}
+use Rattle.adb_hub.specs.declared.answers.Room.TheVariants.{Shut}
 use Rattle.adb_history.specs.Rows.{State}
 use Rattle.adb_hub.specs.Answers.{life_of}
 use Rattle.adb_desk.specs.declared.act.Progress.{Progress}
@@ -16,6 +18,8 @@ use Rattle.adb_server_log.specs.Pass.{PassView}
 use Rattle.adb_server_hall.specs.Telling.{Telling, Where, Submits}
 use Rattle.adb_server_hall.specs.Passes.{after_submit}
 use Rattle.adb_server_hall.specs.Made.{IsStopped}
+use Rattle.adb_server_device_reader.specs.declared.next.Next.{Next}
+use Rattle.adb_server_device_reader.specs.declared.next.Next.TheVariants.{Go, Pause, Stop}
 
 -- the entries by which the pieces came on a link
 abbrev pub received : ℕ → List (List ℕ) → List Entry
@@ -82,10 +86,14 @@ abbrev pub GivesUp : Bool → ℕ → List Entry → Bool → Bool → Option Te
 GivesUp true t entries was starved before after = Finished t Starved entries was starved after
 GivesUp false t entries was starved before after = (after ≡ before) × (starved ≡ was)
 
+-- The reader is cut off after these entries, and nothing ends the link's input.
+pub record CutAfter (t : ℕ) (entries : List Entry) (was starved : Bool) (tells : Option Telling) : Type 0 where
+  pub hall : Stands (entries ++ []) tells
+  pub stays : Stays t entries [] was starved hall.now
+
 -- A piece was handed in, and the reader is cut off after it.
-pub record Taken (t : ℕ) (piece : List ℕ) (entries : List Entry) (was starved : Bool) (tells : Option Telling) : Type 0 where
-  pub hall : Stands (entries ++ received t (piece ∷ []) ++ []) tells
-  pub stays : Stays t (entries ++ received t (piece ∷ [])) [] was starved hall.now
+abbrev pub Taken : ℕ → List ℕ → List Entry → Bool → Bool → Option Telling → Type 0
+Taken t piece entries was starved tells = CutAfter t (entries ++ received t (piece ∷ [])) was starved tells
 
 -- A piece was lost: the reader is cut off before it.
 pub record Lost (t : ℕ) (entries : List Entry) (was starved : Bool) (tells : Option Telling) : Type 0 where
@@ -96,6 +104,11 @@ pub record Lost (t : ℕ) (entries : List Entry) (was starved : Bool) (tells : O
 abbrev pub Handed : Bool → ℕ → List ℕ → List Entry → Bool → Bool → Option Telling → Type 0
 Handed true t piece entries was starved tells = Stands (entries ++ received t (piece ∷ [])) tells × (starved ≡ was)
 Handed false t piece entries was starved tells = Taken t piece entries was starved tells ⊎ Lost t entries was starved tells
+
+-- The reader has waited after these entries, and more may follow; or it is cut off.
+abbrev pub Waited : Bool → ℕ → List Entry → Bool → Bool → Option Telling → Type 0
+Waited true t entries was starved tells = Stands entries tells × (starved ≡ was)
+Waited false t entries was starved tells = CutAfter t entries was starved tells
 
 -- A piece was handed in with a pass, after these entries, and this was answered.
 pub record Answered (before : PassView) (piece : List ℕ) (entries : List Entry) (answer : Result Progress DeskError) (now : PassView)
@@ -108,3 +121,15 @@ pub record Answered (before : PassView) (piece : List ℕ) (entries : List Entry
 abbrev pub is_live : Life → Bool
 is_live Live = true
 is_live Gone = false
+
+-- whether the reader continues after a piece
+abbrev pub goes_on : Next → Bool
+goes_on Go = true
+goes_on Pause = true
+goes_on Stop = false
+
+-- whether more bytes may follow after this answer to a query for room
+abbrev pub may_follow : Result Room DeskError → Bool
+may_follow (Ok Shut) = false
+may_follow (Ok room) = true
+may_follow (Err error) = false

@@ -4,6 +4,7 @@
 mod device;
 mod ending;
 mod feeding;
+mod next;
 mod packets;
 mod reader;
 

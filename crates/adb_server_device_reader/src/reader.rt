@@ -60,6 +60,10 @@ fn turn<E: Ledger, M: Ledger, K: Marks, H: Hall<E, M, K>, I: DeviceIn, G: Gate>(
 /// incomplete packet are submitted, and then one Detach ends the link's input, by `Eof` or `Fault`,
 /// unless the hall refuses that. No read follows a failed one.
 ///
+/// While more is due on the link than its device has room for, the reader pauses: over a hall that
+/// waits, it reads and submits nothing until the link's queue has drained, the link is gone, a kill
+/// was made, or the hall is shut. It does not pause before it ends the link's input.
+///
 /// `packets` must hold nothing. If an allocation fails in the hall, one Detach by `Starved` ends
 /// the link's input, and the piece is lost, with the bytes that were read after it. The reader
 /// passes the gate at `Place::DeviceReader` before each piece. The returned pass has its shares and

@@ -5,10 +5,10 @@ use Rattle.adb_server_device_reader.proofs.ending.hand_in.Goals as goal
 
 pub returns-clause-number : goal.returns-clause-number
 returns-clause-number g c =
-    c.goes_on.ensures.number ∙ ap (λ (p : PassView). p.number) c.recv-answer.ensures.pass
+    c.settle.ensures.number ∙ ap (λ (p : PassView). p.number) c.recv-answer.ensures.pass
     ∙ same_number c.args.pass.now.pass (length c.args.piece.now) c.recv-answer.result
 
 pub returns-clause-told : goal.returns-clause-told
 returns-clause-told g c entries s =
-    c.goes_on.ensures.told c.args.pass.now.pass c.args.piece.now entries
+    c.settle.ensures.told c.args.pass.now.pass c.args.piece.now entries
     (record { pass = c.recv-answer.ensures.pass; tells_before = _; stood = s; told = c.recv-answer.ensures.told })

@@ -1,8 +1,8 @@
 use Rattle.adb_server_device_reader.proofs.Handing.{answered_no, answered_ok}
-use Rattle.adb_server_device_reader.proofs.ending.goes_on.Goals as goal
+use Rattle.adb_server_device_reader.proofs.ending.settle.Goals as goal
 
 pub returns-in-Ok-clause-told : goal.returns-in-Ok-clause-told
-returns-in-Ok-clause-told g c before piece entries a = rw c.lives.ensures (answered_ok a c.in-Ok.progress c.in-Ok.is)
+returns-in-Ok-clause-told g c before piece entries a = rw c.next_of.ensures (answered_ok a c.in-Ok.progress c.in-Ok.is)
 
 pub returns-in-Err-clause-told : goal.returns-in-Err-clause-told
 returns-in-Err-clause-told g c before piece entries a =
