@@ -3,7 +3,7 @@
 ghost use Rattle.std.specs.Prelude.{◌≡◌};
 ghost use Rattle.adb_server_log.specs.declared.marks.TheConstants.{ALL_PARTS};
 
-use crate::hands::{Client, asks, hands_out, is_answered, len_of};
+use crate::hands::{CNXN, Client, asks, hands_out, is_answered, len_of};
 use adb_desk::Progress;
 use adb_hub::{Handed, MAX_HELD, Room};
 use adb_outside::{Cause, Kind};
@@ -47,9 +47,6 @@ fn is_shut_by_its_recorder<E: Ledger, M: Ledger, K: Marks, H: Hall<E, M, K>>(
         && is_faulty(hall.end(reading, Cause::Eof))
         && hall.over() == Some(DeskError::RecordFault)
 }
-
-/// The first packet of a device that takes at most 4,096 bytes at once.
-const CNXN: &[u8] = b"CNXN\x01\0\0\x01\0\x10\0\0\x08\0\0\0\0\0\0\0\xbc\xb1\xa7\xb1device::";
 
 /// The device's answer to the first stream that is opened, and to a write on it.
 const OKAY: &[u8] = b"OKAY\x07\0\0\0\x01\0\0\0\0\0\0\0\0\0\0\0\xb0\xb4\xbe\xa6";
