@@ -3,6 +3,7 @@
 ghost use Rattle.std.specs.Prelude.{◌≡◌};
 ghost use Rattle.adb_binder.specs.Binder.{FitsPort};
 
+use crate::forwards::Candidate;
 use crate::listeners::Listeners;
 use adb_binder::{Binder, Binding};
 use std::alloc::Global;
@@ -16,6 +17,9 @@ use std::sync::{Arc, Wait};
 pub struct TcpBinder<W: Drop> {
     rt: W,
     listeners: Option<Arc<Listeners, Global>>,
+    /// The port that was answered last, while this binder has a claim to its listener.
+    claimed: Option<u16>,
+    candidate: Option<Candidate>,
     faults: u64,
 }
 
@@ -27,7 +31,20 @@ impl<W: Drop> TcpBinder<W> {
         TcpBinder {
             rt,
             listeners,
+            claimed: None,
+            candidate: None,
             faults: 0,
+        }
+    }
+}
+
+impl<W: Wait + Drop> TcpBinder<W> {
+    /// Gives back the claim to the port that was answered last.
+    fn give_back(&mut self)
+        ensures { self.new.faults ≡ self.old.faults }
+    {
+        if let (Some(listeners), Some(port)) = (&self.listeners, self.claimed.take()) {
+            listeners.give_back(&self.rt, port);
         }
     }
 }
@@ -55,14 +72,37 @@ impl<W: Net<Listener = TcpListener, Stream = TcpStream> + Wait + Drop> Binder fo
 
     ghost steady = { λ binder. ⊥ };
 
+    /// The listener of the port that is answered is not closed before the next call.
     fn bind(&mut self, port: u16) -> Binding {
+        self.give_back();
         let binding = match &self.listeners {
             Some(listeners) => bind(&self.rt, listeners, port),
             None => Binding::Failed,
         };
-        if binding == Binding::Failed {
-            self.faults = self.faults.saturating_add(1);
+        match binding {
+            Binding::Bound(port) => self.claimed = Some(port),
+            Binding::Failed => self.faults = self.faults.saturating_add(1),
         }
         binding
+    }
+
+    fn candidate(&mut self) -> Option<u16> {
+        self.give_back();
+        self.candidate = match &self.listeners {
+            Some(listeners) => listeners.choose(&self.rt),
+            None => None,
+        };
+        match self.candidate {
+            Some(candidate) => Some(candidate.port),
+            None => None,
+        }
+    }
+
+    fn close(&mut self, port: u16) {
+        if let (Some(listeners), Some(candidate)) = (&self.listeners, self.candidate) {
+            if candidate.port == port {
+                listeners.close_unclaimed(&self.rt, candidate);
+            }
+        }
     }
 }

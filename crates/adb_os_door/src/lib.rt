@@ -7,6 +7,7 @@
 mod accept_queue;
 mod binder;
 mod door;
+mod forwards;
 mod listeners;
 mod troubles;
 

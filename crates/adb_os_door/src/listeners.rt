@@ -1,5 +1,6 @@
 //! The listening sockets of a server, shared by its door, its bell and the binders of its clients.
 
+use crate::forwards::{Candidate, Forwards};
 use adb_os_sockets::{Ending, set_up_listener};
 use mio::unix::SourceFd;
 use mio::{Interest, Registry, Token, Waker};
@@ -18,13 +19,6 @@ pub const OWN: u16 = 0;
 /// The token of the bell, which is no port number.
 const BELL: usize = 65_536;
 
-/// The listener of a forward.
-#[derive(Drop)]
-struct Forward {
-    port: u16,
-    listener: TcpListener,
-}
-
 /// The listening sockets of a server, shared by its door, its bell and the binders of its clients.
 /// None of them blocks: the door waits for all at once. A connection waits in the queue of its
 /// listener, which takes no thread.
@@ -35,7 +29,7 @@ pub struct Listeners {
     pause: Parker,
     ending: Ending,
     own: TcpListener,
-    forwards: Mutex<Vec<Forward>>,
+    forwards: Mutex<Forwards>,
 }
 
 impl Listeners {
@@ -59,7 +53,7 @@ impl Listeners {
             pause: Parker::new(),
             ending,
             own,
-            forwards: Mutex::new(Vec::new(alloc)),
+            forwards: Mutex::new(Forwards::new(alloc)),
         })
     }
 
@@ -79,7 +73,8 @@ impl Listeners {
     }
 
     /// Listens on a port of this machine, or on any free port if `port` is 0, and returns the port.
-    /// A port with a listener is returned again.
+    /// A port with a listener is returned again. The caller has a claim to the listener until it
+    /// calls `give_back`.
     ///
     /// Fails if the system refuses the port or a descriptor, or if an allocation fails. No listener
     /// is then added.
@@ -89,7 +84,7 @@ impl Listeners {
         port: u16,
     ) -> io::Result<u16> {
         let mut forwards = self.forwards.lock(rt);
-        if port != OWN && forwards.iter().any(|forward| forward.port == port) {
+        if port != OWN && forwards.claim(port) {
             return Ok(port);
         }
         let listener = TcpListener::bind(rt, SocketAddr::from((Ipv4Addr::LOCALHOST, port)))?;
@@ -97,11 +92,23 @@ impl Listeners {
         set_up_listener(&listener)?;
         let bound = listener.local_addr()?.port();
         watch(&self.registry, &listener, bound)?;
-        forwards.push(Forward {
-            port: bound,
-            listener,
-        })?;
+        forwards.add(bound, listener)?;
         Ok(bound)
+    }
+
+    /// Gives back a claim to the listener of a port.
+    pub fn give_back<W: Wait>(&self, rt: &W, port: u16) {
+        self.forwards.lock(rt).give_back(port);
+    }
+
+    /// Chooses the next listener without a claim, in rotation.
+    pub fn choose<W: Wait>(&self, rt: &W) -> Option<Candidate> {
+        self.forwards.lock(rt).choose()
+    }
+
+    /// Closes a listener that was chosen, unless it was claimed since then.
+    pub fn close_unclaimed<W: Wait>(&self, rt: &W, candidate: Candidate) {
+        self.forwards.lock(rt).close_unclaimed(candidate);
     }
 
     /// Accepts a connection at a listener. Fails with `WouldBlock` if none waits there, or if there
@@ -111,8 +118,8 @@ impl Listeners {
             return Ok(self.own.accept()?.0);
         }
         let forwards = self.forwards.lock(rt);
-        match forwards.iter().find(|forward| forward.port == number) {
-            Some(forward) => Ok(forward.listener.accept()?.0),
+        match forwards.listener(number) {
+            Some(listener) => Ok(listener.accept()?.0),
             None => Err(io::Error::from(io::ErrorKind::WouldBlock)),
         }
     }
@@ -123,17 +130,15 @@ impl Listeners {
             return watch_again(&self.registry, &self.own, OWN);
         }
         let forwards = self.forwards.lock(rt);
-        match forwards.iter().find(|forward| forward.port == number) {
-            Some(forward) => watch_again(&self.registry, &forward.listener, number),
+        match forwards.listener(number) {
+            Some(listener) => watch_again(&self.registry, listener, number),
             None => Ok(()),
         }
     }
 
     /// Closes the listener of a forward.
     pub fn close<W: Wait>(&self, rt: &W, port: u16) {
-        self.forwards
-            .lock(rt)
-            .retain(|forward| forward.port != port);
+        self.forwards.lock(rt).close(port);
     }
 
     /// Waits for a time, or until the bell rings. Only the door waits this way.
