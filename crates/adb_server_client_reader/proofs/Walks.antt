@@ -55,7 +55,7 @@ tells_none : {A : Type 0} (told : Option (List A)) → TellsMore told [] told
 tells_none None = tt
 tells_none (Some told) = (told, refl, sym (append-nil told))
 
-tells_after : {A : Type 0} (a b d : Option (List A)) (xs ys : List A) → TellsMore a xs b → TellsMore b ys d → TellsMore a (xs ++ ys) d
+pub tells_after : {A : Type 0} (a b d : Option (List A)) (xs ys : List A) → TellsMore a xs b → TellsMore b ys d → TellsMore a (xs ++ ys) d
 tells_after a b None xs ys p q = tt
 tells_after {A = A} a b (Some after) xs ys p q =
     let before : TellsMore a xs (Some q.0) = subst (λ (t : Option (List A)). TellsMore a xs t) q.1 p in

@@ -1,3 +1,4 @@
 pub mod Forwards
 pub mod Reading
 pub mod Admitting
+pub mod Closing

@@ -2,7 +2,7 @@
 
 use crate::context::Context;
 use crate::parts::Parts;
-use adb_server_client_reader::read_client;
+use adb_server_client_reader::{close_unused, read_client};
 use adb_server_device_reader::{Packets, read_device};
 use adb_server_log::{ClientIn, ClientOut, LinkIn, LinkOut};
 use adb_server_writers::{write_client, write_device};
@@ -64,6 +64,7 @@ fn read_one_client<W: Wait + Copy + Drop, P: Parts>(
         &mut ports,
         &own.gate,
     );
+    close_unused(&mut own.hall, &mut ports);
     let over = own.hall.retire_client_in(pass);
     own.ring_if(over);
 }
