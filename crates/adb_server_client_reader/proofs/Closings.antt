@@ -1,10 +1,9 @@
 -- Listeners that are closed one after the other.
-use Rattle.std.proofs.Common.{ℕ, ◌≡◌, false, List, [], ◌∷◌, ◌++◌, Option, Some, None, Ok, Result, refl, sym, ap, ◌∙◌, subst, inl, inr}
-use Rattle.std.specs.Prelude.{Bool, All}
+use Rattle.std.proofs.Common.{ℕ, ◌≡◌, false, List, [], ◌∷◌, ◌++◌, Option, Some, None, Ok, Result, ap, ◌∙◌, inl, inr}
+use Rattle.std.specs.Prelude.{Bool}
 use Rattle.std.proofs.lemmas.List.Elements.{All-nil, All-cons, All-append}
 use Rattle.adb_history.specs.Rows.{State}
-use Rattle.adb_history.specs.Machine.{History, state}
-use Rattle.adb_history.specs.Kept.{IsLawful}
+use Rattle.adb_history.specs.Machine.{state}
 use Rattle.adb_server_log.specs.declared.error.DeskError.{DeskError}
 use Rattle.adb_desk.specs.Desk.{has_forward, or_given_by}
 use Rattle.adb_binder.specs.Binder.{Closes}
