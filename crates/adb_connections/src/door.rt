@@ -55,8 +55,8 @@ pub trait Door: Drop {
     /// No call fails.
     ghost steady: { Self → Type 0 };
 
-    /// Waits for the next client or device. Returns `Closed` after the bell of this door was rung, or if
-    /// a door in memory has no more of them; no clause ties a bell to its door. The count of
+    /// Waits for the next client or device. Returns `Closed` after the bell of this door was rung,
+    /// or if a door in memory has no more of them; no clause ties a bell to its door. The count of
     /// faults rises at `Failed` and is unchanged at every other answer.
     fn accept(&mut self) -> Came<Self::In, Self::Out, Self::DeviceIn, Self::DeviceOut>
         ensures fits { FitsCame result }

@@ -23,8 +23,8 @@ pub(crate) const PIECE: usize = 65_536;
 const FIRST_PORT: u16 = 40_000;
 
 /// The yard of a test. Its door accepts the clients of `call` and the devices of `deliver` in their
-/// order, and is closed after them. A server that asks for any port listens on port 1. Its jobs run within the calls that
-/// submit them.
+/// order, and is closed after them. A server that asks for any port listens on port 1. Its jobs run
+/// within the calls that submit them.
 ///
 /// Contracts see how often it failed: at `listen` if an allocation failed, and at each `dial`.
 #[derive(Drop)]

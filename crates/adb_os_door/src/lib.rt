@@ -1,7 +1,8 @@
 //! The parts of a live server: the door that accepts clients, the connections to forwards and the
 //! devices that dialers deliver, its bell, and the listeners of forwards.
 //!
-//! No clause says which connections and devices come, or that a thread makes progress. Tests show these.
+//! No clause says which connections and devices come, or that a thread makes progress. Tests show
+//! these.
 #![tactic(auto)]
 
 mod accept_queue;

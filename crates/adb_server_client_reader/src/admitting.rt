@@ -39,7 +39,8 @@ pub enum Admitted<I: Drop, O: Drop, X: DeviceIn, Z: DeviceOut, E: Ledger, M: Led
 /// it came.
 ///
 /// Each answer of the door has its result: `Closed` and `Failed` are the door's, a device that came
-/// is returned, and a client that came is admitted or refused. That also holds over a hall that shows nothing to contracts.
+/// is returned, and a client that came is admitted or refused. That also holds over a hall that
+/// shows nothing to contracts.
 pub fn admit<E: Ledger, M: Ledger, K: Marks, H: Hall<E, M, K>, D: Door>(
     hall: &mut H,
     door: &mut D,
