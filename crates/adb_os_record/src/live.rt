@@ -62,7 +62,9 @@ impl<W: Wait + Drop, B: Named> LiveRecorder<W, B> {
         ensures put { IfSome result (λ end. (kept : List Entry) → Keeps self kept
             → IsPut (live_faults self) kept (joined end.put)) }
     {
-        let recorder = self.recorder?;
+        let Some(recorder) = self.recorder else {
+            return None;
+        };
         let end = recorder.into_sink().finish()?;
         Some(end)
     }
