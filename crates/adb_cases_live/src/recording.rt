@@ -44,10 +44,10 @@ fn records<
 {
     let Begun {
         out,
-        progress,
+        state,
         writing,
     } = begun;
-    let into = PipeSink::<W, B>::new(rt, alloc, out, progress);
+    let into = PipeSink::<W, B>::new(rt, alloc, out, state);
     let mut yard = RealYard::<W, B>::new(rt, alloc, ending, None, Some(into));
     let mut recorder = yard.recorder(true);
     let kept = keeps(&mut recorder);

@@ -15,10 +15,10 @@
 
 mod live;
 mod pipe_sink;
-mod progress;
+mod record_state;
 mod writing;
 
 pub use live::{LiveRecorder, end_record};
 pub use pipe_sink::{Named, PipeSink};
-pub use progress::Progress;
+pub use record_state::RecordState;
 pub use writing::{Begun, Settled, WillWrite, Writing, Written, begin_record};

@@ -88,7 +88,7 @@ pub fn end_record<W: Threads + Wait + Drop, K: Sink + Drop, B: Named>(
         → (had : List ℕ) → K.written writing.thread.promise.sink.value ≡ Some had
         → ServesCapture had (K.written settled.sink) settled.whole (live_faults recorder) kept) }
 {
-    writing.progress.end();
+    writing.state.end();
     let end = recorder.finish()?;
     let settled = writing.settle(rt, end)?;
     Some(settled)

@@ -2,7 +2,7 @@
 
 ghost use Rattle.std.specs.Prelude.{◌≡◌, [], ◌∷◌, ◌++◌, Some, IfSome, true, false};
 
-use crate::progress::Progress;
+use crate::record_state::RecordState;
 use adb_outside::{Sink, Text, Wrote};
 use adb_pipe::{NotPut, PipeEnd, PipeOut};
 use std::alloc::Global;
@@ -33,7 +33,7 @@ pub struct PipeSink<W: Wait + Drop, B: Named> {
     rt: W,
     alloc: Global,
     out: PipeOut<W>,
-    progress: Progress,
+    state: RecordState,
     faults: u64,
     of: PhantomData<B>,
 }
@@ -51,7 +51,7 @@ impl<W: Wait + Drop, B: Named> Model for PipeSink<W, B> {
 
 impl<W: Wait + Drop, B: Named> PipeSink<W, B> {
     /// Returns a sink over the output end of the pipe named by `B`.
-    pub fn new(rt: W, alloc: Global, out: PipeOut<W>, progress: Progress) -> PipeSink<W, B>
+    pub fn new(rt: W, alloc: Global, out: PipeOut<W>, state: RecordState) -> PipeSink<W, B>
         requires { Some out.pipe ≡ B.pipe }
         ensures { result ≡ record { pipe = out.pipe; put = out.put; faults = 0 } }
     {
@@ -59,7 +59,7 @@ impl<W: Wait + Drop, B: Named> PipeSink<W, B> {
             rt,
             alloc,
             out,
-            progress,
+            state,
             faults: 0,
             of: PhantomData,
         }
@@ -75,16 +75,16 @@ impl<W: Wait + Drop, B: Named> PipeSink<W, B> {
             rt,
             alloc: _,
             out,
-            progress,
+            state,
             faults: _,
             of: _,
         } = self;
-        finish_out(&rt, out, &progress)
+        finish_out(&rt, out, &state)
     }
 }
 
 /// Puts the end mark of a pipe, as `PipeSink::finish` does.
-fn finish_out<W: Wait + Drop>(rt: &W, out: PipeOut<W>, progress: &Progress) -> Option<PipeEnd>
+fn finish_out<W: Wait + Drop>(rt: &W, out: PipeOut<W>, state: &RecordState) -> Option<PipeEnd>
     ensures { IfSome result (λ end. end ≡ record { pipe = out.pipe; put = out.put }) }
 {
     let mut out = out;
@@ -93,7 +93,7 @@ fn finish_out<W: Wait + Drop>(rt: &W, out: PipeOut<W>, progress: &Progress) -> O
             Ok(end) => return Some(end),
             Err(full) => out = full,
         }
-        if !progress.await_room(rt) {
+        if !state.await_room(rt) {
             return None;
         }
     }
@@ -102,7 +102,7 @@ fn finish_out<W: Wait + Drop>(rt: &W, out: PipeOut<W>, progress: &Progress) -> O
 
 /// Puts a chunk, and waits while the pipe is full. Returns whether it was put: not if the pipe
 /// refuses it, and not if a server that ends or is asked to end has waited for a second.
-fn put_out<W: Wait + Drop>(rt: &W, out: &mut PipeOut<W>, progress: &Progress, chunk: Text) -> bool
+fn put_out<W: Wait + Drop>(rt: &W, out: &mut PipeOut<W>, state: &RecordState, chunk: Text) -> bool
     ensures pipe { out.new.pipe ≡ out.old.pipe }
     ensures put { result ≡ true → out.new.put ≡ out.old.put ++ chunk ∷ [] }
     ensures unput { result ≡ false → out.new.put ≡ out.old.put }
@@ -111,13 +111,13 @@ fn put_out<W: Wait + Drop>(rt: &W, out: &mut PipeOut<W>, progress: &Progress, ch
     for _ in rt.forever() {
         match out.try_put(chunk) {
             Ok(()) => {
-                progress.put();
+                state.put();
                 return true;
             }
             Err(NotPut::Refused(_)) => return false,
             Err(NotPut::Full(back)) => chunk = back,
         }
-        if !progress.await_room(rt) {
+        if !state.await_room(rt) {
             return false;
         }
     }
@@ -139,9 +139,9 @@ impl<W: Wait + Drop, B: Named> Sink for PipeSink<W, B> {
     /// `Failed`: the write failed, nothing was put, and the count of faults rises.
     #[tactic(auto, using(crate::proofs::GoingOut::put_more, crate::proofs::GoingOut::nothing_more))]
     fn write(&mut self, piece: &[u8]) -> Wrote {
-        if !self.progress.has_failed() {
+        if !self.state.has_failed() {
             if let Ok(chunk) = Text::from_slice(self.alloc, piece) {
-                if put_out(&self.rt, &mut self.out, &self.progress, chunk) {
+                if put_out(&self.rt, &mut self.out, &self.state, chunk) {
                     return Wrote::All;
                 }
             }

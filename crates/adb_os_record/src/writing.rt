@@ -5,7 +5,7 @@ ghost use Rattle.adb_outside.specs.Outside.{Counts};
 ghost use Rattle.adb_outside.specs.Sink.{FitsPiece, TellsWrite, is_failed_write};
 ghost use Rattle.adb_os_record.specs.Written.{GoesOut, Settles, joined, with_left, with_next};
 
-use crate::progress::Progress;
+use crate::record_state::RecordState;
 use adb_os_sockets::Ending;
 use adb_outside::{Sink, Text, Wrote};
 use adb_pipe::{PipeEnd, PipeIn, PipeOut, Taken, pipe};
@@ -173,7 +173,7 @@ fn take_all<W: Wait + Drop, K: Sink>(
     rt: &W,
     input: &mut PipeIn<W>,
     sink: &mut K,
-    progress: &Progress,
+    state: &RecordState,
 ) -> (bool, bool)
     requires { input.old.taken ≡ [] }
     ensures pipe { input.new.pipe ≡ input.old.pipe }
@@ -186,9 +186,9 @@ fn take_all<W: Wait + Drop, K: Sink>(
     for _ in rt.forever() {
         let (over, failed) = turn(input, sink, torn);
         torn = failed;
-        progress.take();
+        state.take();
         if torn {
-            progress.fail();
+            state.fail();
         }
         if let Some(ended) = over {
             return (ended, torn);
@@ -204,7 +204,7 @@ pub fn write_out<W: Wait + Drop, K: Sink + Drop>(
     rt: W,
     input: PipeIn<W>,
     sink: K,
-    progress: Progress,
+    state: RecordState,
 ) -> Written<W, K>
     requires { input.taken ≡ [] }
     ensures pipe { result.input.pipe ≡ input.pipe }
@@ -214,8 +214,8 @@ pub fn write_out<W: Wait + Drop, K: Sink + Drop>(
         (joined result.input.taken) }
 {
     let (mut input, mut sink) = (input, sink);
-    let (ended, torn) = take_all(&rt, &mut input, &mut sink, &progress);
-    progress.finish();
+    let (ended, torn) = take_all(&rt, &mut input, &mut sink, &state);
+    state.finish();
     Written {
         input,
         sink,
@@ -249,7 +249,7 @@ fn start<W: Threads + Wait + Copy + Send + Sync + Drop + 'static, K: Sink + Send
     rt: W,
     input: PipeIn<W>,
     sink: K,
-    progress: Progress,
+    state: RecordState,
 ) -> Option<PromisedHandle<Written<W, K>, WillWrite<W, K>>>
     requires { input.taken ≡ [] }
     ensures { IfSome result (λ h. (h.promise.input.value ≡ input)
@@ -269,7 +269,7 @@ fn start<W: Threads + Wait + Copy + Send + Sync + Drop + 'static, K: Sink + Send
                 × ((had : List ℕ) → K.written sink ≡ Some had
                 → GoesOut had (K.faults sink) result.torn (K.written result.sink) (K.faults result.sink)
                 (joined result.input.taken)) }
-        { write_out(rt, input, sink, progress) },
+        { write_out(rt, input, sink, state) },
     );
     started.ok()
 }
@@ -279,7 +279,7 @@ fn start<W: Threads + Wait + Copy + Send + Sync + Drop + 'static, K: Sink + Send
 #[derive(Drop)]
 pub struct Begun<W: Wait + Drop, K: Sink + Drop> {
     pub out: PipeOut<W>,
-    pub progress: Progress,
+    pub state: RecordState,
     pub writing: Writing<W, K>,
 }
 
@@ -287,7 +287,7 @@ pub struct Begun<W: Wait + Drop, K: Sink + Drop> {
 #[derive(Drop)]
 pub struct Writing<W: Wait + Drop, K: Sink + Drop> {
     pub thread: PromisedHandle<Written<W, K>, WillWrite<W, K>>,
-    pub progress: Progress,
+    pub state: RecordState,
 }
 
 /// Opens the pipe of a record and starts the thread that writes it to a sink. `ending` says whether
@@ -303,20 +303,20 @@ pub fn begin_record<
         × (begun.writing.thread.promise.input.value.pipe ≡ begun.out.pipe)
         × (begun.writing.thread.promise.sink.value ≡ sink)) }
 {
-    let progress = Progress::new(alloc, ending)?;
-    let theirs = progress.share()?;
-    let ends = progress.share()?;
+    let state = RecordState::new(alloc, ending)?;
+    let theirs = state.share()?;
+    let ends = state.share()?;
     let (out, input) = pipe(rt, alloc, MAX_CHUNKS)?;
     let Some(thread) = start(rt, input, sink, theirs) else {
         return Err(AllocError);
     };
     let writing = Writing {
         thread,
-        progress: ends,
+        state: ends,
     };
     Ok(Begun {
         out,
-        progress,
+        state,
         writing,
     })
 }
@@ -332,7 +332,7 @@ impl<W: Threads + Wait + Drop, K: Sink + Drop> Writing<W, K> {
     /// Waits until the thread returns after the output end was dropped, for a second at most since
     /// the server ends. Its sink is dropped.
     pub fn abandon(self, rt: &W) {
-        self.progress.await_return(rt);
+        self.state.await_return(rt);
     }
 
     /// Waits until the thread returns after the output end is finished, for a second at most since
@@ -345,8 +345,8 @@ impl<W: Threads + Wait + Drop, K: Sink + Drop> Writing<W, K> {
             → K.written self.thread.promise.sink.value ≡ Some had
             → Settles had (K.written settled.sink) settled.whole (joined end.put)) }
     {
-        let Writing { thread, progress } = self;
-        if !progress.await_return(rt) {
+        let Writing { thread, state } = self;
+        if !state.await_return(rt) {
             return None;
         }
         Some(join_thread(rt, end, thread))

@@ -9,7 +9,7 @@ pub use adb_os_door::{
 };
 pub use adb_os_model_device::{DeviceEnd, PipeDeviceIn, PipeDeviceOut, run_device};
 pub use adb_os_record::{
-    Begun, LiveRecorder, Named, PipeSink, Progress, Settled, Writing, begin_record, end_record,
+    Begun, LiveRecorder, Named, PipeSink, RecordState, Settled, Writing, begin_record, end_record,
 };
 pub use adb_os_sockets::{Ending, TcpDeviceIn, TcpDeviceOut, TcpIn, TcpOut};
 pub use real_yard::RealYard;

@@ -239,10 +239,10 @@ fn serve_recorded<
     } = prepared;
     let Begun {
         out,
-        progress,
+        state,
         writing,
     } = begun;
-    let into = PipeSink::<W, B>::new(rt, alloc, out, progress);
+    let into = PipeSink::<W, B>::new(rt, alloc, out, state);
     let yard = RealYard::<W, B>::new(rt, alloc, ending, Some(deliveries), Some(into));
     let Ran { status, recorder } = run(rt, alloc, words, source, sink, note, yard, models);
     closing.close(&rt);

@@ -13,7 +13,7 @@ const SLICE: u64 = 100;
 /// The number of slices after which a server that ends waits no longer for its record: one second.
 const SLICES: u64 = 10;
 
-/// The flags and wakes of `Progress`.
+/// The flags and wakes of `RecordState`.
 #[derive(Drop)]
 struct Shared {
     /// A write failed.
@@ -34,14 +34,14 @@ struct Shared {
 /// While the server runs, a wait has no bound. If it ends, or is asked to end, the waits since the
 /// recorder last put a chunk last one second together.
 #[derive(Drop)]
-pub struct Progress {
+pub struct RecordState {
     shared: Arc<Shared, Global>,
     ending: Ending,
 }
 
-impl Progress {
+impl RecordState {
     /// Returns the state of a record that was not begun. Fails if an allocation fails.
-    pub fn new(alloc: Global, ending: &Ending) -> Result<Progress, AllocError> {
+    pub fn new(alloc: Global, ending: &Ending) -> Result<RecordState, AllocError> {
         let shared = Shared {
             failed: AtomicBool::new(false),
             returned: AtomicBool::new(false),
@@ -49,15 +49,15 @@ impl Progress {
             took: Parker::new(),
             back: Parker::new(),
         };
-        Ok(Progress {
+        Ok(RecordState {
             shared: Arc::new(alloc, shared)?,
             ending: ending.share()?,
         })
     }
 
     /// Returns another handle of the same state. Fails if an allocation fails.
-    pub fn share(&self) -> Result<Progress, AllocError> {
-        Ok(Progress {
+    pub fn share(&self) -> Result<RecordState, AllocError> {
+        Ok(RecordState {
             shared: Arc::try_clone(&self.shared)?,
             ending: self.ending.share()?,
         })
