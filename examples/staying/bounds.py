@@ -1,8 +1,8 @@
 """Clients and devices that never read, and clients that wait for each other's bytes."""
+import contextlib
 import queue
 import socket
 import threading
-import time
 
 from checks import check
 from client import Client, shell
@@ -18,8 +18,8 @@ MOST_SENT_BY_CLIENT = 64 << 20
 MOST_SENT_BY_DEVICE = 24 << 20
 GROWN_BY_CLIENT = 32 << 10  # KiB: the bound, and what the record of the case has waiting
 GROWN_BY_DEVICE = 64 << 10  # KiB: the bound in packets of 24 bytes, each a row of its own
-CARRIED = 24 << 20
-INJECTED = 4 << 20
+CARRIED = 12 << 20
+INJECTED = 2 << 20
 
 
 def narrow_client(port):
@@ -89,12 +89,10 @@ class Carrier:
             thread.start()
 
     def read(self):
-        while self.left > 0:
-            piece = self.source.socket.recv(1 << 16)
-            if not piece:
-                break
-            self.left -= len(piece)
-            self.waiting.put(piece)
+        with contextlib.suppress(OSError):
+            while self.left > 0 and (piece := self.source.socket.recv(1 << 16)):
+                self.left -= len(piece)
+                self.waiting.put(piece)
         self.waiting.put(None)
 
     def write(self):
@@ -102,10 +100,18 @@ class Carrier:
             self.target.send(piece)
             self.carried += len(piece)
 
-    def is_done(self, end):
-        for thread in self.threads:
-            thread.join(max(0, end - time.time()))
+    def is_done(self):
         return not any(thread.is_alive() for thread in self.threads)
+
+
+def all_is_carried(carriers):
+    """Whether all is carried, as long as something more is within PATIENCE seconds."""
+    seen = -1
+    while (carried := sum(carrier.carried for carrier in carriers)) > seen:
+        seen = carried
+        if until(lambda: all(carrier.is_done() for carrier in carriers), PATIENCE):
+            return True
+    return False
 
 
 def clients_that_wait_for_each_other(program):
@@ -115,8 +121,7 @@ def clients_that_wait_for_each_other(program):
         first, second = (Client(server.port).select(device.serial, "echo:") for _ in range(2))
         carriers = [Carrier(first, second, CARRIED), Carrier(second, first, CARRIED)]
         threading.Thread(target=first.send, args=(bytes(INJECTED),), daemon=True).start()
-        end = time.time() + 2 * PATIENCE
-        is_right = all(carrier.is_done(end) for carrier in carriers)
+        is_right = all_is_carried(carriers)
         told = " and ".join(str(carrier.carried) for carrier in carriers)
         check("two clients that wait for each other's bytes go on", is_right, f"{told} bytes")
         for client in (first, second):
