@@ -24,16 +24,15 @@ const MOST_DELAY: u64 = 2_000;
 const GROWTH: u64 = 4;
 
 /// The number of milliseconds that a connect waits for a device with a full queue of connections,
-/// and after which a dialer that waits checks whether the server ends. A link that ends within this
-/// time counts as a failure.
+/// and after which a dialer that waits checks whether the server ends.
 const PATIENCE: u64 = 1_000;
 
 /// Dials the device at a port of this machine, delivers it to the door, and dials again after a
 /// delay when its link has ended, until the server ends. Nothing is dialled before the door is
 /// open.
 ///
-/// The delay grows after each dial that fails and after each link that ends within a second. An
-/// allocation failure counts as a dial that fails.
+/// The delay grows after each dial that fails and after each link on which the device sent nothing.
+/// An allocation failure counts as a dial that fails.
 pub fn dial<W: Net<Listener = TcpListener, Stream = TcpStream> + Wait>(
     rt: &W,
     alloc: Global,
@@ -46,14 +45,14 @@ pub fn dial<W: Net<Listener = TcpListener, Stream = TcpStream> + Wait>(
         return;
     }
     for _ in rt.forever() {
-        let lasted = match deliver(rt, alloc, port, serial, deliveries) {
-            Ok(line) => lasts(rt, &line, deliveries),
+        let served = match deliver(rt, alloc, port, serial, deliveries) {
+            Ok(line) => spoke(rt, &line, deliveries),
             Err(_) => false,
         };
         if deliveries.ending().is_set() {
             return;
         }
-        delay = if lasted { FIRST_DELAY } else { grown(delay) };
+        delay = if served { FIRST_DELAY } else { grown(delay) };
         Parker::new().park_timeout(rt, Duration::from_millis(delay));
     }
 }
@@ -104,18 +103,16 @@ fn connect<W: Net<Listener = TcpListener, Stream = TcpStream>>(
 }
 
 /// Waits until the link of a delivered device has ended or the server ends. Returns whether the
-/// link lasted for a second.
-fn lasts<W: Wait>(rt: &W, line: &Arc<Line, Global>, deliveries: &Deliveries) -> bool {
+/// device has sent bytes.
+fn spoke<W: Wait>(rt: &W, line: &Arc<Line, Global>, deliveries: &Deliveries) -> bool {
     let second = Duration::from_millis(PATIENCE);
-    line.wait(rt, second);
-    let lasted = !is_over(line);
     for _ in rt.forever() {
         if is_over(line) || deliveries.ending().is_set() {
             break;
         }
         line.wait(rt, second);
     }
-    lasted
+    line.has_spoken()
 }
 
 /// Returns whether a line has ended, or its device was dropped without a link.

@@ -16,6 +16,7 @@ use std::sync::Arc;
 #[derive(Drop)]
 pub struct TcpDeviceIn {
     stream: Arc<TcpStream, Global>,
+    line: Arc<Line, Global>,
     faults: u64,
 }
 
@@ -47,6 +48,7 @@ pub fn connected_device(
     let stream = Arc::new(alloc, stream)?;
     let input = TcpDeviceIn {
         stream: Arc::try_clone(&stream)?,
+        line: Arc::try_clone(line)?,
         faults: 0,
     };
     let output = TcpDeviceOut {
@@ -77,8 +79,10 @@ impl DeviceIn for TcpDeviceIn {
 
     fn read(&mut self, into: &mut [u8]) -> Got {
         let got = receive(&self.stream, into);
-        if got == Got::Failed {
-            self.faults = self.faults.saturating_add(1);
+        match got {
+            Got::Bytes(_) => self.line.speak(),
+            Got::Failed => self.faults = self.faults.saturating_add(1),
+            Got::End => {}
         }
         got
     }

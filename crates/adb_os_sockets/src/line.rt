@@ -6,10 +6,11 @@ use std::sync::{Arc, Wait};
 use std::thread::Parker;
 use std::time::Duration;
 
-/// Whether the link of a device has ended. The write half of the link shares it with the thread
-/// that dialled the device, which alone waits for the end.
+/// Whether the device of a link has sent anything, and whether the link has ended. The halves of
+/// the link share it with the thread that dialled the device, which alone waits for the end.
 #[derive(Drop)]
 pub struct Line {
+    spoken: AtomicBool,
     ended: AtomicBool,
     dialler: Parker,
 }
@@ -20,10 +21,21 @@ impl Line {
         Arc::new(
             alloc,
             Line {
+                spoken: AtomicBool::new(false),
                 ended: AtomicBool::new(false),
                 dialler: Parker::new(),
             },
         )
+    }
+
+    /// Notes that the device has sent bytes.
+    pub fn speak(&self) {
+        self.spoken.store(true, Ordering::SeqCst);
+    }
+
+    /// Returns whether the device has sent bytes.
+    pub fn has_spoken(&self) -> bool {
+        self.spoken.load(Ordering::SeqCst)
     }
 
     /// Ends the line and wakes the thread that waits for its end. The line stays ended.
