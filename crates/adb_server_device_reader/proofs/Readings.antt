@@ -286,6 +286,10 @@ rest_is start piece held rest faults cause same filled short ended =
     }
 
 -- where what was held was handed in
+pub handed_as : (b r : Bool) (t : ℕ) (piece : List ℕ) (entries : List Entry) (was starved : Bool) (now : Option Telling) → b ≡ r
+    → Handed b t piece entries was starved now → Handed r t piece entries was starved now
+handed_as b r t piece entries was starved now is = subst (λ (c : Bool). Handed c t piece entries was starved now) is
+
 pub done_held : (t m : ℕ) (start : Start) (piece held rest : List ℕ) (faults : ℕ) (cause : Cause) (was first starved : Bool)
     (old now new : Option Telling) (x : SoFar t start held rest was old) → piece ≡ held → (length piece == 0) ≡ false → 0 < need_of held
     → HasEndedBy start rest faults cause → m ≡ t → Handed true t piece (start.entries ++ received t x.slices) was first now

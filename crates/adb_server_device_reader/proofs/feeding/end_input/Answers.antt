@@ -1,6 +1,6 @@
 use Rattle.std.proofs.Common.{◌≡◌, sym, ◌∙◌, arith, length, true, false}
 use Rattle.std.specs.Prelude.{◌==◌}
-use Rattle.adb_server_device_reader.proofs.Readings.{short_fits, done_empty, done_held, done_stopped}
+use Rattle.adb_server_device_reader.proofs.Readings.{short_fits, done_empty, done_held, done_stopped, handed_as}
 use Rattle.adb_server_device_reader.proofs.feeding.end_input.Goals as goal
 
 pub hand_in-requires : goal.hand_in-requires
@@ -13,17 +13,19 @@ returns-then-is_empty-clause-told g c start rest faults ended x =
     c.args.pass.now.pass.starved c.finish.new.pass.pass.starved _ _ x c.held-held.ensures empty ended
     (c.finish.ensures.told _ x.hall)
 
-pub returns-then-hand_in-clause-told : goal.returns-then-hand_in-clause-told
-returns-then-hand_in-clause-told g c start rest faults ended x =
+pub returns-then-goes_on-clause-told : goal.returns-then-goes_on-clause-told
+returns-then-goes_on-clause-told g c start rest faults ended x =
     let filled : (length c.held-held.result.now == 0) ≡ false = sym c.is_empty.ensures ∙ c.if-is_empty.false in
     done_held c.args.pass.now.pass.number c.hand_in.new.pass.pass.number start c.held-held.result.now c.args.packets.now rest faults c.args.cause
-    c.args.pass.now.pass.starved c.hand_in.new.pass.pass.starved c.finish-then-hand_in.new.pass.pass.starved _ _ _ x c.held-held.ensures
+    c.args.pass.now.pass.starved c.hand_in.new.pass.pass.starved c.finish-then-goes_on.new.pass.pass.starved _ _ _ x c.held-held.ensures
     filled c.requires ended c.hand_in.ensures.number
-    (c.if-hand_in.ensures.told _ x.hall) c.finish-then-hand_in.ensures.told
+    (handed_as _ true _ _ _ _ _ _ (sym c.goes_on.ensures ∙ c.if-goes_on.true) (c.hand_in.ensures.told _ x.hall))
+    c.finish-then-goes_on.ensures.told
 
-pub returns-else-hand_in-clause-told : goal.returns-else-hand_in-clause-told
-returns-else-hand_in-clause-told g c start rest faults ended x =
+pub returns-else-goes_on-clause-told : goal.returns-else-goes_on-clause-told
+returns-else-goes_on-clause-told g c start rest faults ended x =
     let filled : (length c.held-held.result.now == 0) ≡ false = sym c.is_empty.ensures ∙ c.if-is_empty.false in
     done_stopped c.args.pass.now.pass.number start c.held-held.result.now c.args.packets.now rest faults c.args.cause c.args.pass.now.pass.starved
     c.hand_in.new.pass.pass.starved _ _ x
-    c.held-held.ensures filled c.requires ended (c.if-hand_in.ensures.told _ x.hall)
+    c.held-held.ensures filled c.requires ended
+    (handed_as _ false _ _ _ _ _ _ (sym c.goes_on.ensures ∙ c.if-goes_on.false) (c.hand_in.ensures.told _ x.hall))
