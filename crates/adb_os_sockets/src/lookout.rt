@@ -16,9 +16,11 @@ const MAX_EARLY: usize = 128;
 /// The connections that no worker reads yet.
 #[derive(Drop)]
 struct Unread {
-    /// The connection that the door returned last, until the door is called again.
+    /// Whether the door waits for connections.
+    is_awaited: bool,
+    /// The connection that the door returned last, until the door waits again.
     entering: Option<Arc<TcpStream, Global>>,
-    /// Connections that were accepted while the door was not called, the oldest first.
+    /// Connections that were accepted while the door did not wait, the oldest first.
     early: VecDeque<TcpStream>,
 }
 
@@ -36,6 +38,7 @@ impl Lookout {
         Lookout {
             listener: OnceLock::new(),
             unread: Mutex::new(Unread {
+                is_awaited: false,
                 entering: None,
                 early: VecDeque::new(alloc),
             }),
@@ -50,32 +53,41 @@ impl Lookout {
         Ok(())
     }
 
-    /// Returns a connection that was accepted early, the oldest. The door calls it before it waits,
-    /// and returned the connection of `enter` before that.
+    /// Returns a connection that was accepted early, the oldest. The door calls it before it waits.
     pub fn take_early<W: Wait>(&self, rt: &W) -> Option<TcpStream> {
         let mut unread = self.unread.lock(rt);
+        unread.is_awaited = true;
         unread.entering = None;
         unread.early.pop_front()
     }
 
-    /// Notes the connection that the door returns.
+    /// Says that the door no longer waits for connections.
+    pub fn leave<W: Wait>(&self, rt: &W) {
+        self.unread.lock(rt).is_awaited = false;
+    }
+
+    /// Says that the door no longer waits, since it returns a connection.
     pub(crate) fn enter<W: Wait>(&self, rt: &W, stream: &Arc<TcpStream, Global>) {
-        self.unread.lock(rt).entering = Arc::try_clone(stream).ok();
+        let mut unread = self.unread.lock(rt);
+        unread.is_awaited = false;
+        unread.entering = Arc::try_clone(stream).ok();
     }
 
     /// Returns whether a connection that no worker reads yet asks for a kill. Does not wait for
     /// connections or bytes.
     ///
-    /// While the door waits for connections, it finds a kill itself. Otherwise this accepts them in
-    /// its place.
+    /// While the door waits for connections, it takes them itself. Otherwise this accepts them in its
+    /// place.
     pub(crate) fn sees_a_kill<W: Wait>(&self, rt: &W) -> bool {
         let mut unread = self.unread.lock(rt);
         let unread = &mut *unread;
-        let Some(entering) = &unread.entering else {
+        if unread.is_awaited {
             return false;
-        };
-        if asks_for_a_kill(entering) {
-            return true;
+        }
+        if let Some(entering) = &unread.entering {
+            if asks_for_a_kill(entering) {
+                return true;
+            }
         }
         if let Some(listener) = self.listener.get() {
             accept_all(listener, &mut unread.early);

@@ -71,7 +71,8 @@ pub(crate) fn run_live<
         → ServesLive asked.port result.status (seen N.steady N.faults N.written) note.old note.new }
     ensures command { is_serve (texts words.now) ≡ true → result.status ≡ Status.Usage
         → serve_of (texts words.now) ≡ None }
-    ensures unasked { asks_record (texts words.now) ≡ false → result.history ≡ HistorySink.Returned history }
+    ensures unasked { asks_record (texts words.now) ≡ false
+        → result.history ≡ HistorySink.Returned history }
     ensures record { asks_record (texts words.now) ≡ true
         → GivesRecord R.written history result.status result.history }
 {

@@ -62,7 +62,8 @@ pub(crate) fn serve_live<
     ensures command { result.status ≡ Status.Usage → serve_of (texts words.now) ≡ None }
     ensures serves { (asked : Serving) → serve_of (texts words.now) ≡ Some asked
         → ServesLive asked.port result.status (seen N.steady N.faults N.written) note.old note.new }
-    ensures unasked { asks_record (texts words.now) ≡ false → result.history ≡ HistorySink.Returned history }
+    ensures unasked { asks_record (texts words.now) ≡ false
+        → result.history ≡ HistorySink.Returned history }
     ensures record { asks_record (texts words.now) ≡ true
         → GivesRecord R.written history result.status result.history }
 {
