@@ -102,12 +102,17 @@ impl<W: Wait + Drop> TcpDoor<W> {
         self.queue.shortages()
     }
 
-    /// Returns the next event at the listeners, and first each connection that the lookout accepted.
-    fn next(&mut self) -> Next {
-        match self.listeners.ending().lookout().take_early(&self.rt) {
-            Some(stream) => Next::Came(OWN, stream),
-            None => self.queue.next(&self.rt),
+    /// Returns the next event at the listeners, and before it each connection that the lookout
+    /// accepted.
+    fn next(&mut self) -> Next
+        ensures { self.new.faults ≡ self.old.faults }
+    {
+        if let Some(stream) = self.listeners.ending().lookout().take_early(&self.rt) {
+            return Next::Came(OWN, stream);
         }
+        let next = self.queue.next(&self.rt);
+        self.listeners.ending().lookout().leave(&self.rt);
+        next
     }
 
     /// Makes the two halves of a connection that came to a listener. If an allocation fails, the
