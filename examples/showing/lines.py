@@ -61,11 +61,11 @@ def text(data):
 
 
 def packet_text(packet):
-    first = f'0x{packet.first:08x}' if packet.command == 'CNXN' else packet.first
-    head = f'{packet.command} {first} {packet.second}'
-    if (credit := packet.credit()) is not None:
-        return f'{head} credit {credit}'
-    return f'{head}, {counted(packet.payload)}' if packet.payload else head
+    command, first = packet['command'], packet['arg0']
+    head = f'{command} 0x{first:08x} {packet["arg1"]}' if command == 'CNXN' else f'{command} {first} {packet["arg1"]}'
+    if 'credit' in packet:
+        return f'{head} credit {packet["credit"]}'
+    return f'{head}, {counted(packet["payload"])}' if packet['length'] else head
 
 
 def fields_text(entry):
@@ -78,7 +78,7 @@ def fields_text(entry):
 
 
 def data_text(entry, parts):
-    """The data of an entry: what it makes whole, what is wrong behind that, and the bytes that are left."""
+    """The data of an entry: the requests or packets that it completes, what is wrong after them, and the rest."""
     if 'text' not in entry:
         return fields_text(entry)
     whole, rest, fault = parts

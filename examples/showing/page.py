@@ -17,19 +17,19 @@ OF_STREAMS = ('OPEN', 'OKAY', 'WRTE', 'CLSE')
 
 def stream_of(kind, packet):
     """The stream of a packet, or 0 if it has none."""
-    if packet.command not in OF_STREAMS:
+    if packet['command'] not in OF_STREAMS:
         return 0
-    return packet.first if kind == 'send' else packet.second
+    return packet['arg0'] if kind == 'send' else packet['arg1']
 
 
 def shown(place, entry, parts):
     """An entry as the page reads it, without its bytes: see the first lines of the page's script."""
     lane = 'client' if 'client' in entry else 'link'
     words = line(place, {name: value for name, value in entry.items() if name not in ('ended', 'illegal')}, parts)
-    packets = parts[0] if parts and lane == 'link' else []
+    packets = entry.get('packets', ())
     streams = [stream for packet in packets if (stream := stream_of(entry['kind'], packet))]
-    opened = [[packet.first, packet.payload.rstrip(b'\0').decode(errors='replace')]
-              for packet in packets if packet.command == 'OPEN' and entry['kind'] == 'send']
+    opened = [[packet['arg0'], packet['service'].encode('latin-1').decode(errors='replace')]
+              for packet in packets if packet['command'] == 'OPEN' and entry['kind'] == 'send']
     ended = [[end['stream'], end['client'], ENDINGS[end['cause']]] for end in entry.get('ended', ())]
     row = [words[7:].strip(), lane, entry[lane], list(dict.fromkeys(streams)) or 0, opened or 0, ended or 0, entry.get('illegal', 0)]
     while not row[-1]:

@@ -1,7 +1,8 @@
 -- Four bytes that are written by their numbers.
 use Rattle.std.proofs.Common.{ℕ, ◌-◌, ◌≡◌, ◌≤◌, List, [], ◌∷◌, ◌++◌, length, take, drop, get_or, sym, ◌∙◌, ap, subst, arith}
 use Rattle.std.specs.List.{flat_map}
-use Rattle.std.proofs.lemmas.List.{append_assoc, take_all}
+use Rattle.std.proofs.lemmas.List.{append_assoc, take_all, take-append-drop}
+use Rattle.std.proofs.lemmas.List.Concat.{flat_map-append}
 use Rattle.adb_entry_lines.specs.Text.{by_number, escaped}
 
 -- each of them is
@@ -40,3 +41,14 @@ front_pushed old new (a ∷ b ∷ c ∷ d ∷ more) long is pushed =
   where
     rest : take (length (a ∷ b ∷ c ∷ d ∷ more) - 4) more ≡ more
     rest = take_all (length (a ∷ b ∷ c ∷ d ∷ more) - 4) more (omega arith)
+
+-- the first bytes of some, which need no escape
+pub chunk_pushed : (old new bytes chunk rest : List ℕ) (n : ℕ) → new ≡ old ++ chunk → flat_map escaped chunk ≡ chunk → chunk ≡ take n bytes
+    → rest ≡ drop n bytes → new ++ flat_map escaped rest ≡ old ++ flat_map escaped bytes
+chunk_pushed old new bytes chunk rest n pushed plain front back =
+    ap (λ (x : List ℕ). x ++ flat_map escaped rest) pushed ∙ (append_assoc old chunk (flat_map escaped rest)
+    ∙ ap (λ (x : List ℕ). old ++ x) (ap (λ (x : List ℕ). x ++ flat_map escaped rest) (sym plain)
+    ∙ (sym (flat_map-append escaped chunk rest) ∙ ap (flat_map escaped) joined)))
+  where
+    joined : chunk ++ rest ≡ bytes
+    joined = ap (λ (x : List ℕ). x ++ rest) front ∙ (ap (λ (x : List ℕ). take n bytes ++ x) back ∙ take-append-drop n bytes)

@@ -7,7 +7,7 @@ use Rattle.adb_outside.specs.declared.kinds.Cause.TheVariants.{Eof, Fault, Starv
 use Rattle.adb_capture.specs.Records.{number_of}
 use Rattle.adb_capture.specs.declared.entry.Entry.{Entry}
 use Rattle.adb_capture.specs.declared.entry.Entry.TheVariants.{Join, Enter, Read, End, Bound, Attach, Recv, Detach, Put, Send}
-use Rattle.adb_entry_lines.specs.Text.{quoted, numbered, named, payload}
+use Rattle.adb_entry_lines.specs.Text.{string, numbered, named, payload}
 use Rattle.adb_entry_lines.specs.declared.payload.Payloads.{Payloads}
 
 -- what an entry is, up to the number of its client or link
@@ -40,7 +40,7 @@ abbrev pub cause_field : Cause → List ℕ
 cause_field cause = named (codes ",\"cause\":\"") (cause_text cause)
 
 abbrev pub device_fields : Kind → List ℕ → List ℕ
-device_fields kind serial = named (codes ",\"plug\":\"") (plug_text kind) ++ (codes ",\"serial\":" ++ quoted serial)
+device_fields kind serial = named (codes ",\"plug\":\"") (plug_text kind) ++ string (codes ",\"serial\":\"") serial
 
 -- what it has besides
 abbrev pub data_fields : Payloads → Entry → List ℕ
@@ -58,7 +58,7 @@ data_fields payloads (Send link bytes) = payload payloads bytes
 -- the serial of the device of the link that it names, where there is one
 abbrev pub serial_field : List ℕ → List ℕ
 serial_field [] = []
-serial_field (b ∷ serial) = codes ",\"serial\":" ++ quoted (b ∷ serial)
+serial_field (b ∷ serial) = string (codes ",\"serial\":\"") (b ∷ serial)
 
 -- The fields of an entry: its place in the history, counted from 1, its kind, whom it names, that device, and what it has.
 abbrev pub entry_fields : Payloads → ℕ → List ℕ → Entry → List ℕ

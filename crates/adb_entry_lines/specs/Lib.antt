@@ -1,2 +1,4 @@
 pub mod Text
 pub mod Fields
+pub mod Packets
+pub mod Requests

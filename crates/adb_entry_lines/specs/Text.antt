@@ -24,6 +24,10 @@ escaped byte =
 abbrev pub quoted : List ℕ → List ℕ
 quoted bytes = codes "\"" ++ (flat_map escaped bytes ++ codes "\"")
 
+-- bytes as a JSON string after the text that names it, which has the quote that opens the string
+abbrev pub string : List ℕ → List ℕ → List ℕ
+string name bytes = name ++ (flat_map escaped bytes ++ codes "\"")
+
 -- a number after the text that names it
 abbrev pub numbered : List ℕ → ℕ → List ℕ
 numbered name number = name ++ decimal number
@@ -34,7 +38,7 @@ named name text = name ++ (text ++ codes "\"")
 
 -- the bytes of an entry themselves, where they are shown
 abbrev pub shown : Payloads → List ℕ → List ℕ
-shown Whole bytes = codes ",\"text\":" ++ quoted bytes
+shown Whole bytes = string (codes ",\"text\":\"") bytes
 shown Lengths bytes = []
 
 -- the bytes of an entry: their number, and themselves

@@ -8,7 +8,7 @@ ghost use Rattle.adb_entry_lines.specs.Fields.{entry_fields, kind_label, plug_te
 ghost use Rattle.adb_entry_lines.specs.Text.{payload};
 
 use crate::payload::Payloads;
-use crate::text::{push_escaped, push_named, push_numbered, push_quoted};
+use crate::text::{push_escaped, push_named, push_numbered, push_string};
 use adb_capture::Lent;
 use adb_outside::{Cause, Kind, Parts, Text};
 use std::alloc::AllocError;
@@ -41,8 +41,7 @@ fn push_serial(text: &mut Text, serial: &[u8]) -> Result<(), AllocError>
     if serial.is_empty() {
         return Ok(());
     }
-    text.push_slice(b",\"serial\":")?;
-    push_quoted(text, serial)
+    push_string(text, b",\"serial\":\"", serial)
 }
 
 /// Returns the text of an entry's kind, up to the number of its client or link.
@@ -119,8 +118,7 @@ fn push_device(text: &mut Text, kind: Kind, serial: &[u8]) -> Result<(), AllocEr
     ensures { OnOk result (text.new ≡ text.old ++ device_fields kind serial.now) }
 {
     push_named(text, b",\"plug\":\"", plug_text(kind))?;
-    text.push_slice(b",\"serial\":")?;
-    push_quoted(text, serial)
+    push_string(text, b",\"serial\":\"", serial)
 }
 
 fn plug_text(kind: Kind) -> &'static [u8]
@@ -139,10 +137,7 @@ fn push_bytes(text: &mut Text, payloads: Payloads, bytes: &[u8]) -> Result<(), A
     push_numbered(text, b",\"bytes\":", bytes.len() as u64)?;
     match payloads {
         Payloads::Lengths => Ok(()),
-        Payloads::Whole => {
-            text.push_slice(b",\"text\":")?;
-            push_quoted(text, bytes)
-        }
+        Payloads::Whole => push_string(text, b",\"text\":\"", bytes),
     }
 }
 

@@ -2,9 +2,13 @@
 #![tactic(auto)]
 
 mod fields;
+mod packets;
 mod payload;
+mod requests;
 mod text;
 
 pub use fields::push_entry;
+pub use packets::push_packets;
 pub use payload::Payloads;
-pub use text::{push_named, push_numbered, push_quoted};
+pub use requests::push_requests;
+pub use text::{push_named, push_numbered};

@@ -1,11 +1,17 @@
 //! Text of JSON fields: bytes as a string, and values after their names.
 
 ghost use Rattle.std.specs.Prelude.{◌≡◌, ◌<◌, ◌≤◌, ◌∷◌, ◌++◌, [], true, IfOk, OnOk, flat_map, length, take};
-ghost use Rattle.adb_entry_lines.specs.Text.{by_number, escaped, hex_digit, named, numbered, quoted};
+ghost use Rattle.adb_entry_lines.specs.Text.{by_number, escaped, hex_digit, named, numbered, quoted, string};
 
 use adb_outside::Text;
 use itoa::Buffer;
 use std::alloc::AllocError;
+
+/// The number of bytes that are tested at a time: those of a vector register.
+const CHUNK: usize = 16;
+
+/// The hexadecimal digits.
+const DIGITS: [u8; 16] = *b"0123456789abcdef";
 
 /// Appends bytes as a JSON string. Printable ASCII stays as it is; the quote and the backslash are
 /// escaped, and any other byte is written as `\u00XX`.
@@ -15,6 +21,17 @@ pub fn push_quoted(text: &mut Text, bytes: &[u8]) -> Result<(), AllocError>
     ensures { OnOk result (text.new ≡ text.old ++ quoted bytes.now) }
 {
     text.push_slice(b"\"")?;
+    push_escaped(text, bytes)?;
+    text.push_slice(b"\"")
+}
+
+/// Appends a name, which ends with a quote, and bytes as the string that the quote opens.
+///
+/// - `AllocError`: an allocation failed. A prefix of the text may have been appended.
+pub fn push_string(text: &mut Text, name: &[u8], bytes: &[u8]) -> Result<(), AllocError>
+    ensures { OnOk result (text.new ≡ text.old ++ string name.now bytes.now) }
+{
+    text.push_slice(name)?;
     push_escaped(text, bytes)?;
     text.push_slice(b"\"")
 }
@@ -77,6 +94,22 @@ fn push_plain<'a>(text: &mut Text, bytes: &'a [u8]) -> Result<&'a [u8], AllocErr
         ≡ text.old ++ flat_map escaped bytes.entry.now) }
     ensures fewer { IfOk result (λ rest. length rest.now < length bytes.entry.now) }
 {
+    if let Some((chunk, rest)) = bytes.split_first_chunk::<CHUNK>() {
+        if are_plain(chunk) {
+            text.push_slice(chunk)?;
+            return Ok(rest);
+        }
+    }
+    push_few(text, bytes)
+}
+
+/// Does the same, byte by byte.
+fn push_few<'a>(text: &mut Text, bytes: &'a [u8]) -> Result<&'a [u8], AllocError>
+    requires some { 0 < length bytes.now }
+    ensures pushed { IfOk result (λ rest. text.new ++ flat_map escaped rest.now
+        ≡ text.old ++ flat_map escaped bytes.entry.now) }
+    ensures fewer { IfOk result (λ rest. length rest.now < length bytes.entry.now) }
+{
     let run = plain_run(bytes);
     if run > 0 {
         let (plain, rest) = bytes.split_at(run);
@@ -88,6 +121,18 @@ fn push_plain<'a>(text: &mut Text, bytes: &'a [u8]) -> Result<&'a [u8], AllocErr
     };
     push_byte(text, *byte)?;
     Ok(rest)
+}
+
+/// Returns whether none of the bytes needs an escape. Tests all of them without a branch, so that
+/// the compiler can test many at a time.
+fn are_plain(bytes: &[u8; CHUNK]) -> bool
+    ensures { result ≡ true → flat_map escaped bytes.now ≡ bytes.now }
+{
+    let mut are_plain = true;
+    for byte in bytes {
+        are_plain &= is_plain(*byte);
+    }
+    are_plain
 }
 
 /// Returns whether each of four bytes is written as `\u00XX`.
@@ -188,9 +233,5 @@ fn digit_of(value: u8) -> u8
     requires { value < 16 }
     ensures { result ≡ hex_digit value }
 {
-    if value < 10 {
-        b'0' + value
-    } else {
-        b'a' - 10 + value
-    }
+    DIGITS[usize::from(value)]
 }

@@ -7,13 +7,12 @@ use Rattle.adb_capture.specs.declared.error.CaptureError.{CaptureError}
 use Rattle.adb_capture.specs.declared.error.CaptureError.TheVariants as capture
 use Rattle.adb_capture_reader.specs.Reading.{Reading, ahead_of}
 use Rattle.adb_history.specs.Machine.{History, IsLegal}
-use Rattle.adb_history.specs.Kept.{Kept, IsLawful}
 use Rattle.adb_history.specs.Refusal.{refusal_by}
 use Rattle.adb_history.specs.declared.refusal.Refusal.{Refusal}
 use Rattle.adb_check.specs.Capture.{IsRefusedAs}
 use Rattle.adb_check.specs.FirstBad.{IsFirstBad}
 use Rattle.adb_check.specs.Formed.{formed, formed_ahead, history_of}
-use Rattle.adb_check.specs.Judging.{Judging, Takes}
+use Rattle.adb_check.specs.Judging.{Judging}
 use Rattle.adb_check.specs.declared.capture.Judgement.TheVariants as judged
 use Rattle.adb_check.specs.declared.verdict.Rule.{Rule}
 use Rattle.adb_check.proofs.Captured.{Came, Gives, JudgingOn, Turn, judging_first, judging_over, judging_stopped}
@@ -24,15 +23,17 @@ use Rattle.adb_replay.specs.Stop.{fault_of, refused_or, stop_of}
 use Rattle.adb_replay.specs.declared.stop.Stop.{Stop}
 use Rattle.adb_replay.specs.declared.stop.Stop.TheVariants as stop
 use Rattle.adb_entry_lines.specs.declared.payload.Payloads.{Payloads}
+use Rattle.adb_explain.specs.Begun.{Comes, Explains}
+use Rattle.adb_explain.specs.declared.machine.Machine.{Machine}
 use Rattle.adb_explain.specs.Explaining.{Begins, KeepsFirst, KeepsIllegal, KeepsAll, EndsAs, LosesPart, IsText}
 use Rattle.adb_explain.specs.Lines.{lines}
 use Rattle.adb_explain.specs.Making.{KeepsLine, LosesLine, Explained, lines_by}
 
 -- The lines of the entries given so far are kept.
 pub record ExplainingOn (before start : Option (List ℕ)) (payloads : Payloads) (now : Reading) (left : Option (List ℕ)) (entries : ℕ)
-    (holds : Kept) (out : Out) : Type 0 where
+    (holds : Machine) (out : Out) : Type 0 where
   pub given : History
-  pub lawful : IsLawful holds given
+  pub explains : Explains holds given
   pub count : entries ≡ length given
   pub few : entries ≤ now.offset
   pub sound : now.failed ≡ None
@@ -40,20 +41,20 @@ pub record ExplainingOn (before start : Option (List ℕ)) (payloads : Payloads)
   pub kept : (had : List ℕ) → start ≡ Some had → Keeps had (lines payloads given) out
 
 -- a judge that found no entry which may not come
-abbrev judging : Kept → Judging
-judging holds = record { holds = holds; broken = None }
+abbrev judging : Machine → Judging
+judging m = record { holds = m.hub; broken = None }
 
 -- no entry was given
 none_given : (given : History) → 0 ≡ length given → given ≡ []
 none_given [] count = refl
 none_given (e ∷ given) count = absurd (omega (arith, count))
 
-pub explaining_first : (before start : Option (List ℕ)) (payloads : Payloads) (now : Reading) (holds : Kept) (gathered : List ℕ)
-    → now ≡ record { opened = false; offset = 8; held = []; failed = None } → IsLawful holds [] → gathered ≡ []
+pub explaining_first : (before start : Option (List ℕ)) (payloads : Payloads) (now : Reading) (holds : Machine) (gathered : List ℕ)
+    → now ≡ record { opened = false; offset = 8; held = []; failed = None } → Explains holds [] → gathered ≡ []
     → ExplainingOn before start payloads now before 0 holds (start, gathered)
-explaining_first before start payloads now holds gathered is lawful none = record {
+explaining_first before start payloads now holds gathered is explains none = record {
   given = [];
-  lawful = lawful;
+  explains = explains;
   count = refl;
   few = on.few;
   sound = on.sound;
@@ -62,17 +63,17 @@ explaining_first before start payloads now holds gathered is lawful none = recor
 }
   where
     on : JudgingOn before now before 0 (judging holds)
-    on = judging_first before now (judging holds) is lawful
+    on = judging_first before now (judging holds) is explains.lawful
 
 -- ---- an entry comes
 -- An entry that may come was explained.
-pub explaining_on : {before start : Option (List ℕ)} {payloads : Payloads} {entries : ℕ} {holds : Kept} {out : Out} (t : Turn) (new : Kept)
+pub explaining_on : {before start : Option (List ℕ)} {payloads : Payloads} {entries : ℕ} {holds : Machine} {out : Out} (t : Turn) (new : Machine)
     (after : Out) → (x : ExplainingOn before start payloads t.now t.left entries holds out)
     → KeepsLine None payloads t.entry x.given new out after → t.new.failed ≡ None
     → ExplainingOn before start payloads t.new t.after (entries + 1) new after
 explaining_on t new after x k sound = record {
   given = t.entry ∷ x.given;
-  lawful = k.comes;
+  explains = k.comes;
   count = ap (λ n. n + 1) x.count ∙ omega arith;
   few = omega (arith, x.few, (t.given x.sound).moves.on);
   sound = sound;
@@ -93,12 +94,12 @@ given_within {all = all} t given sound c =
     history_came (came_next all t.now t.left given t.new t.after t.offset t.entry (t.given sound) c)
 
 -- an entry that may not come is no legal one
-not_legal : (e : Entry) (h : History) (new : Kept) (rule : Rule) → IsLegal h → Takes (Some rule) e h new → ¬ IsLegal (e ∷ h)
+not_legal : (e : Entry) (h : History) (new : Machine) (rule : Rule) → IsLegal h → Comes (Some rule) e h new → ¬ IsLegal (e ∷ h)
 not_legal e h new rule legal taken =
-    let says = (places.judged e h new (Some rule) legal taken).0 in places.no_legal (e ∷ h) _ says.1
+    let says = (places.judged e h new.hub (Some rule) legal taken).0 in places.no_legal (e ∷ h) _ says.1
 
 -- The line of an entry that may not come is kept.
-pub kept_illegal : {before start : Option (List ℕ)} {payloads : Payloads} {entries : ℕ} {holds : Kept} {out : Out} (t : Turn) (new : Kept)
+pub kept_illegal : {before start : Option (List ℕ)} {payloads : Payloads} {entries : ℕ} {holds : Machine} {out : Out} (t : Turn) (new : Machine)
     (after : Out) (rule : Rule) → (x : ExplainingOn before start payloads t.now t.left entries holds out)
     → KeepsLine (Some rule) payloads t.entry x.given new out after → (all had : List ℕ) → before ≡ Some all → start ≡ Some had
     → KeepsIllegal payloads (history_of (formed all)) (entries + 1) rule had after
@@ -108,8 +109,8 @@ kept_illegal t new after rule x k all had was has = record {
     entry = t.entry;
     earlier = x.given;
     is = given_within t x.given x.sound (x.came all was);
-    legal = x.lawful.legal;
-    illegal = not_legal t.entry x.given new rule x.lawful.legal k.comes;
+    legal = x.explains.lawful.legal;
+    illegal = not_legal t.entry x.given new rule x.explains.lawful.legal k.comes;
     at = ap (λ n. n + 1) x.count;
     breaks = k.comes;
   };
@@ -117,7 +118,7 @@ kept_illegal t new after rule x k all had was has = record {
 }
 
 -- It is the first bad one.
-pub first_illegal : {before start : Option (List ℕ)} {payloads : Payloads} {entries : ℕ} {holds : Kept} {out : Out} (t : Turn) (new : Kept)
+pub first_illegal : {before start : Option (List ℕ)} {payloads : Payloads} {entries : ℕ} {holds : Machine} {out : Out} (t : Turn) (new : Machine)
     (after : Out) (rule : Rule) → (x : ExplainingOn before start payloads t.now t.left entries holds out)
     → KeepsLine (Some rule) payloads t.entry x.given new out after → (all : List ℕ) → before ≡ Some all
     → IsFirstBad (history_of (formed all)) (record { place = entries + 1; rule = rule })
@@ -126,26 +127,26 @@ first_illegal t new after rule x k all was = record {
   entry = t.entry;
   earlier = x.given;
   is = given_within t x.given x.sound (x.came all was);
-  legal = x.lawful.legal;
-  illegal = not_legal t.entry x.given new rule x.lawful.legal k.comes;
+  legal = x.explains.lawful.legal;
+  illegal = not_legal t.entry x.given new rule x.explains.lawful.legal k.comes;
   at = ap (λ n. n + 1) x.count;
   breaks = k.comes;
 }
 
 -- the entries given so far begin the history
-pub begins_so : {before start : Option (List ℕ)} {payloads : Payloads} {now : Reading} {left : Option (List ℕ)} {entries : ℕ} {holds : Kept}
+pub begins_so : {before start : Option (List ℕ)} {payloads : Payloads} {now : Reading} {left : Option (List ℕ)} {entries : ℕ} {holds : Machine}
     {out : Out} → (x : ExplainingOn before start payloads now left entries holds out) → (all : List ℕ) → before ≡ Some all
     → Begins x.given (history_of (formed all))
 begins_so {now = now} {left = left} x all was = record {
   later = reverse (formed_ahead now.offset (ahead_of now left)).entries;
   is = history_came (x.came all was);
-  legal = x.lawful.legal;
+  legal = x.explains.lawful.legal;
 }
 
 -- ---- the sink fails
 -- the text that was to be kept
-text_so : {before start : Option (List ℕ)} {payloads : Payloads} {entries : ℕ} {holds : Kept} {out : Out} (t : Turn) (new : Kept)
-    (broken : Option Rule) → (x : ExplainingOn before start payloads t.now t.left entries holds out) → Takes broken t.entry x.given new
+text_so : {before start : Option (List ℕ)} {payloads : Payloads} {entries : ℕ} {holds : Machine} {out : Out} (t : Turn) (new : Machine)
+    (broken : Option Rule) → (x : ExplainingOn before start payloads t.now t.left entries holds out) → Comes broken t.entry x.given new
     → (all : List ℕ) → before ≡ Some all
     → IsText payloads (history_of (formed all)) (lines_by broken payloads t.entry x.given)
 text_so t new None x comes all was = inl (
@@ -153,7 +154,7 @@ text_so t new None x comes all was = inl (
   record {
     later = reverse (formed_ahead t.new.offset (ahead_of t.new t.after)).entries;
     is = given_within t x.given x.sound (x.came all was);
-    legal = comes.legal;
+    legal = comes.lawful.legal;
   },
   refl,
 )
@@ -165,15 +166,15 @@ text_so {entries = entries} t new (Some rule) x comes all was = inr (
     entry = t.entry;
     earlier = x.given;
     is = given_within t x.given x.sound (x.came all was);
-    legal = x.lawful.legal;
-    illegal = not_legal t.entry x.given new rule x.lawful.legal comes;
+    legal = x.explains.lawful.legal;
+    illegal = not_legal t.entry x.given new rule x.explains.lawful.legal comes;
     at = ap (λ n. n + 1) x.count;
     breaks = comes;
   },
   refl,
 )
 
-pub lost_part : {before start : Option (List ℕ)} {payloads : Payloads} {entries : ℕ} {holds : Kept} {out : Out} (t : Turn) (after : Out)
+pub lost_part : {before start : Option (List ℕ)} {payloads : Payloads} {entries : ℕ} {holds : Machine} {out : Out} (t : Turn) (after : Out)
     → (x : ExplainingOn before start payloads t.now t.left entries holds out) → LosesLine payloads t.entry x.given out after
     → (all had : List ℕ) → before ≡ Some all → start ≡ Some had → LosesPart payloads (history_of (formed all)) had after
 lost_part {payloads = payloads} t after x l all had was has = record {
@@ -183,7 +184,7 @@ lost_part {payloads = payloads} t after x l all had was has = record {
 }
 
 -- No line was kept of an entry that came: the sink failed, or an allocation did.
-pub kept_broken : {before start : Option (List ℕ)} {payloads : Payloads} {entries : ℕ} {holds : Kept} {out : Out} (t : Turn) (new : Kept)
+pub kept_broken : {before start : Option (List ℕ)} {payloads : Payloads} {entries : ℕ} {holds : Machine} {out : Out} (t : Turn) (new : Machine)
     (after : Out) (why : Stop) → (x : ExplainingOn before start payloads t.now t.left entries holds out)
     → Explained (Err why) payloads t.entry x.given new out after → (all had : List ℕ) → before ≡ Some all → start ≡ Some had
     → KeepsAll (Err why) payloads (formed all) had after
@@ -194,21 +195,21 @@ kept_broken t new after stop.OutOfMemory x ended all had was has =
 kept_broken t new after (stop.Refused why) x ended all had was has = absurd ended
 
 -- the same line, by other words for what it is of
-pub line_so : {broken other : Option Rule} {payloads shown : Payloads} {e : Entry} {h : History} {new : Kept} {before after : Out}
+pub line_so : {broken other : Option Rule} {payloads shown : Payloads} {e : Entry} {h : History} {new : Machine} {before after : Out}
     → broken ≡ other → payloads ≡ shown → KeepsLine broken payloads e h new before after → KeepsLine other shown e h new before after
 line_so {broken} {other} {payloads} {shown} {e} {h} {new} {before} {after} is same k =
     subst (λ (p : Payloads). KeepsLine other p e h new before after) same
     (subst (λ (o : Option Rule). KeepsLine o payloads e h new before after) is k)
 
 -- ---- the source ends, or the reader stops
-module _ {before start : Option (List ℕ)} {payloads : Payloads} {now : Reading} {left : Option (List ℕ)} {entries : ℕ} {holds : Kept}
+module _ {before start : Option (List ℕ)} {payloads : Payloads} {now : Reading} {left : Option (List ℕ)} {entries : ℕ} {holds : Machine}
     {out : Out}
     (new : Reading) (after : Option (List ℕ)) (x : ExplainingOn before start payloads now left entries holds out) where
   judging_of : JudgingOn before now left entries (judging holds)
   judging_of = record {
     given = x.given;
-    judges = x.lawful;
-    legal = x.lawful.legal;
+    judges = x.explains.lawful;
+    legal = x.explains.lawful.legal;
     count = x.count;
     few = x.few;
     sound = x.sound;

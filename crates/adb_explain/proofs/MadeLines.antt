@@ -22,6 +22,9 @@ use Rattle.adb_replay.specs.declared.stop.Stop.{Stop}
 use Rattle.adb_replay.specs.declared.stop.Stop.TheVariants as stop
 use Rattle.adb_entry_lines.specs.Fields.{entry_fields}
 use Rattle.adb_entry_lines.specs.declared.payload.Payloads.{Payloads}
+use Rattle.adb_explain.specs.Begun.{Explains, Comes, HasBegun}
+use Rattle.adb_explain.specs.Completed.{completed_fields}
+use Rattle.adb_explain.specs.declared.machine.Machine.{Machine}
 use Rattle.adb_explain.specs.Lines.{fields, made_fields, serial_at, end_by, lines}
 use Rattle.adb_explain.specs.Making.{Reports, line_by, MakesLine, Explained}
 
@@ -56,10 +59,10 @@ reports_refused s e h why ends going input refused = go (reason_rule why) (refus
 -- the line is its fields, and what was made
 pub line_is : (broken : Option Rule) (payloads : Payloads) (e : Entry) (h : History) (place : ℕ) (old new : Kept) (ends : List Ended)
     → IsLawful old h → Takes broken e h new → Reports broken e h ends → place ≡ length h + 1
-    → entry_fields payloads place (serial_at e old) e ++ end_by broken ends new ≡ line_by broken payloads e h
+    → entry_fields payloads place (serial_at e old) e ++ completed_fields e h ++ end_by broken ends new ≡ line_by broken payloads e h
 line_is broken payloads e h place old new ends lawful taken reports at =
-    ap (λ (n : ℕ). entry_fields payloads n (serial_at e old) e ++ end_by broken ends new) at
-    ∙ (ap (λ (k : Kept). entry_fields payloads (length h + 1) (serial_at e k) e ++ end_by broken ends new) lawful.seen
+    ap (λ (n : ℕ). entry_fields payloads n (serial_at e old) e ++ completed_fields e h ++ end_by broken ends new) at
+    ∙ (ap (λ (k : Kept). entry_fields payloads (length h + 1) (serial_at e k) e ++ completed_fields e h ++ end_by broken ends new) lawful.seen
     ∙ ended broken taken reports)
   where
     ended : (broken : Option Rule) → Takes broken e h new → Reports broken e h ends
@@ -69,8 +72,14 @@ line_is broken payloads e h place old new ends lawful taken reports at =
         ∙ ap (λ (k : Kept). fields payloads e h ++ made_fields (endings_at e h) k) taken.seen
     ended (Some rule) taken reports = refl
 
+-- what is held when an entry was made
+pub comes_so : (broken : Option Rule) (e : Entry) (h : History) (m : Machine) → Takes broken e h m.hub
+    → (IsLawful m.hub (e ∷ h) → HasBegun m.unread m.unsent (e ∷ h)) → Comes broken e h m
+comes_so None e h m taken begun = record { lawful = taken; begun = begun taken }
+comes_so (Some rule) e h m taken begun = taken
+
 -- the line was made and kept
-pub line_kept : (broken : Option Rule) (payloads : Payloads) (e : Entry) (h : History) (new : Kept) (text : List ℕ) (before after : Out)
+pub line_kept : (broken : Option Rule) (payloads : Payloads) (e : Entry) (h : History) (new : Machine) (text : List ℕ) (before after : Out)
     → MakesLine broken payloads e h new text → KeepsBytes (Ok tt) text before after
     → Explained (Ok broken) payloads e h new before after
 line_kept broken payloads e h new text before after m kept = record {
@@ -79,7 +88,7 @@ line_kept broken payloads e h new text before after m kept = record {
 }
 
 -- it was made, and is lost
-pub line_lost : (why : Stop) (broken : Option Rule) (payloads : Payloads) (e : Entry) (h : History) (new : Kept) (text : List ℕ)
+pub line_lost : (why : Stop) (broken : Option Rule) (payloads : Payloads) (e : Entry) (h : History) (new : Machine) (text : List ℕ)
     (before after : Out)
     → MakesLine broken payloads e h new text → KeepsBytes (Err why) text before after → IsLoss (Err why)
     → Explained (Err why) payloads e h new before after

@@ -1,3 +1,5 @@
+pub mod Completed
+pub mod Begun
 pub mod Lines
 pub mod Making
 pub mod Explaining

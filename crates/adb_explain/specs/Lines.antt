@@ -13,6 +13,7 @@ use Rattle.adb_check.specs.declared.verdict.Rule.{Rule}
 use Rattle.adb_entry_lines.specs.Text.{numbered, named}
 use Rattle.adb_entry_lines.specs.Fields.{entry_fields}
 use Rattle.adb_entry_lines.specs.declared.payload.Payloads.{Payloads}
+use Rattle.adb_explain.specs.Completed.{completed_fields}
 
 -- a stream that ended, and why
 unfoldable pub ended_object : Ended → List ℕ
@@ -61,9 +62,9 @@ serial_at (Detach t cause) k = serial_of t k.devices
 serial_at (Send t bytes) k = serial_of t k.devices
 serial_at _ k = []
 
--- the fields of an entry behind a history
+-- the fields of an entry behind a history, and the requests or packets that it completes
 abbrev pub fields : Payloads → Entry → History → List ℕ
-fields payloads e older = entry_fields payloads (length older + 1) (serial_at e (kept (state older))) e
+fields payloads e older = entry_fields payloads (length older + 1) (serial_at e (kept (state older))) e ++ completed_fields e older
 
 -- the line of an entry behind a history
 abbrev pub line : Payloads → Entry → History → List ℕ

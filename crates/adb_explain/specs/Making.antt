@@ -2,15 +2,15 @@
 use Rattle.std.specs.Prelude.{ℕ, ◌≡◌, List, ◌++◌, Option, Some, None, Result, Ok, Err}
 use Rattle.adb_capture.specs.declared.entry.Entry.{Entry}
 use Rattle.adb_history.specs.Machine.{History}
-use Rattle.adb_history.specs.Kept.{Kept}
 use Rattle.adb_hub_tables.specs.Endings.{endings_at}
 use Rattle.adb_hub_tables.specs.declared.endings.Ended.{Ended}
-use Rattle.adb_check.specs.Judging.{Takes}
 use Rattle.adb_check.specs.declared.verdict.Rule.{Rule}
 use Rattle.adb_replay.specs.Keeping.{Out, Keeps, LosesRest}
 use Rattle.adb_replay.specs.declared.stop.Stop.{Stop}
 use Rattle.adb_replay.specs.declared.stop.Stop.TheVariants as stop
 use Rattle.adb_entry_lines.specs.declared.payload.Payloads.{Payloads}
+use Rattle.adb_explain.specs.Begun.{Comes}
+use Rattle.adb_explain.specs.declared.machine.Machine.{Machine}
 use Rattle.adb_explain.specs.Lines.{line, illegal_line, lines}
 
 -- how a call ended, whatever it made
@@ -29,8 +29,8 @@ line_by None payloads e h = line payloads e h
 line_by (Some rule) payloads e h = illegal_line payloads e h rule
 
 -- The line of an entry was made.
-pub record MakesLine (broken : Option Rule) (payloads : Payloads) (e : Entry) (h : History) (new : Kept) (text : List ℕ) : Type 0 where
-  pub comes : Takes broken e h new
+pub record MakesLine (broken : Option Rule) (payloads : Payloads) (e : Entry) (h : History) (new : Machine) (text : List ℕ) : Type 0 where
+  pub comes : Comes broken e h new
   pub is : text ≡ line_by broken payloads e h
 
 -- the lines up to that of an entry
@@ -38,19 +38,19 @@ abbrev pub lines_by : Option Rule → Payloads → Entry → History → List �
 lines_by broken payloads e h = lines payloads h ++ line_by broken payloads e h
 
 -- The line was kept too.
-pub record KeepsLine (broken : Option Rule) (payloads : Payloads) (e : Entry) (h : History) (new : Kept) (before after : Out) : Type 0 where
-  pub comes : Takes broken e h new
+pub record KeepsLine (broken : Option Rule) (payloads : Payloads) (e : Entry) (h : History) (new : Machine) (before after : Out) : Type 0 where
+  pub comes : Comes broken e h new
   pub kept : (had : List ℕ) → Keeps had (lines payloads h) before → Keeps had (lines_by broken payloads e h) after
 
 -- The sink failed over the line.
 pub record LosesLine (payloads : Payloads) (e : Entry) (h : History) (before after : Out) : Type 0 where
   pub broken : Option Rule
-  pub new : Kept
-  pub comes : Takes broken e h new
+  pub new : Machine
+  pub comes : Comes broken e h new
   pub lost : (had : List ℕ) → Keeps had (lines payloads h) before → LosesRest had (lines_by broken payloads e h) after
 
 -- An entry was explained; after an allocation failure the lines are those before it.
-abbrev pub Explained : Result (Option Rule) Stop → Payloads → Entry → History → Kept → Out → Out → Type 0
+abbrev pub Explained : Result (Option Rule) Stop → Payloads → Entry → History → Machine → Out → Out → Type 0
 Explained (Ok broken) payloads e h new before after = KeepsLine broken payloads e h new before after
 Explained (Err stop.ReadFault) payloads e h new before after = ⊥
 Explained (Err stop.WriteFault) payloads e h new before after = LosesLine payloads e h before after

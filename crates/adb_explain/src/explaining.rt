@@ -2,10 +2,10 @@
 
 ghost use Rattle.std.specs.Prelude.{◌≡◌, ◌+◌, [], length, List, ℕ, Some, None, false};
 ghost use Rattle.adb_outside.specs.Outside.{Counts};
-ghost use Rattle.adb_history.specs.Kept.{IsLawful};
 ghost use Rattle.adb_history.specs.Machine.{History};
 ghost use Rattle.adb_check.specs.Formed.{formed};
 ghost use Rattle.adb_replay.specs.Keeping.{CountsReads, IsLoss, is_read_fault, is_write_fault};
+ghost use Rattle.adb_explain.specs.Begun.{Explains};
 ghost use Rattle.adb_explain.specs.Explaining.{EndsAs, KeepsAll, Writes};
 ghost use Rattle.adb_explain.specs.Making.{Explained, stopped_as};
 
@@ -87,7 +87,7 @@ fn explain_all<S: Source, K: Sink>(
       held = [];
       failed = None;
     } }
-    requires first { IsLawful explainer.old.hub [] }
+    requires first { Explains explainer.old.machine [] }
     requires empty { output.old ≡ [] }
     ensures keeps { (capture had : List ℕ) → S.left source.old ≡ Some capture
         → K.written sink.old ≡ Some had → KeepsAll result explainer.old.payloads (formed capture)
@@ -120,8 +120,8 @@ fn explain_entry<K: Sink>(
     place: u64,
     entry: Entry,
 ) -> Result<Option<Rule>, Stop>
-    ensures explained { (h : History) → IsLawful explainer.old.hub h → place ≡ length h + 1
-        → Explained result explainer.old.payloads entry h explainer.new.hub
+    ensures explained { (h : History) → Explains explainer.old.machine h → place ≡ length h + 1
+        → Explained result explainer.old.payloads entry h explainer.new.machine
         (K.written sink.old, output.old) (K.written sink.new, output.new) }
     ensures payloads { explainer.new.payloads ≡ explainer.old.payloads }
     ensures loss { IsLoss (stopped_as result) }

@@ -4,11 +4,14 @@
 mod ended;
 mod explaining;
 mod line;
+mod machine;
 mod making;
 mod note;
 mod running;
 mod status;
 mod tail;
+mod unread;
+mod unsent;
 mod words;
 
 pub use explaining::explain;

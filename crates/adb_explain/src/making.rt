@@ -8,10 +8,12 @@ ghost use Rattle.adb_history.specs.Kept.{IsLawful};
 ghost use Rattle.adb_history.specs.Machine.{History};
 ghost use Rattle.adb_check.specs.Judging.{Takes};
 ghost use Rattle.adb_replay.specs.Keeping.{IsLoss, is_write_fault};
+ghost use Rattle.adb_explain.specs.Begun.{Explains};
 ghost use Rattle.adb_explain.specs.Lines.{serial_at};
 ghost use Rattle.adb_explain.specs.Making.{Explained, MakesLine, Reports, stopped_as};
 
 use crate::line::push_end;
+use crate::machine::Machine;
 use crate::tail::Tail;
 use adb_capture::{Entry, Lent};
 use adb_check::{Rule, rule_of, take};
@@ -22,10 +24,11 @@ use adb_outside::{Sink, Text};
 use adb_replay::{Output, Stop};
 use std::alloc::{AllocError, Global};
 
-/// A hub with the streams that its last entry ended, the line of that entry, and the end of a line.
+/// A machine with the streams that its last entry ended, the line of that entry, and the end of a
+/// line.
 #[derive(Drop)]
 pub(crate) struct Explainer {
-    hub: Hub,
+    machine: Machine,
     ends: Endings,
     line: Text,
     tail: Tail,
@@ -35,11 +38,11 @@ pub(crate) struct Explainer {
 impl Explainer {
     /// Returns an explainer that was given no entries. Allocates nothing.
     pub(crate) fn new(alloc: Global, payloads: Payloads) -> Explainer
-        ensures hub { IsLawful result.hub [] }
+        ensures machine { Explains result.machine [] }
         ensures payloads { result.payloads ≡ payloads }
     {
         Explainer {
-            hub: Hub::new(alloc),
+            machine: Machine::new(alloc),
             ends: Endings::new(alloc),
             line: Text::new(alloc),
             tail: Tail::new(alloc),
@@ -59,8 +62,8 @@ impl Explainer {
         place: u64,
         entry: &Entry,
     ) -> Result<Option<Rule>, Stop>
-        ensures explained { (h : History) → IsLawful self.old.hub h → place ≡ length h + 1
-            → Explained result self.old.payloads entry.now h self.new.hub
+        ensures explained { (h : History) → Explains self.old.machine h → place ≡ length h + 1
+            → Explained result self.old.payloads entry.now h self.new.machine
             (K.written sink.old, output.old) (K.written sink.new, output.new) }
         ensures payloads { self.new.payloads ≡ self.old.payloads }
         ensures loss { IsLoss (stopped_as result) }
@@ -78,18 +81,20 @@ impl Explainer {
 
     /// Applies the next entry, and makes its line.
     fn make_line(&mut self, place: u64, entry: &Entry) -> Result<Option<Rule>, AllocError>
-        ensures made { (h : History) → IsLawful self.old.hub h → place ≡ length h + 1
+        ensures made { (h : History) → Explains self.old.machine h → place ≡ length h + 1
             → IfOk result (λ broken. MakesLine broken self.old.payloads entry.now h
-            self.new.hub self.new.line) }
+            self.new.machine self.new.line) }
         ensures payloads { self.new.payloads ≡ self.old.payloads }
     {
         let lent = entry.lend();
         self.line.truncate(0);
-        let serial = serial_at(&self.hub, lent);
+        let serial = serial_at(&self.machine.hub, lent);
         push_entry(&mut self.line, self.payloads, place, serial, lent)?;
-        let broken = make(&mut self.hub, &mut self.ends, entry)?;
-        let ends = self.ends.as_slice();
-        push_end(&mut self.line, broken, ends, &mut self.tail, &self.hub)?;
+        self.machine.complete(&mut self.line, lent)?;
+        let broken = make(&mut self.machine.hub, &mut self.ends, entry)?;
+        self.machine.settle(lent);
+        let (ends, hub) = (self.ends.as_slice(), &self.machine.hub);
+        push_end(&mut self.line, broken, ends, &mut self.tail, hub)?;
         Ok(broken)
     }
 }

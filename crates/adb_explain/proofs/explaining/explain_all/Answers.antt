@@ -37,10 +37,10 @@ returns-in_err-rule-clause-keeps g c all had was has =
     let before : Out = (g.K.Sink.written c.loop-entry.sink, c.loop-entry.output) in
     let after : Out = (g.K.Sink.written c.explain_entry.new.sink, c.explain_entry.new.output) in
     let x = c.loop-entry.invariant.explaining in
-    let hub = c.explain_entry.new.explainer.hub in
+    let hub = c.explain_entry.new.explainer.machine in
     let ended = subst (λ (p : Payloads). Explained (Err c.in_err-rule.field-0.0) p c.in-Some.entry x.given hub before after)
-    c.loop-entry.invariant.payloads (c.in_err-rule.ensures.explained x.given x.lawful (ap (λ (n : ℕ). n + 1) x.count)) in
-    rw (passed.1, passed.2) (kept_broken turn c.explain_entry.new.explainer.hub after c.in_err-rule.field-0.0 x ended all had was has)
+    c.loop-entry.invariant.payloads (c.in_err-rule.ensures.explained x.given x.explains (ap (λ (n : ℕ). n + 1) x.count)) in
+    rw (passed.1, passed.2) (kept_broken turn c.explain_entry.new.explainer.machine after c.in_err-rule.field-0.0 x ended all had was has)
 
 pub returns-in-Some-2-clause-keeps : goal.returns-in-Some-2-clause-keeps
 returns-in-Some-2-clause-keeps g c all had was has =
@@ -57,8 +57,8 @@ returns-in-Some-2-clause-keeps g c all had was has =
     let after : Out = (g.K.Sink.written c.explain_entry.new.sink, c.explain_entry.new.output) in
     let x = c.loop-entry.invariant.explaining in
     let kept = line_so c.in-Some-2.is c.loop-entry.invariant.payloads
-    (c.in_ok-rule.ensures.explained x.given x.lawful (ap (λ (n : ℕ). n + 1) x.count)) in
-    kept_illegal turn c.explain_entry.new.explainer.hub after c.in-Some-2.rule x kept all had was has
+    (c.in_ok-rule.ensures.explained x.given x.explains (ap (λ (n : ℕ). n + 1) x.count)) in
+    kept_illegal turn c.explain_entry.new.explainer.machine after c.in-Some-2.rule x kept all had was has
 
 pub returns-in-Some-2-clause-ends : goal.returns-in-Some-2-clause-ends
 returns-in-Some-2-clause-ends g c all was =
@@ -75,8 +75,8 @@ returns-in-Some-2-clause-ends g c all was =
     let after : Out = (g.K.Sink.written c.explain_entry.new.sink, c.explain_entry.new.output) in
     let x = c.loop-entry.invariant.explaining in
     let kept = line_so c.in-Some-2.is c.loop-entry.invariant.payloads
-    (c.in_ok-rule.ensures.explained x.given x.lawful (ap (λ (n : ℕ). n + 1) x.count)) in
-    first_illegal turn c.explain_entry.new.explainer.hub after c.in-Some-2.rule x kept all was
+    (c.in_ok-rule.ensures.explained x.given x.explains (ap (λ (n : ℕ). n + 1) x.count)) in
+    first_illegal turn c.explain_entry.new.explainer.machine after c.in-Some-2.rule x kept all was
 
 pub loop-entry-preserved : goal.loop-entry-preserved
 loop-entry-preserved g c =
@@ -93,9 +93,9 @@ loop-entry-preserved g c =
     let after : Out = (g.K.Sink.written c.explain_entry.new.sink, c.explain_entry.new.output) in
     let x = c.loop-entry.invariant.explaining in
     let kept = line_so c.in_default-2.is c.loop-entry.invariant.payloads
-    (c.in_ok-rule.ensures.explained x.given x.lawful (ap (λ (n : ℕ). n + 1) x.count)) in
+    (c.in_ok-rule.ensures.explained x.given x.explains (ap (λ (n : ℕ). n + 1) x.count)) in
     record {
-      explaining = explaining_on turn c.explain_entry.new.explainer.hub after x kept c.in_ok-entry.ensures.ok.1;
+      explaining = explaining_on turn c.explain_entry.new.explainer.machine after x kept c.in_ok-entry.ensures.ok.1;
       payloads = c.in_ok-rule.ensures.payloads ∙ c.loop-entry.invariant.payloads;
       reads = search rules;
       counts = search rules;

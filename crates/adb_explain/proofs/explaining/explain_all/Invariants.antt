@@ -8,7 +8,7 @@ abbrev pub invariant-loop-entry : goal.invariant-loop-entry
 invariant-loop-entry g l = record {
   explaining : ExplainingOn (g.S.Source.left l.fn.source) (g.K.Sink.written l.fn.sink) l.fn.explainer.payloads l.reader
       (g.S.Source.left l.source)
-      l.entries l.explainer.hub (g.K.Sink.written l.sink, l.output);
+      l.entries l.explainer.machine (g.K.Sink.written l.sink, l.output);
   payloads : l.explainer.payloads ≡ l.fn.explainer.payloads;
   reads : Counts g.S.Source.steady g.S.Source.faults l.fn.source l.source false;
   counts : Counts g.K.Sink.steady g.K.Sink.faults l.fn.sink l.sink false;
