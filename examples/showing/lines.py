@@ -79,16 +79,16 @@ def fields_text(entry):
 
 def data_text(entry, parts):
     """The data of an entry: the requests or packets that it completes, what is wrong after them, and the rest."""
-    if 'text' not in entry:
-        return fields_text(entry)
     whole, rest, fault = parts
     if 'client' in entry:
-        shown = [f'request {text(one)}' for one in whole]
-        last = text
+        shown, last = [f'request {text(one)}' for one in whole], text
     else:
-        shown = [packet_text(packet) for packet in whole] + ([fault] if fault else [])
-        last = counted
-    return ' + '.join(shown + ([last(rest)] if rest or not shown else []))
+        shown, last = [packet_text(packet) for packet in whole], counted
+        if fault:
+            shown.append(fault)
+    if rest or not shown:
+        shown.append(last(rest))
+    return ' + '.join(shown)
 
 
 def ends_text(entry):
@@ -101,6 +101,9 @@ def ends_text(entry):
 
 def line(place, entry, parts):
     """The line of an entry, with the streams that end by it and why."""
-    head = f'{place:7}  {KIND_NAMES[entry["kind"]]} {entry.get("client") or entry["link"]}'
-    words = head if entry['kind'] == 'join' else f'{head} {data_text(entry, parts)}'
+    words = f'{place:7}  {KIND_NAMES[entry["kind"]]} {entry.get("client") or entry["link"]}'
+    if 'text' in entry:
+        words = f'{words} {data_text(entry, parts)}'
+    elif entry['kind'] != 'join':
+        words = f'{words} {fields_text(entry)}'
     return f'{words}  -- {ends_text(entry)}' if 'ended' in entry or 'illegal' in entry else words

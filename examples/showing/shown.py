@@ -1,6 +1,4 @@
 """The lines of a capture or a history."""
-from typing import NamedTuple
-
 from showing.explained import entries
 from showing.faults import fault_at
 from showing.lines import line
@@ -9,14 +7,6 @@ from showing.records import has_hand_outs
 # How many bytes a request has before its text, and a packet before its payload.
 LENGTH_DIGITS, HEADER = 4, 24
 NO_BYTES = b''
-
-
-class Parts(NamedTuple):
-    """What an entry's bytes are: the requests or packets that they complete, the bytes after these, and what is wrong
-    there. A request is its text; a packet is what adbexplain reports of it, with its payload."""
-    whole: list
-    rest: bytes
-    fault: str | None = None
 
 
 class View:
@@ -28,43 +18,50 @@ class View:
         self.unread, self.held, self.links = {}, {}, 0
 
     def take(self, entry):
-        """The parts of an entry's bytes."""
-        data = entry['text'].encode('latin-1') if 'text' in entry else NO_BYTES
+        """The requests (their texts) or packets (what adbexplain reports of them, and their payloads) that an entry
+        completes, the bytes after these, and what is wrong there."""
         kind, links = entry['kind'], entry.get('links', self.links)
-        is_gone, self.links = links < self.links, links
-        if kind == 'read':
-            return self.read(entry, data)
-        if kind == 'recv' or kind == 'send':
-            return self.cut(entry, data, is_gone)
+        is_gone = links < self.links
+        self.links = links
+        if 'text' in entry:
+            data = entry['text'].encode('latin-1')
+            if 'link' in entry:
+                return self.cut(entry, kind, data, is_gone)
+            return self.read(entry, data) if kind == 'read' else ((), data, None)
         if kind == 'end':
             self.unread.pop(entry['client'], None)
         elif is_gone:
             self.forget(entry.get('link'))
-        return Parts([], data)
+        return (), NO_BYTES, None
 
     def read(self, entry, data):
-        client = entry['client']
-        texts = [text.encode('latin-1') for text in entry.get('requests', ())]
-        unread = self.unread.get(client, 0) + len(data) - sum(map(len, texts)) - LENGTH_DIGITS * len(texts)
+        client, unread = entry['client'], len(data)
+        had = self.unread.pop(client, 0)
+        if 'requests' not in entry:
+            self.unread[client] = had + unread
+            return (), data, None
+        texts = [text.encode('latin-1') for text in entry['requests']]
+        unread += had - sum(map(len, texts)) - LENGTH_DIGITS * len(texts)
         self.unread[client] = unread
-        return Parts(texts, data[max(len(data) - unread, 0):])
+        return texts, data[max(len(data) - unread, 0):], None
 
-    def cut(self, entry, data, is_gone):
-        key = entry['link'], entry['kind']
-        held = self.held.get(key, NO_BYTES) + data
+    def cut(self, entry, kind, data, is_gone):
+        key = entry['link'], kind
+        held = self.held.pop(key, NO_BYTES) + data
         at = 0
-        packets = entry.get('packets', [])
+        packets = entry.get('packets', ())
         for packet in packets:
-            end = at + HEADER + packet['length']
-            packet['payload'] = held[at + HEADER:end]
-            at = end
+            start = at + HEADER
+            at = start + packet['length']
+            packet['payload'] = held[start:at]
         left = held[at:]
+        rest = data[max(len(data) - len(left), 0):]
         if is_gone:
             self.forget(entry['link'])
-        else:
+            return packets, rest, fault_at(left) if kind == 'recv' else None
+        if left:
             self.held[key] = left
-        fault = fault_at(left) if is_gone and entry['kind'] == 'recv' else None
-        return Parts(packets, data[max(len(data) - len(left), 0):], fault)
+        return packets, rest, None
 
     def forget(self, link):
         for kind in ('recv', 'send'):
