@@ -15,15 +15,17 @@ at_most : (j k : ℕ) (bytes : List ℕ) → length bytes ≤ j → length bytes
 at_most j k [] in_j in_k = no_bytes j ∙ sym (no_bytes k)
 at_most zero k (b ∷ bytes) in_j in_k = absurd (omega (arith, in_j))
 at_most (suc j) zero (b ∷ bytes) in_j in_k = absurd (omega (arith, in_k))
-at_most (suc j) (suc k) (b ∷ bytes) in_j in_k = by (request_at (b ∷ bytes))
+at_most (suc j) (suc k) (b ∷ bytes) in_j in_k =
+    by (request_at (b ∷ bytes)) (λ len.
+    let left = length-drop (4 + len) (b ∷ bytes) in
+    at_most j k (drop (4 + len) (b ∷ bytes)) (omega (arith, left, in_j)) (omega (arith, left, in_k)))
   where
-    by : (found : Found) → texts_found found (b ∷ bytes) (texts_at_most j) ≡ texts_found found (b ∷ bytes) (texts_at_most k)
-    by More = refl
-    by Malformed = refl
-    by (Whole len) =
-        let left = length-drop (4 + len) (b ∷ bytes) in
-        ap (λ (more : List (List ℕ)). take len (drop 4 (b ∷ bytes)) ∷ more)
-        (at_most j k (drop (4 + len) (b ∷ bytes)) (omega (arith, left, in_j)) (omega (arith, left, in_k)))
+    by : (found : Found)
+        → ((len : ℕ) → texts_at_most j (drop (4 + len) (b ∷ bytes)) ≡ texts_at_most k (drop (4 + len) (b ∷ bytes)))
+        → texts_found found (b ∷ bytes) (texts_at_most j) ≡ texts_found found (b ∷ bytes) (texts_at_most k)
+    by More others = refl
+    by Malformed others = refl
+    by (Whole len) others = ap (λ (more : List (List ℕ)). take len (drop 4 (b ∷ bytes)) ∷ more) (others len)
 
 pub one_text : (bytes : List ℕ) (len : ℕ) → request_at bytes ≡ Whole len
     → texts_in bytes ≡ take len (drop 4 bytes) ∷ texts_in (drop (4 + len) bytes)

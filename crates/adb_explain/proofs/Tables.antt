@@ -1,5 +1,5 @@
 -- Tables that show what is begun.
-use Rattle.std.proofs.Common.{ℕ, ◌≡◌, ◌≢◌, Bool, true, false, List, Option, Some, None, refl, sym, ◌∙◌, ap, subst}
+use Rattle.std.proofs.Common.{ℕ, ◌≡◌, ◌≢◌, Bool, true, false, List, Option, Some, None, refl, sym, ◌∙◌, ap, subst, arith}
 use Rattle.std.specs.Prelude.{if◌then◌else◌, nat_eq}
 use Rattle.std.proofs.lemmas.Bool.Decides.{nat_tests}
 use Rattle.adb_outside.specs.Tables.{Puts}
@@ -31,5 +31,5 @@ pub shows_set : {X : Type 0} (none : X) (n : ℕ) (x : X) (old new : List (ℕ �
 shows_set {X = X} none n x old new has shows sets q = by (nat_eq n q) refl
   where
     by : (b : Bool) → nat_eq n q ≡ b → found_at none q new ≡ if b then x else has q
-    by true is = subst (λ (k : ℕ). found_at none k new ≡ x) (grind (is, nat_tests)) sets.here
-    by false is = sets.others q (λ (same : q ≡ n). absurd (grind (is, same, nat_tests))) ∙ shows q
+    by true is = subst (λ (k : ℕ). found_at none k new ≡ x) (grind (arith, is, nat_tests)) sets.here
+    by false is = sets.others q (λ (same : q ≡ n). absurd (grind (arith, is, same, nat_tests))) ∙ shows q

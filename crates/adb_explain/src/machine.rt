@@ -76,12 +76,7 @@ impl Machine {
 }
 
 /// Appends the field of the packets that bytes of a link complete.
-fn push_received(
-    text: &mut Text,
-    hub: &mut Hub,
-    link: u32,
-    bytes: &[u8],
-) -> Result<(), AllocError>
+fn push_received(text: &mut Text, hub: &mut Hub, link: u32, bytes: &[u8]) -> Result<(), AllocError>
     ensures pushed { (h : History) → IsLawful hub.old h → OnOk result
         (text.new ≡ text.old ++ packets_field (packets_on ((state h).links link) bytes.now)) }
     ensures hub { hub.new ≡ hub.old }

@@ -1,6 +1,6 @@
 //! Packets that are handed out in part.
 
-ghost use Rattle.std.specs.Prelude.{◌≡◌, ◌++◌, OnOk};
+ghost use Rattle.std.specs.Prelude.{◌≡◌, ◌++◌, [], OnOk};
 ghost use Rattle.adb_entry_lines.specs.Packets.{packets_field};
 ghost use Rattle.adb_wire.specs.Deframing.{no_bytes};
 ghost use Rattle.adb_hub.specs.Answers.{serial_of};
