@@ -26,13 +26,13 @@ made_by c es coming first now done = all_of c done.made done.cut done.ended
 -- After the reader the hall tells what the reader made, unless it is shut.
 pub read_on : (c : ℕ) (es : List Entry) (coming : List ℕ) (first : Shown) (now : Seen) (t : Telling) (done : Done c es coming first now)
     → now.tells ≡ Some t → t.shut ≡ None → Tells t (es ++ made_by c es coming first now done)
-read_on c es coming first now t done tells open =
+read_on c es coming first now t done tells going =
     let made : List Entry = made_by c es coming first now done in
     let holds : Holds t (es ++ made) =
     subst (λ (u : Telling). Holds u (es ++ made)) (same_of done.hall t (sym done.tells_now ∙ tells)) done.holds in
     elim holds.held [
       | inl lawful ↦ record { told = holds.told; lawful = lawful }
-      | inr shut ↦ absurd (open_not_shut t.shut open shut)
+      | inr shut ↦ absurd (open_not_shut t.shut going shut)
     ]
 
 -- After the writer the record and the port are as they should be.
