@@ -23,6 +23,11 @@ def entries(history):
     return found
 
 
+def without_torn(history):
+    """A history up to the end of its last whole entry."""
+    return history[: len(MAGIC) + sum(HEAD.size + len(entry.data) for entry in entries(history))]
+
+
 def handed(history):
     """The bytes that each client was handed."""
     all_of = {}

@@ -15,7 +15,7 @@ def free_port():
         return listener.getsockname()[1]
 
 
-def until(is_so, seconds=5):
+def until(is_so, seconds=20):
     """Whether it comes to be so."""
     end = time.time() + seconds
     while time.time() < end:
@@ -105,7 +105,7 @@ class Server(Running):
         super().__exit__(*why)
         self.process.stderr.close()
 
-    def ended(self, seconds=10):
+    def ended(self, seconds=20):
         """Its status, once it has ended."""
         return self.process.wait(seconds)
 

@@ -1,5 +1,6 @@
 -- What a binder answers.
-use Rattle.std.specs.Prelude.{ℕ, ◌≡◌, ◌≢◌, Bool, true, false}
+use Rattle.std.specs.Prelude.{ℕ, ◌≡◌, ◌≢◌, ◌⊎◌, Bool, true, false, List, Option}
+use Rattle.adb_outside.specs.Outside.{TellsOneMore}
 use Rattle.adb_binder.specs.declared.binder.Binding.{Binding}
 use Rattle.adb_binder.specs.declared.binder.Binding.TheVariants.{Bound, Failed}
 
@@ -17,3 +18,7 @@ port_of Failed = 0
 abbrev pub is_failed_bind : Binding → Bool
 is_failed_bind (Bound port) = false
 is_failed_bind Failed = true
+
+-- The listener of a port was closed, or none was.
+abbrev pub Closes : Option (List ℕ) → ℕ → Option (List ℕ) → Type 0
+Closes before port after = (after ≡ before) ⊎ TellsOneMore before port after

@@ -1,11 +1,18 @@
 //! Calls on a hall that several cases make.
 
 use adb_desk::Progress;
-use adb_desk_log::{ClientIn, ClientOut, DeskError, Marks};
-use adb_hall::Hall;
 use adb_hub::{Handed, Life, MAX_HELD};
 use adb_outside::HandOut;
+use adb_server_hall::Hall;
+use adb_server_log::{ClientIn, ClientOut, DeskError, Marks};
 use std::sync::ledger::Ledger;
+
+/// The first packet of a device that takes at most 4,096 bytes at once.
+pub(crate) const CNXN: &[u8] =
+    b"CNXN\x01\0\0\x01\0\x10\0\0\x08\0\0\0\0\0\0\0\xbc\xb1\xa7\xb1device::";
+
+/// The packet by which a device opens a stream. The reply of 24 bytes is due at once.
+pub(crate) const OPEN: &[u8] = b"OPEN\x07\0\0\0\0\0\0\0\x01\0\0\0\0\0\0\0\xb0\xaf\xba\xb1\0";
 
 /// The passes of a client.
 pub(crate) type Client<E, M, K> = (ClientIn<E, M, K>, ClientOut<E, M, K>);

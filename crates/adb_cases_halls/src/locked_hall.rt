@@ -1,17 +1,17 @@
 //! A locked hall: which workers are notified, and two handles in two threads.
 
-ghost use Rattle.std.specs.Prelude.{◌≡◌, ◌≤◌, length};
-ghost use Rattle.adb_desk_log.specs.declared.marks.TheConstants.{ALL_PARTS};
+ghost use Rattle.std.specs.Prelude.{◌≡◌, ◌<◌, ◌≤◌, length};
+ghost use Rattle.adb_server_log.specs.declared.marks.TheConstants.{ALL_PARTS};
 
-use crate::hands::{Client, asks, is_answered, lives};
-use adb_bells::{Bells, Locked, Pair, Side};
-use adb_desk::{Act, Comer, Desk};
-use adb_desk_log::{ALL_PARTS, ClientIn, ClientOut, Marks};
-use adb_hall::Hall;
+use crate::hands::{CNXN, Client, OPEN, asks, is_answered, lives};
+use adb_desk::{Act, Comer, Desk, Half};
 use adb_hub::Owner;
-use adb_locked_hall::LockedHall;
-use adb_outside::Kind;
+use adb_outside::{Cause, Kind};
 use adb_recorder::NullRecorder;
+use adb_server_bells::{Bells, Locked, Pair, Side};
+use adb_server_hall::Hall;
+use adb_server_locked_hall::LockedHall;
+use adb_server_log::{ALL_PARTS, ClientIn, ClientOut, Marks};
 use std::alloc::{AllocError, Global};
 use std::marker::Brand;
 use std::sync::Wait;
@@ -21,6 +21,16 @@ use std::thread::Threads;
 
 /// The number of clients that wait.
 const IDLE: u32 = 64;
+
+/// The number of workers that wait: the reader and the writer of each client.
+const WAITING: usize = 128;
+
+/// The link of the first device.
+const LINK: Owner = Owner::Link(1);
+
+/// The maximum number of streams that a device opens until its link has no room. Each is refused
+/// by 24 bytes.
+const OPENS: u32 = 200_000;
 
 /// Joins the clients.
 fn all_join<E: Ledger, M: Ledger, K: Marks>(
@@ -46,7 +56,7 @@ fn all_wait(bells: &mut Bells) {
     }
 }
 
-/// Attaches the first device, and makes its writer wait.
+/// Attaches the first device, and makes its reader and its writer wait.
 fn device_waits<E: Ledger, M: Ledger, K: Marks>(
     alloc: Global,
     locked: &mut Locked<NullRecorder, E, M, K>,
@@ -54,9 +64,35 @@ fn device_waits<E: Ledger, M: Ledger, K: Marks>(
     if let Ok(link) = locked.desk.admit(Comer::Device(Kind::Usb, b"emu1")) {
         let owner = Owner::Link(link);
         locked.bells.put_up(owner, Pair::new(alloc)?);
+        let _ = locked.bells.sleep(owner, Side::Reader);
         let _ = locked.bells.sleep(owner, Side::Writer);
     }
     Ok(())
+}
+
+/// Makes more due on the first device's link than the device has room for.
+fn fills_link<E: Ledger, M: Ledger, K: Marks>(locked: &mut Locked<NullRecorder, E, M, K>) {
+    let _ = locked.desk.submit(1, Act::Recv(CNXN));
+    for _ in 0..OPENS {
+        let _ = locked.desk.submit(1, Act::Recv(OPEN));
+        if locked.desk.has_no_room_yet(LINK) {
+            break;
+        }
+    }
+    let _ = locked.desk.submit(1, Act::Recv(OPEN));
+}
+
+/// Returns how many workers are notified after at most `max` bytes are handed out on the link whose
+/// reader waits for room.
+fn rung_after_send<E: Ledger, M: Ledger, K: Marks>(
+    locked: &mut Locked<NullRecorder, E, M, K>,
+    max: usize,
+) -> usize
+    requires { (0 < max) × (max ≤ 65_536) }
+{
+    let _ = locked.bells.sleep(LINK, Side::Reader);
+    let _ = locked.desk.hand_out(Half::Link, 1, max);
+    rung(locked)
 }
 
 fn rung<E: Ledger, M: Ledger, K: Marks>(locked: &mut Locked<NullRecorder, E, M, K>) -> usize {
@@ -77,12 +113,16 @@ fn says<E: Ledger, M: Ledger, K: Marks>(
 /// An event after which workers that wait are notified.
 #[derive(Clone, Copy, Drop)]
 enum Wake {
-    /// A client is answered: both of its workers are notified, and no others.
+    /// A client is answered: both of its workers are notified, and no others. Those of the link with
+    /// the client's number are no exception.
     Answer,
     /// A client whose reader has returned is answered: its writer is notified.
     AnswerWithoutReader,
-    /// A device is attached with the number of the first client; that client is then answered.
-    SameNumber,
+    /// Bytes are handed out on a link: its reader, which waits for room, is notified when there is
+    /// room, and not earlier.
+    LinkDrains,
+    /// A device is unplugged: the reader of its link is notified.
+    LinkGoes,
     /// A kill: all workers are notified, also those that wait for room.
     Kill,
     /// The hall is halted: all workers are notified.
@@ -92,14 +132,14 @@ enum Wake {
 const WAKES: &[Wake] = &[
     Wake::Answer,
     Wake::AnswerWithoutReader,
-    Wake::SameNumber,
+    Wake::LinkDrains,
+    Wake::LinkGoes,
     Wake::Kill,
     Wake::Halt,
 ];
 
 impl Wake {
-    /// Returns whether the right number of workers is notified. The link of a device has one more
-    /// worker that waits.
+    /// Returns whether the right number of workers is notified.
     fn holds<E: Ledger, M: Ledger, K: Marks>(
         self,
         locked: &mut Locked<NullRecorder, E, M, K>,
@@ -110,23 +150,35 @@ impl Wake {
                 locked.bells.pass_back(Owner::Client(1));
                 says(locked, 1, b"000Chost:version") && rung(locked) == 2
             }
-            Wake::SameNumber => says(locked, 1, b"000Chost:version") && rung(locked) == 2,
-            Wake::Kill => { says(locked, 2, b"0009host:kill") && rung(locked) == 2 * IDLE as usize }
+            Wake::LinkDrains => {
+                fills_link(locked);
+                let _ = rung(locked);
+                rung_after_send(locked, 1) == 0 && rung_after_send(locked, 65_536) == 1
+            }
+            Wake::LinkGoes => {
+                let _ = locked.bells.sleep(LINK, Side::Reader);
+                locked.desk.submit(1, Act::Detach(Cause::Eof)).is_ok() && rung(locked) == 1
+            }
+            Wake::Kill => {
+                let _ = locked.bells.sleep(LINK, Side::Reader);
+                says(locked, 2, b"0009host:kill") && rung(locked) == WAITING + 1
+            }
             Wake::Halt => {
+                let _ = locked.bells.sleep(LINK, Side::Reader);
                 locked.desk.halt();
-                rung(locked) == 2 * IDLE as usize
+                rung(locked) == WAITING + 1
             }
         }
     }
 }
 
-/// Returns whether only a device's writer is notified when the device is attached, and the event
+/// Returns whether only a device's workers are notified when the device is attached, and the event
 /// then notifies the right number of workers.
 fn notifies<E: Ledger, M: Ledger, K: Marks>(
     locked: &mut Locked<NullRecorder, E, M, K>,
     wake: Wake,
 ) -> bool {
-    rung(locked) == 1 && wake.holds(locked)
+    rung(locked) == 2 && wake.holds(locked)
 }
 
 /// The state under the lock of a hall.

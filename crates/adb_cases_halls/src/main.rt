@@ -4,7 +4,9 @@
 mod case;
 mod hands;
 mod locked_hall;
+mod many_waiters;
 mod one_desk;
+mod waiting;
 
 use case::{CASES, Case};
 use std::io;

@@ -1,16 +1,16 @@
 //! A hall of one thread: its answers, the entries that it keeps, and its counts.
 
 ghost use Rattle.std.specs.Prelude.{◌≡◌};
-ghost use Rattle.adb_desk_log.specs.declared.marks.TheConstants.{ALL_PARTS};
+ghost use Rattle.adb_server_log.specs.declared.marks.TheConstants.{ALL_PARTS};
 
-use crate::hands::{Client, asks, hands_out, is_answered, len_of};
+use crate::hands::{CNXN, Client, asks, hands_out, is_answered, len_of};
 use adb_desk::Progress;
-use adb_desk_log::{ALL_PARTS, ClientIn, ClientOut, DeskError, LinkIn, LinkOut, Marks};
-use adb_hall::Hall;
 use adb_hub::{Handed, MAX_HELD, Room};
-use adb_one_desk::OneDesk;
 use adb_outside::{Cause, Kind};
 use adb_recorder::MemoryRecorder;
+use adb_server_hall::Hall;
+use adb_server_log::{ALL_PARTS, ClientIn, ClientOut, DeskError, LinkIn, LinkOut, Marks};
+use adb_server_one_desk::OneDesk;
 use std::alloc::{AllocError, Global};
 use std::marker::Brand;
 use std::sync::ledger::{Blank, Ledger};
@@ -47,9 +47,6 @@ fn is_shut_by_its_recorder<E: Ledger, M: Ledger, K: Marks, H: Hall<E, M, K>>(
         && is_faulty(hall.end(reading, Cause::Eof))
         && hall.over() == Some(DeskError::RecordFault)
 }
-
-/// The first packet of a device that takes at most 4,096 bytes at once.
-const CNXN: &[u8] = b"CNXN\x01\0\0\x01\0\x10\0\0\x08\0\0\0\0\0\0\0\xbc\xb1\xa7\xb1device::";
 
 /// The device's answer to the first stream that is opened, and to a write on it.
 const OKAY: &[u8] = b"OKAY\x07\0\0\0\x01\0\0\0\0\0\0\0\0\0\0\0\xb0\xb4\xbe\xa6";

@@ -1,7 +1,8 @@
 //! The cases, in the order in which they run.
 
 use crate::{
-    binder, calm, connections, halting, pipes, ports, recording, served, spawner, streams, yard,
+    binder, calm, connections, deliveries, gated, halting, pipes, ports, recording, served,
+    spawner, streams, tools, workers, yard,
 };
 use std::alloc::{AllocError, Global};
 use std::net::{Net, TcpListener, TcpStream};
@@ -16,13 +17,17 @@ pub enum Case {
     PlacesHaveNumbers,
     BindersGiveWhatIsAsked,
     PortsAreOpened,
-    CrewsRunJobs,
+    APoolRunsJobs,
     PipesEnd,
     PipesAreLost,
     PipesRefuse,
     AServerEndsAsTold,
     PortsAreServedInOrder,
+    ADeliveredDeviceIsAttached,
+    ClientsAreServedAtOnce,
     ACalmServerIsDone,
+    ToolsAskAndTell,
+    WorkersMakeTheirEntries,
     AHaltEndsAServer,
     ReadsStopShort,
     WritesStopShort,
@@ -36,13 +41,17 @@ pub const CASES: &[Case] = &[
     Case::PlacesHaveNumbers,
     Case::BindersGiveWhatIsAsked,
     Case::PortsAreOpened,
-    Case::CrewsRunJobs,
+    Case::APoolRunsJobs,
     Case::PipesEnd,
     Case::PipesAreLost,
     Case::PipesRefuse,
     Case::AServerEndsAsTold,
     Case::PortsAreServedInOrder,
+    Case::ADeliveredDeviceIsAttached,
+    Case::ClientsAreServedAtOnce,
     Case::ACalmServerIsDone,
+    Case::ToolsAskAndTell,
+    Case::WorkersMakeTheirEntries,
     Case::AHaltEndsAServer,
     Case::ReadsStopShort,
     Case::WritesStopShort,
@@ -74,13 +83,21 @@ impl Case {
             Case::PlacesHaveNumbers => fault_of(connections::places_have_numbers()),
             Case::BindersGiveWhatIsAsked => fault_of(binder::binders_give_what_is_asked(alloc)?),
             Case::PortsAreOpened => fault_of(binder::ports_are_opened(alloc)?),
-            Case::CrewsRunJobs => fault_of(spawner::crews_run_jobs(rt, alloc)?),
+            Case::APoolRunsJobs => fault_of(spawner::a_pool_runs_jobs(rt, alloc)?),
             Case::PipesEnd => fault_of(pipes::pipes_end(rt, alloc)?),
             Case::PipesAreLost => fault_of(pipes::pipes_are_lost(rt, alloc)?),
             Case::PipesRefuse => fault_of(pipes::pipes_refuse(rt, alloc)?),
             Case::AServerEndsAsTold => served::first_fault(rt, alloc)?,
             Case::PortsAreServedInOrder => fault_of(ports::ports_are_served_in_order(rt, alloc)?),
-            Case::ACalmServerIsDone => fault_of(calm::a_calm_server_is_done(rt, alloc)?),
+            Case::ADeliveredDeviceIsAttached => {
+                fault_of(deliveries::a_delivered_device_is_attached(rt, alloc)?)
+            }
+            Case::ClientsAreServedAtOnce => {
+                fault_of(gated::clients_are_served_at_once(rt, alloc)?)
+            }
+            Case::ACalmServerIsDone => calm::first_fault(rt, alloc)?,
+            Case::ToolsAskAndTell => tools::first_fault(rt, alloc)?,
+            Case::WorkersMakeTheirEntries => workers::first_fault(rt, alloc)?,
             Case::AHaltEndsAServer => fault_of(halting::a_halt_ends_a_server(rt, alloc)?),
             Case::ReadsStopShort => streams::first_bad_read(alloc)?,
             Case::WritesStopShort => streams::first_bad_write(alloc)?,

@@ -3,16 +3,13 @@
 ghost use Rattle.std.specs.Prelude.{true};
 ghost use Rattle.adb_outside.specs.Outside.{Counts};
 
+use crate::clients::serve_clients;
 use adb_binder::MemoryBinder;
-use adb_connections::{
-    Came, Door, MemoryDeviceIn, MemoryDeviceOut, MemoryIn, MemoryOut, OpenGate, PortIn, PortOut,
-    SilentBell,
-};
-use adb_device_reader::Device;
+use adb_connections::{Came, Door, MemoryIn, MemoryOut, OpenGate, PortIn, PortOut, SilentBell};
 use adb_outside::{Failing, Got, MemorySink, Wrote};
 use adb_recorder::NullRecorder;
-use adb_server::{Served, serve};
-use adb_yard::{Dialled, Listening, Staff, Yard};
+use adb_server::Served;
+use adb_server_yard::{Dialled, Listening, PoolKind, Yard};
 use std::alloc::{AllocError, Global};
 use std::marker::Model;
 use std::sync::{Arc, Condvar, Mutex, Wait};
@@ -108,6 +105,10 @@ impl<W: Wait + Clock + Copy + Send + Sync + Drop + 'static> Door for FailingDoor
 
     type Out = SilentOut<W>;
 
+    type DeviceIn = MemoryDeviceIn;
+
+    type DeviceOut = MemoryDeviceOut;
+
     ghost use Rattle.std.specs.Prelude.{None};
 
     ghost faults = { λ door. door };
@@ -118,7 +119,7 @@ impl<W: Wait + Clock + Copy + Send + Sync + Drop + 'static> Door for FailingDoor
 
     ghost steady = { λ door. ⊥ };
 
-    fn accept(&mut self) -> Came<SilentIn<W>, SilentOut<W>> {
+    fn accept(&mut self) -> Came<SilentIn<W>, SilentOut<W>, MemoryDeviceIn, MemoryDeviceOut> {
         if self.failing.fails() {
             sleep(&self.rt, Duration::from_millis(200));
             return Came::Failed;
@@ -197,8 +198,8 @@ impl<W: Wait + Clock + Copy + Send + Sync + Drop + 'static> Yard for FailingYard
         NullRecorder::new()
     }
 
-    fn staff(&mut self) -> Staff {
-        Staff::Threads
+    fn pool_kind(&mut self) -> PoolKind {
+        PoolKind::Threads
     }
 
     fn ports(&mut self) -> MemoryBinder {
@@ -254,8 +255,7 @@ pub fn a_halt_ends_a_server<W: Threads + Wait + Clock + Copy + Send + Sync + Dro
         door: Some(door(rt, alloc, &line)?),
         faults: 0,
     };
-    let devices: Vec<Device<MemoryDeviceIn, MemoryDeviceOut>> = Vec::new(alloc);
     let mut note = MemorySink::new(alloc, Vec::new(alloc));
-    let ended = serve(rt, alloc, yard, devices, 5037, false, &mut note);
+    let ended = serve_clients(rt, alloc, yard, false, &mut note);
     Ok(ended.served == Served::DoorFault && *line.closed.lock(&rt))
 }

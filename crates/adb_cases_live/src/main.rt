@@ -5,7 +5,10 @@
 mod binder;
 mod calm;
 mod case;
+mod clients;
 mod connections;
+mod deliveries;
+mod gated;
 mod halting;
 mod pipes;
 mod ports;
@@ -14,6 +17,8 @@ mod rows;
 mod served;
 mod spawner;
 mod streams;
+mod tools;
+mod workers;
 mod yard;
 
 use case::{CASES, Case};

@@ -1,7 +1,7 @@
 //! The two halves of a device's link, each at an end of one pipe: the end of the link.
 
 use adb_connections::{DeviceIn, DeviceOut};
-use adb_model_device::{PipeDeviceIn, PipeDeviceOut};
+use adb_os_model_device::{PipeDeviceIn, PipeDeviceOut};
 use adb_outside::{Got, Wrote};
 use adb_pipe::pipe;
 use std::alloc::{AllocError, Global};

@@ -6,7 +6,7 @@ use adb_capture::{Entry, Owner};
 use adb_outside::MemorySink;
 use adb_ports::{Begun, Ending, Named, PipeSink, RealYard, Settled, begin_record, end_record};
 use adb_recorder::{Recorder, SinkRecorder};
-use adb_yard::Yard;
+use adb_server_yard::Yard;
 use std::alloc::{AllocError, Global};
 use std::marker::Brand;
 use std::net::{Net, TcpListener, TcpStream};
@@ -40,19 +40,21 @@ fn records<
 >(rt: W, alloc: Global, ending: Ending, begun: Begun<W, MemorySink>) -> bool
     requires pipe { Some begun.out.pipe ≡ B.pipe }
     requires begun { (begun.out.put ≡ [])
-        × (begun.writing.promise.input.value.pipe ≡ begun.out.pipe) }
+        × (begun.writing.thread.promise.input.value.pipe ≡ begun.out.pipe) }
 {
     let Begun {
         out,
-        failure,
+        state,
         writing,
     } = begun;
-    let into = PipeSink::<W, B>::new(alloc, out, failure);
-    let mut yard = RealYard::<W, B>::new(rt, alloc, ending, Some(into));
+    let into = PipeSink::<W, B>::new(rt, alloc, out, state);
+    let mut yard = RealYard::<W, B>::new(rt, alloc, ending, None, Some(into));
     let mut recorder = yard.recorder(true);
     let kept = keeps(&mut recorder);
-    let Settled { sink, whole } = end_record(&rt, recorder, writing);
-    kept && whole && is_captured(alloc, &sink)
+    match end_record(&rt, recorder, writing) {
+        Some(Settled { sink, whole }) => kept && whole && is_captured(alloc, &sink),
+        None => false,
+    }
 }
 
 /// Returns whether the recorder of a yard without a record discards entries.
@@ -66,7 +68,7 @@ fn discards<
         + Drop
         + 'static,
 >(rt: W, alloc: Global, ending: Ending) -> bool {
-    let mut yard = RealYard::<W, Brand>::new(rt, alloc, ending, None);
+    let mut yard = RealYard::<W, Brand>::new(rt, alloc, ending, None, None);
     keeps(&mut yard.recorder(false))
 }
 
@@ -83,6 +85,6 @@ pub fn a_record_is_written<
 >(rt: W, alloc: Global) -> Result<bool, AllocError> {
     let sink = MemorySink::new(alloc, Vec::new(alloc));
     let (on, off) = (Ending::new(alloc)?, Ending::new(alloc)?);
-    let begun = begin_record(rt, alloc, sink)?;
+    let begun = begin_record(rt, alloc, &on, sink)?;
     Ok(records::<W, Brand>(rt, alloc, on, begun) && discards(rt, alloc, off))
 }

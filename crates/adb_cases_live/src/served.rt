@@ -4,11 +4,11 @@ ghost use Rattle.std.specs.Prelude.{true};
 
 use crate::rows::{CLIENTS, DEVICES, Row};
 use adb_connections::{DeviceIn, DeviceOut, MemoryDeviceIn, Plug};
-use adb_device_reader::Device;
 use adb_fakes::{FakeYard, Kept, Sent, SharedOut};
 use adb_outside::{Kind, MemorySink, Text};
 use adb_server::{Served, serve};
-use adb_yard::Yard;
+use adb_server_device_reader::Device;
+use adb_server_yard::Yard;
 use std::alloc::{AllocError, Global};
 use std::sync::Wait;
 use std::thread::Threads;

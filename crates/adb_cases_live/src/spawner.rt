@@ -42,26 +42,26 @@ impl<W: Wait + Clock + Drop> Job for Meeting<W> {
 /// Returns whether a worker pool takes a job that waits until `wanted` jobs have begun.
 fn takes<W: Threads + Wait + Clock + Copy + Send + Sync + Drop + 'static>(
     rt: W,
-    crew: &mut Crew<W, Meeting<W>>,
+    pool: &mut WorkerPool<W, Meeting<W>>,
     counts: &Arc<Counts, Global>,
     wanted: u64,
 ) -> Result<bool, AllocError> {
     let counts = Arc::try_clone(counts)?;
     let job = Meeting { rt, counts, wanted };
-    Ok(crew.spawn(job).is_ok())
+    Ok(pool.spawn(job).is_ok())
 }
 
 /// Returns whether a worker pool takes two jobs that wait for each other, and both are done when it
 /// has finished; and then two more, after its first threads have ended.
 fn works<W: Threads + Wait + Clock + Copy + Send + Sync + Drop + 'static>(
     rt: W,
-    crew: &mut Crew<W, Meeting<W>>,
+    pool: &mut WorkerPool<W, Meeting<W>>,
     counts: &Arc<Counts, Global>,
 ) -> Result<bool, AllocError> {
     for wanted in [2u64, 4] {
-        let first = takes(rt, crew, counts, wanted)?;
-        let second = takes(rt, crew, counts, wanted)?;
-        crew.finish();
+        let first = takes(rt, pool, counts, wanted)?;
+        let second = takes(rt, pool, counts, wanted)?;
+        pool.finish();
         if !first || !second || counts.done.load(Ordering::SeqCst) != wanted {
             return Ok(false);
         }
@@ -69,18 +69,18 @@ fn works<W: Threads + Wait + Clock + Copy + Send + Sync + Drop + 'static>(
     Ok(true)
 }
 
-fn crew_works<W: Threads + Wait + Clock + Copy + Send + Sync + Drop + 'static>(
+fn pool_works<W: Threads + Wait + Clock + Copy + Send + Sync + Drop + 'static>(
     rt: W,
     alloc: Global,
     counts: &Arc<Counts, Global>,
 ) -> Result<bool, AllocError> {
-    let mut crew = Crew::threads(rt, alloc)?;
-    works(rt, &mut crew, counts)
+    let mut pool = WorkerPool::threads(rt, alloc)?;
+    works(rt, &mut pool, counts)
 }
 
 /// Returns whether a worker pool of threads runs jobs at the same time and waits for them, also
 /// after its threads have ended once.
-pub fn crews_run_jobs<W: Threads + Wait + Clock + Copy + Send + Sync + Drop + 'static>(
+pub fn a_pool_runs_jobs<W: Threads + Wait + Clock + Copy + Send + Sync + Drop + 'static>(
     rt: W,
     alloc: Global,
 ) -> Result<bool, AllocError> {
@@ -91,5 +91,5 @@ pub fn crews_run_jobs<W: Threads + Wait + Clock + Copy + Send + Sync + Drop + 's
             done: AtomicU64::new(0),
         },
     )?;
-    crew_works(rt, alloc, &counts)
+    pool_works(rt, alloc, &counts)
 }

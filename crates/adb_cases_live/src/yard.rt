@@ -4,7 +4,7 @@ use adb_binder::{Binder, Binding};
 use adb_connections::{Bell, Came, Door, PortIn, PortOut};
 use adb_outside::{Got, Wrote};
 use adb_ports::{Ending, RealYard};
-use adb_yard::{Dialled, Listening, Staff, Yard};
+use adb_server_yard::{Dialled, Listening, PoolKind, Yard};
 use std::alloc::{AllocError, Global};
 use std::marker::Brand;
 use std::net::{Net, TcpListener, TcpStream};
@@ -24,7 +24,12 @@ fn next<Y: Yard>(
     yard: &mut Y,
     door: &mut Y::Door,
     port: u16,
-) -> Came<<Y::Door as Door>::In, <Y::Door as Door>::Out> {
+) -> Came<
+    <Y::Door as Door>::In,
+    <Y::Door as Door>::Out,
+    <Y::Door as Door>::DeviceIn,
+    <Y::Door as Door>::DeviceOut,
+> {
     if port == 0 {
         return Came::Failed;
     }
@@ -59,7 +64,7 @@ fn meets<W: Wait + Clock, Y: Yard>(
             }
             Came::Port(mut input, _) if forward == 0 => return carries(&mut output, &mut input),
             Came::Port(..) => sleep(rt, Duration::from_millis(100)),
-            Came::Closed | Came::Failed => return false,
+            Came::Device(..) | Came::Closed | Came::Failed => return false,
         }
     }
     false
@@ -106,7 +111,7 @@ fn gives<
         + Drop
         + 'static,
 >(rt: &W, yard: &mut RealYard<W, Brand>) -> bool {
-    opens(rt, yard) && matches!(yard.staff(), Staff::Threads)
+    opens(rt, yard) && matches!(yard.pool_kind(), PoolKind::Threads)
 }
 
 pub fn a_yard_gives_what_it_is_asked<
@@ -120,6 +125,6 @@ pub fn a_yard_gives_what_it_is_asked<
         + Drop
         + 'static,
 >(rt: W, alloc: Global) -> Result<bool, AllocError> {
-    let mut yard = RealYard::<W, Brand>::new(rt, alloc, Ending::new(alloc)?, None);
+    let mut yard = RealYard::<W, Brand>::new(rt, alloc, Ending::new(alloc)?, None, None);
     Ok(gives(&rt, &mut yard))
 }

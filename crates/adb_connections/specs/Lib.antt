@@ -1,3 +1,4 @@
 pub mod Device
 pub mod Door
+pub mod Either
 pub mod Memory

@@ -1,6 +1,6 @@
-//! The two halves of a device's link.
+//! A device, and the two halves of its link.
 
-use adb_outside::{Got, Wrote};
+use adb_outside::{Got, Kind, Text, Wrote};
 
 /// Whether a device is plugged in.
 #[derive(Clone, Copy, Debug, PartialEq, Eq, Drop)]
@@ -105,4 +105,13 @@ pub trait DeviceOut: Drop {
         ensures closed { closed self.new ≡ true }
         ensures told { written self.new ≡ written self.old }
         ensures counts { Counts steady faults self.old self.new false };
+}
+
+/// A device: its kind, its serial, and the two halves of its link.
+#[derive(Drop)]
+pub struct Device<I: DeviceIn, O: DeviceOut> {
+    pub kind: Kind,
+    pub serial: Text,
+    pub input: I,
+    pub output: O,
 }

@@ -1,14 +1,17 @@
-//! The door where clients come in, and the bell that closes it.
+//! The door where clients and devices come in, and the bell that closes it.
 
+use crate::device::{Device, DeviceIn, DeviceOut};
 use crate::port::{PortIn, PortOut};
 
 /// The answer of a door.
 #[derive(Drop)]
-pub enum Came<I: Drop, O: Drop> {
+pub enum Came<I: Drop, O: Drop, X: DeviceIn, Z: DeviceOut> {
     /// A client, by the two halves of its connection.
     Port(I, O),
     /// A connection to the port of a forward, which is not 0.
     Forward(u16, I, O),
+    /// A device.
+    Device(Device<X, Z>),
     /// No more connections come.
     Closed,
     /// The connection failed.
@@ -20,11 +23,12 @@ pub enum Came<I: Drop, O: Drop> {
 pub enum Arrival {
     Port,
     Forward(u16),
+    Device,
     Closed,
     Failed,
 }
 
-/// A door where clients come in.
+/// A door where clients and devices come in.
 pub trait Door: Drop {
     ghost use Rattle.std.specs.Prelude.{ℕ, List, Option};
     ghost use Rattle.adb_outside.specs.Outside.{Counts, TellsOneMore};
@@ -34,6 +38,10 @@ pub trait Door: Drop {
     type In: PortIn + Send + Drop + 'static;
 
     type Out: PortOut + Send + Drop + 'static;
+
+    type DeviceIn: DeviceIn + Send + 'static;
+
+    type DeviceOut: DeviceOut + Send + 'static;
 
     /// The number of calls that failed. A count at its largest value counts as having risen.
     ghost faults: { Self → ℕ };
@@ -47,10 +55,10 @@ pub trait Door: Drop {
     /// No call fails.
     ghost steady: { Self → Type 0 };
 
-    /// Waits for the next connection. Returns `Closed` after the bell of this door was rung, or if
-    /// a door in memory has no more connections; no clause ties a bell to its door. The count of
+    /// Waits for the next client or device. Returns `Closed` after the bell of this door was rung,
+    /// or if a door in memory has no more of them; no clause ties a bell to its door. The count of
     /// faults rises at `Failed` and is unchanged at every other answer.
-    fn accept(&mut self) -> Came<Self::In, Self::Out>
+    fn accept(&mut self) -> Came<Self::In, Self::Out, Self::DeviceIn, Self::DeviceOut>
         ensures fits { FitsCame result }
         ensures told { TellsOneMore (came self.old) (arrival result) (came self.new) }
         ensures lasts { Lasts (lasting self.old) (lasting self.new) (is_closed result) }

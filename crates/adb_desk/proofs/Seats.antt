@@ -7,7 +7,7 @@ use Rattle.adb_history.specs.Machine.{History, IsLegal}
 use Rattle.adb_history.specs.Book.{plugged_count}
 use Rattle.adb_history.specs.Tied.{came_count}
 use Rattle.adb_history.proofs.Numbers.{next_number}
-use Rattle.adb_desk_log.specs.Log.{is_draw}
+use Rattle.adb_server_log.specs.Log.{is_draw}
 use Rattle.adb_desk.specs.Desk.{DeskView}
 use Rattle.adb_desk.specs.Sound.{IsSound}
 

@@ -2,7 +2,7 @@
 use Rattle.std.specs.Prelude.{ℕ, ◌≡◌, ◌<◌, true, false, List, reverse}
 use Rattle.adb_capture.specs.declared.entry.Entry.{Entry}
 use Rattle.adb_history.specs.Machine.{History, IsLegal}
-use Rattle.adb_desk_log.specs.Log.{is_fault}
+use Rattle.adb_server_log.specs.Log.{is_fault}
 use Rattle.adb_desk.specs.Sound.{KeepsPromises}
 use Rattle.adb_desk.specs.declared.desk.Left.{Left}
 

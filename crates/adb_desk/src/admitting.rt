@@ -3,8 +3,8 @@
 ghost use Rattle.std.specs.Prelude.{◌≡◌, ◌≢◌, ◌<◌, Err};
 ghost use Rattle.adb_outside.specs.declared.kinds.Kind.{Kind};
 ghost use Rattle.adb_capture.specs.declared.entry.Entry.{Entry};
-ghost use Rattle.adb_desk_log.specs.declared.error.DeskError.{DeskError};
-ghost use Rattle.adb_desk_log.specs.Marked.{marks_error};
+ghost use Rattle.adb_server_log.specs.declared.error.DeskError.{DeskError};
+ghost use Rattle.adb_server_log.specs.Marked.{marks_error};
 ghost use Rattle.adb_hub.specs.declared.error.HubError.{HubError};
 ghost use Rattle.adb_desk.specs.Acts.{HasBadSerial, MayCome, entry_by};
 ghost use Rattle.adb_desk.specs.Desk.{Draws, Rung};
@@ -12,10 +12,10 @@ ghost use Rattle.adb_desk.specs.Desk.{Draws, Rung};
 use crate::act::Comer;
 use crate::desk::Desk;
 use adb_capture::Entry;
-use adb_desk_log::{DeskError, Marks, keep_attach, marks_error};
 use adb_hub::HubError;
 use adb_outside::{Kind, Text};
 use adb_recorder::Recorder;
+use adb_server_log::{DeskError, Marks, keep_attach, marks_error};
 use std::sync::ledger::Ledger;
 
 impl<R: Recorder, E: Ledger, M: Ledger, K: Marks> Desk<R, E, M, K> {

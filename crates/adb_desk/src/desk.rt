@@ -2,21 +2,21 @@
 
 ghost use Rattle.std.specs.Prelude.{◌≡◌, ◌≢◌, [], false, Some, Err, is_some, is_none};
 ghost use Rattle.adb_history.specs.Kept.{IsLawful};
-ghost use Rattle.adb_desk_log.specs.declared.error.DeskError.{DeskError};
-ghost use Rattle.adb_desk_log.specs.declared.marks.TheConstants.{ALL_PARTS};
-ghost use Rattle.adb_desk_log.specs.Log.{IsFresh, first_log, is_fault, or_given, shut_with};
-ghost use Rattle.adb_desk_log.specs.Marked.{marks_error};
+ghost use Rattle.adb_server_log.specs.declared.error.DeskError.{DeskError};
+ghost use Rattle.adb_server_log.specs.declared.marks.TheConstants.{ALL_PARTS};
+ghost use Rattle.adb_server_log.specs.Log.{IsFresh, first_log, is_fault, or_given, shut_with};
+ghost use Rattle.adb_server_log.specs.Marked.{marks_error};
 ghost use Rattle.adb_desk.specs.Desk.{or_given_by, over_at, rung, summary_of};
 ghost use Rattle.adb_desk.specs.Sound.{IsSound, TellsPromises};
 ghost use Rattle.adb_desk.specs.Left.{IsLeft};
 
-use adb_desk_log::{DeskError, Log, Marks, is_marked};
 use adb_headline::{
     every_legal_history_has_causes, every_legal_history_is_answered, every_legal_history_is_fifo,
 };
 use adb_hub::{Hub, HubError, Summary};
 use adb_laws_fifo_down::every_stream_keeps_its_window;
 use adb_recorder::Recorder;
+use adb_server_log::{DeskError, Log, Marks, is_marked};
 use std::alloc::Global;
 use std::marker::Model;
 use std::sync::ledger::{Blank, Ledger};

@@ -7,18 +7,18 @@ ghost use Rattle.adb_history.specs.Kept.{IsLawful};
 ghost use Rattle.adb_history.specs.Machine.{state};
 ghost use Rattle.adb_hub_hand_outs.specs.NextDue.{is_owed};
 ghost use Rattle.adb_hub.specs.Answers.{IsWithin, Hands as HubHands};
-ghost use Rattle.adb_desk_log.specs.Log.{HasKeptHanded, KeepsHanded, shut_with};
-ghost use Rattle.adb_desk_log.specs.declared.error.DeskError.{DeskError};
-ghost use Rattle.adb_desk_log.specs.Marked.{marks_handed};
+ghost use Rattle.adb_server_log.specs.Log.{HasKeptHanded, KeepsHanded, shut_with};
+ghost use Rattle.adb_server_log.specs.declared.error.DeskError.{DeskError};
+ghost use Rattle.adb_server_log.specs.Marked.{marks_handed};
 ghost use Rattle.adb_desk.specs.Acts.{due_of, out_entry};
 ghost use Rattle.adb_desk.specs.Desk.{Hands, Rung};
 
 use crate::act::Half;
 use crate::desk::Desk;
-use adb_desk_log::{DeskError, Log, Marks, keep_put, keep_sent, marks_handed};
 use adb_hub::{Handed, Hub, HubError, Owner};
 use adb_outside::HandOut;
 use adb_recorder::Recorder;
+use adb_server_log::{DeskError, Log, Marks, keep_put, keep_sent, marks_handed};
 use std::sync::ledger::Ledger;
 
 impl<R: Recorder, E: Ledger, M: Ledger, K: Marks> Desk<R, E, M, K> {

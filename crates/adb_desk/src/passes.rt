@@ -2,13 +2,13 @@
 
 ghost use Rattle.std.specs.Prelude.{◌≡◌, ◌+◌, ◌-◌, ◌<◌, ◌≤◌};
 ghost use Rattle.std.specs.Prelude.{true, false, None, Some, nat_eq, if◌then◌else◌};
-ghost use Rattle.adb_desk_log.specs.Log.{retired};
-ghost use Rattle.adb_desk_log.specs.Pass.{first_pass, noted};
+ghost use Rattle.adb_server_log.specs.Log.{retired};
+ghost use Rattle.adb_server_log.specs.Pass.{first_pass, noted};
 ghost use Rattle.adb_desk.specs.Desk.{IsSameDesk};
 
 use crate::desk::Desk;
-use adb_desk_log::{Mark, Marks, Pass};
 use adb_recorder::Recorder;
+use adb_server_log::{Mark, Marks, Pass};
 use std::sync::ledger::Ledger;
 
 impl<R: Recorder, E: Ledger, M: Ledger, K: Marks> Desk<R, E, M, K> {

@@ -7,18 +7,18 @@ ghost use Rattle.adb_history.specs.Kept.{IsLawful};
 ghost use Rattle.adb_history.specs.Machine.{state};
 ghost use Rattle.adb_hub.specs.Answers.{Answers};
 ghost use Rattle.adb_hub.specs.declared.error.HubError.{HubError};
-ghost use Rattle.adb_desk_log.specs.declared.error.DeskError.{DeskError};
-ghost use Rattle.adb_desk_log.specs.Log.{HasKept, Keeps, moves, shut_with};
-ghost use Rattle.adb_desk.specs.Acts.{IsLateBy, Submits, entry_of, life_at, link_room};
+ghost use Rattle.adb_server_log.specs.declared.error.DeskError.{DeskError};
+ghost use Rattle.adb_server_log.specs.Log.{HasKept, Keeps, moves, shut_with};
+ghost use Rattle.adb_desk.specs.Acts.{IsLateBy, Submits, entry_of, life_at};
 ghost use Rattle.adb_desk.specs.Acts.{is_end, marks_progress, progress_at};
 ghost use Rattle.adb_desk.specs.Desk.{Rung, desk_refusal};
 
 use crate::act::{Act, Progress};
 use crate::desk::Desk;
-use adb_capture::{Entry, MAX_DATA, Owner};
-use adb_desk_log::{DeskError, Log, Marks, is_marked};
+use adb_capture::{Entry, Owner};
 use adb_hub::{Hub, HubError, Life, MAX_HELD, Room};
 use adb_recorder::Recorder;
+use adb_server_log::{DeskError, Log, Marks, is_marked};
 use std::sync::ledger::Ledger;
 
 impl<R: Recorder, E: Ledger, M: Ledger, K: Marks> Desk<R, E, M, K> {
@@ -162,19 +162,9 @@ fn progress(hub: &Hub, number: u32, act: Act<'_>, life: Life) -> Progress
         },
         Act::Recv(_) | Act::Packet(_) | Act::Detach(_) => Progress {
             life,
-            room: link_room(life),
+            room: hub.link_room(number),
             wants: None,
         },
-    }
-}
-
-/// Returns the room of a device, which may send as long as it is attached.
-fn link_room(life: Life) -> Room
-    ensures { result ≡ link_room life }
-{
-    match life {
-        Life::Live => Room::Bytes(MAX_DATA),
-        Life::Gone => Room::Shut,
     }
 }
 

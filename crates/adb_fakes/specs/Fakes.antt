@@ -12,6 +12,11 @@ pub record CalmDoorView : Type 0 where
   pub lasts : Bool
   pub came : Option (List Arrival)
 
+-- a yard that never fails: whether its door lasts, and the bytes that the next dialled connection will yield
+pub record CalmYardView : Type 0 where
+  pub lasts : Bool
+  pub answers : List ℕ
+
 -- the port on which a yard in memory listens if it is asked for this one
 abbrev pub listening_port : ℕ → ℕ
 listening_port asked = if asked == 0 then 1 else asked

@@ -1,58 +1,15 @@
-//! A door, a binder and an output that never fail.
+//! A door and a binder that never fail.
 
 ghost use Rattle.std.specs.Prelude.{◌≡◌, ◌≢◌, [], Some};
 
+use crate::calm_out::CalmOut;
 use adb_binder::{Binder, Binding};
-use adb_connections::{Arrival, Came, Door, MemoryIn, PortOut};
-use adb_outside::{Answers, Text, Wrote};
+use adb_connections::{Arrival, Came, Door, MemoryDeviceIn, MemoryDeviceOut, MemoryIn};
+use adb_outside::{Answers, Text};
 use std::alloc::Global;
 use std::collections::VecDeque;
 use std::marker::Model;
-
-/// An output of a client that discards the bytes that it is sent.
-#[derive(Drop)]
-pub struct CalmOut {
-    closed: bool,
-}
-
-impl Model for CalmOut {
-    ghost use Rattle.std.specs.Prelude.{Bool};
-
-    ghost Value = { Bool };
-
-    ghost view = { λ out. out.closed };
-}
-
-impl CalmOut {
-    /// Returns an output that is not closed.
-    pub fn new() -> CalmOut {
-        CalmOut { closed: false }
-    }
-}
-
-impl PortOut for CalmOut {
-    ghost use Rattle.std.specs.Prelude.{None, ⊤};
-
-    ghost faults = { λ out. 0 };
-
-    ghost written = { λ out. None };
-
-    ghost closed = { λ out. out };
-
-    ghost steady = { λ out. ⊤ };
-
-    fn write(&mut self, _piece: &[u8]) -> Wrote {
-        Wrote::All
-    }
-
-    fn write_both(&mut self, _start: &[u8], _rest: &[u8]) -> Wrote {
-        Wrote::All
-    }
-
-    fn close(&mut self) {
-        self.closed = true;
-    }
-}
+use std::sync::Wait;
 
 /// A binder that opens no port. It returns the port that it is asked for, or 40,000 if it is asked
 /// for any.
@@ -83,18 +40,27 @@ impl Binder for CalmBinder {
     }
 }
 
+/// A client that comes to a calm door: the two halves of its connection.
+#[derive(Drop)]
+pub(crate) struct Caller<W: Wait + Copy + Drop> {
+    /// The port of the forward through which it comes, 0 if it comes to the server's own port.
+    pub(crate) port: u16,
+    pub(crate) input: MemoryIn,
+    pub(crate) output: CalmOut<W>,
+}
+
 /// A door for a list of clients, in order. After the last one it is closed. A door that lasts has
 /// another client at each further call, which sends nothing. Contracts see its answers until an
 /// allocation for them fails.
 #[derive(Drop)]
-pub struct CalmDoor {
+pub struct CalmDoor<W: Wait + Copy + Drop> {
     alloc: Global,
-    coming: VecDeque<MemoryIn>,
+    coming: VecDeque<Caller<W>>,
     lasts: bool,
     came: Answers<Arrival>,
 }
 
-impl Model for CalmDoor {
+impl<W: Wait + Copy + Drop> Model for CalmDoor<W> {
     ghost use Rattle.adb_fakes.specs.Fakes.{CalmDoorView};
 
     ghost Value = { CalmDoorView };
@@ -102,9 +68,9 @@ impl Model for CalmDoor {
     ghost view = { λ door. record { lasts = door.lasts; came = door.came } };
 }
 
-impl CalmDoor {
+impl<W: Wait + Copy + Drop> CalmDoor<W> {
     /// Returns a door for these clients.
-    pub fn new(alloc: Global, coming: VecDeque<MemoryIn>, lasts: bool) -> CalmDoor
+    pub(crate) fn new(alloc: Global, coming: VecDeque<Caller<W>>, lasts: bool) -> CalmDoor<W>
         ensures { result ≡ record { lasts = lasts; came = Some [] } }
     {
         CalmDoor {
@@ -114,12 +80,25 @@ impl CalmDoor {
             came: Answers::new(alloc),
         }
     }
+
+    /// Returns a client that sends nothing.
+    fn silent(&self) -> Caller<W> {
+        Caller {
+            port: 0,
+            input: MemoryIn::new(Text::new(self.alloc), 1, Vec::new(self.alloc)),
+            output: CalmOut::new(None),
+        }
+    }
 }
 
-impl Door for CalmDoor {
+impl<W: Wait + Copy + Send + Sync + Drop + 'static> Door for CalmDoor<W> {
     type In = MemoryIn;
 
-    type Out = CalmOut;
+    type Out = CalmOut<W>;
+
+    type DeviceIn = MemoryDeviceIn;
+
+    type DeviceOut = MemoryDeviceOut;
 
     ghost use Rattle.std.specs.Prelude.{◌≡◌, true, ⊤};
 
@@ -131,16 +110,25 @@ impl Door for CalmDoor {
 
     ghost steady = { λ door. ⊤ };
 
-    fn accept(&mut self) -> Came<MemoryIn, CalmOut> {
+    fn accept(&mut self) -> Came<MemoryIn, CalmOut<W>, MemoryDeviceIn, MemoryDeviceOut> {
         let next = match self.coming.pop_front() {
-            Some(input) => input,
-            None if self.lasts => MemoryIn::new(Text::new(self.alloc), 1, Vec::new(self.alloc)),
+            Some(caller) => caller,
+            None if self.lasts => self.silent(),
             None => {
                 let _ = self.came.note(Arrival::Closed);
                 return Came::Closed;
             }
         };
-        let _ = self.came.note(Arrival::Port);
-        Came::Port(next, CalmOut::new())
+        let Caller {
+            port,
+            input,
+            output,
+        } = next;
+        if port == 0 {
+            let _ = self.came.note(Arrival::Port);
+            return Came::Port(input, output);
+        }
+        let _ = self.came.note(Arrival::Forward(port));
+        Came::Forward(port, input, output)
     }
 }

@@ -1,7 +1,7 @@
 //! A door, and its bell.
 
 use crate::sent::SharedOut;
-use adb_connections::{Bell, Came, Door, MemoryIn};
+use adb_connections::{Bell, Came, Device, Door, MemoryDeviceIn, MemoryDeviceOut, MemoryIn};
 use adb_outside::Failing;
 use std::alloc::{AllocError, Global};
 use std::collections::VecDeque;
@@ -45,15 +45,15 @@ impl<W: Wait + Copy + Send + Sync + Drop + 'static> Bell for Rings<W> {
     }
 }
 
-/// A client that comes: the two halves of its connection.
+/// A client or a device that comes.
 #[derive(Drop)]
-pub(crate) struct Coming<W: Wait + Copy + Drop> {
-    pub(crate) input: MemoryIn,
-    pub(crate) output: SharedOut<W>,
+pub(crate) enum Coming<W: Wait + Copy + Drop> {
+    Client(MemoryIn, SharedOut<W>),
+    Device(Device<MemoryDeviceIn, MemoryDeviceOut>),
 }
 
-/// A door that accepts these clients in order. It is closed after the last one, and after its bell
-/// was rung. Contracts see only how often it failed.
+/// A door that accepts these clients and devices in order. It is closed after the last one, and
+/// after its bell was rung. Contracts see only how often it failed.
 #[derive(Drop)]
 pub struct FakeDoor<W: Wait + Copy + Drop> {
     pub(crate) coming: VecDeque<Coming<W>>,
@@ -74,6 +74,10 @@ impl<W: Wait + Copy + Send + Sync + Drop + 'static> Door for FakeDoor<W> {
 
     type Out = SharedOut<W>;
 
+    type DeviceIn = MemoryDeviceIn;
+
+    type DeviceOut = MemoryDeviceOut;
+
     ghost use Rattle.std.specs.Prelude.{None};
 
     ghost faults = { λ door. door };
@@ -84,7 +88,7 @@ impl<W: Wait + Copy + Send + Sync + Drop + 'static> Door for FakeDoor<W> {
 
     ghost steady = { λ door. ⊥ };
 
-    fn accept(&mut self) -> Came<MemoryIn, SharedOut<W>> {
+    fn accept(&mut self) -> Came<MemoryIn, SharedOut<W>, MemoryDeviceIn, MemoryDeviceOut> {
         if self.failing.fails() {
             return Came::Failed;
         }
@@ -93,7 +97,8 @@ impl<W: Wait + Copy + Send + Sync + Drop + 'static> Door for FakeDoor<W> {
         }
         match self.coming.pop_front() {
             None => Came::Closed,
-            Some(Coming { input, output }) => Came::Port(input, output),
+            Some(Coming::Client(input, output)) => Came::Port(input, output),
+            Some(Coming::Device(device)) => Came::Device(device),
         }
     }
 }

@@ -4,6 +4,7 @@
 #![tactic(auto)]
 
 mod calm_door;
+mod calm_out;
 mod calm_yard;
 mod door;
 mod lines;
@@ -11,7 +12,8 @@ mod recorder;
 mod sent;
 mod yard;
 
-pub use calm_door::{CalmBinder, CalmDoor, CalmOut};
+pub use calm_door::{CalmBinder, CalmDoor};
+pub use calm_out::CalmOut;
 pub use calm_yard::CalmYard;
 pub use door::{FakeDoor, Rings};
 pub use lines::lines_of;

@@ -57,7 +57,7 @@ impl<W: Wait + Copy + Drop> Sent<W> {
 
     /// Sends two parts, the first before the second. Returns whether the allocation for both
     /// succeeded.
-    fn push(&self, start: &[u8], rest: &[u8]) -> bool {
+    pub(crate) fn push(&self, start: &[u8], rest: &[u8]) -> bool {
         let mut store = self.store.lock(&self.rt);
         let len = store.bytes.len();
         let went = store.bytes.push_slice(start).is_ok() && store.bytes.push_slice(rest).is_ok();
@@ -67,7 +67,8 @@ impl<W: Wait + Copy + Drop> Sent<W> {
         went
     }
 
-    fn close(&self) {
+    /// Marks the output as closed.
+    pub(crate) fn close(&self) {
         self.store.lock(&self.rt).closed = true;
     }
 }

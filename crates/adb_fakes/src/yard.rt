@@ -8,23 +8,23 @@ use crate::door::{Coming, FakeDoor, Rings};
 use crate::recorder::{Kept, SharedRecorder};
 use crate::sent::{Sent, SharedOut};
 use adb_binder::MemoryBinder;
-use adb_connections::{MemoryIn, OpenGate};
+use adb_connections::{Device, MemoryDeviceIn, MemoryDeviceOut, MemoryIn, OpenGate};
 use adb_outside::{Failing, Text};
-use adb_yard::{Dialled, Listening, Staff, Yard};
+use adb_server_yard::{Dialled, Listening, PoolKind, Yard};
 use std::alloc::{AllocError, Global};
 use std::collections::VecDeque;
 use std::marker::Model;
 use std::sync::Wait;
 
-/// The maximum number of bytes that a client of a yard sends at once.
-const PIECE: usize = 65_536;
+/// The maximum number of bytes that a connection of a yard in memory yields at once.
+pub(crate) const PIECE: usize = 65_536;
 
 /// The port to which the first forward of a client is bound if it asks for any.
 const FIRST_PORT: u16 = 40_000;
 
-/// The yard of a test. Its door accepts the clients in the order of `call`, and is closed after
-/// them. A server that asks for any port listens on port 1. Its jobs run within the calls that
-/// submit them.
+/// The yard of a test. Its door accepts the clients of `call` and the devices of `deliver` in their
+/// order, and is closed after them. A server that asks for any port listens on port 1. Its jobs run
+/// within the calls that submit them.
 ///
 /// Contracts see how often it failed: at `listen` if an allocation failed, and at each `dial`.
 #[derive(Drop)]
@@ -86,15 +86,24 @@ impl<W: Wait + Copy + Drop> FakeYard<W> {
         writes: Vec<u64>,
     ) -> Result<Sent<W>, AllocError> {
         let sent = Sent::new(self.rt, self.alloc)?;
-        let coming = Coming {
-            input: MemoryIn::new(Text::from_slice(self.alloc, bytes)?, PIECE, reads),
-            output: SharedOut::new(sent.handle()?, writes),
-        };
-        self.coming.push_back(coming)?;
+        let input = MemoryIn::new(Text::from_slice(self.alloc, bytes)?, PIECE, reads);
+        let output = SharedOut::new(sent.handle()?, writes);
+        self.coming.push_back(Coming::Client(input, output))?;
         Ok(sent)
     }
 
-    /// Returns the door of its clients, or `None` if an allocation failed.
+    /// Adds a device that comes through the door.
+    ///
+    /// `Err`: an allocation failed, and the device is not added.
+    pub fn deliver(
+        &mut self,
+        device: Device<MemoryDeviceIn, MemoryDeviceOut>,
+    ) -> Result<(), AllocError> {
+        self.coming.push_back(Coming::Device(device))?;
+        Ok(())
+    }
+
+    /// Returns the door of its clients and devices, or `None` if an allocation failed.
     fn open(&mut self) -> Option<FakeDoor<W>>
         ensures { self.new ≡ self.old }
     {
@@ -174,8 +183,8 @@ impl<W: Wait + Copy + Send + Sync + Drop + 'static> Yard for FakeYard<W> {
         SharedRecorder::new(self.kept.handle().ok())
     }
 
-    fn staff(&mut self) -> Staff {
-        Staff::Inline {
+    fn pool_kind(&mut self) -> PoolKind {
+        PoolKind::Inline {
             failing: moved_out(self.alloc, &mut self.spawns),
         }
     }

@@ -1,5 +1,5 @@
 -- Entries by which no stream ends.
-use Rattle.std.proofs.Common.{ℕ, ◌≡◌, List, [], ◌∷◌, ◌++◌, zero, suc, Bool, true, false, Option, Some, None, refl, sym, ◌∙◌, ap, length, drop}
+use Rattle.std.proofs.Common.{ℕ, ◌≡◌, List, [], ◌∷◌, zero, suc, Bool, true, false, Option, Some, None, refl, sym, ◌∙◌, ap, length, drop}
 use Rattle.std.specs.Prelude.{nat_eq, min}
 use Rattle.adb_outside.specs.Tables.{Rows, at}
 use Rattle.adb_stream.specs.Flow.{to_hand, credit_back}
@@ -13,13 +13,13 @@ use Rattle.adb_forward.specs.declared.row.ForwardRow.{ForwardRow}
 use Rattle.adb_capture.specs.declared.entry.Entry.{Entry}
 use Rattle.adb_capture.specs.declared.entry.Entry.TheVariants.{Join, Enter, Read, End, Bound, Attach, Recv, Detach, Put, Send}
 use Rattle.adb_history.specs.Rows.{Client, State}
-use Rattle.adb_history.specs.Events.{Event, Made}
+use Rattle.adb_history.specs.Events.{Event}
 use Rattle.adb_history.specs.Links.{is_connected}
 use Rattle.adb_history.specs.Streams.{opens, no_ids_left, stream_ids}
-use Rattle.adb_history.specs.Handing.{lists_first, tells_credit, tells_handed, stream_hands, stream_left, client_left, takes_of, puts_to, puts}
-use Rattle.adb_history.specs.Reading.{comes, enters, enters_by, bound_for, bound_in, bound_at}
+use Rattle.adb_history.specs.Handing.{lists_first, tells_credit, tells_handed, stream_left, client_left, takes_of, puts_to}
+use Rattle.adb_history.specs.Reading.{comes, enters_by, bound_for, bound_in, bound_at}
 use Rattle.adb_history.specs.Machine.{History, IsLegal, rule, state, step}
-use Rattle.adb_hub_tables.specs.Endings.{Log, endings_of, endings_at, logged}
+use Rattle.adb_hub_tables.specs.Endings.{Log, endings_of, endings_at}
 use Rattle.adb_hub_tables.proofs.Reporting.{TellsSame, logged_list}
 use Rattle.adb_hub_rules.proofs.Telling.{TellsNone, none_then, told_if}
 use Rattle.adb_hub_rules.proofs.Rests.{rule_tells}

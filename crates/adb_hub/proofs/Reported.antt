@@ -1,9 +1,9 @@
 -- What a log of endings has after a call of a hub.
-use Rattle.std.proofs.Common.{ℕ, ◌≡◌, ◌≤◌, ◌++◌, length, sym, ◌∙◌, ap, subst, arith}
+use Rattle.std.proofs.Common.{◌≡◌, ◌≤◌, ◌++◌, length, ◌∙◌, ap, arith}
 use Rattle.adb_outside.specs.Tables.{at}
 use Rattle.adb_capture.specs.declared.entry.Entry.{Entry}
 use Rattle.adb_history.specs.Rows.{State}
-use Rattle.adb_history.specs.Machine.{History, state, step}
+use Rattle.adb_history.specs.Machine.{History, step}
 use Rattle.adb_history.specs.Kept.{kept, IsLawful}
 use Rattle.adb_hub_tables.specs.declared.tables.Tables.{Tables}
 use Rattle.adb_hub_tables.specs.Tables.{state_of}

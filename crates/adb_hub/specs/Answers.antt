@@ -1,17 +1,17 @@
 -- What the calls of a hub answer, over a history that it holds.
 use Rattle.std.specs.Prelude.{ℕ, ◌+◌, ◌-◌, ◌≤◌, ◌<◌, All, ◌^◌, ◌==◌, ◌≡◌, ◌≢◌, Bool, true, false}
-use Rattle.std.specs.Prelude.{if◌then◌else◌, nat_le, List, [], ◌∷◌, length, take, Option, Some, None, Result, Ok, Err, option_map}
+use Rattle.std.specs.Prelude.{if◌then◌else◌, nat_le, nat_lt, ◌*◌, List, [], ◌∷◌, length, take, Option, Some, None, Result, Ok, Err, option_map}
 use Rattle.adb_outside.specs.Tables.{at}
 use Rattle.adb_registry.specs.Registry.{DeviceTable}
 use Rattle.adb_registry.specs.declared.row.Row.{Row}
 use Rattle.adb_client.specs.declared.phase.Phase.{Phase}
-use Rattle.adb_client.specs.declared.phase.Phase.TheVariants.{Binding, Closing, Gone}
+use Rattle.adb_client.specs.declared.phase.Phase.TheVariants.{Asking, Binding, Closing, Gone}
 use Rattle.adb_client.specs.declared.about.Want.{Want}
 use Rattle.adb_capture.specs.declared.entry.Entry.{Entry}
 use Rattle.adb_history.specs.Rows.{Client, Link, State}
 use Rattle.adb_history.specs.Tracking.{offered}
 use Rattle.adb_history.specs.Machine.{History, state}
-use Rattle.adb_history.specs.Kept.{Kept, IsLawful}
+use Rattle.adb_history.specs.Kept.{Kept, kept, IsLawful}
 use Rattle.adb_hub.specs.declared.error.HubError.{HubError}
 use Rattle.adb_hub.specs.declared.error.HubError.TheVariants.{Stopped, Numbers, OutOfMemory}
 use Rattle.adb_hub.specs.declared.answers.Life.{Life}
@@ -20,7 +20,8 @@ use Rattle.adb_hub.specs.declared.answers.Handed.{Handed}
 use Rattle.adb_hub.specs.declared.answers.Handed.TheVariants as handed
 use Rattle.adb_hub.specs.declared.answers.Room.{Room}
 use Rattle.adb_hub.specs.declared.answers.Room.TheVariants as room
-use Rattle.adb_hub.specs.declared.hub.TheConstants.{MAX_HELD}
+use Rattle.adb_capture.specs.declared.limits.TheConstants.{MAX_DATA}
+use Rattle.adb_hub.specs.declared.hub.TheConstants.{MAX_HELD, MAX_DUE_TO_CLIENT, MAX_DUE_ON_LINK, DUE_FOR_STREAM}
 use Rattle.adb_hub.specs.Refusal.{refusal}
 
 -- whether who stands at a number lives
@@ -99,15 +100,36 @@ Hands e max all (Err why) h old new = refusal (e []) (state h) ≡ Some why
 abbrev pub room_past : ℕ → Room
 room_past held = if nat_le MAX_HELD held then room.Later else room.Bytes (MAX_HELD - held)
 
+-- the same of a client that asks, to which so much is due: none while too much is
+abbrev pub room_asking : (due held : ℕ) → Room
+room_asking due held = if nat_lt MAX_DUE_TO_CLIENT due then room.Later else room_past held
+
 abbrev pub room_in : Phase → Client → Room
 room_in Closing client = room.Shut
 room_in Gone client = room.Shut
+room_in Asking client = if client.about.ended then room.Shut else room_asking (length client.due) (length client.held)
 room_in _ client = if client.about.ended then room.Shut else room_past (length client.held)
 
 -- how much more a client may send
 abbrev pub room_of : Option Client → Room
 room_of None = room.Shut
 room_of (Some client) = room_in client.about.phase client
+
+-- how many streams are open
+abbrev pub open_streams : State → ℕ
+open_streams s = length (kept s).streams.streams
+
+-- how much may be due on a link, with so many open streams, before its device has no more room
+abbrev pub due_allowed : ℕ → ℕ
+due_allowed streams = MAX_DUE_ON_LINK + DUE_FOR_STREAM * streams
+
+-- how much more the device of a link may send, with so many open streams
+abbrev pub link_room_in : ℕ → Option Link → Room
+link_room_in streams None = room.Shut
+link_room_in streams (Some link) = if nat_lt (due_allowed streams) (length link.due) then room.Later else room.Bytes MAX_DATA
+
+abbrev pub link_room_of : ℕ → State → Room
+link_room_of t s = link_room_in (open_streams s) (s.links t)
 
 abbrev pub port_in : Phase → Option Want → Option ℕ
 port_in Binding want = option_map (λ (w : Want). w.local) want

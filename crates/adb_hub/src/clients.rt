@@ -11,11 +11,11 @@ ghost use Rattle.adb_hub_tables.specs.Tables.{client_row, state_of};
 ghost use Rattle.adb_hub.specs.Endings.{Reports};
 ghost use Rattle.adb_hub.specs.Refusal.{unless_stopped, unless_drawn};
 ghost use Rattle.adb_hub.specs.Answers.{Answers, AnswersClient, err_if, next_client};
-ghost use Rattle.adb_hub.specs.Answers.{life_of, room_of, room_past, port_of};
+ghost use Rattle.adb_hub.specs.Answers.{life_of, room_of, room_asking, room_past, port_of};
 
 use crate::answers::{Life, Room};
 use crate::error::HubError;
-use crate::hub::{Hub, MAX_HELD};
+use crate::hub::{Hub, MAX_DUE_TO_CLIENT, MAX_HELD};
 use adb_client::{Client, Phase};
 use adb_hub_tables::{Endings, Tables};
 use adb_outside::Cause;
@@ -134,8 +134,9 @@ impl Hub {
         Ok(self.client_life(client))
     }
 
-    /// Returns how many more bytes a client may send before some of them were sent on. Allocates
-    /// nothing.
+    /// Returns how many more bytes a client may send before some of them were sent on. A client
+    /// that asks has no more room while more than `MAX_DUE_TO_CLIENT` bytes are due to it; it has
+    /// room again when some of them were handed out. Allocates nothing.
     pub fn room(&self, client: u32) -> Room
         ensures { (h : List Entry) → IsLawful self.now h
             → result ≡ room_of ((state h).clients client) }
@@ -218,6 +219,7 @@ fn room_in(row: &Client) -> Room
     match row.about().phase {
         Phase::Closing | Phase::Gone => Room::Shut,
         _ if row.about().ended => Room::Shut,
+        Phase::Asking => room_asking(row.owed(), row.held()),
         _ => room_past(row.held()),
     }
 }
@@ -254,6 +256,18 @@ fn port_in(row: &Client) -> Option<u16>
     match row.about().phase {
         Phase::Binding => row.about().want.as_ref().map(|want| want.local),
         _ => None,
+    }
+}
+
+/// Returns how many more bytes may be held after `held` bytes of a client that asks, to which `due`
+/// bytes are due.
+fn room_asking(due: usize, held: usize) -> Room
+    ensures { result ≡ room_asking due held }
+{
+    if due > MAX_DUE_TO_CLIENT {
+        Room::Later
+    } else {
+        room_past(held)
     }
 }
 

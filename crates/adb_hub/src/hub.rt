@@ -16,9 +16,24 @@ use std::marker::Model;
 /// The number of held bytes of a client at which it has no more room.
 pub const MAX_HELD: usize = adb_client::MAX_HELD;
 
-/// States the number that definitions take from the code.
+/// The number of bytes due to a client that asks above which the client has no more room.
+pub const MAX_DUE_TO_CLIENT: usize = 1_048_576;
+
+/// The number of bytes due on a link above which its device has no more room, apart from
+/// `DUE_FOR_STREAM` for each open stream of the hub.
+pub const MAX_DUE_ON_LINK: usize = 4_194_304;
+
+/// The number of bytes that may be due on a link for each open stream: twice the first credit of a
+/// stream, which is more than a write and its acknowledgements. So a stream alone takes no device's
+/// room unless the device gave it more credit.
+pub const DUE_FOR_STREAM: usize = 524_288;
+
+/// States the numbers that definitions take from the code.
 pub fn limits_are()
     ensures held { MAX_HELD ≡ 65540 }
+    ensures due_to_client { MAX_DUE_TO_CLIENT ≡ 1048576 }
+    ensures due_on_link { MAX_DUE_ON_LINK ≡ 4194304 }
+    ensures due_for_stream { DUE_FOR_STREAM ≡ 524288 }
 {}
 
 /// The hub: the live clients, links and streams, the devices and the forwards. Contracts see the

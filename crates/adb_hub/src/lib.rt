@@ -8,6 +8,7 @@
 
 mod answers;
 mod clients;
+mod completing;
 mod endings;
 mod error;
 mod hand_outs;
@@ -20,4 +21,4 @@ pub use adb_hub_tables::{Ended, Endings};
 pub use answers::{Handed, Life, Room, Summary};
 pub use endings::others_end_no_stream;
 pub use error::HubError;
-pub use hub::{Hub, MAX_HELD, limits_are};
+pub use hub::{DUE_FOR_STREAM, Hub, MAX_DUE_ON_LINK, MAX_DUE_TO_CLIENT, MAX_HELD, limits_are};

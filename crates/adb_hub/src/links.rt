@@ -1,6 +1,7 @@
 //! Links to devices: how they come, their bytes, and how they go.
 
-ghost use Rattle.std.specs.Prelude.{◌≡◌, ◌≢◌, ◌+◌, List, OnErr, OnOk, Err};
+ghost use Rattle.std.specs.Prelude.{◌≡◌, ◌≢◌, ◌+◌, List, OnErr, OnOk, Err, Some, is_some};
+ghost use Rattle.adb_outside.specs.Tables.{at};
 ghost use Rattle.adb_outside.specs.declared.kinds.Kind.{Kind};
 ghost use Rattle.adb_capture.specs.declared.entry.Entry.{Entry};
 ghost use Rattle.adb_history.specs.Accepted.{is_drawn};
@@ -9,14 +10,17 @@ ghost use Rattle.adb_history.specs.Machine.{state};
 ghost use Rattle.adb_hub.specs.Endings.{Reports};
 ghost use Rattle.adb_hub.specs.Refusal.{unless_stopped, unless_drawn};
 ghost use Rattle.adb_hub.specs.Answers.{Answers, AnswersLink, life_of, err_if, serial_of};
+ghost use Rattle.adb_hub.specs.Answers.{due_allowed, link_room_in, link_room_of};
+ghost use Rattle.adb_hub_tables.specs.Tables.{link_row, state_of};
 
-use crate::answers::Life;
+use crate::answers::{Life, Room};
 use crate::clients::life_if;
 use crate::error::HubError;
 use crate::hand_outs::are_bytes;
-use crate::hub::Hub;
+use crate::hub::{DUE_FOR_STREAM, Hub, MAX_DUE_ON_LINK};
+use adb_capture::MAX_DATA;
 use adb_hub_links::Whole;
-use adb_hub_tables::Endings;
+use adb_hub_tables::{Endings, Port, Tables};
 use adb_outside::{Cause, Kind};
 
 impl Hub {
@@ -155,6 +159,23 @@ impl Hub {
         life_if(self.tables.links.contains_key(&link))
     }
 
+    /// Returns how many more bytes a device may send at once on a link: `Later` while more bytes are
+    /// due on the link than `MAX_DUE_ON_LINK`, and `DUE_FOR_STREAM` for each open stream of the
+    /// hub. Allocates nothing.
+    pub fn link_room(&self, link: u32) -> Room
+        ensures { (h : List Entry) → IsLawful self.now h → result ≡ link_room_of link (state h) }
+    {
+        link_room(&self.tables, link, self.summary().streams)
+    }
+
+    /// Returns whether there is a forward of a local port. Allocates nothing.
+    pub fn has_forward(&self, port: u16) -> bool
+        ensures { (h : List Entry) → IsLawful self.now h
+            → result ≡ is_some (at port (state h).forwards) }
+    {
+        self.tables.forwards.find(port).is_some()
+    }
+
     /// Returns the serial of the device of a link, and no bytes if no device is plugged in there.
     /// Allocates nothing.
     pub fn serial(&self, link: u32) -> &[u8]
@@ -165,4 +186,32 @@ impl Hub {
             None => &[],
         }
     }
+}
+
+/// Returns how many more bytes the device of a link may send at once, with `streams` open streams.
+fn link_room(tables: &Tables, link: u32, streams: u32) -> Room
+    ensures { result ≡ link_room_in streams ((state_of tables.now).links link) }
+{
+    match tables.links.get(&link) {
+        Some(port) => room_on(port, streams),
+        None => Room::Shut,
+    }
+}
+
+fn room_on(port: &Port, streams: u32) -> Room
+    ensures { result ≡ link_room_in streams (Some (link_row port.now)) }
+{
+    if port.link.owed() > due_allowed(streams) {
+        Room::Later
+    } else {
+        Room::Bytes(MAX_DATA)
+    }
+}
+
+/// Returns how many bytes may be due on a link, with `streams` open streams, before its device has
+/// no more room.
+fn due_allowed(streams: u32) -> usize
+    ensures { result ≡ due_allowed streams }
+{
+    MAX_DUE_ON_LINK + DUE_FOR_STREAM * streams as usize
 }

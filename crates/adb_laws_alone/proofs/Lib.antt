@@ -1,3 +1,4 @@
+pub mod ConsecutivePayloads
 pub mod Quiet
 mod Watching
 mod Alone

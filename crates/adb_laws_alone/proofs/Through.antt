@@ -18,7 +18,7 @@ use Rattle.adb_shell_service.specs.Service.{Answer, shell_answer}
 use Rattle.adb_shell_service.proofs.Answering.{ended_stays}
 use Rattle.adb_device_streams.specs.Asked.{Kind, Echoes, Syncs, Shells}
 use Rattle.adb_device_streams.specs.Service.{Came, bytes_in, came_over, completed_by, files_fed, files_opened, served_by, service_answer, sync_answer, sync_files}
-use Rattle.adb_laws_payloads.proofs.Payloads.{completes, further}
+use Rattle.adb_laws_alone.proofs.ConsecutivePayloads.{completes, further}
 use Rattle.adb_laws_alone.specs.Calls.{AreFirst, Ask, Call, Runs, Serves, answer_if, answer_in, answer_over, answers_of, ask_if, asks_in, asks_of, call_of}
 use Rattle.adb_laws_alone.specs.Calls.{files_after, files_past, found_by, has_last, is_last, up_to_last}
 use Rattle.adb_laws_alone.specs.Together.{AnswersThrough, RanThrough}

@@ -12,7 +12,7 @@ use Rattle.adb_device_streams.specs.Stream.{Row}
 use Rattle.adb_daemon.specs.Device.{Setting, device_behind}
 use Rattle.adb_daemon.specs.Serving.{Serving, Ended}
 use Rattle.adb_daemon.specs.Streams.{over_at}
-use Rattle.adb_laws_payloads.specs.Payloads.{ComeInTurn, files_behind}
+use Rattle.adb_laws_alone.specs.Payloads.{ComeInTurn, files_behind}
 
 -- what holds of each packet, by its command
 abbrev pub Every : (Command → Packet → Type 0) → List Packet → Type 0

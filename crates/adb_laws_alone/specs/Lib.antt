@@ -1,3 +1,4 @@
+pub mod Payloads
 pub mod Alone
 pub mod Calls
 pub mod Together

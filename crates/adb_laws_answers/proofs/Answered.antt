@@ -36,7 +36,7 @@ use Rattle.adb_laws_worlds.specs.InTurn.{AllInTurn}
 use Rattle.adb_laws_worlds.specs.Known.{KnownAreOpened}
 use Rattle.adb_laws_worlds.specs.Settled.{IsAtRest}
 use Rattle.adb_laws_worlds.specs.Unbroken.{AllOutliveLink}
-use Rattle.adb_laws_gone.specs.Gone.{PutsAllOfClosed}
+use Rattle.adb_laws_answers.specs.Gone.{PutsAllOfClosed}
 use Rattle.adb_laws_answers.specs.Answers.{CameOf, IsAnswered, ClientsAreAnswered}
 use Rattle.adb_laws_answers.proofs.Asked.{born_for, born_as, slice_below}
 use Rattle.adb_laws_answers.proofs.Ends.{IsByLink, ends_by_link, unfailed, rest_front}

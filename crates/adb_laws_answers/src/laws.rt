@@ -7,7 +7,7 @@ ghost use Rattle.adb_laws_model_device.specs.Joined.{IsJoined};
 ghost use Rattle.adb_laws_worlds.specs.Credit.{HasOneDevice};
 ghost use Rattle.adb_laws_answers.specs.Answers.{ClientsAreAnswered};
 
-use adb_laws_gone::clients_that_go_were_put_all;
+use crate::clients_that_go_were_put_all;
 use adb_laws_worlds::{
     a_device_writes_in_turn, closed_streams_gave_their_answer, streams_have_settled_at_rest,
     streams_of_known_services_are_opened, streams_outlive_a_link_that_stays,

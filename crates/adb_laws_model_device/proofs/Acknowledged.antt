@@ -25,9 +25,9 @@ use Rattle.adb_daemon.specs.Serving.{kind_for, credit_of, open_as, on_open, writ
 use Rattle.adb_daemon.specs.Device.{Device, Setting, step, treated, linked_to, served_on, first_device}
 use Rattle.adb_daemon.proofs.Rules.{named_is}
 use Rattle.adb_daemon.proofs.Owed.{written_host}
-use Rattle.adb_laws_pairs.specs.Counts.{okays_to}
-use Rattle.adb_laws_pairs.specs.InTurn.{IsInTurn, AreInTurn}
-use Rattle.adb_laws_pairs.proofs.Counts.{count_first, count_one, count_none, counted, count_at_most_one}
+use Rattle.adb_laws_model_device.specs.Counts.{okays_to}
+use Rattle.adb_laws_model_device.specs.InTurn.{IsInTurn, AreInTurn}
+use Rattle.adb_laws_model_device.proofs.Counts.{count_first, count_one, count_none, counted, count_at_most_one}
 use Rattle.adb_laws_model_device.specs.Owed.{packets_of_sent}
 use Rattle.adb_laws_model_device.specs.Rows.{LiveAreAcknowledged}
 use Rattle.adb_laws_model_device.proofs.Links.{link_plain}

@@ -27,9 +27,9 @@ use Rattle.adb_daemon.specs.Device.{Device, Setting, step, treated, linked_to, s
 use Rattle.adb_daemon.specs.Streams.{over_at}
 use Rattle.adb_daemon.proofs.Owed.{written_host}
 use Rattle.adb_daemon.proofs.Rules.{named_is, closable_is, or_over, all_over}
-use Rattle.adb_laws_pairs.specs.InTurn.{IsInTurn, AreInTurn}
-use Rattle.adb_laws_pairs.proofs.Counts.{count_one}
-use Rattle.adb_laws_pairs.proofs.Turns.{sent_in_turn}
+use Rattle.adb_laws_model_device.specs.InTurn.{IsInTurn, AreInTurn}
+use Rattle.adb_laws_model_device.proofs.Counts.{count_one}
+use Rattle.adb_laws_model_device.proofs.Turns.{sent_in_turn}
 use Rattle.adb_laws_model_device.specs.Owed.{packets_owed}
 use Rattle.adb_laws_model_device.specs.Joined.{IsJoined}
 use Rattle.adb_laws_model_device.specs.Came.{TookCarried, TakesCarried}

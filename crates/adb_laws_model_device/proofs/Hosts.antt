@@ -28,7 +28,7 @@ use Rattle.adb_daemon.specs.Serving.{kind_for, credit_of, open_as, on_open, writ
 use Rattle.adb_daemon.specs.Device.{Device, Setting, step, treated, linked_to, served_on, first_device, device_behind}
 use Rattle.adb_daemon.proofs.Rules.{named_is, closable_is}
 use Rattle.adb_daemon.proofs.Owed.{written_host}
-use Rattle.adb_laws_pairs.specs.Devices.{ComeFromOne}
+use Rattle.adb_laws_model_device.specs.Devices.{ComeFromOne}
 use Rattle.adb_laws_model_device.specs.Owed.{packets_of_sent, packets_owed}
 use Rattle.adb_laws_model_device.specs.Opened.{is_of_stream, ComesFrom, HasOneId}
 use Rattle.adb_laws_model_device.proofs.Tables.{put_found, left_found}

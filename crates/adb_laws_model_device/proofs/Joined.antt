@@ -16,7 +16,7 @@ use Rattle.adb_laws_births.specs.Brought.{ComeFirst, framed_front, HasWords, bro
 use Rattle.adb_laws_births.proofs.Sent.{born_below}
 use Rattle.adb_laws_births.proofs.Crossing.{no_crossing}
 use Rattle.adb_daemon.specs.Device.{Setting}
-use Rattle.adb_laws_pairs.specs.Paired.{IsPaired}
+use Rattle.adb_laws_model_device.specs.Paired.{IsPaired}
 use Rattle.adb_laws_model_device.specs.Joined.{IsJoined}
 use Rattle.adb_laws_model_device.specs.Owed.{packets_owed}
 use Rattle.adb_laws_model_device.proofs.Bytes.{framed_owed}

@@ -1,3 +1,9 @@
+pub mod Counts
+pub mod Timely
+pub mod Heard
+pub mod Told
+pub mod Turns
+pub mod WaitsAtRest
 pub mod Links
 pub mod Tables
 pub mod Owing

@@ -26,8 +26,8 @@ use Rattle.adb_daemon.specs.Serving.{kind_for, credit_of, open_as, on_open, writ
 use Rattle.adb_daemon.specs.Device.{Device, Setting, step, treated, linked_to, served_on, first_device}
 use Rattle.adb_daemon.proofs.Rules.{named_is, closable_is}
 use Rattle.adb_daemon.proofs.Owed.{written_host}
-use Rattle.adb_laws_pairs.specs.Counts.{how_many}
-use Rattle.adb_laws_pairs.proofs.Counts.{many_append, many_first}
+use Rattle.adb_laws_model_device.specs.Counts.{how_many}
+use Rattle.adb_laws_model_device.proofs.Counts.{many_append, many_first}
 use Rattle.adb_laws_model_device.specs.Owed.{packets_of_sent}
 use Rattle.adb_laws_model_device.specs.Rows.{is_close_between, is_close_to, is_cnxn_packet, LivesOrWasClosed}
 use Rattle.adb_laws_model_device.proofs.Owing.{sent_append}

@@ -22,8 +22,8 @@ use Rattle.adb_daemon.specs.Serving.{Serving, Sent, with_sum, owing, granted, se
 use Rattle.adb_daemon.specs.Serving.{kind_for, credit_of, open_as, on_open, written_to, on_write, acked_to, on_okay, closed_to, on_close, served}
 use Rattle.adb_daemon.specs.Device.{Device, Setting, step, treated, linked_to, served_on, first_device, device_behind}
 use Rattle.adb_daemon.proofs.Machines.{step_more}
-use Rattle.adb_laws_pairs.specs.Counts.{is_okay_to, okays_to}
-use Rattle.adb_laws_pairs.proofs.Counts.{many_append, count_first, count_one}
+use Rattle.adb_laws_model_device.specs.Counts.{is_okay_to, okays_to}
+use Rattle.adb_laws_model_device.proofs.Counts.{many_append, count_first, count_one}
 use Rattle.adb_laws_model_device.specs.Owed.{packets_of_sent, packets_owed}
 use Rattle.adb_laws_births.specs.Brought.{ComeFirst}
 

@@ -1,6 +1,6 @@
 -- The model device is a device on a plain link.
 use Rattle.adb_daemon.specs.Device.{Setting}
-use Rattle.adb_laws_pairs.specs.Devices.{IsPlain}
+use Rattle.adb_laws_model_device.specs.Devices.{IsPlain}
 use Rattle.adb_laws_model_device.specs.Owed.{packets_owed}
 use Rattle.adb_laws_model_device.proofs.Owing.{owed_grows, owed_acks}
 use Rattle.adb_laws_model_device.proofs.Hosts.{come_from_one}

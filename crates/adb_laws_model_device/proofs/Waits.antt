@@ -4,9 +4,9 @@ use Rattle.adb_history.specs.Machine.{History, IsLegal}
 use Rattle.adb_history.specs.Bytes.{sent}
 use Rattle.adb_history.specs.Births.{remote_of}
 use Rattle.adb_daemon.specs.Device.{Setting}
-use Rattle.adb_laws_pairs.specs.Paired.{IsPaired}
-use Rattle.adb_laws_pairs.proofs.Turns.{sent_in_turn}
-use Rattle.adb_laws_pairs.proofs.Waits.{none_waits}
+use Rattle.adb_laws_model_device.specs.Paired.{IsPaired}
+use Rattle.adb_laws_model_device.proofs.Turns.{sent_in_turn}
+use Rattle.adb_laws_model_device.proofs.WaitsAtRest.{none_waits}
 use Rattle.adb_laws_model_device.specs.Owed.{packets_owed}
 use Rattle.adb_laws_model_device.specs.Joined.{IsJoined}
 use Rattle.adb_laws_model_device.specs.Rows.{NoneWaits}

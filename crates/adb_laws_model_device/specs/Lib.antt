@@ -1,3 +1,8 @@
+pub mod Counts
+pub mod Devices
+pub mod Paired
+pub mod InTime
+pub mod InTurn
 pub mod Owed
 pub mod Joined
 pub mod Rows

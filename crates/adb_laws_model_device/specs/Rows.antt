@@ -12,9 +12,9 @@ use Rattle.adb_history.specs.Fifo.{okays_in}
 use Rattle.adb_laws_causes.specs.Flows.{waiting}
 use Rattle.adb_device_streams.specs.Stream.{Row}
 use Rattle.adb_daemon.specs.Device.{Setting, device_behind}
-use Rattle.adb_laws_pairs.specs.Counts.{how_many, okays_to}
-use Rattle.adb_laws_pairs.specs.InTurn.{AreInTurn}
-use Rattle.adb_laws_pairs.specs.Paired.{IsStill}
+use Rattle.adb_laws_model_device.specs.Counts.{how_many, okays_to}
+use Rattle.adb_laws_model_device.specs.InTurn.{AreInTurn}
+use Rattle.adb_laws_model_device.specs.Paired.{IsStill}
 use Rattle.adb_laws_model_device.specs.Owed.{packets_owed}
 
 -- While the row of its device's id lives, the OPEN of a stream and all its writes were acknowledged.

@@ -12,7 +12,7 @@ use Rattle.adb_history.specs.Machine.{History, IsLegal}
 use Rattle.adb_history.proofs.Received.{received}
 use Rattle.adb_daemon.specs.Serving.{Sent}
 use Rattle.adb_daemon.specs.Device.{Setting, device_behind}
-use Rattle.adb_laws_pairs.specs.Paired.{IsPaired}
+use Rattle.adb_laws_model_device.specs.Paired.{IsPaired}
 use Rattle.adb_laws_model_device.specs.Owed.{packets_owed, packets_of_sent}
 use Rattle.adb_laws_steps.specs.Tolls.{IsWorthwhile, BringWorth}
 use Rattle.adb_laws_steps.specs.Owed.{IsFine}

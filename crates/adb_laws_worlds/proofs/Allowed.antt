@@ -18,7 +18,7 @@ use Rattle.adb_daemon.specs.Serving.{Sent, Ended}
 use Rattle.adb_daemon.specs.Device.{Setting, device_behind}
 use Rattle.adb_daemon.specs.Streams.{over_at, acks_of, writes_of, IsWithin, Writes}
 use Rattle.adb_daemon.proofs.Rules.{streams_write}
-use Rattle.adb_laws_pairs.specs.Counts.{writes_to}
+use Rattle.adb_laws_model_device.specs.Counts.{writes_to}
 use Rattle.adb_laws_model_device.specs.Opened.{is_of_stream, GoesTo, ComesFrom, HasOneId}
 use Rattle.adb_laws_model_device.specs.Owed.{packets_of_sent, packets_owed}
 use Rattle.adb_laws_model_device.proofs.Hosts.{one_id}

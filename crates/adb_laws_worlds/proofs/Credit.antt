@@ -24,7 +24,7 @@ use Rattle.adb_history.proofs.Devices.{ShowsDevices, shows_devices}
 use Rattle.adb_laws_fifo_down.proofs.BornNow.{born_when, by_request, by_forward}
 use Rattle.adb_daemon.specs.Serving.{Sent}
 use Rattle.adb_daemon.specs.Device.{Setting, identity_text, device_behind}
-use Rattle.adb_laws_pairs.specs.Paired.{IsPaired}
+use Rattle.adb_laws_model_device.specs.Paired.{IsPaired}
 use Rattle.adb_laws_model_device.specs.Joined.{IsJoined}
 use Rattle.adb_laws_model_device.specs.Owed.{packets_of_sent, packets_owed}
 use Rattle.adb_laws_model_device.proofs.Joined.{paired}

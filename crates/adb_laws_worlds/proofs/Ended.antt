@@ -29,8 +29,8 @@ use Rattle.adb_daemon.specs.Serving.{Sent, Ended}
 use Rattle.adb_daemon.specs.Streams.{over_at, closes, is_closed, is_of, is_close, written, EndsAtClose, IsOver, Writes}
 use Rattle.adb_daemon.proofs.Lasts.{closes_last}
 use Rattle.adb_daemon.proofs.Rules.{streams_write}
-use Rattle.adb_laws_pairs.specs.Counts.{how_many}
-use Rattle.adb_laws_pairs.specs.Paired.{IsStill}
+use Rattle.adb_laws_model_device.specs.Counts.{how_many}
+use Rattle.adb_laws_model_device.specs.Paired.{IsStill}
 use Rattle.adb_laws_model_device.specs.Joined.{IsJoined}
 use Rattle.adb_laws_model_device.specs.Opened.{LivesFor, EndedFor}
 use Rattle.adb_laws_model_device.specs.Owed.{packets_of_sent, packets_owed}

@@ -34,8 +34,8 @@ use Rattle.adb_laws_births.proofs.Receiving.{treated_linked, cut_now, rested, re
 use Rattle.adb_laws_births.proofs.Born.{goes_ups}
 use Rattle.adb_laws_births.proofs.Laws.{sends_first}
 use Rattle.adb_laws_births.proofs.Once.{packets_append}
-use Rattle.adb_laws_pairs.specs.Counts.{how_many}
-use Rattle.adb_laws_pairs.proofs.Counts.{many_append}
+use Rattle.adb_laws_model_device.specs.Counts.{how_many}
+use Rattle.adb_laws_model_device.proofs.Counts.{many_append}
 use Rattle.adb_laws_model_device.specs.Rows.{is_cnxn_packet}
 use Rattle.adb_laws_worlds.specs.Greeted.{BeginsOnce, IsGreeted, GreetsLinks}
 

@@ -16,11 +16,11 @@ use Rattle.adb_daemon.specs.Serving.{Sent}
 use Rattle.adb_daemon.specs.Device.{Device, Setting, first_device, device_behind}
 use Rattle.adb_daemon.specs.Streams.{writes_of, is_write, acks_of}
 use Rattle.adb_daemon.proofs.Machines.{all_refused, step_more}
-use Rattle.adb_laws_pairs.specs.Counts.{writes_to}
-use Rattle.adb_laws_pairs.specs.InTime.{AllPlain, IsToldInTime}
-use Rattle.adb_laws_pairs.specs.Paired.{IsPaired}
-use Rattle.adb_laws_pairs.proofs.Counts.{count_first, count_more}
-use Rattle.adb_laws_pairs.proofs.Told.{told_in_time}
+use Rattle.adb_laws_model_device.specs.Counts.{writes_to}
+use Rattle.adb_laws_model_device.specs.InTime.{AllPlain, IsToldInTime}
+use Rattle.adb_laws_model_device.specs.Paired.{IsPaired}
+use Rattle.adb_laws_model_device.proofs.Counts.{count_first, count_more}
+use Rattle.adb_laws_model_device.proofs.Told.{told_in_time}
 use Rattle.adb_laws_model_device.specs.Owed.{packets_of_sent, packets_owed}
 use Rattle.adb_laws_model_device.specs.Opened.{is_of_stream, ComesFrom}
 use Rattle.adb_laws_model_device.specs.Joined.{IsJoined}

@@ -21,10 +21,10 @@ use Rattle.adb_laws_causes.proofs.Holding.{all_hold}
 use Rattle.adb_laws_causes.proofs.LinkEnds.{all_out_of_turn}
 use Rattle.adb_laws_fifo_down.proofs.Acknowledged.{keeps_down_window}
 use Rattle.adb_daemon.specs.Device.{Setting}
-use Rattle.adb_laws_pairs.specs.Counts.{is_wrte_to, writes_to}
-use Rattle.adb_laws_pairs.specs.Paired.{IsPaired}
-use Rattle.adb_laws_pairs.proofs.Counts.{many_append, many_front}
-use Rattle.adb_laws_pairs.proofs.Told.{told_within, within_all}
+use Rattle.adb_laws_model_device.specs.Counts.{is_wrte_to, writes_to}
+use Rattle.adb_laws_model_device.specs.Paired.{IsPaired}
+use Rattle.adb_laws_model_device.proofs.Counts.{many_append, many_front}
+use Rattle.adb_laws_model_device.proofs.Told.{told_within, within_all}
 use Rattle.adb_laws_model_device.specs.Joined.{IsJoined}
 use Rattle.adb_laws_model_device.specs.Owed.{packets_owed}
 use Rattle.adb_laws_model_device.proofs.Joined.{paired}

@@ -38,9 +38,9 @@ use Rattle.adb_device_streams.specs.Stream.{opened}
 use Rattle.adb_device_streams.specs.declared.link.Link.{Link}
 use Rattle.adb_daemon.specs.Serving.{Serving, is_taken, kind_for, credit_of}
 use Rattle.adb_daemon.specs.Device.{Device, Setting, step, first_device, device_behind}
-use Rattle.adb_laws_pairs.specs.Counts.{how_many}
-use Rattle.adb_laws_pairs.specs.Paired.{IsStill}
-use Rattle.adb_laws_pairs.proofs.Counts.{many_append}
+use Rattle.adb_laws_model_device.specs.Counts.{how_many}
+use Rattle.adb_laws_model_device.specs.Paired.{IsStill}
+use Rattle.adb_laws_model_device.proofs.Counts.{many_append}
 use Rattle.adb_laws_model_device.specs.Joined.{IsJoined}
 use Rattle.adb_laws_model_device.specs.Owed.{packets_owed}
 use Rattle.adb_laws_model_device.specs.Rows.{is_close_between, is_cnxn_packet}

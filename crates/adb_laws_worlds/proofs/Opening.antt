@@ -32,9 +32,9 @@ use Rattle.adb_laws_fifo_down.proofs.BornNow.{born_when}
 use Rattle.adb_device_streams.specs.Link.{link_of}
 use Rattle.adb_device_streams.specs.declared.link.Link.{Link}
 use Rattle.adb_daemon.specs.Device.{Device, Setting, step, linked_to, first_device, device_behind}
-use Rattle.adb_laws_pairs.specs.Counts.{how_many}
-use Rattle.adb_laws_pairs.specs.Paired.{IsPaired, IsStill}
-use Rattle.adb_laws_pairs.proofs.Counts.{many_append, count_front}
+use Rattle.adb_laws_model_device.specs.Counts.{how_many}
+use Rattle.adb_laws_model_device.specs.Paired.{IsPaired, IsStill}
+use Rattle.adb_laws_model_device.proofs.Counts.{many_append, count_front}
 use Rattle.adb_laws_model_device.specs.Joined.{IsJoined}
 use Rattle.adb_laws_model_device.specs.Opened.{is_of_stream}
 use Rattle.adb_laws_model_device.specs.Owed.{packets_owed}

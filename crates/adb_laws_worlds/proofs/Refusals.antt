@@ -13,8 +13,8 @@ use Rattle.adb_daemon.specs.Serving.{Serving, Sent, with_sum, credit_of}
 use Rattle.adb_daemon.specs.Device.{Device, Setting, step, first_device, device_behind}
 use Rattle.adb_daemon.proofs.Machines.{step_more}
 use Rattle.adb_laws_births.proofs.Once.{count_append}
-use Rattle.adb_laws_pairs.specs.Counts.{how_many}
-use Rattle.adb_laws_pairs.proofs.Counts.{many_append, count_first, count_one}
+use Rattle.adb_laws_model_device.specs.Counts.{how_many}
+use Rattle.adb_laws_model_device.proofs.Counts.{many_append, count_first, count_one}
 use Rattle.adb_laws_model_device.specs.Opened.{is_of_stream}
 use Rattle.adb_laws_model_device.specs.Owed.{packets_of_sent, packets_owed}
 use Rattle.adb_laws_model_device.specs.Rows.{is_close_between}

@@ -14,8 +14,8 @@ use Rattle.adb_device_streams.specs.declared.link.Link.{Link}
 use Rattle.adb_daemon.specs.Serving.{Serving, with_sum, is_taken, kind_for, open_as, served}
 use Rattle.adb_daemon.specs.Device.{Device, Setting, step, linked_to, served_on, first_device, device_behind}
 use Rattle.adb_daemon.proofs.Machines.{step_more, step_open}
-use Rattle.adb_laws_pairs.specs.Counts.{how_many}
-use Rattle.adb_laws_pairs.proofs.Counts.{many_append, many_front}
+use Rattle.adb_laws_model_device.specs.Counts.{how_many}
+use Rattle.adb_laws_model_device.proofs.Counts.{many_append, many_front}
 use Rattle.adb_laws_model_device.specs.Owed.{packets_of_sent, packets_owed}
 use Rattle.adb_laws_model_device.specs.Rows.{is_close_between}
 use Rattle.adb_laws_model_device.proofs.Opened.{answers_opens}

@@ -21,9 +21,9 @@ use Rattle.adb_device_streams.specs.Stream.{Row}
 use Rattle.adb_daemon.specs.Serving.{Sent}
 use Rattle.adb_daemon.specs.Device.{Setting, device_behind}
 use Rattle.adb_daemon.proofs.Lasts.{closes_last}
-use Rattle.adb_laws_pairs.specs.Counts.{how_many}
-use Rattle.adb_laws_pairs.specs.Paired.{IsStill}
-use Rattle.adb_laws_pairs.proofs.Counts.{many_append, many_front, count_front}
+use Rattle.adb_laws_model_device.specs.Counts.{how_many}
+use Rattle.adb_laws_model_device.specs.Paired.{IsStill}
+use Rattle.adb_laws_model_device.proofs.Counts.{many_append, many_front, count_front}
 use Rattle.adb_laws_model_device.specs.Owed.{packets_of_sent, packets_owed}
 use Rattle.adb_laws_model_device.specs.Rows.{is_close_between, is_close_to, is_cnxn_packet}
 use Rattle.adb_laws_model_device.proofs.Lives.{lives_or_closed}

@@ -49,10 +49,10 @@ use Rattle.adb_daemon.proofs.Exact.{windows_exact}
 use Rattle.adb_daemon.proofs.Machines.{step_more}
 use Rattle.adb_daemon.proofs.Quiet.{streams_settled}
 use Rattle.adb_daemon.proofs.Rules.{streams_write}
-use Rattle.adb_laws_pairs.specs.Counts.{writes_to}
-use Rattle.adb_laws_pairs.specs.InTime.{AllPlain}
-use Rattle.adb_laws_pairs.specs.Paired.{IsPaired}
-use Rattle.adb_laws_pairs.proofs.Told.{told_in_time}
+use Rattle.adb_laws_model_device.specs.Counts.{writes_to}
+use Rattle.adb_laws_model_device.specs.InTime.{AllPlain}
+use Rattle.adb_laws_model_device.specs.Paired.{IsPaired}
+use Rattle.adb_laws_model_device.proofs.Told.{told_in_time}
 use Rattle.adb_laws_model_device.specs.Joined.{IsJoined}
 use Rattle.adb_laws_model_device.specs.Opened.{ComesFrom, GoesTo, LivesFor, EndedFor}
 use Rattle.adb_laws_model_device.specs.Owed.{packets_owed}

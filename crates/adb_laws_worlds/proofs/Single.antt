@@ -22,7 +22,7 @@ use Rattle.adb_history.proofs.OutputEntries.{tied}
 use Rattle.adb_laws_births.proofs.Asking.{asks_at_once}
 use Rattle.adb_laws_fifo_down.proofs.BornNow.{born_when}
 use Rattle.adb_daemon.specs.Device.{Setting}
-use Rattle.adb_laws_pairs.specs.InTime.{AllPlain}
+use Rattle.adb_laws_model_device.specs.InTime.{AllPlain}
 use Rattle.adb_laws_model_device.specs.Joined.{IsJoined}
 use Rattle.adb_laws_worlds.specs.Credit.{HasOneDevice, LiveOnFirst}
 use Rattle.adb_laws_worlds.proofs.Credit.{birth_credit, first_are_plain, no_credit_at, unborn}

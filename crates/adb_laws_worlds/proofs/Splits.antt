@@ -12,7 +12,7 @@ use Rattle.adb_history.specs.Births.{Opening, opening_by, opening_in, is_between
 use Rattle.adb_history.specs.Fifo.{okays_in}
 use Rattle.adb_daemon.specs.Serving.{Sent}
 use Rattle.adb_daemon.specs.Streams.{closes, is_close, is_of, EndsAtClose}
-use Rattle.adb_laws_pairs.specs.Counts.{how_many}
+use Rattle.adb_laws_model_device.specs.Counts.{how_many}
 use Rattle.adb_laws_model_device.specs.Owed.{packets_of_sent}
 use Rattle.adb_laws_model_device.specs.Rows.{is_close_between}
 

@@ -13,7 +13,7 @@ use Rattle.adb_device_streams.specs.Stream.{Row, okay}
 use Rattle.adb_daemon.specs.Serving.{Sent, Ended}
 use Rattle.adb_daemon.specs.Device.{Setting, device_behind}
 use Rattle.adb_daemon.specs.Streams.{writes_of, written, is_write, Writes}
-use Rattle.adb_laws_pairs.specs.Counts.{okays_to}
+use Rattle.adb_laws_model_device.specs.Counts.{okays_to}
 use Rattle.adb_laws_model_device.specs.Owed.{packets_of_sent}
 use Rattle.adb_laws_model_device.specs.Opened.{is_of_stream, GoesTo}
 use Rattle.adb_laws_worlds.proofs.Order.{behind_orderly}

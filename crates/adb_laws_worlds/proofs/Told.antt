@@ -16,8 +16,8 @@ use Rattle.adb_laws_births.proofs.Crossing.{no_crossing}
 use Rattle.adb_device_streams.specs.Asked.{service_of, name_of}
 use Rattle.adb_device_streams.specs.Stream.{okay}
 use Rattle.adb_daemon.specs.Device.{Setting, device_behind}
-use Rattle.adb_laws_pairs.specs.Paired.{IsPaired, IsStill}
-use Rattle.adb_laws_pairs.proofs.Heard.{placed}
+use Rattle.adb_laws_model_device.specs.Paired.{IsPaired, IsStill}
+use Rattle.adb_laws_model_device.proofs.Heard.{placed}
 use Rattle.adb_laws_model_device.specs.Joined.{IsJoined}
 use Rattle.adb_laws_model_device.specs.Opened.{GoesTo}
 use Rattle.adb_laws_model_device.specs.Owed.{packets_owed}

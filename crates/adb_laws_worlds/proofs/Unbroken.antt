@@ -37,8 +37,8 @@ use Rattle.adb_laws_causes.proofs.LinkEnds.{all_by_loss, all_by_break}
 use Rattle.adb_laws_fifo_up.proofs.Seeing.{ending_split}
 use Rattle.adb_daemon.specs.Serving.{Sent}
 use Rattle.adb_daemon.specs.Device.{Setting, own_cnxn}
-use Rattle.adb_laws_pairs.specs.Counts.{how_many}
-use Rattle.adb_laws_pairs.proofs.Counts.{many_append, many_front}
+use Rattle.adb_laws_model_device.specs.Counts.{how_many}
+use Rattle.adb_laws_model_device.proofs.Counts.{many_append, many_front}
 use Rattle.adb_laws_model_device.specs.Joined.{IsJoined}
 use Rattle.adb_laws_model_device.specs.Owed.{packets_of_sent, packets_owed}
 use Rattle.adb_laws_model_device.specs.Rows.{is_cnxn_packet}

@@ -11,7 +11,7 @@ use Rattle.adb_device_streams.specs.Service.{bytes_in, service_answer}
 use Rattle.adb_daemon.specs.Device.{Setting, device_behind}
 use Rattle.adb_daemon.specs.Serving.{Ended}
 use Rattle.adb_daemon.specs.Streams.{over_at}
-use Rattle.adb_laws_pairs.specs.Paired.{IsStill}
+use Rattle.adb_laws_model_device.specs.Paired.{IsStill}
 use Rattle.adb_laws_model_device.specs.Owed.{packets_owed}
 
 -- The row of the stream has ended at the device, and its service; what was told of the stream before its close is the whole answer to what came, a front

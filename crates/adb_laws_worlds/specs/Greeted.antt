@@ -5,7 +5,7 @@ use Rattle.adb_history.specs.Book.{plugged_count}
 use Rattle.adb_history.specs.Links.{server_cnxn}
 use Rattle.adb_history.specs.Lives.{packets_of}
 use Rattle.adb_history.specs.Machine.{History}
-use Rattle.adb_laws_pairs.specs.Counts.{how_many}
+use Rattle.adb_laws_model_device.specs.Counts.{how_many}
 use Rattle.adb_laws_model_device.specs.Rows.{is_cnxn_packet}
 
 -- The first packet is the server's CNXN, and there is no other.

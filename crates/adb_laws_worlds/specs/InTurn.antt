@@ -6,7 +6,7 @@ use Rattle.adb_history.specs.declared.ending.Ending.TheVariants.{OutOfTurn}
 use Rattle.adb_history.specs.Lives.{ending_of}
 use Rattle.adb_history.specs.Machine.{History}
 use Rattle.adb_daemon.specs.Device.{Setting, device_behind}
-use Rattle.adb_laws_pairs.specs.Counts.{writes_to}
+use Rattle.adb_laws_model_device.specs.Counts.{writes_to}
 use Rattle.adb_laws_model_device.specs.Owed.{packets_owed}
 
 -- To an id of the host that asked for a stream once at most, a device without credit in bytes makes one write, and one more for each OKAY of that id.

@@ -4,7 +4,7 @@ use Rattle.adb_history.specs.Births.{Birth, born, opening_of}
 use Rattle.adb_history.specs.Machine.{History}
 use Rattle.adb_device_streams.specs.Asked.{service_of}
 use Rattle.adb_daemon.specs.Device.{Setting}
-use Rattle.adb_laws_pairs.specs.Paired.{IsStill}
+use Rattle.adb_laws_model_device.specs.Paired.{IsStill}
 use Rattle.adb_laws_model_device.specs.Owed.{packets_owed}
 
 -- Where nothing is on its way, each of them was opened.

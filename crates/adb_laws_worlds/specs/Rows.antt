@@ -7,7 +7,7 @@ use Rattle.adb_history.specs.Bytes.{sent}
 use Rattle.adb_history.specs.Births.{Birth, born, remote_of}
 use Rattle.adb_device_streams.specs.Stream.{Row}
 use Rattle.adb_daemon.specs.Device.{Setting, device_behind}
-use Rattle.adb_laws_pairs.specs.Paired.{IsStill}
+use Rattle.adb_laws_model_device.specs.Paired.{IsStill}
 use Rattle.adb_laws_model_device.specs.Owed.{packets_owed}
 
 -- The row of the id that the device told lives, and is for this stream of the server.

@@ -13,7 +13,7 @@ use Rattle.adb_daemon.specs.Device.{Setting}
 use Rattle.adb_laws_causes.specs.Flows.{waiting}
 use Rattle.adb_laws_fifo_down.specs.Follows.{replies_of}
 use Rattle.adb_laws_fifo_down.specs.Life.{okay_after}
-use Rattle.adb_laws_pairs.specs.Paired.{IsStill}
+use Rattle.adb_laws_model_device.specs.Paired.{IsStill}
 use Rattle.adb_laws_model_device.specs.Owed.{packets_owed}
 use Rattle.adb_laws_worlds.specs.Quiet.{IsServed}
 use Rattle.adb_laws_worlds.specs.Rows.{HasRow}

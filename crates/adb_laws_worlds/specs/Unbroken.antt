@@ -6,7 +6,7 @@ use Rattle.adb_history.specs.Bytes.{is_lost, bytes_received, brought}
 use Rattle.adb_history.specs.declared.ending.Ending.TheVariants.{Lost, Broken}
 use Rattle.adb_history.specs.Lives.{ending_of}
 use Rattle.adb_history.specs.Machine.{History}
-use Rattle.adb_laws_pairs.specs.Counts.{how_many}
+use Rattle.adb_laws_model_device.specs.Counts.{how_many}
 use Rattle.adb_laws_model_device.specs.Rows.{is_cnxn_packet}
 
 -- What a device's link brought has no fault, and one CNXN at most.

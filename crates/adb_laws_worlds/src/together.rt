@@ -3,7 +3,7 @@
 ghost use Rattle.std.specs.Prelude.{◌^◌, ◌<◌, ◌≡◌, false};
 ghost use Rattle.adb_history.specs.Machine.{History, IsLegal};
 ghost use Rattle.adb_daemon.specs.Device.{Setting};
-ghost use Rattle.adb_laws_pairs.specs.InTime.{AllPlain};
+ghost use Rattle.adb_laws_model_device.specs.InTime.{AllPlain};
 ghost use Rattle.adb_laws_model_device.specs.Joined.{IsJoined};
 ghost use Rattle.adb_laws_worlds.specs.InTime.{AllAckedInTime};
 ghost use Rattle.adb_laws_worlds.specs.Credit.{FirstArePlain, HasOneDevice};

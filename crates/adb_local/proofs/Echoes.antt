@@ -7,7 +7,7 @@ use Rattle.adb_outside.specs.Tables.{at}
 use Rattle.adb_outside.proofs.TableLaws.{puts_put_at}
 use Rattle.adb_device_streams.specs.Asked.{Kind, Echoes, service_of}
 use Rattle.adb_device_streams.specs.Service.{bytes_in, service_answer}
-use Rattle.adb_laws_sessions.specs.Words.{requests_for}
+use Rattle.adb_laws_answers.specs.Words.{requests_for}
 use Rattle.adb_script.specs.Lines as lines
 use Rattle.adb_script.specs.Pattern.{pattern}
 use Rattle.adb_laws_answers.specs.Answers.{CameOf}

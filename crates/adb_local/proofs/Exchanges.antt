@@ -9,7 +9,7 @@ use Rattle.adb_outside.proofs.TableLaws.{puts_put_at}
 use Rattle.adb_files.specs.Entries.{Entry}
 use Rattle.adb_device_streams.specs.Asked.{Kind, Syncs, Shells, service_of, shell_cut}
 use Rattle.adb_device_streams.specs.Service.{service_answer, files_fed}
-use Rattle.adb_laws_sessions.specs.Words.{requests_for, words_of}
+use Rattle.adb_laws_answers.specs.Words.{requests_for, words_of}
 use Rattle.adb_script.specs.Answers as script
 use Rattle.adb_script.specs.Answers.{Exchange, exchange}
 use Rattle.adb_script.specs.Lines.{Asked, Pushes, Pulls, Stats, Lists, Runs}

@@ -12,7 +12,7 @@ use Rattle.adb_device_streams.specs.Asked.{Echoes, Syncs, service_of}
 use Rattle.adb_laws_alone.specs.Calls as calls
 use Rattle.adb_laws_alone.specs.Calls.{AreFirst, Ask, Call, asks_in, asks_of, files_after, files_past}
 use Rattle.adb_laws_alone.proofs.Through.{calls_of, calls_own, served_first}
-use Rattle.adb_laws_sessions.specs.Words.{requests_for}
+use Rattle.adb_laws_answers.specs.Words.{requests_for}
 use Rattle.adb_shell_service.specs.Commands.{files_left, words_of}
 use Rattle.adb_script.specs.Answers as script
 use Rattle.adb_script.specs.Answers.{exchange}

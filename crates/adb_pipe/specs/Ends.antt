@@ -5,6 +5,8 @@ use Rattle.atomic_table.specs.declared.badge.Badge.{Badge}
 use Rattle.crossbeam_channel.specs.declared.flavors.array.Key.{Key}
 use Rattle.adb_pipe.specs.declared.rule.Item.{Item}
 use Rattle.adb_outside.specs.Outside.{counted_on}
+use Rattle.adb_pipe.specs.declared.ends.NotPut.{NotPut}
+use Rattle.adb_pipe.specs.declared.ends.NotPut.TheVariants.{Full, Refused}
 use Rattle.adb_pipe.specs.declared.ends.Taken.{Taken}
 use Rattle.adb_pipe.specs.declared.ends.Taken.TheVariants.{Chunk, End, Lost}
 
@@ -42,6 +44,12 @@ Begins chunks out input =
 abbrev pub Puts : OutView → List ℕ → Result ⊤ (List ℕ) → OutView → Type 0
 Puts old chunk (Ok done) new = new ≡ record old { put = old.put ++ chunk ∷ [] }
 Puts old chunk (Err back) new = (back ≡ chunk) × (new ≡ record old { refused = counted_on old.refused })
+
+-- the same without waiting, or the pipe was full, and the chunk was returned
+abbrev pub PutsNow : OutView → List ℕ → Result ⊤ NotPut → OutView → Type 0
+PutsNow old chunk (Ok done) new = Puts old chunk (Ok done) new
+PutsNow old chunk (Err (Full back)) new = (back ≡ chunk) × (new ≡ old)
+PutsNow old chunk (Err (Refused back)) new = Puts old chunk (Err back) new
 
 -- a chunk was taken, or the end mark, or nothing; nothing is taken after the end mark
 abbrev pub Takes : InView → Taken → InView → Type 0

@@ -1,12 +1,12 @@
 //! The two ends of a pipe.
 
-ghost use Rattle.std.specs.Prelude.{◌≡◌, ◌<◌, ◌++◌, ℕ, List, true, IfOk};
-ghost use Rattle.adb_pipe.specs.Ends.{Begins, Puts, Takes, TakesNow};
+ghost use Rattle.std.specs.Prelude.{◌≡◌, ◌<◌, ◌++◌, ℕ, List, true, IfOk, MatchResult};
+ghost use Rattle.adb_pipe.specs.Ends.{Begins, Puts, PutsNow, Takes, TakesNow};
 ghost use Rattle.adb_pipe.specs.Rule.{IsChunk, bytes_of};
 
 use crate::rule::{Cut, InOrder, Item, Kept, Moves, View, Whole};
 use adb_outside::Text;
-use crossbeam_channel::{Pass, RuledReceiver, RuledSender, bounded_with};
+use crossbeam_channel::{Pass, RuledReceiver, RuledSender, TrySendError, bounded_with};
 use std::alloc::{AllocError, Global};
 use std::marker::Model;
 use std::sync::Wait;
@@ -81,6 +81,15 @@ impl<W: Wait + Drop> Model for PipeIn<W> {
         × (known p.pass ≡ Taker (passed (known p.pass))) };
 }
 
+/// The reason why `PipeOut::try_put` has not put a chunk, which is returned.
+#[derive(Drop)]
+pub enum NotPut {
+    /// The pipe was full at some moment of the call.
+    Full(Text),
+    /// The channel refused the chunk.
+    Refused(Text),
+}
+
 /// The answer of `PipeIn::take`.
 #[derive(Drop)]
 pub enum Taken {
@@ -140,6 +149,27 @@ impl<W: Wait + Drop> PipeOut<W> {
         }
     }
 
+    /// Puts a chunk after the others if the pipe has room for it now. Does not wait.
+    ///
+    /// - `Full`: the pipe was full. It is unchanged.
+    /// - `Refused`: the channel refused the chunk, as of `put`.
+    pub fn try_put(&mut self, chunk: Text) -> Result<(), NotPut>
+        ensures { PutsNow self.old chunk result self.new }
+    {
+        let item = Item::Chunk(chunk);
+        let sent = self
+            .sender
+            .try_send_as::<Moves, W>(&self.rt, &mut self.pass, item);
+        match sent {
+            Ok(()) => Ok(()),
+            Err(TrySendError::Full(item)) => Err(NotPut::Full(chunk_of(item))),
+            Err(refusal) => {
+                self.refused = self.refused.saturating_add(1);
+                Err(NotPut::Refused(chunk_of(refusal.into_inner())))
+            }
+        }
+    }
+
     /// Puts the end mark after the chunks. Blocks while the pipe is full. If the channel refuses
     /// the mark, the input end returns `Lost` in its place.
     pub fn finish(self) -> PipeEnd
@@ -153,6 +183,30 @@ impl<W: Wait + Drop> PipeOut<W> {
         } = self;
         let _ = sender.send_as::<Moves, W>(&rt, &mut pass, Item::End);
         PipeEnd { sender, pass }
+    }
+
+    /// Puts the end mark after the chunks if the pipe has room for it now, as `finish` does. Does
+    /// not wait. `Err`: the pipe was full, and this end is returned as it was.
+    pub fn try_finish(self) -> Result<PipeEnd, PipeOut<W>>
+        ensures { MatchResult result
+            (λ end. end ≡ record { pipe = self.pipe; put = self.put })
+            (λ out. out ≡ self) }
+    {
+        let PipeOut {
+            rt,
+            sender,
+            mut pass,
+            refused,
+        } = self;
+        match sender.try_send_as::<Moves, W>(&rt, &mut pass, Item::End) {
+            Err(TrySendError::Full(_)) => Err(PipeOut {
+                rt,
+                sender,
+                pass,
+                refused,
+            }),
+            _ => Ok(PipeEnd { sender, pass }),
+        }
     }
 }
 

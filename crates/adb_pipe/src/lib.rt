@@ -9,6 +9,6 @@ mod ends;
 mod laws;
 mod rule;
 
-pub use ends::{PipeEnd, PipeIn, PipeOut, Taken, pipe};
+pub use ends::{NotPut, PipeEnd, PipeIn, PipeOut, Taken, pipe};
 pub use laws::{ended_pipe_is_whole, put_is_taken_and_held};
 pub use rule::{Compared, InOrder, Item, Passed, View};

@@ -4,11 +4,12 @@
 
 mod real_yard;
 
-pub use adb_live::{Entrance, Listeners, TcpBell, TcpBinder, TcpDoor};
-pub use adb_model_device::{DeviceEnd, PipeDeviceIn, PipeDeviceOut, run_device};
-pub use adb_record::{
-    Begun, Failure, LiveRecorder, Named, PipeSink, Settled, WillWrite, Written, begin_record,
-    end_record,
+pub use adb_os_door::{
+    Deliveries, Entrance, Listeners, TcpBell, TcpBinder, TcpDevice, TcpDoor, dial,
 };
-pub use adb_sockets::{Ending, TcpDeviceIn, TcpDeviceOut, TcpIn, TcpOut, tcp_device};
+pub use adb_os_model_device::{DeviceEnd, PipeDeviceIn, PipeDeviceOut, run_device};
+pub use adb_os_record::{
+    Begun, LiveRecorder, Named, PipeSink, RecordState, Settled, Writing, begin_record, end_record,
+};
+pub use adb_os_sockets::{Ending, TcpDeviceIn, TcpDeviceOut, TcpIn, TcpOut};
 pub use real_yard::RealYard;

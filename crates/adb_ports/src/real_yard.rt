@@ -1,13 +1,13 @@
 //! The yard of a live server.
 
 ghost use Rattle.std.specs.Prelude.{◌≡◌, false, IfSome};
-ghost use Rattle.adb_yard.specs.Yard.{FitsPort, is_deaf};
+ghost use Rattle.adb_server_yard.specs.Yard.{FitsPort, is_deaf};
 
 use adb_connections::OpenGate;
-use adb_live::{Entrance, Listeners, TcpBell, TcpBinder, TcpDoor};
-use adb_record::{LiveRecorder, Named, PipeSink};
-use adb_sockets::{Ending, TcpIn, TcpOut, halves};
-use adb_yard::{Dialled, Listening, Staff, Yard};
+use adb_os_door::{Deliveries, Entrance, Listeners, TcpBell, TcpBinder, TcpDoor};
+use adb_os_record::{LiveRecorder, Named, PipeSink};
+use adb_os_sockets::{Ending, TcpIn, TcpOut, halves};
+use adb_server_yard::{Dialled, Listening, PoolKind, Yard};
 use std::alloc::Global;
 use std::io;
 use std::net::{Net, SocketAddr, TcpListener, TcpStream};
@@ -34,6 +34,7 @@ pub struct RealYard<
     rt: W,
     alloc: Global,
     ending: Ending,
+    deliveries: Option<Arc<Deliveries, Global>>,
     listeners: Option<Arc<Listeners, Global>>,
     sink: Option<PipeSink<W, B>>,
     faults: u64,
@@ -51,14 +52,22 @@ impl<
     B: Named + Send + 'static,
 > RealYard<W, B> {
     /// Makes a yard with a recorder that writes to this sink. Its bell sets `ending`; devices that
-    /// share the flag then stop writing. It allocates nothing.
-    pub fn new(rt: W, alloc: Global, ending: Ending, sink: Option<PipeSink<W, B>>) -> RealYard<W, B>
+    /// share the flag then stop writing. Its door takes the devices of the deliveries, or none
+    /// without deliveries. It allocates nothing.
+    pub fn new(
+        rt: W,
+        alloc: Global,
+        ending: Ending,
+        deliveries: Option<Arc<Deliveries, Global>>,
+        sink: Option<PipeSink<W, B>>,
+    ) -> RealYard<W, B>
         ensures { (result.faults ≡ 0) × (result.sink ≡ sink) }
     {
         RealYard {
             rt,
             alloc,
             ending,
+            deliveries,
             listeners: None,
             sink,
             faults: 0,
@@ -77,12 +86,15 @@ fn open<W: Net<Listener = TcpListener, Stream = TcpStream>>(
     Ok((listener, address))
 }
 
-/// Returns a door and its bell at a port of this machine, and the listeners that they share.
+/// Returns a door and its bell at a port of this machine, and the listeners that they share. The
+/// deliveries are open from then on. If the server is recorded, the lookout watches the port.
 fn listen<W: Net<Listener = TcpListener, Stream = TcpStream> + Wait + Copy + Drop>(
     rt: W,
     alloc: Global,
     ending: &Ending,
+    deliveries: &Option<Arc<Deliveries, Global>>,
     port: u16,
+    is_recorded: bool,
 ) -> Option<(Listening<TcpDoor<W>, TcpBell>, Arc<Listeners, Global>)>
     ensures { IfSome result (λ here. FitsPort port here.0 × (is_deaf here.0 ≡ false)) }
 {
@@ -91,11 +103,14 @@ fn listen<W: Net<Listener = TcpListener, Stream = TcpStream> + Wait + Copy + Dro
     if bound == 0 || port != 0 && bound != port {
         return None;
     }
+    if is_recorded {
+        ending.lookout().watch(&listener).ok()?;
+    }
     let Entrance {
         door,
         bell,
         listeners,
-    } = Entrance::new(rt, alloc, listener, ending).ok()?;
+    } = Entrance::new(rt, alloc, listener, ending, deliveries).ok()?;
     Some((Listening::Here(door, bell, bound), listeners))
 }
 
@@ -135,7 +150,7 @@ impl<
     type DialOut = TcpOut;
 
     ghost use Rattle.std.specs.Prelude.{◌≡◌, true, false, None};
-    ghost use Rattle.adb_record.specs.Live.{IsUnused};
+    ghost use Rattle.adb_os_record.specs.Live.{IsUnused};
 
     ghost faults = { λ yard. yard.faults };
 
@@ -152,7 +167,15 @@ impl<
 
     /// Listens on the loopback interface only.
     fn listen(&mut self, port: u16) -> Listening<TcpDoor<W>, TcpBell> {
-        match listen(self.rt, self.alloc, &self.ending, port) {
+        let is_recorded = self.sink.is_some();
+        match listen(
+            self.rt,
+            self.alloc,
+            &self.ending,
+            &self.deliveries,
+            port,
+            is_recorded,
+        ) {
             Some((listening, listeners)) => {
                 self.listeners = Some(listeners);
                 listening
@@ -175,8 +198,8 @@ impl<
         LiveRecorder::on(sink)
     }
 
-    fn staff(&mut self) -> Staff {
-        Staff::Threads
+    fn pool_kind(&mut self) -> PoolKind {
+        PoolKind::Threads
     }
 
     fn ports(&mut self) -> TcpBinder<W> {

@@ -1,8 +1,8 @@
 -- The recorder of a server that ended.
 use Rattle.std.proofs.Common.{ℕ, ◌≡◌, ◌≢◌, List, Option, Some, None, Result, Err, refl, sym}
 use Rattle.adb_capture.specs.declared.entry.Entry.{Entry}
-use Rattle.adb_desk_log.specs.declared.error.DeskError.{DeskError}
-use Rattle.adb_desk_log.specs.Log.{is_fault}
+use Rattle.adb_server_log.specs.declared.error.DeskError.{DeskError}
+use Rattle.adb_server_log.specs.Log.{is_fault}
 use Rattle.adb_desk.specs.Left.{IsLeft}
 use Rattle.adb_server.specs.Ended.{KeepsHistory, is_record_fault}
 use Rattle.adb_server.specs.Served.{HasAnnounced}

@@ -4,15 +4,16 @@ ghost use Rattle.std.specs.Prelude.{◌≡◌, ◌≢◌, ◌<◌, ◌≤◌, Er
 ghost use Rattle.adb_outside.specs.Outside.{Rises};
 ghost use Rattle.adb_server.specs.Served.{HasClosed};
 
-use crate::arriving::{let_in, link_up};
+use crate::arriving::{Arrival, Comer, delivered, given, let_in, link_up};
+use crate::refusals::{go_on, go_on_without};
 use crate::server::Served;
 use crate::workers::{Jobs, Pair, client_jobs, device_jobs, start, start_all};
-use adb_connections::Door;
-use adb_device_reader::{Device, Packets};
-use adb_hall::Hall;
-use adb_spawner::Crew;
-use adb_work::{Contexts, HallOf, Parts, Work, make_contexts};
-use adb_yard::Yard;
+use adb_connections::{Device, DeviceOut, Door};
+use adb_server_device_reader::Packets;
+use adb_server_hall::Hall;
+use adb_server_work::{Contexts, HallOf, Parts, Work, make_contexts};
+use adb_server_yard::Yard;
+use adb_spawner::WorkerPool;
 use std::alloc::{AllocError, Global};
 use std::sync::Wait;
 use std::thread::Threads;
@@ -36,17 +37,22 @@ struct Provision<W: Wait + Copy + Drop, P: Parts> {
     packets: Packets,
 }
 
-/// Attaches the devices, starts their workers, and then accepts clients until the door is closed or
-/// fails, the hall is shut, or an allocation fails. It doesn't wait for the workers.
+/// Attaches the devices, starts their workers, and then accepts clients and devices until the door
+/// is closed or fails, the hall is shut, or an allocation fails. It doesn't wait for the workers.
 pub(crate) fn serve_all<
     W: Threads + Wait + Copy + Send + Sync + Drop + 'static,
     P: Parts,
-    D: Door<In = P::ClientIn, Out = P::ClientOut>,
+    D: Door<
+        In = P::ClientIn,
+        Out = P::ClientOut,
+        DeviceIn = P::DoorDeviceIn,
+        DeviceOut = P::DoorDeviceOut,
+    >,
     Y: Yard<Ports = P::Binder, Gate = P::Gate>,
     S: Jobs<Work<W, P>>,
 >(
     supplies: &mut Supplies<W, P::Bell, S, Y>,
-    pool: &mut Crew<W, S::Job>,
+    pool: &mut WorkerPool<W, S::Job>,
     hall: &mut HallOf<W, P>,
     door: &mut D,
     devices: Vec<Device<P::DeviceIn, P::DeviceOut>>,
@@ -115,10 +121,14 @@ fn plug<
         return Err(Served::OutOfMemory);
     };
     let Provision { contexts, packets } = provision;
-    if let Some(linked) = link_up::<P, HallOf<W, P>>(hall, device, packets)? {
-        plugged.push_reserved(device_jobs::<W, P, S>(&supplies.jobs, contexts, linked));
+    match link_up::<P, HallOf<W, P>>(hall, given::<P>(device), packets) {
+        Ok(Some(linked)) => {
+            plugged.push_reserved(device_jobs::<W, P, S>(&supplies.jobs, contexts, linked));
+            Ok(())
+        }
+        Ok(None) => Ok(()),
+        Err(error) => go_on::<P, HallOf<W, P>>(hall, error),
     }
-    Ok(())
 }
 
 /// Makes the provision of the next device, and reserves its place in `plugged`.
@@ -143,22 +153,28 @@ fn provide<
     Ok(Provision { contexts, packets })
 }
 
-/// Accepts one connection and starts the workers of its client. A connection that the hall refuses
-/// is dropped.
+/// Accepts one client or device and starts its workers. A client or device that the hall refuses is
+/// dropped.
 ///
 /// - `Done`: the door reported that no more connections come.
 /// - `DoorFault`: the door failed. The hall is halted.
 /// - `RecordFault`: the recorder failed. The hall is shut.
-/// - `OutOfMemory`: an allocation failed. The hall is halted.
+/// - `OutOfMemory`: an allocation for the next comer, for a client or for the recorder failed. The
+///   hall is shut.
 fn take<
     W: Threads + Wait + Copy + Send + Sync + Drop + 'static,
     P: Parts,
-    D: Door<In = P::ClientIn, Out = P::ClientOut>,
+    D: Door<
+        In = P::ClientIn,
+        Out = P::ClientOut,
+        DeviceIn = P::DoorDeviceIn,
+        DeviceOut = P::DoorDeviceOut,
+    >,
     Y: Yard<Ports = P::Binder, Gate = P::Gate>,
     S: Jobs<Work<W, P>>,
 >(
     supplies: &mut Supplies<W, P::Bell, S, Y>,
-    pool: &mut Crew<W, S::Job>,
+    pool: &mut WorkerPool<W, S::Job>,
     hall: &mut HallOf<W, P>,
     door: &mut D,
 ) -> Result<(), Served>
@@ -175,25 +191,90 @@ fn take<
         hall.halt();
         return Err(Served::OutOfMemory);
     };
-    if let Some(arrival) = let_in::<P, HallOf<W, P>, D>(hall, door)? {
-        let binder = supplies.yard.ports();
-        let pair = client_jobs::<W, P, S>(&supplies.jobs, contexts, binder, arrival);
-        start::<W, S::Job, P>(pool, hall, pair);
+    match let_in::<P, HallOf<W, P>, D>(hall, door)? {
+        Some(Comer::Client(arrival)) => {
+            serve_client::<W, P, Y, S>(supplies, pool, hall, contexts, arrival);
+            Ok(())
+        }
+        Some(Comer::Device(device)) => {
+            serve_device::<W, P, Y, S>(supplies, pool, hall, contexts, device)
+        }
+        None => Ok(()),
     }
-    Ok(())
 }
 
-/// Accepts clients until `take` returns an error, and returns it.
-#[tactic(auto, using(crate::proofs::Rising::rises_since))]
-fn take_all<
+/// Starts the workers of a client.
+fn serve_client<
     W: Threads + Wait + Copy + Send + Sync + Drop + 'static,
     P: Parts,
-    D: Door<In = P::ClientIn, Out = P::ClientOut>,
     Y: Yard<Ports = P::Binder, Gate = P::Gate>,
     S: Jobs<Work<W, P>>,
 >(
     supplies: &mut Supplies<W, P::Bell, S, Y>,
-    pool: &mut Crew<W, S::Job>,
+    pool: &mut WorkerPool<W, S::Job>,
+    hall: &mut HallOf<W, P>,
+    contexts: Contexts<W, P>,
+    arrival: Arrival<P>,
+) {
+    let binder = supplies.yard.ports();
+    let pair = client_jobs::<W, P, S>(&supplies.jobs, contexts, binder, arrival);
+    start::<W, S::Job, P>(pool, hall, pair);
+}
+
+/// Attaches a device that came through the door and starts its workers. If an allocation for it
+/// fails, or the hall refuses it, it is unplugged and dropped, and the server continues.
+///
+/// - `OutOfMemory`: an allocation of the recorder failed. The hall is shut, and the device is
+///   unplugged.
+/// - `RecordFault`: the recorder failed. The hall is shut, and the device is unplugged.
+fn serve_device<
+    W: Threads + Wait + Copy + Send + Sync + Drop + 'static,
+    P: Parts,
+    Y: Yard<Ports = P::Binder, Gate = P::Gate>,
+    S: Jobs<Work<W, P>>,
+>(
+    supplies: &mut Supplies<W, P::Bell, S, Y>,
+    pool: &mut WorkerPool<W, S::Job>,
+    hall: &mut HallOf<W, P>,
+    contexts: Contexts<W, P>,
+    device: Device<P::DoorDeviceIn, P::DoorDeviceOut>,
+) -> Result<(), Served>
+    ensures record { P.Marks.steady → result ≢ Err Served.RecordFault }
+    ensures other { (result ≢ Err Served.DoorFault) × (result ≢ Err Served.Done)
+        × (result ≢ Err Served.WriteFault) }
+{
+    let mut device = device;
+    let Ok(packets) = Packets::new(supplies.alloc) else {
+        device.output.unplug();
+        return Ok(());
+    };
+    match link_up::<P, HallOf<W, P>>(hall, delivered::<P>(device), packets) {
+        Ok(Some(linked)) => {
+            let pair = device_jobs::<W, P, S>(&supplies.jobs, contexts, linked);
+            start::<W, S::Job, P>(pool, hall, pair);
+            Ok(())
+        }
+        Ok(None) => Ok(()),
+        Err(error) => go_on_without::<P, HallOf<W, P>>(hall, error),
+    }
+}
+
+/// Accepts clients and devices until `take` returns an error, and returns it.
+#[tactic(auto, using(crate::proofs::Rising::rises_since))]
+fn take_all<
+    W: Threads + Wait + Copy + Send + Sync + Drop + 'static,
+    P: Parts,
+    D: Door<
+        In = P::ClientIn,
+        Out = P::ClientOut,
+        DeviceIn = P::DoorDeviceIn,
+        DeviceOut = P::DoorDeviceOut,
+    >,
+    Y: Yard<Ports = P::Binder, Gate = P::Gate>,
+    S: Jobs<Work<W, P>>,
+>(
+    supplies: &mut Supplies<W, P::Bell, S, Y>,
+    pool: &mut WorkerPool<W, S::Job>,
     hall: &mut HallOf<W, P>,
     door: &mut D,
 ) -> Served

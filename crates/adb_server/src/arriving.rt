@@ -1,17 +1,18 @@
-//! Admission of one client, and the link of one device.
+//! Admission of one client or device, and the link of a device.
 
 ghost use Rattle.std.specs.Prelude.{◌≡◌, ◌≢◌, ◌≤◌, Err};
 ghost use Rattle.adb_outside.specs.Outside.{Rises};
+ghost use Rattle.adb_server_log.specs.declared.error.DeskError.{DeskError};
 ghost use Rattle.adb_server.specs.Served.{HasClosed};
 
 use crate::refusals::go_on;
 use crate::server::Served;
-use adb_client_reader::{Admitted, admit};
-use adb_connections::{DeviceOut, Door};
-use adb_desk_log::{ClientIn, ClientOut, LinkIn, LinkOut};
-use adb_device_reader::{Device, Packets, Plugged, plug_in};
-use adb_hall::Hall;
-use adb_work::Parts;
+use adb_connections::{Device, DeviceOut, Door, EitherIn, EitherOut};
+use adb_server_client_reader::{Admitted, admit};
+use adb_server_device_reader::{Packets, Plugged, plug_in};
+use adb_server_hall::Hall;
+use adb_server_log::{ClientIn, ClientOut, DeskError, LinkIn, LinkOut};
+use adb_server_work::{DeviceInOf, DeviceOutOf, Parts};
 
 /// A client that was admitted: the two halves of its connection and the passes of its reader and
 /// its writer.
@@ -23,11 +24,19 @@ pub(crate) struct Arrival<P: Parts> {
     pub(crate) writing: ClientOut<P::Entries, P::Moved, P::Marks>,
 }
 
+/// A client or a device that came through the door.
+#[derive(Drop)]
+pub(crate) enum Comer<P: Parts> {
+    Client(Arrival<P>),
+    /// A device that has no link yet.
+    Device(Device<P::DoorDeviceIn, P::DoorDeviceOut>),
+}
+
 /// A device that has a link: its two halves, the reader of its packets, and the passes of its
 /// reader and its writer.
 #[derive(Drop)]
 pub(crate) struct Linked<P: Parts> {
-    pub(crate) device: Device<P::DeviceIn, P::DeviceOut>,
+    pub(crate) device: Device<DeviceInOf<P>, DeviceOutOf<P>>,
     pub(crate) packets: Packets,
     pub(crate) reading: LinkIn<P::Entries, P::Moved, P::Marks>,
     pub(crate) writing: LinkOut<P::Entries, P::Moved, P::Marks>,
@@ -40,19 +49,24 @@ struct Passes<P: Parts> {
     writing: LinkOut<P::Entries, P::Moved, P::Marks>,
 }
 
-/// Accepts one connection and admits it. A connection that the hall refuses is dropped, which is
-/// `Ok(None)`.
+/// Accepts one client or device and admits a client. A client that the hall refuses is dropped,
+/// which is `Ok(None)`.
 ///
 /// - `Done`: the door reported that no more connections come.
 /// - `DoorFault`: the door failed. The hall is halted.
 /// - `RecordFault`: the recorder failed. The hall is shut.
-/// - `OutOfMemory`: an allocation failed. The hall is halted.
+/// - `OutOfMemory`: an allocation for a client failed. The hall is halted.
 #[tactic(auto, using(crate::proofs::Closing::closed_last))]
 pub(crate) fn let_in<
     P: Parts,
     H: Hall<P::Entries, P::Moved, P::Marks>,
-    D: Door<In = P::ClientIn, Out = P::ClientOut>,
->(hall: &mut H, door: &mut D) -> Result<Option<Arrival<P>>, Served>
+    D: Door<
+        In = P::ClientIn,
+        Out = P::ClientOut,
+        DeviceIn = P::DoorDeviceIn,
+        DeviceOut = P::DoorDeviceOut,
+    >,
+>(hall: &mut H, door: &mut D) -> Result<Option<Comer<P>>, Served>
     ensures record { P.Marks.steady → result ≢ Err Served.RecordFault }
     ensures door { D.steady door.old → (D.steady door.new) × (result ≢ Err Served.DoorFault) }
     ensures fault { result ≡ Err Served.DoorFault → Rises (D.faults door.old) (D.faults door.new) }
@@ -67,12 +81,13 @@ pub(crate) fn let_in<
             output,
             reading,
             writing,
-        } => Ok(Some(Arrival {
+        } => Ok(Some(Comer::Client(Arrival {
             input,
             output,
             reading,
             writing,
-        })),
+        }))),
+        Admitted::Device(device) => Ok(Some(Comer::Device(device))),
         Admitted::Closed => Err(Served::Done),
         Admitted::Failed => {
             hall.halt();
@@ -85,19 +100,40 @@ pub(crate) fn let_in<
     }
 }
 
-/// Attaches a device. A device that does not come, or that the hall refuses, is unplugged and
-/// dropped, which is `Ok(None)`.
+/// Returns a device that the server was given, with the types of any device.
+pub(crate) fn given<P: Parts>(
+    device: Device<P::DeviceIn, P::DeviceOut>,
+) -> Device<DeviceInOf<P>, DeviceOutOf<P>> {
+    Device {
+        kind: device.kind,
+        serial: device.serial,
+        input: EitherIn::First(device.input),
+        output: EitherOut::First(device.output),
+    }
+}
+
+/// Returns a device that came through the door, with the types of any device.
+pub(crate) fn delivered<P: Parts>(
+    device: Device<P::DoorDeviceIn, P::DoorDeviceOut>,
+) -> Device<DeviceInOf<P>, DeviceOutOf<P>> {
+    Device {
+        kind: device.kind,
+        serial: device.serial,
+        input: EitherIn::Second(device.input),
+        output: EitherOut::Second(device.output),
+    }
+}
+
+/// Attaches a device. A device that is not plugged in is unplugged and dropped, which is
+/// `Ok(None)`.
 ///
-/// - `RecordFault`: the recorder failed. The hall is shut, and the device is unplugged.
-/// - `OutOfMemory`: an allocation failed. The hall is halted, and the device is unplugged.
+/// `Err`: the hall refused the device with this error, and the device is unplugged and dropped.
 pub(crate) fn link_up<P: Parts, H: Hall<P::Entries, P::Moved, P::Marks>>(
     hall: &mut H,
-    device: Device<P::DeviceIn, P::DeviceOut>,
+    device: Device<DeviceInOf<P>, DeviceOutOf<P>>,
     packets: Packets,
-) -> Result<Option<Linked<P>>, Served>
-    ensures record { P.Marks.steady → result ≢ Err Served.RecordFault }
-    ensures other { (result ≢ Err Served.DoorFault) × (result ≢ Err Served.Done)
-        × (result ≢ Err Served.WriteFault) }
+) -> Result<Option<Linked<P>>, DeskError>
+    ensures record { P.Marks.steady → result ≢ Err DeskError.RecordFault }
 {
     let mut device = device;
     match passes_of::<P, H>(hall, &mut device)? {
@@ -111,15 +147,15 @@ pub(crate) fn link_up<P: Parts, H: Hall<P::Entries, P::Moved, P::Marks>>(
     }
 }
 
-/// Attaches a device and returns the passes of its link. A device that does not come, or that the
-/// hall refuses, is unplugged. Errors are those of `link_up`.
+/// Attaches a device and returns the passes of its link. A device that is not plugged in is
+/// unplugged.
+///
+/// `Err`: the hall refused the device with this error, and the device is unplugged.
 fn passes_of<P: Parts, H: Hall<P::Entries, P::Moved, P::Marks>>(
     hall: &mut H,
-    device: &mut Device<P::DeviceIn, P::DeviceOut>,
-) -> Result<Option<Passes<P>>, Served>
-    ensures record { P.Marks.steady → result ≢ Err Served.RecordFault }
-    ensures other { (result ≢ Err Served.DoorFault) × (result ≢ Err Served.Done)
-        × (result ≢ Err Served.WriteFault) }
+    device: &mut Device<DeviceInOf<P>, DeviceOutOf<P>>,
+) -> Result<Option<Passes<P>>, DeskError>
+    ensures record { P.Marks.steady → result ≢ Err DeskError.RecordFault }
 {
     match plug_in(
         hall,
@@ -130,8 +166,7 @@ fn passes_of<P: Parts, H: Hall<P::Entries, P::Moved, P::Marks>>(
         Plugged::Link { reading, writing } => Ok(Some(Passes { reading, writing })),
         Plugged::Refused(error) => {
             device.output.unplug();
-            go_on::<P, H>(hall, error)?;
-            Ok(None)
+            Err(error)
         }
         Plugged::Never | Plugged::Failed => {
             device.output.unplug();

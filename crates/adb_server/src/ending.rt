@@ -1,15 +1,15 @@
 //! The end of a server.
 
 ghost use Rattle.std.specs.Prelude.{◌≡◌, ◌≢◌, false, IfSome};
-ghost use Rattle.adb_desk_log.specs.Log.{is_fault};
+ghost use Rattle.adb_server_log.specs.Log.{is_fault};
 ghost use Rattle.adb_desk.specs.Left.{IsLeft};
 ghost use Rattle.adb_server.specs.Ended.{KeepsHistory, is_record_fault};
 
 use crate::server::{Ended, Served};
 use adb_desk::Left;
-use adb_desk_log::DeskError;
 use adb_hub::HubError;
 use adb_recorder::Recorder;
+use adb_server_log::DeskError;
 
 /// Returns the end of a server that could not serve because an allocation failed.
 pub(crate) fn starved<R: Recorder>() -> Ended<R>

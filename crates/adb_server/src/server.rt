@@ -2,8 +2,8 @@
 
 ghost use Rattle.std.specs.Prelude.{◌≡◌, ◌≢◌, []};
 ghost use Rattle.adb_outside.specs.Outside.{Counts, Rises};
-ghost use Rattle.adb_desk_log.specs.declared.marks.TheConstants.{ALL_PARTS};
-ghost use Rattle.adb_desk_log.specs.Log.{IsFresh};
+ghost use Rattle.adb_server_log.specs.declared.marks.TheConstants.{ALL_PARTS};
+ghost use Rattle.adb_server_log.specs.Log.{IsFresh};
 ghost use Rattle.adb_server.specs.Ended.{KeepsHistory};
 ghost use Rattle.adb_server.specs.Served.{Announces, HasClosed, NamesPort, is_write_fault};
 
@@ -12,14 +12,13 @@ use crate::ending::{end_of, starved};
 use crate::listening::announce;
 use crate::workers::{Over, Workers, pool_of};
 use adb_binder::Binder;
-use adb_connections::{Bell, DeviceIn, DeviceOut, Door, Gate, PortIn, PortOut};
-use adb_desk_log::{ALL_PARTS, Marks};
-use adb_device_reader::Device;
-use adb_locked_hall::LockedHall;
+use adb_connections::{Bell, Device, DeviceIn, DeviceOut, Door, Gate, PortIn, PortOut};
 use adb_outside::Sink;
 use adb_recorder::Recorder;
-use adb_work::BellHandle;
-use adb_yard::{Listening, Yard};
+use adb_server_locked_hall::LockedHall;
+use adb_server_log::{ALL_PARTS, Marks};
+use adb_server_work::BellHandle;
+use adb_server_yard::{Listening, Yard};
 use std::alloc::Global;
 use std::marker::Brand;
 use std::sync::Wait;
@@ -49,8 +48,9 @@ pub struct Ended<R: Drop> {
     pub recorder: Option<R>,
 }
 
-/// Listens on a port and serves: attaches the devices in their order, and then accepts clients
-/// until the door is closed or fails. A reader and a writer serve each device and each client.
+/// Listens on a port and serves: attaches the devices in their order, and then accepts clients and
+/// devices until the door is closed or fails. A reader and a writer serve each device and each
+/// client.
 /// Before it serves, it writes to the note the port on which it listens. It returns after all
 /// workers have returned.
 ///
@@ -148,6 +148,8 @@ pub fn serve_at<
         Y::Bell,
         X,
         Z,
+        <Y::Door as Door>::DeviceIn,
+        <Y::Door as Door>::DeviceOut,
         Y::Door,
         Y,
     >(
@@ -179,7 +181,9 @@ fn serve_with<
     B: Bell,
     X: DeviceIn + Send + 'static,
     Z: DeviceOut + Send + 'static,
-    D: Door<In = I, Out = O>,
+    U: DeviceIn + Send + 'static,
+    V: DeviceOut + Send + 'static,
+    D: Door<In = I, Out = O, DeviceIn = U, DeviceOut = V>,
     Y: Yard<Ports = P, Gate = G>,
 >(
     rt: W,
@@ -215,7 +219,7 @@ fn serve_with<
     let Ok(bell) = BellHandle::new(alloc, bell) else {
         return starved();
     };
-    let Ok(mut pool) = pool_of(rt, alloc, yard.staff()) else {
+    let Ok(mut pool) = pool_of(rt, alloc, yard.pool_kind()) else {
         return starved();
     };
     let hall = LockedHall::<R, E, M, K, W>::new(rt, alloc, recorder, entries, moved, marks);
@@ -229,13 +233,13 @@ fn serve_with<
         jobs: Workers {},
         yard,
     };
-    let served = serve_all::<W, Over<R, E, M, K, I, O, P, X, Z, G, BellHandle<B>>, D, Y, Workers>(
-        &mut supplies,
-        &mut pool,
-        &mut hall,
-        door,
-        devices,
-    );
+    let served = serve_all::<
+        W,
+        Over<R, E, M, K, I, O, P, X, Z, U, V, G, BellHandle<B>>,
+        D,
+        Y,
+        Workers,
+    >(&mut supplies, &mut pool, &mut hall, door, devices);
     pool.finish();
     end_of(served, hall.close())
 }

@@ -3,13 +3,13 @@
 use crate::arriving::{Arrival, Linked};
 use adb_binder::Binder;
 use adb_connections::{Bell, DeviceIn, DeviceOut, Gate, PortIn, PortOut};
-use adb_desk_log::Marks;
-use adb_hall::Hall;
 use adb_hub::Owner;
 use adb_recorder::Recorder;
-use adb_spawner::{Crew, Job};
-use adb_work::{BellHandle, Contexts, HallOf, Parts, Ringing, Task, Work};
-use adb_yard::Staff;
+use adb_server_hall::Hall;
+use adb_server_log::Marks;
+use adb_server_work::{BellHandle, Contexts, HallOf, Parts, Ringing, Task, Work};
+use adb_server_yard::PoolKind;
+use adb_spawner::{Job, WorkerPool};
 use std::alloc::{AllocError, Global};
 use std::marker::PhantomData;
 use std::sync::Wait;
@@ -19,7 +19,7 @@ use std::thread::Threads;
 /// The parts of a server, with a type parameter for each. A function that starts threads names its
 /// parts by this type, since the bounds of its own type parameters say that jobs are `Send`.
 #[derive(Drop)]
-pub(crate) struct Over<R, E, M, K, I, O, P, X, Z, G, B> {
+pub(crate) struct Over<R, E, M, K, I, O, P, X, Z, U, V, G, B> {
     recorder: PhantomData<R>,
     entries: PhantomData<E>,
     moved: PhantomData<M>,
@@ -29,6 +29,8 @@ pub(crate) struct Over<R, E, M, K, I, O, P, X, Z, G, B> {
     binder: PhantomData<P>,
     device_in: PhantomData<X>,
     device_out: PhantomData<Z>,
+    door_device_in: PhantomData<U>,
+    door_device_out: PhantomData<V>,
     gate: PhantomData<G>,
     bell: PhantomData<B>,
 }
@@ -43,9 +45,11 @@ impl<
     P: Binder + Drop + 'static,
     X: DeviceIn,
     Z: DeviceOut,
+    U: DeviceIn + 'static,
+    V: DeviceOut + 'static,
     G: Gate + Drop + 'static,
     B: Ringing,
-> Parts for Over<R, E, M, K, I, O, P, X, Z, G, B> {
+> Parts for Over<R, E, M, K, I, O, P, X, Z, U, V, G, B> {
     type Recorder = R;
 
     type Entries = E;
@@ -63,6 +67,10 @@ impl<
     type DeviceIn = X;
 
     type DeviceOut = Z;
+
+    type DoorDeviceIn = U;
+
+    type DoorDeviceOut = V;
 
     type Gate = G;
 
@@ -94,15 +102,17 @@ impl<
     P: Binder + Send + Drop + 'static,
     X: DeviceIn + Send + 'static,
     Z: DeviceOut + Send + 'static,
+    U: DeviceIn + Send + 'static,
+    V: DeviceOut + Send + 'static,
     G: Gate + Send + Drop + 'static,
     B: Bell,
-> Jobs<Work<W, Over<R, E, M, K, I, O, P, X, Z, G, BellHandle<B>>>> for Workers {
-    type Job = Work<W, Over<R, E, M, K, I, O, P, X, Z, G, BellHandle<B>>>;
+> Jobs<Work<W, Over<R, E, M, K, I, O, P, X, Z, U, V, G, BellHandle<B>>>> for Workers {
+    type Job = Work<W, Over<R, E, M, K, I, O, P, X, Z, U, V, G, BellHandle<B>>>;
 
     fn job(
         &self,
-        work: Work<W, Over<R, E, M, K, I, O, P, X, Z, G, BellHandle<B>>>,
-    ) -> Work<W, Over<R, E, M, K, I, O, P, X, Z, G, BellHandle<B>>> {
+        work: Work<W, Over<R, E, M, K, I, O, P, X, Z, U, V, G, BellHandle<B>>>,
+    ) -> Work<W, Over<R, E, M, K, I, O, P, X, Z, U, V, G, BellHandle<B>>> {
         work
     }
 }
@@ -179,10 +189,10 @@ pub(crate) fn device_jobs<W: Wait + Copy + Drop, P: Parts, S: Jobs<Work<W, P>>>(
 pub(crate) fn pool_of<
     W: Threads + Wait + Copy + Send + Sync + Drop + 'static,
     J: Job + Send + Drop + 'static,
->(rt: W, alloc: Global, staff: Staff) -> Result<Crew<W, J>, AllocError> {
-    match staff {
-        Staff::Threads => Crew::threads(rt, alloc),
-        Staff::Inline { failing } => Ok(Crew::inline(failing)),
+>(rt: W, alloc: Global, kind: PoolKind) -> Result<WorkerPool<W, J>, AllocError> {
+    match kind {
+        PoolKind::Threads => WorkerPool::threads(rt, alloc),
+        PoolKind::Inline { failing } => Ok(WorkerPool::inline(failing)),
     }
 }
 
@@ -196,18 +206,18 @@ pub(crate) fn start<
     W: Threads + Wait + Copy + Send + Sync + Drop + 'static,
     J: Job + Send + Drop + 'static,
     P: Parts,
->(pool: &mut Crew<W, J>, hall: &mut HallOf<W, P>, pair: Pair<J>) {
+>(pool: &mut WorkerPool<W, J>, hall: &mut HallOf<W, P>, pair: Pair<J>) {
     let Pair {
         owner,
         reader,
         writer,
     } = pair;
     if let Err(job) = pool.spawn(reader) {
-        let _ = hall.strand(owner, pool.no_thread());
+        let _ = hall.end_without_thread(owner, pool.no_thread());
         drop(job);
     }
     if let Err(job) = pool.spawn(writer) {
-        let _ = hall.strand(owner, pool.no_thread());
+        let _ = hall.end_without_thread(owner, pool.no_thread());
         job.run();
     }
 }
@@ -217,7 +227,7 @@ pub(crate) fn start_all<
     W: Threads + Wait + Copy + Send + Sync + Drop + 'static,
     J: Job + Send + Drop + 'static,
     P: Parts,
->(pool: &mut Crew<W, J>, hall: &mut HallOf<W, P>, pairs: Vec<Pair<J>>) {
+>(pool: &mut WorkerPool<W, J>, hall: &mut HallOf<W, P>, pairs: Vec<Pair<J>>) {
     for pair in pairs {
         start::<W, J, P>(pool, hall, pair);
     }

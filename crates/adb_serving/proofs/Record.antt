@@ -1,13 +1,14 @@
 -- The record of a server that has ended.
-use Rattle.std.proofs.Common.{ℕ, ◌≡◌, ◌≢◌, Bool, true, List, Option, Some, None, reverse, refl, sym, ap, subst, ◌∙◌}
+use Rattle.std.proofs.Common.{ℕ, ◌≡◌, ◌≢◌, Bool, true, List, Option, Some, None, reverse, refl, sym, ap, subst, ◌∙◌, inr}
 use Rattle.adb_capture.specs.declared.entry.Entry.{Entry}
 use Rattle.adb_desk.specs.Left.{HasRecorded}
-use Rattle.adb_record.specs.Live.{ServesCapture}
+use Rattle.adb_os_record.specs.Live.{ServesCapture}
 use Rattle.adb_words.specs.Serve.{Serving}
 use Rattle.adb_top.specs.declared.status.Status.{Status}
 use Rattle.adb_top.specs.declared.status.Status.TheVariants.{Done, WriteFault, RecordFault}
 use Rattle.adb_top.specs.Kept.{KeepsRecord}
-use Rattle.adb_serving.specs.History.{ServesHistory, records_of}
+use Rattle.adb_serving.specs.declared.started.HistorySink.TheVariants.{Dropped, Stuck}
+use Rattle.adb_serving.specs.History.{GivesRecord, ServesHistory, records_of}
 
 module _ {R : Type 0} (stands : R → List Entry → Type 0) (faults : R → ℕ) where
   -- a recorder that came back kept a legal history, and it never failed if the server is done
@@ -28,6 +29,16 @@ module _ {R : Type 0} (stands : R → List Entry → Type 0) (faults : R → ℕ
   missing_is WriteFault k = (λ is. cc, λ is. cc)
   missing_is _ k = (λ is. cc, λ is. cc)
 
+  -- so its sink may be dropped
+  pub drops : {S : Type 0} (told : S → Option (List ℕ)) (before : S) (status : Status) → KeepsRecord stands faults status None
+      → GivesRecord told before status Dropped
+  drops told before status k =
+      let missing = missing_is status k in record {
+        done = λ is. absurd (missing.0 is);
+        fault = λ is. absurd (missing.1 is);
+        given = tt;
+      }
+
   -- the sink was given the record of the history that the recorder kept
   pub serves_history : (r : R) (h : HasRecorded stands r) (had : List ℕ) (written : Option (List ℕ)) (whole : Bool) (count : ℕ) (status : Status)
       → ServesCapture had written whole count (reverse h.history) → (status ≡ Done → (whole ≡ true) × (count ≡ 0)) → ServesHistory had written status
@@ -44,6 +55,10 @@ module _ {R : Type 0} (stands : R → List Entry → Type 0) (faults : R → ℕ
     front = capture.front;
     all = λ is. capture.all (done is).0 (done is).1;
   }
+
+-- a thread that is stuck may keep the sink of a server that is not done
+pub keeps_sink : {S : Type 0} (told : S → Option (List ℕ)) (before : S) (status : Status) → status ≢ Done → GivesRecord told before status Stuck
+keeps_sink told before status undone = record { done = λ is. absurd (undone is); fault = λ is. inr refl; given = tt }
 
 -- words that ask for a record are those of a server
 pub asked_of : (o : Option Serving) → records_of o ≡ true → (asked : Serving) × (o ≡ Some asked) × (asked.records ≡ true)

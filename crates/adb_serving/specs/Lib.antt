@@ -1,3 +1,2 @@
-pub mod Either
 pub mod Live
 pub mod History

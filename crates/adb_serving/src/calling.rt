@@ -47,7 +47,7 @@ pub(crate) fn call_live<
     let Ok(ending) = Ending::new(alloc) else {
         return say_out_of_memory(note);
     };
-    let yard = RealYard::<W, Brand>::new(rt, alloc, ending, None);
+    let yard = RealYard::<W, Brand>::new(rt, alloc, ending, None, None);
     let nobody = Vec::<LocalDevice<W>>::new(alloc);
     let ran = run(rt, alloc, words, source, sink, note, yard, nobody);
     ran.status

@@ -1,39 +1,51 @@
-//! The devices of a server: model devices in threads of their own, and devices that are reached by
-//! a port of this machine.
+//! The devices of a server: model devices in threads of their own, and the dialers of devices that
+//! are reached by a port of this machine.
 
-use crate::either::{EitherIn, EitherOut};
+use adb_connections::Device;
 use adb_daemon::Daemon;
-use adb_device_reader::Device;
 use adb_files::Files;
 use adb_outside::{Kind, Text};
 use adb_pipe::{PipeIn, PipeOut, pipe};
-use adb_ports::{
-    Ending, PipeDeviceIn, PipeDeviceOut, TcpDeviceIn, TcpDeviceOut, run_device, tcp_device,
-};
+use adb_ports::{Deliveries, Ending, PipeDeviceIn, PipeDeviceOut, dial, run_device};
 use adb_wire::MAX_PAYLOAD;
 use adb_words::Ports;
 use itoa::Buffer;
 use std::alloc::{AllocError, Global};
 use std::net::{Net, TcpListener, TcpStream};
-use std::sync::Wait;
+use std::sync::{Arc, Wait};
 use std::thread;
 use std::thread::Threads;
 
-/// A model device, or one that is reached by a port.
-pub type LocalDevice<W> = Device<
-    EitherIn<PipeDeviceIn<W>, TcpDeviceIn<W>>,
-    EitherOut<PipeDeviceOut<W>, TcpDeviceOut>,
->;
+/// A model device.
+pub type LocalDevice<W> = Device<PipeDeviceIn<W>, PipeDeviceOut<W>>;
 
 /// The maximum number of chunks, of up to a packet each, in a pipe between a model device and the
 /// server.
 const CHUNKS: usize = 16;
 
-/// Returns the devices that the words request: the model devices, followed by those that listen on
-/// a port. All are devices of this machine. A device that is reached by a port has the serial
+/// The devices of a server.
+#[derive(Drop)]
+pub struct Devices<
+    W: Net<Listener = TcpListener, Stream = TcpStream>
+        + Threads
+        + Wait
+        + Copy
+        + Send
+        + Sync
+        + Drop
+        + 'static,
+> {
+    /// The model devices, in the order of the words.
+    pub models: Vec<LocalDevice<W>>,
+    /// The queue of the devices that are dialled.
+    pub deliveries: Arc<Deliveries, Global>,
+}
+
+/// Makes the devices that the words request: the model devices, and a dialer for each port at which
+/// a device listens. All are devices of this machine. A device that is dialled has the serial
 /// `127.0.0.1:<port>`.
 ///
-/// - `AllocError`: an allocation failed.
+/// `AllocError`: an allocation failed. No dialer is left.
 pub fn devices_of<
     W: Net<Listener = TcpListener, Stream = TcpStream>
         + Threads
@@ -43,15 +55,38 @@ pub fn devices_of<
         + Sync
         + Drop
         + 'static,
->(rt: W, alloc: Global, ports: &Ports, ending: &Ending) -> Result<Vec<LocalDevice<W>>, AllocError> {
-    let mut devices = Vec::new(alloc);
+>(rt: W, alloc: Global, ports: &Ports, ending: &Ending) -> Result<Devices<W>, AllocError> {
+    let mut models = Vec::new(alloc);
     for serial in &ports.devices {
-        devices.push(model_device(rt, alloc, serial)?)?;
+        models.push(model_device(rt, alloc, serial)?)?;
     }
+    let deliveries = Deliveries::new(alloc, ending.share()?, ports.connects.len())?;
+    let deliveries = Arc::new(alloc, deliveries)?;
     for port in &ports.connects {
-        devices.push(device_at(rt, alloc, *port, ending)?)?;
+        if start_dialer(rt, alloc, *port, &deliveries).is_err() {
+            deliveries.close(&rt);
+            return Err(AllocError);
+        }
     }
-    Ok(devices)
+    Ok(Devices { models, deliveries })
+}
+
+/// Starts the dialer of a port in a thread of its own. If no thread can be spawned, its device
+/// never comes.
+fn start_dialer<
+    W: Net<Listener = TcpListener, Stream = TcpStream>
+        + Threads
+        + Wait
+        + Copy
+        + Send
+        + Sync
+        + Drop
+        + 'static,
+>(rt: W, alloc: Global, port: u16, deliveries: &Arc<Deliveries, Global>) -> Result<(), AllocError> {
+    let serial = serial_of(alloc, port)?;
+    let theirs = Arc::try_clone(deliveries)?;
+    let _ = thread::spawn(&rt, move || dial(&rt, alloc, port, &serial, &theirs));
+    Ok(())
 }
 
 /// Returns a model device without files, which runs in a thread of its own. If no thread can be
@@ -73,8 +108,8 @@ fn model_device<
     Ok(Device {
         kind: Kind::Local,
         serial: serial.copy()?,
-        input: EitherIn::First(PipeDeviceIn::new(alloc, from_device)),
-        output: EitherOut::First(PipeDeviceOut::new(alloc, to_device)),
+        input: PipeDeviceIn::new(alloc, from_device),
+        output: PipeDeviceOut::new(alloc, to_device),
     })
 }
 
@@ -89,26 +124,6 @@ fn attend<W: Wait + Copy + Drop>(
     let (mut input, mut output) = (input, output);
     drop(run_device(rt, alloc, daemon, &mut input, &mut output));
     output.finish();
-}
-
-/// Returns a device that listens on a port of this machine.
-fn device_at<
-    W: Net<Listener = TcpListener, Stream = TcpStream>
-        + Threads
-        + Wait
-        + Copy
-        + Send
-        + Sync
-        + Drop
-        + 'static,
->(rt: W, alloc: Global, port: u16, ending: &Ending) -> Result<LocalDevice<W>, AllocError> {
-    let (input, output) = tcp_device(rt, alloc, port, ending)?;
-    Ok(Device {
-        kind: Kind::Local,
-        serial: serial_of(alloc, port)?,
-        input: EitherIn::Second(input),
-        output: EitherOut::Second(output),
-    })
 }
 
 fn serial_of(alloc: Global, port: u16) -> Result<Text, AllocError> {

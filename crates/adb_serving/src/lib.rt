@@ -4,12 +4,11 @@
 
 mod calling;
 mod devices;
-mod either;
 mod running;
 mod serving;
 mod started;
 mod starting;
 
-pub use adb_streams::Stream;
-pub use started::Started;
+pub use adb_os_streams::Stream;
+pub use started::{HistorySink, Started};
 pub use starting::{start, words_of};

@@ -14,11 +14,11 @@ ghost use Rattle.adb_words.specs.Words.{texts};
 use crate::calling::call_live;
 use crate::devices::LocalDevice;
 use crate::serving::serve_live;
-use crate::started::Started;
+use crate::started::{HistorySink, Started};
 use adb_outside::{Sink, Source};
+use adb_server_yard::NoYard;
 use adb_top::{Status, run};
 use adb_words::{is_serve, names_tool};
-use adb_yard::NoYard;
 use std::alloc::Global;
 use std::net::{Net, TcpListener, TcpStream};
 use std::sync::Wait;
@@ -71,7 +71,8 @@ pub(crate) fn run_live<
         → ServesLive asked.port result.status (seen N.steady N.faults N.written) note.old note.new }
     ensures command { is_serve (texts words.now) ≡ true → result.status ≡ Status.Usage
         → serve_of (texts words.now) ≡ None }
-    ensures unasked { asks_record (texts words.now) ≡ false → result.history ≡ Some history }
+    ensures unasked { asks_record (texts words.now) ≡ false
+        → result.history ≡ HistorySink.Returned history }
     ensures record { asks_record (texts words.now) ≡ true
         → GivesRecord R.written history result.status result.history }
 {
@@ -81,7 +82,7 @@ pub(crate) fn run_live<
     let status = run_other(rt, alloc, words, source, sink, note);
     Started {
         status,
-        history: Some(history),
+        history: HistorySink::Returned(history),
     }
 }
 

@@ -16,7 +16,7 @@ ghost use Rattle.adb_words.specs.Tools.{names_tool, tool_of};
 ghost use Rattle.adb_words.specs.Words.{texts};
 
 use crate::running::run_live;
-use crate::started::Started;
+use crate::started::{HistorySink, Started};
 use adb_outside::{Sink, Source};
 use adb_top::{Status, say_out_of_memory, say_usage};
 use std::alloc::Global;
@@ -105,23 +105,24 @@ pub fn start<
         (tells_write_fault result.status)) }
 
     // A server that is asked for a record writes it to the sink of its history: the magic and the
-    // records of a legal history, which is fifo, has its causes and is answered. Every other run
+    // records of a legal history, which is fifo, has its causes and is answered. The sink is
+    // returned, unless the thread that writes it is stuck, which is never Done. Every other run
     // returns the sink as it was.
     ensures record { IfOk words (λ list. asks_record (texts list.items) ≡ true
         → GivesRecord R.written history result.status result.history) }
     ensures unasked { IfOk words (λ list. asks_record (texts list.items) ≡ false
-        → result.history ≡ Some history) }
-    ensures unused { IfErr words (λ _. result.history ≡ Some history) }
+        → result.history ≡ HistorySink.Returned history) }
+    ensures unused { IfErr words (λ _. result.history ≡ HistorySink.Returned history) }
 {
     match words {
         Ok(words) => run_live(rt, alloc, words.as_slice(), source, sink, note, history),
         Err(error) if error.kind() == ErrorKind::OutOfMemory => Started {
             status: say_out_of_memory(note),
-            history: Some(history),
+            history: HistorySink::Returned(history),
         },
         Err(_) => Started {
             status: say_usage(note),
-            history: Some(history),
+            history: HistorySink::Returned(history),
         },
     }
 }

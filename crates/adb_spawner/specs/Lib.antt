@@ -1,1 +1,1 @@
-pub mod Crew
+pub mod WorkerPool

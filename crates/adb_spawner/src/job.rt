@@ -1,4 +1,4 @@
-//! The jobs of a crew.
+//! The jobs of a pool.
 
 /// A job, which is run once.
 pub trait Job {

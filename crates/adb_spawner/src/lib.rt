@@ -1,9 +1,9 @@
 //! Running the jobs of a server: each in a thread of its own while it runs, or within the call.
 #![tactic(auto)]
 
-mod crew;
 mod job;
 mod pool;
+mod worker_pool;
 
-pub use crew::{Crew, NoThread};
 pub use job::Job;
+pub use worker_pool::{NoThread, WorkerPool};

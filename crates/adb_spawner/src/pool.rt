@@ -1,7 +1,7 @@
 //! Threads that run jobs of one type: one that has run its job waits for the next.
 
 ghost use Rattle.std.specs.Prelude.{◌≡◌, IfOk, IfErr, is_err, vec_len};
-ghost use Rattle.adb_spawner.specs.Crew.{Staffs, with_one};
+ghost use Rattle.adb_spawner.specs.WorkerPool.{Starts, with_one};
 
 use crate::job::Job;
 use std::alloc::{AllocError, Global};
@@ -77,7 +77,7 @@ impl<W: Threads + Wait + Copy + Send + Sync + Drop + 'static, J: Job + Send + Dr
     /// if neither exists.
     pub(crate) fn spawn(&mut self, job: J) -> Result<(), J>
         ensures back { IfErr result (λ back. back ≡ job) }
-        ensures staffs { Staffs self.old (is_err result) self.new }
+        ensures starts { Starts self.old (is_err result) self.new }
     {
         let mut queue = self.shared.queue.lock(&self.rt);
         let result = assign(&self.rt, &self.shared, &mut self.handles, &mut *queue, job);
@@ -117,7 +117,7 @@ fn assign<W: Threads + Wait + Copy + Send + Sync + Drop + 'static, J: Job + Send
     job: J,
 ) -> Result<(), J>
     ensures back { IfErr result (λ back. back ≡ job) }
-    ensures staffs { Staffs (vec_len handles.old) (is_err result) (vec_len handles.new) }
+    ensures starts { Starts (vec_len handles.old) (is_err result) (vec_len handles.new) }
 {
     if queue.jobs.reserve(1).is_err() {
         return Err(job);

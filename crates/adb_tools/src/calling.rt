@@ -10,8 +10,8 @@ ghost use Rattle.adb_asking.specs.Calling.{Asked, CallsTool, IsUncalled};
 
 use adb_asking::{Job, ToolEnd, ask, failed_input, make_job};
 use adb_outside::{Sink, Source};
+use adb_server_yard::{Dialled, Yard};
 use adb_words::{Call, WordsError, read_tool};
-use adb_yard::{Dialled, Yard};
 use std::alloc::Global;
 use std::sync::Wait;
 

@@ -13,11 +13,11 @@ use crate::note::{say_door_fault, say_lost_line, say_out_of_memory, say_record_f
 use crate::ran::Ran;
 use crate::status::Status;
 use adb_connections::{DeviceIn, DeviceOut};
-use adb_device_reader::Device;
 use adb_outside::Sink;
 use adb_server::{Ended, Served, serve};
+use adb_server_device_reader::Device;
+use adb_server_yard::Yard;
 use adb_words::{WordsError, read_serve};
-use adb_yard::Yard;
 use std::alloc::Global;
 use std::sync::Wait;
 use std::thread::Threads;

@@ -13,8 +13,8 @@ use crate::status::Status;
 use crate::tool_note::{say_bad_answer, say_port_fault, say_refused, say_too_large};
 use adb_outside::{Sink, Source, Text};
 use adb_script::push_escaped;
+use adb_server_yard::Yard;
 use adb_tools::{ToolEnd, run_tool};
-use adb_yard::Yard;
 use std::alloc::{AllocError, Global};
 use std::sync::Wait;
 

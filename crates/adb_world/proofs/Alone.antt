@@ -27,8 +27,8 @@ use Rattle.adb_daemon.specs.Device.{device_behind}
 use Rattle.adb_laws_alone.specs.Alone.{AllRanAlone, AsksNone, Every, IsOfEchoes, IsOfOne, RanAlone}
 use Rattle.adb_laws_answers.specs.Answers.{HasEndedAs}
 use Rattle.adb_laws_answers.proofs.Asked.{born_for, born_as}
-use Rattle.adb_laws_sessions.specs.Model.{model_setting}
-use Rattle.adb_laws_sessions.specs.Sessions.{AsksForServices}
+use Rattle.adb_laws_answers.specs.Model.{model_setting}
+use Rattle.adb_laws_answers.specs.Sessions.{AsksForServices}
 use Rattle.adb_world.specs.Answered.{AreEchoes, IsAnsweredAlone, IsEcho, IsNewAlone, text_over}
 use Rattle.adb_world.specs.Parts.{Holds, IsGreeted, IsKeptAt, IsSame}
 use Rattle.adb_world.specs.Session.{left_of, text_of}

@@ -16,10 +16,10 @@ use Rattle.adb_laws_model_device.specs.Joined.{IsJoined}
 use Rattle.adb_laws_worlds.specs.Credit.{HasOneDevice}
 use Rattle.adb_laws_answers.specs.Answers as answers
 use Rattle.adb_laws_answers.specs.Answers.{ClientsAreAnswered}
-use Rattle.adb_laws_sessions.specs.Words.{requests_for, words_of}
-use Rattle.adb_laws_sessions.specs.Model.{model_devices, model_setting}
-use Rattle.adb_laws_sessions.specs.Asked.{Opens, HasOpened}
-use Rattle.adb_laws_sessions.specs.Sessions.{HasAsked, AsksForServices, done_among}
+use Rattle.adb_laws_answers.specs.Words.{requests_for, words_of}
+use Rattle.adb_laws_answers.specs.Model.{model_devices, model_setting}
+use Rattle.adb_laws_answers.specs.Asked.{Opens, HasOpened}
+use Rattle.adb_laws_answers.specs.Sessions.{HasAsked, AsksForServices, done_among}
 use Rattle.adb_world.specs.Answered.{IsAnswered}
 use Rattle.adb_world.specs.Parts.{Holds, IsGreeted, IsKeptAt}
 use Rattle.adb_world.specs.Session.{IsTold, left_of, text_of}

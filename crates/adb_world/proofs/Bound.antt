@@ -28,9 +28,9 @@ use Rattle.adb_daemon.specs.Device.{Setting}
 use Rattle.adb_laws_answers.proofs.Asked.{born_as}
 use Rattle.adb_laws_model_device.specs.Joined.{IsJoined}
 use Rattle.adb_laws_model_device.specs.Owed.{bytes_owed, packets_owed}
-use Rattle.adb_laws_sessions.specs.Words.{requests_for, selects}
-use Rattle.adb_laws_sessions.specs.Model.{model_devices, model_setting}
-use Rattle.adb_laws_sessions.specs.Sessions.{AsksForServices, IsOfSessions}
+use Rattle.adb_laws_answers.specs.Words.{requests_for, selects}
+use Rattle.adb_laws_answers.specs.Model.{model_devices, model_setting}
+use Rattle.adb_laws_answers.specs.Sessions.{AsksForServices, IsOfSessions}
 use Rattle.adb_laws_steps.specs.Moved.{AreSteps, moved, of_here}
 use Rattle.adb_laws_steps.specs.Receives.{writes_to}
 use Rattle.adb_laws_steps.specs.Steps.{ClientsPay, NoneEnters, Settles, WritesWerePut, pays, stream_pays}

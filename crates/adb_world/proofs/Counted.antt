@@ -14,10 +14,10 @@ use Rattle.adb_history.specs.Kept.{Kept}
 use Rattle.adb_history.specs.Machine.{History, state, IsLegal}
 use Rattle.adb_history.proofs.Numbers.{counted}
 use Rattle.adb_laws_births.proofs.Born.{all_born}
-use Rattle.adb_laws_sessions.specs.Words.{IsKnown, requests_for, words_of}
-use Rattle.adb_laws_sessions.specs.Model.{model_devices}
-use Rattle.adb_laws_sessions.specs.Asked.{Opens}
-use Rattle.adb_laws_sessions.specs.Sessions.{HasAsked, AsksForServices, done_among}
+use Rattle.adb_laws_answers.specs.Words.{IsKnown, requests_for, words_of}
+use Rattle.adb_laws_answers.specs.Model.{model_devices}
+use Rattle.adb_laws_answers.specs.Asked.{Opens}
+use Rattle.adb_laws_answers.specs.Sessions.{HasAsked, AsksForServices, done_among}
 use Rattle.adb_world.specs.Parts.{Holds, IsKeptAt, IsOver}
 use Rattle.adb_world.specs.Session.{IsTold, left_of, text_of}
 use Rattle.adb_world.specs.Settled.{Each, IsCounted}

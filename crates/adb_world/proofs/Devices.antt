@@ -6,8 +6,8 @@ use Rattle.adb_history.specs.Kept.{Kept}
 use Rattle.adb_history.specs.Machine.{History}
 use Rattle.adb_history.proofs.Books.{all_books}
 use Rattle.adb_laws_worlds.specs.Unbroken.{BringsSound}
-use Rattle.adb_laws_sessions.specs.Model.{model_devices}
-use Rattle.adb_laws_sessions.specs.Sessions.{AsksForServices}
+use Rattle.adb_laws_answers.specs.Model.{model_devices}
+use Rattle.adb_laws_answers.specs.Sessions.{AsksForServices}
 use Rattle.adb_world.specs.Parts.{Holds, IsRunning}
 use Rattle.adb_world.specs.declared.parts.Parts.{Parts}
 use Rattle.adb_world.proofs.Greeted.{known_devices}

@@ -25,7 +25,7 @@ use Rattle.adb_history.proofs.OrderlyStates.{orderly}
 use Rattle.adb_history.proofs.Sweep.{Sending, sent, left, over, up_to}
 use Rattle.adb_daemon.specs.Daemon.{HasDone}
 use Rattle.adb_laws_resting.specs.Resting.{SendsNothingBy, GoesUpAlone, has_open_stream, is_open_phase}
-use Rattle.adb_laws_sessions.specs.Model.{model_setting}
+use Rattle.adb_laws_answers.specs.Model.{model_setting}
 use Rattle.adb_world.specs.Parts.{Holds, IsKeptAt, most_sessions}
 use Rattle.adb_world.specs.Settled.{IsCalm}
 use Rattle.adb_world.specs.World.{End as FarEnd}

@@ -27,8 +27,8 @@ use Rattle.adb_laws_alone.proofs.InPart.{quiet_cut}
 use Rattle.adb_laws_alone.proofs.Quiet.{AllLeaveFiles, quiet_files}
 use Rattle.adb_laws_births.proofs.Born.{all_births}
 use Rattle.adb_laws_resting.specs.Resting.{SendsNothingBy, GoesUpAlone}
-use Rattle.adb_laws_sessions.specs.Model.{model_devices, model_setting}
-use Rattle.adb_laws_sessions.specs.Sessions.{AsksForServices, IsOfSessions}
+use Rattle.adb_laws_answers.specs.Model.{model_devices, model_setting}
+use Rattle.adb_laws_answers.specs.Sessions.{AsksForServices, IsOfSessions}
 use Rattle.adb_laws_worlds.specs.Unbroken.{BringsSound}
 use Rattle.adb_world.specs.Parts.{AreSameBut, Holds, IsKeptAt, IsOver, IsRunning, IsSame}
 use Rattle.adb_world.specs.Session.{IsTold, left_of}

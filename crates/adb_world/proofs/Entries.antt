@@ -14,8 +14,8 @@ use Rattle.adb_history.specs.Machine.{History}
 use Rattle.adb_daemon.specs.Daemon.{HasDone, owed}
 use Rattle.adb_daemon.specs.declared.daemon.Daemon.{Daemon}
 use Rattle.adb_laws_model_device.specs.Owed.{bytes_owed}
-use Rattle.adb_laws_sessions.specs.Words.{IsOfSession}
-use Rattle.adb_laws_sessions.specs.Model.{model_devices, model_setting}
+use Rattle.adb_laws_answers.specs.Words.{IsOfSession}
+use Rattle.adb_laws_answers.specs.Model.{model_devices, model_setting}
 use Rattle.adb_world.specs.Parts.{Holds, most_sessions, IsKeptAt}
 use Rattle.adb_world.specs.Session.{Changes, IsTold, handed, wrote, left_of, text_of}
 use Rattle.adb_world.specs.declared.parts.Parts.{Parts}

@@ -23,8 +23,8 @@ use Rattle.adb_daemon.specs.declared.daemon.Daemon.{Daemon}
 use Rattle.adb_laws_births.proofs.Crossing.{no_crossing}
 use Rattle.adb_laws_causes.proofs.Others.{born_within}
 use Rattle.adb_laws_resting.specs.Resting.{SendsNothingBy, GoesUpAlone}
-use Rattle.adb_laws_sessions.specs.Model.{model_devices, model_setting}
-use Rattle.adb_laws_sessions.specs.Sessions.{AsksForServices, done_among}
+use Rattle.adb_laws_answers.specs.Model.{model_devices, model_setting}
+use Rattle.adb_laws_answers.specs.Sessions.{AsksForServices, done_among}
 use Rattle.adb_laws_worlds.specs.Unbroken.{BringsSound}
 use Rattle.adb_world.specs.Parts.{AreSameBut, Holds, IsKeptAt, IsOver, IsRunning, IsSame}
 use Rattle.adb_world.specs.Settled.{HasEnded, IsCounted, IsDone}

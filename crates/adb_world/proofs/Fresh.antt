@@ -12,9 +12,9 @@ use Rattle.adb_history.specs.Rows.{Client}
 use Rattle.adb_history.specs.Tied.{came_count}
 use Rattle.adb_history.proofs.Numbers.{counted, all_drawn}
 use Rattle.adb_daemon.specs.Daemon.{HasDone}
-use Rattle.adb_laws_sessions.specs.Words.{requests_for, words_of}
-use Rattle.adb_laws_sessions.specs.Model.{model_setting}
-use Rattle.adb_laws_sessions.specs.Sessions.{AsksForServices}
+use Rattle.adb_laws_answers.specs.Words.{requests_for, words_of}
+use Rattle.adb_laws_answers.specs.Model.{model_setting}
+use Rattle.adb_laws_answers.specs.Sessions.{AsksForServices}
 use Rattle.adb_world.specs.Parts.{Holds, most_sessions, IsKeptAt}
 use Rattle.adb_world.specs.Session.{IsTold, IsNew}
 use Rattle.adb_world.specs.declared.parts.Parts.{Parts}

@@ -19,11 +19,11 @@ use Rattle.adb_history.specs.Machine.{History}
 use Rattle.adb_history.specs.Packets.{least_version, least_maxdata}
 use Rattle.adb_daemon.specs.Device.{own_cnxn}
 use Rattle.adb_laws_births.specs.Brought.{ComeFirst}
-use Rattle.adb_laws_pairs.specs.Counts.{how_many}
+use Rattle.adb_laws_model_device.specs.Counts.{how_many}
 use Rattle.adb_laws_model_device.specs.Rows.{is_cnxn_packet}
 use Rattle.adb_laws_worlds.specs.Unbroken.{BringsSound}
-use Rattle.adb_laws_sessions.specs.Words.{serial}
-use Rattle.adb_laws_sessions.specs.Model.{model_devices, model_row, model_setting}
+use Rattle.adb_laws_answers.specs.Words.{serial}
+use Rattle.adb_laws_answers.specs.Model.{model_devices, model_row, model_setting}
 use Rattle.adb_world.specs.Parts.{IsGreeted}
 
 -- ---- packets of which none is a CNXN

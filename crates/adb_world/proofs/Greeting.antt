@@ -12,7 +12,7 @@ use Rattle.adb_hub.specs.Answers.{due_on}
 use Rattle.adb_daemon.specs.Daemon.{owed}
 use Rattle.adb_laws_model_device.specs.Owed.{bytes_owed}
 use Rattle.adb_laws_model_device.proofs.Bytes.{framed_owed}
-use Rattle.adb_laws_sessions.specs.Model.{model_setting}
+use Rattle.adb_laws_answers.specs.Model.{model_setting}
 use Rattle.adb_world.specs.Parts.{Holds, IsRunning, Moves, plugging}
 use Rattle.adb_world.specs.declared.parts.Parts.{Parts}
 use Rattle.adb_world.proofs.Entries.{all_owed}

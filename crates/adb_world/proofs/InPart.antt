@@ -42,12 +42,12 @@ use Rattle.adb_laws_model_device.proofs.Came.{took_carried}
 use Rattle.adb_laws_model_device.proofs.Joined.{paired}
 use Rattle.adb_laws_model_device.proofs.Plain.{model_is_plain}
 use Rattle.adb_laws_model_device.proofs.Sound.{never_refused}
-use Rattle.adb_laws_pairs.specs.InTurn.{AreInTurn}
-use Rattle.adb_laws_pairs.proofs.Turns.{sent_in_turn}
-use Rattle.adb_laws_sessions.specs.Asked.{HasOpened, Opens}
-use Rattle.adb_laws_sessions.specs.Model.{model_devices, model_setting}
-use Rattle.adb_laws_sessions.specs.Sessions.{HasAsked as Asks}
-use Rattle.adb_laws_sessions.specs.Words.{requests_for, words_of}
+use Rattle.adb_laws_model_device.specs.InTurn.{AreInTurn}
+use Rattle.adb_laws_model_device.proofs.Turns.{sent_in_turn}
+use Rattle.adb_laws_answers.specs.Asked.{HasOpened, Opens}
+use Rattle.adb_laws_answers.specs.Model.{model_devices, model_setting}
+use Rattle.adb_laws_answers.specs.Sessions.{HasAsked as Asks}
+use Rattle.adb_laws_answers.specs.Words.{requests_for, words_of}
 use Rattle.adb_laws_worlds.proofs.Told.{named_service}
 use Rattle.adb_world.specs.Parts.{Holds}
 use Rattle.adb_world.specs.Session.{text_of}

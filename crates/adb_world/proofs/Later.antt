@@ -25,10 +25,10 @@ use Rattle.adb_laws_alone.specs.Alone.{EchoesLeaveFiles, Every, OneRunsAlone}
 use Rattle.adb_laws_answers.proofs.Asked.{born_as}
 use Rattle.adb_laws_model_device.specs.Joined.{IsJoined}
 use Rattle.adb_request.specs.Requests.{hex_digits}
-use Rattle.adb_laws_sessions.specs.Words.{requests_for, selects, words_of}
-use Rattle.adb_laws_sessions.specs.Model.{model_devices, model_setting}
-use Rattle.adb_laws_sessions.specs.Asked.{Opens}
-use Rattle.adb_laws_sessions.specs.Sessions.{AsksForServices, IsOfSessions}
+use Rattle.adb_laws_answers.specs.Words.{requests_for, selects, words_of}
+use Rattle.adb_laws_answers.specs.Model.{model_devices, model_setting}
+use Rattle.adb_laws_answers.specs.Asked.{Opens}
+use Rattle.adb_laws_answers.specs.Sessions.{AsksForServices, IsOfSessions}
 use Rattle.adb_laws_worlds.specs.Unbroken.{BringsSound}
 use Rattle.adb_world.specs.Parts.{Holds, IsKeptAt, IsOver, IsRunning, IsSame}
 use Rattle.adb_world.specs.Session.{IsTold, left_of, text_of}

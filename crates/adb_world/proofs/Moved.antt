@@ -14,7 +14,7 @@ use Rattle.adb_daemon.specs.Daemon.{CutsOff, HasDone, answer_to, owed}
 use Rattle.adb_world.specs.Stopped.{IsCutAt}
 use Rattle.adb_daemon.specs.Device.{Setting}
 use Rattle.adb_daemon.specs.declared.daemon.Daemon.{Daemon}
-use Rattle.adb_laws_sessions.specs.Model.{model_devices, model_setting}
+use Rattle.adb_laws_answers.specs.Model.{model_devices, model_setting}
 use Rattle.adb_world.specs.Calls.{AreFirst, HasNone, HasTaken, TakesSoundly}
 use Rattle.adb_world.specs.Parts.{Holds, Moved}
 use Rattle.adb_world.specs.Session.{Changes, handed, wrote, left_of}

@@ -26,14 +26,14 @@ use Rattle.adb_laws_causes.proofs.Newborn.{born_stays}
 use Rattle.adb_device_streams.specs.Asked.{Kind}
 use Rattle.adb_device_streams.specs.Service.{Came, bytes_in, came_over, files_fed, service_answer}
 use Rattle.adb_shell_service.specs.Service.{Answer}
-use Rattle.adb_laws_payloads.specs.Payloads.{AreEnough, AreOne, ComeInTurn, files_behind}
+use Rattle.adb_laws_alone.specs.Payloads.{AreEnough, AreOne, ComeInTurn, files_behind}
 use Rattle.adb_laws_alone.specs.Alone.{AsksNone, Every}
 use Rattle.adb_laws_answers.specs.Answers.{CameOf}
 use Rattle.adb_laws_answers.proofs.Asked.{IsBornFor, born_for}
-use Rattle.adb_laws_sessions.specs.Words.{requests_for}
-use Rattle.adb_laws_sessions.specs.Model.{model_devices}
-use Rattle.adb_laws_sessions.specs.Asked.{Opens}
-use Rattle.adb_laws_sessions.specs.Sessions.{AsksForServices, IsOfSessions}
+use Rattle.adb_laws_answers.specs.Words.{requests_for}
+use Rattle.adb_laws_answers.specs.Model.{model_devices}
+use Rattle.adb_laws_answers.specs.Asked.{Opens}
+use Rattle.adb_laws_answers.specs.Sessions.{AsksForServices, IsOfSessions}
 use Rattle.adb_world.specs.Parts.{Holds}
 use Rattle.adb_world.proofs.Counted.{RequestsOpen}
 

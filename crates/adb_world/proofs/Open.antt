@@ -12,7 +12,7 @@ use Rattle.adb_history.proofs.Numbers.{counted}
 use Rattle.adb_hub.specs.declared.answers.Handed.{Handed}
 use Rattle.adb_hub.specs.declared.answers.Handed.TheVariants as handed
 use Rattle.adb_hub.specs.Answers.{HandsOut}
-use Rattle.adb_laws_sessions.specs.Sessions.{AsksForServices}
+use Rattle.adb_laws_answers.specs.Sessions.{AsksForServices}
 use Rattle.adb_world.specs.Calls.{HasHistory, HasTaken, bytes_of}
 use Rattle.adb_world.specs.Parts.{Holds, IsKeptAt, most_sessions}
 use Rattle.adb_world.specs.declared.parts.Parts.{Parts}

@@ -37,7 +37,7 @@ use Rattle.adb_device_streams.specs.Stream.{Row, unsent, StandsFor}
 use Rattle.adb_device_streams.specs.declared.stream.Stream.{Stream as DeviceStream}
 use Rattle.adb_daemon.specs.Daemon.{owed}
 use Rattle.adb_daemon.specs.Held.{StandsAt}
-use Rattle.adb_laws_pairs.specs.Paired.{IsStill}
+use Rattle.adb_laws_model_device.specs.Paired.{IsStill}
 use Rattle.adb_laws_model_device.specs.Owed.{packets_owed, bytes_owed}
 use Rattle.adb_laws_model_device.proofs.Bytes.{framed_owed}
 use Rattle.adb_laws_model_device.proofs.Joined.{sent_words}
@@ -45,14 +45,14 @@ use Rattle.adb_laws_worlds.specs.Credit.{HasOneDevice, LiveOnFirst}
 use Rattle.adb_laws_worlds.specs.Held.{HasSettled, AllHaveSettled, HoldsNothing}
 use Rattle.adb_laws_worlds.specs.Opening.{AllAreOpen}
 use Rattle.adb_laws_worlds.specs.Unbroken.{BringsSound}
-use Rattle.adb_laws_pairs.specs.InTime.{AllPlain}
+use Rattle.adb_laws_model_device.specs.InTime.{AllPlain}
 use Rattle.adb_laws_model_device.specs.Joined.{IsJoined}
 use Rattle.adb_daemon.specs.Device.{Setting}
 use Rattle.adb_laws_worlds.specs.Settled as worlds
 use Rattle.adb_laws_worlds.specs.Unclosed.{IsUnclosed, HeardNoClose}
 use Rattle.adb_hub.specs.Answers.{due_on, offered_to}
-use Rattle.adb_laws_sessions.specs.Model.{model_devices, model_setting}
-use Rattle.adb_laws_sessions.specs.Sessions.{AsksForServices}
+use Rattle.adb_laws_answers.specs.Model.{model_devices, model_setting}
+use Rattle.adb_laws_answers.specs.Sessions.{AsksForServices}
 use Rattle.adb_world.specs.Calls.{HasNone}
 use Rattle.adb_world.specs.Parts.{Holds, IsGreeted, IsKeptAt, IsOver}
 use Rattle.adb_world.specs.Session.{left_of}

@@ -14,7 +14,7 @@ use Rattle.adb_history.specs.Rows.{Link}
 use Rattle.adb_history.proofs.OrderlyStates.{orderly}
 use Rattle.adb_history.proofs.OutputEntries.{all_due_past_sent}
 use Rattle.adb_laws_births.proofs.Laws.{sends_first}
-use Rattle.adb_laws_sessions.specs.Model.{model_devices}
+use Rattle.adb_laws_answers.specs.Model.{model_devices}
 use Rattle.adb_world.specs.Settled.{Each}
 use Rattle.adb_world.proofs.Shows.{links_show}
 

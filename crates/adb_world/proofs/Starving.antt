@@ -14,8 +14,8 @@ use Rattle.adb_daemon.specs.Device.{Setting}
 use Rattle.adb_daemon.specs.declared.daemon.Daemon.{Daemon}
 use Rattle.adb_daemon.specs.declared.error.DaemonError.{DaemonError}
 use Rattle.adb_daemon.specs.declared.error.DaemonError.TheVariants.{OutOfMemory, Broken, BadCnxn}
-use Rattle.adb_laws_sessions.specs.Words.{serial}
-use Rattle.adb_laws_sessions.specs.Model.{model_setting}
+use Rattle.adb_laws_answers.specs.Words.{serial}
+use Rattle.adb_laws_answers.specs.Model.{model_setting}
 use Rattle.adb_world.specs.Calls.{TakesSoundly}
 
 -- ---- the device

@@ -13,7 +13,7 @@ use Rattle.adb_history.specs.Machine.{History, IsLegal}
 use Rattle.adb_daemon.specs.Daemon.{CutAt, CutsOff, files_of}
 use Rattle.adb_daemon.specs.Device.{Setting, device_behind}
 use Rattle.adb_daemon.proofs.Feeding.{cut_at_none}
-use Rattle.adb_laws_sessions.specs.Model.{model_setting}
+use Rattle.adb_laws_answers.specs.Model.{model_setting}
 use Rattle.adb_world.specs.Parts.{Holds}
 use Rattle.adb_laws_alone.specs.Calls.{asks_in}
 use Rattle.adb_world.specs.Session.{IsTold, text_of}

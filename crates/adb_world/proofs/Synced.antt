@@ -15,7 +15,7 @@ use Rattle.adb_laws_alone.proofs.Through.{asks_for, calls_of, calls_own, served_
 use Rattle.adb_request.specs.Requests.{hex_digits}
 use Rattle.adb_device_streams.specs.Asked.{Kind, Syncs, service_of}
 use Rattle.adb_device_streams.specs.Service.{files_fed, service_answer}
-use Rattle.adb_laws_sessions.specs.Words.{IsKnown, requests_for, selects}
+use Rattle.adb_laws_answers.specs.Words.{IsKnown, requests_for, selects}
 use Rattle.adb_world.specs.Answered.{IsAnsweredAlone, IsNewAlone, answer_of, text_over}
 use Rattle.adb_world.specs.Parts.{Adds, AreSame, AreSameBut, IsKeptAt, IsSame}
 use Rattle.adb_world.specs.Session.{left_of, new_session, text_of}

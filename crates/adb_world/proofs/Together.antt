@@ -29,7 +29,7 @@ use Rattle.adb_laws_alone.specs.Calls.{Call, answer_in, asks_in, asks_of}
 use Rattle.adb_laws_alone.specs.Together.{IsAskedIn, IsOfLater, RanTogether, RowRan, RunTogether}
 use Rattle.adb_laws_alone.proofs.Through.{IsNamed, answer_enough, answer_renamed, answer_through, asks_enough, asks_renamed, files_renamed, renamed}
 use Rattle.adb_laws_answers.specs.Answers.{CameOf, HasEndedAs}
-use Rattle.adb_laws_sessions.specs.Model.{model_setting}
+use Rattle.adb_laws_answers.specs.Model.{model_setting}
 use Rattle.adb_world.specs.Session.{text_of}
 use Rattle.adb_world.specs.Settled.{GoesOn, IsAtEase, Rests}
 use Rattle.adb_world.specs.Together.{AreAnsweredTogether, IsAnsweredThrough, IsUnwritten}

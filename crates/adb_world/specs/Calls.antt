@@ -7,7 +7,7 @@ use Rattle.adb_hub.specs.declared.answers.Handed.{Handed}
 use Rattle.adb_hub.specs.declared.answers.Handed.TheVariants as handed
 use Rattle.adb_daemon.specs.Daemon.{HasDone, answer_to}
 use Rattle.adb_daemon.specs.declared.daemon.Daemon.{Daemon}
-use Rattle.adb_laws_sessions.specs.Model.{model_setting}
+use Rattle.adb_laws_answers.specs.Model.{model_setting}
 
 -- a hub holds what some history leaves
 abbrev pub HasHistory : Kept → Type 0

@@ -14,9 +14,9 @@ use Rattle.adb_history.specs.Tied.{came_count}
 use Rattle.adb_daemon.specs.Daemon.{HasDone}
 use Rattle.adb_daemon.specs.Device.{own_cnxn}
 use Rattle.adb_laws_model_device.specs.Joined.{IsJoined}
-use Rattle.adb_laws_sessions.specs.Words.{serial}
-use Rattle.adb_laws_sessions.specs.Model.{model_setting}
-use Rattle.adb_laws_sessions.specs.Sessions.{IsOfSessions}
+use Rattle.adb_laws_answers.specs.Words.{serial}
+use Rattle.adb_laws_answers.specs.Model.{model_setting}
+use Rattle.adb_laws_answers.specs.Sessions.{IsOfSessions}
 use Rattle.adb_world.specs.Calls.{AreFirst, HasNone}
 use Rattle.adb_world.specs.Session.{IsTold}
 use Rattle.adb_world.specs.declared.parts.Parts.{Parts}

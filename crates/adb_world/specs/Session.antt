@@ -3,7 +3,7 @@ use Rattle.std.specs.Prelude.{ℕ, ◌+◌, ◌≡◌, ◌≤◌, false, List, [
 use Rattle.adb_outside.specs.Tables.{at, Puts}
 use Rattle.adb_history.specs.Machine.{History}
 use Rattle.adb_history.specs.Bytes.{bytes_read, bytes_put, has_ended}
-use Rattle.adb_laws_sessions.specs.Words.{IsKnown, requests_for, words_of}
+use Rattle.adb_laws_answers.specs.Words.{IsKnown, requests_for, words_of}
 use Rattle.adb_world.specs.declared.session.Session.{Session}
 
 -- what it has not written yet, and the text that it writes behind its requests

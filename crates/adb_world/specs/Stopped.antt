@@ -9,7 +9,7 @@ use Rattle.adb_history.specs.Bytes.{sent}
 use Rattle.adb_history.specs.Kept.{Kept, IsLawful}
 use Rattle.adb_history.specs.Machine.{History}
 use Rattle.adb_daemon.specs.Daemon.{CutsOff, files_of}
-use Rattle.adb_laws_sessions.specs.Model.{model_setting}
+use Rattle.adb_laws_answers.specs.Model.{model_setting}
 use Rattle.adb_world.specs.Parts.{Drops, Holds}
 use Rattle.adb_world.specs.Settled.{GoesOn}
 use Rattle.adb_world.specs.declared.parts.Parts.{Parts}

@@ -11,7 +11,7 @@ ghost use Rattle.adb_daemon.specs.Daemon.{CutsOff, HasDone, files_of};
 ghost use Rattle.adb_daemon.specs.Device.{Setting};
 ghost use Rattle.adb_daemon.specs.declared.error.DaemonError.{DaemonError};
 ghost use Rattle.adb_hub.specs.Answers.{due_on, offered_to};
-ghost use Rattle.adb_laws_sessions.specs.Model.{model_setting};
+ghost use Rattle.adb_laws_answers.specs.Model.{model_setting};
 ghost use Rattle.adb_world.specs.Calls.{HasHistory, HasTaken, TakesSoundly, bytes_of};
 ghost use Rattle.adb_world.specs.Parts.{plugging};
 ghost use Rattle.adb_world.specs.Session.{left_of};

@@ -15,15 +15,15 @@ ghost use Rattle.adb_world.specs.declared.parts.Parts.{Parts};
 ghost use Rattle.adb_world.specs.declared.session.Session.{Session};
 
 use adb_laws_alone::{
-    a_stream_alone_runs_over_its_files, echoes_leave_files, streams_run_in_part,
-    streams_run_together,
+    a_stream_alone_runs_over_its_files, an_ended_service_takes_no_more, echoes_leave_files,
+    payloads_in_turn_are_one, streams_run_in_part, streams_run_together,
 };
-use adb_laws_answers::clients_are_answered;
+use adb_laws_answers::{
+    clients_are_answered, requests_open_their_service, sessions_ask_for_services,
+};
 use adb_laws_births::what_came_stays;
 use adb_laws_fifo_up::carries_rest;
-use adb_laws_payloads::{an_ended_service_takes_no_more, payloads_in_turn_are_one};
 use adb_laws_resting::resting::{a_client_sends_up_its_own_stream, most_entries_send_nothing};
-use adb_laws_sessions::{requests_open_their_service, sessions_ask_for_services};
 use adb_laws_steps::{clients_pay_for_all_that_moves, steps_move_bytes, writes_were_put_at_rest};
 use adb_laws_worlds::{
     a_device_breaks_no_link, clients_hold_nothing_at_rest, streams_are_open_at_rest,

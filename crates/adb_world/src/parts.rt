@@ -17,9 +17,9 @@ use crate::session::Session;
 use adb_daemon::Daemon;
 use adb_files::Files;
 use adb_hub::{Hub, Owner};
+use adb_laws_answers::{requests_open_their_service, sessions_ask_for_services};
 use adb_laws_births::what_came_stays;
 use adb_laws_resting::resting::{a_client_sends_up_its_own_stream, most_entries_send_nothing};
-use adb_laws_sessions::{requests_open_their_service, sessions_ask_for_services};
 use std::alloc::{AllocError, Global};
 use std::collections::BTreeMap;
 

@@ -3,7 +3,7 @@
 
 ghost use Rattle.std.specs.Prelude.{◌≡◌, ◌≤◌, ◌+◌, ◌++◌, length, take, drop, IfOk, OnOk};
 ghost use Rattle.adb_world.specs.declared.session.TheConstants.{REPLIES};
-ghost use Rattle.adb_laws_sessions.specs.Words.{most_service};
+ghost use Rattle.adb_laws_answers.specs.Words.{most_service};
 ghost use Rattle.adb_world.specs.Answered.{answer_of};
 ghost use Rattle.adb_world.specs.Session.{handed, left_of, new_session, wrote};
 

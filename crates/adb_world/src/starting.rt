@@ -1,7 +1,7 @@
 //! Starting a session.
 
 ghost use Rattle.std.specs.Prelude.{◌≡◌, ◌+◌, ◌<◌, IfOk, OnErr, OnOk};
-ghost use Rattle.adb_laws_sessions.specs.Words.{IsKnown};
+ghost use Rattle.adb_laws_answers.specs.Words.{IsKnown};
 ghost use Rattle.adb_world.specs.Parts.{Adds, most_sessions};
 ghost use Rattle.adb_world.specs.Session.{new_session};
 ghost use Rattle.adb_world.specs.Settled.{IsAtEase};

@@ -4,7 +4,7 @@ ghost use Rattle.std.specs.Prelude.{ℕ, ◌≡◌, ◌+◌, ◌<◌, ◌≤◌,
 ghost use Rattle.adb_outside.specs.Tables.{at};
 ghost use Rattle.adb_device_streams.specs.Asked.{service_of};
 ghost use Rattle.adb_files.specs.Served.{served};
-ghost use Rattle.adb_laws_sessions.specs.Words.{most_service};
+ghost use Rattle.adb_laws_answers.specs.Words.{most_service};
 ghost use Rattle.adb_world.specs.Answered.{AreEchoes, IsAnswered, IsAnsweredAlone, IsNewAlone, answer_of};
 ghost use Rattle.adb_world.specs.Parts.{AreSame, most_sessions};
 ghost use Rattle.adb_world.specs.Session.{new_session};

@@ -2,7 +2,7 @@
 #![tactic(auto)]
 
 use adb_explain::start;
-use adb_streams::Stream;
+use adb_os_streams::Stream;
 use std::process::ExitCode;
 use std::{env, io};
 

@@ -1,7 +1,7 @@
 use denote.Exit.{no}
 use denote.Param.Send.{arg_send, param_send}
 use Rattle.std.specs.contracts.marker.Brand as brand
-use Rattle.adb_record.proofs.Sent.{live_send}
+use Rattle.adb_os_record.proofs.Sent.{live_send}
 use Rattle.adb_cases_live.proofs.yard.gives.Goals as goal
 
 pub opens-requires-send-Y-Keeper : goal.opens-requires-send-Y-Keeper

@@ -2,7 +2,7 @@ use Rattle.std.proofs.Common.{ℕ, ◌≡◌, subst}
 use denote.Exit.{no}
 use denote.Param.Send.{arg_send, param_send}
 use Rattle.std.specs.contracts.marker.Brand as brand
-use Rattle.adb_record.proofs.Sent.{live_send}
+use Rattle.adb_os_record.proofs.Sent.{live_send}
 use Rattle.adb_asking.specs.Telling.{seen}
 use Rattle.adb_top.specs.Tools.{RunsTool}
 use Rattle.adb_serving.specs.Live.{live_yard}

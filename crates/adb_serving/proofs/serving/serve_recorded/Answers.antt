@@ -2,9 +2,9 @@ use Rattle.std.proofs.Common.{◌≡◌, true, false, sym, ap, subst, ◌∙◌}
 use denote.Exit.{no}
 use denote.Param.{param}
 use denote.Param.Send.{arg_send, param_send}
-use Rattle.adb_record.proofs.Sent.{live_send}
-use Rattle.adb_record.specs.Live.{IsUnused}
-use Rattle.adb_record.specs.Written.{PipeSinkView}
+use Rattle.adb_os_record.proofs.Sent.{live_send}
+use Rattle.adb_os_record.specs.Live.{IsUnused}
+use Rattle.adb_os_record.specs.Written.{PipeSinkView}
 use Rattle.adb_asking.specs.Telling.{seen}
 use Rattle.adb_words.specs.Serve.{serve_of}
 use Rattle.adb_words.specs.Words.{texts}

@@ -2,7 +2,7 @@ use Rattle.std.proofs.Common.{◌≡◌, true, false, sym, ◌∙◌, refl}
 use denote.Exit.{no}
 use denote.Param.Send.{arg_send, param_send}
 use Rattle.std.specs.contracts.marker.Brand as brand
-use Rattle.adb_record.proofs.Sent.{live_send}
+use Rattle.adb_os_record.proofs.Sent.{live_send}
 use Rattle.adb_serving.proofs.Record.{flag_of}
 use Rattle.adb_serving.proofs.serving.serve_unrecorded.Goals as goal
 

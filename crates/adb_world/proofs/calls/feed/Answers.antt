@@ -2,7 +2,7 @@ use Rattle.std.specs.Prelude.{ℕ, ◌++◌, List}
 use Rattle.std.proofs.Common.{◌≡◌, ◌∙◌, ap, subst, append_assoc}
 use Rattle.adb_device_streams.proofs.Syncing.{at_err}
 use Rattle.adb_daemon.specs.Daemon.{HasDone, answer_to}
-use Rattle.adb_laws_sessions.specs.Model.{model_setting}
+use Rattle.adb_laws_answers.specs.Model.{model_setting}
 use Rattle.adb_world.proofs.Stopping.{fed_first, fed_last}
 use Rattle.adb_world.proofs.calls.feed.Goals as goal
 

@@ -1,6 +1,6 @@
 use Rattle.std.proofs.Common.{◌≡◌, subst, rules, arith}
 use Rattle.adb_daemon.specs.declared.error.DaemonError.TheVariants.{OutOfMemory}
-use Rattle.adb_laws_sessions.specs.Model.{model_setting}
+use Rattle.adb_laws_answers.specs.Model.{model_setting}
 use Rattle.adb_world.proofs.Starving.{Whole, device_starves}
 use Rattle.adb_world.proofs.calls.feed_last.Goals as goal
 

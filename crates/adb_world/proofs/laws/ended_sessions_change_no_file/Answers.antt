@@ -1,5 +1,5 @@
 use Rattle.std.proofs.Common.{arith}
-use Rattle.adb_laws_sessions.specs.Model.{model_setting}
+use Rattle.adb_laws_answers.specs.Model.{model_setting}
 use Rattle.adb_world.proofs.Files.{EndLaws, same_files}
 use Rattle.adb_world.proofs.laws.ended_sessions_change_no_file.Goals as goal
 

@@ -1,5 +1,5 @@
 use Rattle.std.proofs.Common.{arith}
-use Rattle.adb_laws_sessions.specs.Model.{model_setting}
+use Rattle.adb_laws_answers.specs.Model.{model_setting}
 use Rattle.adb_world.proofs.OneStream.{PayloadLaws}
 use Rattle.adb_world.proofs.Later.{AloneLaws}
 use Rattle.adb_world.proofs.Rest.{Laws}

@@ -1,5 +1,5 @@
 use Rattle.std.proofs.Common.{arith}
-use Rattle.adb_laws_sessions.specs.Model.{model_setting}
+use Rattle.adb_laws_answers.specs.Model.{model_setting}
 use Rattle.adb_world.proofs.EndedInPart.{StopLaws, stopped_files}
 use Rattle.adb_world.proofs.laws.sessions_that_end_in_part_change_no_file.Goals as goal
 

@@ -1,5 +1,5 @@
 use Rattle.std.proofs.Common.{arith}
-use Rattle.adb_laws_sessions.specs.Model.{model_setting}
+use Rattle.adb_laws_answers.specs.Model.{model_setting}
 use Rattle.adb_world.proofs.Bound.{StepLaws, makes_few_steps}
 use Rattle.adb_world.proofs.Rest.{Laws}
 use Rattle.adb_world.proofs.laws.settling_takes_few_steps.Goals as goal

@@ -1,7 +1,7 @@
 use Rattle.std.specs.Prelude.{ℕ, ◌+◌, ◌∷◌, List}
 use Rattle.std.proofs.Common.{◌≡◌, ◌∙◌, sym, ap, subst}
 use Rattle.adb_capture.specs.declared.entry.Entry.TheVariants.{Join}
-use Rattle.adb_laws_sessions.specs.Words.{IsKnown}
+use Rattle.adb_laws_answers.specs.Words.{IsKnown}
 use Rattle.adb_world.specs.Session.{new_session}
 use Rattle.adb_world.specs.declared.session.Session.{Session}
 use Rattle.adb_world.proofs.starting.begin.Goals as goal

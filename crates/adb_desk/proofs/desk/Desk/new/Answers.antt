@@ -1,5 +1,5 @@
 use Rattle.std.proofs.Common.{[], ap, sym, subst}
-use Rattle.adb_desk_log.specs.Log.{LogOf}
+use Rattle.adb_server_log.specs.Log.{LogOf}
 use Rattle.adb_desk.proofs.Staying.{fresh_recorded}
 use Rattle.adb_desk.proofs.desk.Desk.new.Goals as goal
 

@@ -1,4 +1,4 @@
-use Rattle.std.proofs.Common.{ℕ, ◌≡◌, ◌<◌, List, Option, Ok, Some, None, sym, ◌∙◌, ap, subst}
+use Rattle.std.proofs.Common.{ℕ, ◌≡◌, List, Option, Ok, Some, None, sym, ◌∙◌, ap, subst}
 use Rattle.adb_capture.specs.declared.entry.Entry.TheVariants.{Put}
 use Rattle.adb_history.specs.Accepted.{is_drawn}
 use Rattle.adb_history.specs.Kept.{Kept, kept, IsLawful}

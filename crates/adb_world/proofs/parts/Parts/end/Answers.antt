@@ -1,5 +1,5 @@
 use Rattle.std.proofs.Common.{refl}
-use Rattle.adb_laws_sessions.specs.Sessions.{AsksForServices}
+use Rattle.adb_laws_answers.specs.Sessions.{AsksForServices}
 use Rattle.adb_world.proofs.Ended.{kept_session, ends_gone, idle_state, ended_by}
 use Rattle.adb_world.proofs.Counted.{IsThere, asks_as_written}
 use Rattle.adb_world.proofs.Open.{goes_on, there_drawn}

@@ -3,7 +3,7 @@ use Rattle.std.proofs.Common.{◌≡◌, ◌∙◌, refl, ap, subst}
 use Rattle.adb_outside.specs.Tables.{Puts, put_at}
 use Rattle.adb_capture.specs.declared.entry.Entry.TheVariants.{Join}
 use Rattle.adb_history.specs.Kept.{IsLawful}
-use Rattle.adb_laws_sessions.specs.Sessions.{AsksForServices}
+use Rattle.adb_laws_answers.specs.Sessions.{AsksForServices}
 use Rattle.adb_world.proofs.Fresh.{joined_by}
 use Rattle.adb_world.proofs.Joining.{joined_calm}
 use Rattle.adb_world.proofs.Open.{goes_on, number, room}

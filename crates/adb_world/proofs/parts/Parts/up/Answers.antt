@@ -2,7 +2,7 @@ use Rattle.std.proofs.Common.{ℕ, List, ◌≡◌, ◌∙◌, ap, arith, length
 use Rattle.std.specs.Prelude.{min, take}
 use Rattle.adb_history.specs.Bytes.{bytes_sent, bytes_received}
 use Rattle.adb_daemon.specs.Daemon.{owed}
-use Rattle.adb_laws_sessions.specs.Model.{model_setting}
+use Rattle.adb_laws_answers.specs.Model.{model_setting}
 use Rattle.adb_world.proofs.Moved.{up_moved}
 use Rattle.adb_world.proofs.Open.{goes_on, linked}
 use Rattle.adb_world.proofs.parts.Parts.up.Goals as goal

@@ -2,8 +2,8 @@ use Rattle.std.specs.Prelude.{ℕ, List, take, Some}
 use Rattle.std.specs.Option.{option_copied}
 use Rattle.std.proofs.Common.{◌≡◌, ◌∙◌, refl, sym, ap, subst, arith}
 use Rattle.adb_outside.specs.Tables.{at}
-use Rattle.adb_laws_sessions.specs.Sessions.{AsksForServices}
-use Rattle.adb_laws_sessions.specs.Model.{model_setting}
+use Rattle.adb_laws_answers.specs.Sessions.{AsksForServices}
+use Rattle.adb_laws_answers.specs.Model.{model_setting}
 use Rattle.adb_world.specs.Session.{Changes, left_of, wrote}
 use Rattle.adb_world.proofs.Devices.{devices_of}
 use Rattle.adb_world.proofs.Moved.{write_moved}

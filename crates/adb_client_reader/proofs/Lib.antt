@@ -1,4 +1,0 @@
-pub mod Walks
-pub mod Refusals
-pub mod Turning
-pub mod Steps

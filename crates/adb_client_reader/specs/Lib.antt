@@ -1,3 +1,0 @@
-pub mod Forwards
-pub mod Reading
-pub mod Admitting

@@ -1,3 +1,0 @@
-mod Staying
-mod Falling
-mod PutAll

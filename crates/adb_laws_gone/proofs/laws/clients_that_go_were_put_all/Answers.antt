@@ -1,5 +1,0 @@
-use Rattle.adb_laws_gone.proofs.PutAll.{all_put}
-use Rattle.adb_laws_gone.proofs.laws.clients_that_go_were_put_all.Goals as goal
-
-pub returns : goal.returns
-returns c = all_put

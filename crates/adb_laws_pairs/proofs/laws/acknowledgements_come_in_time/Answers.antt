@@ -1,5 +1,0 @@
-use Rattle.adb_laws_pairs.proofs.Timely.{timely}
-use Rattle.adb_laws_pairs.proofs.laws.acknowledgements_come_in_time.Goals as goal
-
-pub returns : goal.returns
-returns c = λ owes history plain legal paired l b own. timely owes plain history legal paired l b own

@@ -1,4 +1,0 @@
-mod Known
-mod Reading
-mod Leading
-mod Histories

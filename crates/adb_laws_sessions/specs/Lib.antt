@@ -1,4 +1,0 @@
-pub mod Words
-pub mod Model
-pub mod Asked
-pub mod Sessions

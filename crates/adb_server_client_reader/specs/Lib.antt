@@ -1,0 +1,4 @@
+pub mod Forwards
+pub mod Reading
+pub mod Admitting
+pub mod Closing

@@ -1,0 +1,53 @@
+//! A device's writer.
+
+ghost use Rattle.std.specs.Prelude.{◌≡◌, ◌≤◌, ◌⊎◌, List, Some, true, false};
+ghost use Rattle.adb_capture.specs.declared.entry.Entry.{Entry};
+ghost use Rattle.adb_desk.specs.declared.act.Half.{Half};
+ghost use Rattle.adb_server_hall.specs.Made.{Tells};
+ghost use Rattle.adb_server_hall.specs.Telling.{Telling};
+ghost use Rattle.adb_server_writers.specs.Writing.{Written, outlet, side_of};
+
+use crate::outlets::Devices;
+use crate::writer::write;
+use adb_connections::{DeviceOut, Gate};
+use adb_desk::Half;
+use adb_server_hall::Hall;
+use adb_server_log::{LinkOut, Marks};
+use std::sync::Wait;
+use std::sync::ledger::Ledger;
+
+/// Writes to a device the bytes that are handed out on its link, at most a whole packet at a time.
+/// Unplugs the device and returns the pass when the link is gone, a write failed, the hall is shut,
+/// or an allocation failed. Over a hall that does not wait it also returns the pass when nothing is
+/// due, with the device unchanged.
+///
+/// A write that fails ends the link by `Fault`, and an allocation failure ends it by `Starved`,
+/// unless the hall refuses that: the link is gone, the hall is shut, or a kill was made. After a
+/// failed write nothing more is handed out.
+///
+/// After a kill the writer continues until the link is gone. It passes the gate at
+/// `Place::DeviceWriter` before each write.
+pub fn write_device<
+    W: Wait + Copy + Drop,
+    E: Ledger,
+    M: Ledger,
+    K: Marks,
+    H: Hall<E, M, K>,
+    O: DeviceOut,
+    G: Gate,
+>(rt: W, hall: &mut H, port: &mut O, pass: LinkOut<E, M, K>, gate: &G) -> LinkOut<E, M, K>
+    ensures number { result.pass.number ≡ pass.pass.number }
+    ensures mark { H.marked hall.new ≡ H.marked hall.old }
+    ensures count { O.faults port.old ≤ O.faults port.new }
+    ensures closed { (O.closed port.new ≡ true) ⊎ (H.waits ≡ false) }
+    ensures told { (a : Telling) (es : List Entry) → H.tells hall.old ≡ Some a → Tells a es
+        → Written (side_of Half.Link pass.pass.number) es (H.tells hall.new)
+        pass.pass.starved result.pass.starved
+        (outlet (O.faults port.old) (O.written port.old) (O.closed port.old))
+        (outlet (O.faults port.new) (O.written port.new) (O.closed port.new)) }
+{
+    let mut pass = pass;
+    let side = Devices {};
+    let _idle = write(rt, &side, hall, port, &mut pass.pass, Half::Link, gate);
+    pass
+}

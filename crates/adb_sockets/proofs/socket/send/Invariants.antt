@@ -1,5 +1,0 @@
-use Rattle.std.proofs.Common.{◌≡◌, ◌<◌, ◌++◌, length}
-use Rattle.adb_sockets.proofs.socket.send.Given as goal
-
-abbrev pub invariant-loop : goal.invariant-loop
-invariant-loop l = l.taken < length (l.start ++ l.rest)
