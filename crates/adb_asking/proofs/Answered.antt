@@ -12,7 +12,8 @@ use Rattle.adb_asking.specs.Telling.{Sight, TellsAnswer, size_of}
 
 -- a front that decides goes on to, whatever follows
 abbrev Stays : Type 0
-Stays = (job : Remote) (front more : List ℕ) (ended : Bool) (outcome : Result Outcome RemoteError) → outcome_of job front false ≡ Some outcome
+Stays = (job : Remote) (front more : List ℕ) (ended : Bool) (outcome : Result Outcome RemoteError)
+    → outcome_of job front false ≡ Some outcome
     → outcome_of job (front ++ more) ended ≡ Some outcome
 
 all_means : Stays → (job : Remote) (read rest : List ℕ) (answer : Result Outcome RemoteError)
@@ -27,7 +28,8 @@ meant_whole law job answer (read, true, is) = (read, is)
 meant_whole law job answer (read, false, is) =
     (read, ap (λ r. outcome_of job r true) (sym (append-nil read)) ∙ law job read [] true answer is)
 
-pub asked_so : {I O K N : Type 0} (ports : Ports I O) (k : Sight K) (n : Sight N) (job : Remote) (on : Option (List ℕ)) (input input_new : I)
+pub asked_so : {I O K N : Type 0} (ports : Ports I O) (k : Sight K) (n : Sight N) (job : Remote)
+    (on : Option (List ℕ)) (input input_new : I)
     (output output_new : O) (sink sink_new : K) (note note_new : N) (end : ToolEnd) (answer : Result Outcome RemoteError) → Stays
     → Converses ports job on input input_new output output_new answer → TellsAnswer (size_of job) answer k n sink sink_new note note_new end
     → Asks ports k n job on input input_new output output_new sink sink_new note note_new end

@@ -1,5 +1,6 @@
 -- From what was asked over a port to how a tool's call ends.
-use Rattle.std.proofs.Common.{ℕ, ◌≡◌, ◌≢◌, ◌⊎◌, inl, inr, Bool, true, false, List, [], Option, Some, Result, Ok, Err, refl, sym, ◌∙◌, subst, arith}
+use Rattle.std.proofs.Common.{ℕ, ◌≡◌, ◌≢◌, ◌⊎◌, inl, inr, Bool, true, false, List, [], Option, Some, Result, Ok, Err, refl, sym, ◌∙◌, subst}
+use Rattle.std.proofs.Common.{arith}
 use Rattle.adb_outside.specs.Outside.{Counts}
 use Rattle.adb_words.specs.declared.tool.Tool.{Tool}
 use Rattle.adb_words.specs.declared.tool.Tool.TheVariants.{Devices, Push, Pull, Shell, Wait}
@@ -9,7 +10,8 @@ use Rattle.adb_remote_words.specs.declared.remote.RemoteError.{RemoteError}
 use Rattle.adb_remote_words.specs.declared.remote.RemoteError.TheVariants as errors
 use Rattle.adb_remote.specs.Conversing.{Ports}
 use Rattle.adb_asking.specs.declared.ends.ToolEnd.{ToolEnd}
-use Rattle.adb_asking.specs.declared.ends.ToolEnd.TheVariants.{Done, Usage, ReadFault, WriteFault, OutOfMemory, Refused, BadAnswer, PortFault, TooLarge}
+use Rattle.adb_asking.specs.declared.ends.ToolEnd.TheVariants.{Done, Usage, ReadFault, WriteFault, OutOfMemory, Refused, BadAnswer}
+use Rattle.adb_asking.specs.declared.ends.ToolEnd.TheVariants.{PortFault, TooLarge}
 use Rattle.adb_asking.specs.declared.input.InputError.{InputError}
 use Rattle.adb_asking.specs.declared.input.InputError.TheVariants as inputs
 use Rattle.adb_asking.specs.Asking.{Asks, answered}
@@ -82,7 +84,8 @@ module _ {K N : Type 0} (k : Sight K) (n : Sight N) where
     abbrev Meant : List ℕ → Answer → Type 0
     Meant answers answer = answer ≢ Err errors.PortFault → answer ≢ Err errors.OutOfMemory → answered job answers ≡ Some answer
 
-    outcome_ends : (answers : List ℕ) (outcome : Outcome) (end : ToolEnd) → Meant answers (Ok outcome) → Tells (Ok outcome) end → Ends answers end
+    outcome_ends : (answers : List ℕ) (outcome : Outcome) (end : ToolEnd) → Meant answers (Ok outcome)
+        → Tells (Ok outcome) end → Ends answers end
     outcome_ends answers outcome Done meant l = record { outcome = outcome; is = meant (λ e. cc) (λ e. cc); parts = l.told }
     outcome_ends answers outcome WriteFault meant l = record { outcome = outcome; is = meant (λ e. cc) (λ e. cc); parts = l.told }
     outcome_ends answers outcome OutOfMemory meant l = tt
@@ -118,7 +121,8 @@ module _ {K N : Type 0} (k : Sight K) (n : Sight N) where
         → Tells answer end → EndsBySome job end (k.told sink) (k.told sink_new) (n.told note) (n.told note_new)
     answer_some answer end means l = (let m = meant_by answer means in (m.0, answer_ends m.0 answer end m.1 l))
 
-    pub answer_counts : (answer : Answer) (end : ToolEnd) → Tells answer end → CountsBoth k n sink sink_new note note_new (is_write_fault end)
+    pub answer_counts : (answer : Answer) (end : ToolEnd) → Tells answer end
+        → CountsBoth k n sink sink_new note note_new (is_write_fault end)
     answer_counts (Ok outcome) end l = l.counts
     answer_counts (Err error) end l =
         let none = subst (λ (f : Bool). CountsBoth k n sink sink note note f) (sym (none_written error)) (both_none sink note) in
@@ -161,22 +165,23 @@ module _ {K N : Type 0} (k : Sight K) (n : Sight N) where
         → (y.steady yard → ports.steady_in input × ports.steady_out output) → (ports.view_in input).left ≡ y.told yard
         → Asks ports k n job on input input_new output output_new sink sink_new note note_new end
         → Asked k n y job sink sink_new note note_new yard yard_new end
-    asked_here ports job on input input_new output output_new sink sink_new note note_new yard yard_new end counts steady left asks = record {
-      told = λ answers is.
-          answer_ends job sink sink_new note note_new answers asks.answer end (asks.meant answers (left ∙ is)) asks.tells;
-      means = answer_some job sink sink_new note note_new asks.answer end asks.means asks.tells;
-      counts = answer_counts job sink sink_new note note_new asks.answer end asks.tells;
-      untouched = answer_leaves job sink sink_new note note_new asks.answer end asks.tells;
-      dials = record {
-        unreached = false;
-        counts = counts;
-        fault = λ e. cc;
-        never = λ h e.
-            let both = steady h in
-            asks.converses.calls.never both.0 both.1 (answer_fault job sink sink_new note note_new asks.answer end asks.tells e);
-      };
-      dialled = answer_dialled job sink sink_new note note_new asks.answer end asks.tells;
-    }
+    asked_here ports job on input input_new output output_new sink sink_new note note_new yard yard_new end counts
+        steady left asks = record {
+          told = λ answers is.
+              answer_ends job sink sink_new note note_new answers asks.answer end (asks.meant answers (left ∙ is)) asks.tells;
+          means = answer_some job sink sink_new note note_new asks.answer end asks.means asks.tells;
+          counts = answer_counts job sink sink_new note note_new asks.answer end asks.tells;
+          untouched = answer_leaves job sink sink_new note note_new asks.answer end asks.tells;
+          dials = record {
+            unreached = false;
+            counts = counts;
+            fault = λ e. cc;
+            never = λ h e.
+                let both = steady h in
+                asks.converses.calls.never both.0 both.1 (answer_fault job sink sink_new note note_new asks.answer end asks.tells e);
+          };
+          dialled = answer_dialled job sink sink_new note note_new asks.answer end asks.tells;
+        }
 
     -- nobody did
     pub asked_nobody : (job : Remote) (sink : K) (note : N) (yard yard_new : Y) → Counts y.steady y.faults yard yard_new true

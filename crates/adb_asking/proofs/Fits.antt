@@ -1,5 +1,6 @@
 -- What the words of a tool's call make fits: its port is not 0, and its words are short enough.
-use Rattle.std.proofs.Common.{ℕ, ◌≡◌, ◌<◌, ◌≤◌, ◌&&◌, nat_le, Bool, true, false, cond, if◌then◌else◌, List, [], ◌∷◌, length, codes, Option, Some, None, refl, subst, arith}
+use Rattle.std.proofs.Common.{ℕ, ◌≡◌, ◌<◌, ◌≤◌, ◌&&◌, nat_le, Bool, true, false, cond, if◌then◌else◌, List, [], ◌∷◌, length, codes, Option}
+use Rattle.std.proofs.Common.{Some, None, refl, subst, arith}
 use Rattle.std.specs.Prelude.{option_and_then, option_map, bytes_eq}
 use Rattle.std.proofs.lemmas.Bool.{leb-true}
 use Rattle.std.proofs.lemmas.Bool.Decides.{nat_tests}
@@ -12,12 +13,14 @@ use Rattle.adb_words.specs.declared.tool.Tool.TheVariants.{Devices, Push, Pull, 
 use Rattle.adb_words.specs.declared.tool.Call.{Call}
 use Rattle.adb_words.specs.Given.{Given, given_in, values_of}
 use Rattle.adb_words.specs.Serve.{port_of, serial_of}
-use Rattle.adb_words.specs.Tools.{call_of, called, devices_of, is_tool, layout_named, mtime_of, operand_of, pull_of, push_of, shell_of, state_named, tool_by, tool_named, tool_of, wait_by, wait_of, wanted_of}
+use Rattle.adb_words.specs.Tools.{call_of, called, devices_of, is_tool, layout_named, mtime_of, operand_of, pull_of, push_of, shell_of}
+use Rattle.adb_words.specs.Tools.{state_named, tool_by, tool_named, tool_of, wait_by, wait_of, wanted_of}
 use Rattle.adb_remote_words.specs.declared.words.TheConstants.{MAX_WORD}
 use Rattle.adb_asking.specs.Jobs.{FitsSerial, FitsTool}
 
 -- ---- numbers and texts
-within : (least most : ℕ) (o : Option ℕ) (n : ℕ) → option_and_then (λ m. if nat_le least m && nat_le m most then Some m else None) o ≡ Some n → least ≤ n
+within : (least most : ℕ) (o : Option ℕ) (n : ℕ) → option_and_then
+    (λ m. if nat_le least m && nat_le m most then Some m else None) o ≡ Some n → least ≤ n
 within least most None n e = absurd (let clash : None ≡ Some n = e in cc)
 within least most (Some m) n e = go (nat_le least m) (nat_le m most) refl e
   where
@@ -48,7 +51,8 @@ operand_fits [] text e = cc
 operand_fits (word ∷ []) text e = go (nat_le 1 (length word)) (nat_le (length word) MAX_OPERAND) refl e
   where
     go : (a b : Bool) → nat_le (length word) MAX_OPERAND ≡ b → (if a && b then Some word else None) ≡ Some text → length text ≤ MAX_WORD
-    go true true is same = let one : word ≡ text = cc in subst (λ (t : List ℕ). length t ≤ MAX_WORD) one (leb-true (length word) MAX_OPERAND is)
+    go true true is same = let one : word ≡ text = cc in subst (λ (t : List ℕ). length t ≤ MAX_WORD) one
+        (leb-true (length word) MAX_OPERAND is)
     go true false is same = absurd (let clash : None ≡ Some text = same in cc)
     go false b is same = absurd (let clash : None ≡ Some text = same in cc)
 operand_fits (word ∷ other ∷ texts) text e = cc
@@ -123,7 +127,8 @@ pub record FitsCall (call : Call) : Type 0 where
   pub port : 0 < call.port
   pub tool : FitsTool call.tool
 
-call_fits : (p : Option ℕ) (t : Option Tool) (call : Call) → ((port : ℕ) → p ≡ Some port → 0 < port) → Fit t → call_of p t ≡ Some call → FitsCall call
+call_fits : (p : Option ℕ) (t : Option Tool) (call : Call) → ((port : ℕ) → p ≡ Some port → 0 < port) → Fit t
+    → call_of p t ≡ Some call → FitsCall call
 call_fits (Some port) (Some tool) call hp ht e =
     let made : Call = record { port = port; tool = tool } in
     let same : made ≡ call = cc in

@@ -1,5 +1,6 @@
 -- A source is read to its end, piece by piece.
-use Rattle.std.proofs.Common.{ℕ, ◌+◌, ◌≡◌, ◌<◌, ◌≤◌, true, false, List, [], ◌++◌, length, take, drop, Option, Some, Ok, Err, refl, sym, ◌∙◌, ap, arith, append_assoc}
+use Rattle.std.proofs.Common.{ℕ, ◌+◌, ◌≡◌, ◌<◌, ◌≤◌, true, false, List, [], ◌++◌, length, take, drop, Option, Some, Ok, Err, refl, sym, ◌∙◌}
+use Rattle.std.proofs.Common.{ap, arith, append_assoc}
 use Rattle.std.proofs.lemmas.List.{append-nil, length-append, length-take, take-append-drop}
 use Rattle.adb_outside.specs.Source.{TellsRead}
 use Rattle.adb_outside.specs.declared.source.Got.TheVariants.{Bytes}
@@ -29,7 +30,8 @@ module _ (before now after : Option (List ℕ)) (text more : List ℕ) (so : Rea
       let e = end h.rest h.left_is in
       (sym (h.same ∙ (ap (λ r. text ++ r) e.0 ∙ append-nil text)), e.1)
 
-  pub read_past : ((coming : List ℕ) → now ≡ Some coming → MAX_INPUT < length text + length coming) → (coming : List ℕ) → before ≡ Some coming
+  pub read_past : ((coming : List ℕ) → now ≡ Some coming → MAX_INPUT < length text + length coming)
+      → (coming : List ℕ) → before ≡ Some coming
       → MAX_INPUT < length coming
   read_past past = λ coming is.
       let h = so coming is in

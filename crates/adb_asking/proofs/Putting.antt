@@ -1,5 +1,6 @@
 -- What is written, call by call.
-use Rattle.std.proofs.Common.{ℕ, Bool, true, false, not, List, [], ◌++◌, take, drop, Option, Some, refl, sym, ◌∙◌, ap, subst, arith, append_assoc}
+use Rattle.std.proofs.Common.{ℕ, Bool, true, false, not, List, [], ◌++◌, take, drop, Option, Some, refl, sym, ◌∙◌, ap, subst, arith}
+use Rattle.std.proofs.Common.{append_assoc}
 use Rattle.std.proofs.lemmas.List.{append-nil, take-append-drop}
 use Rattle.adb_outside.specs.Outside.{Counts, Rises}
 use Rattle.adb_outside.specs.Sink.{TellsWrite, is_failed_write}

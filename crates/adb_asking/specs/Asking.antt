@@ -13,9 +13,11 @@ use Rattle.adb_asking.specs.Telling.{Sight, TellsAnswer, size_of}
 abbrev pub answered : Remote → List ℕ → Option (Result Outcome RemoteError)
 answered job answer = outcome_of job answer true
 
--- There was a conversation over the port, and what was answered is told. Where the port tells what comes it is what all of that means, unless
+-- There was a conversation over the port, and what was answered is told. Where the port tells what comes it is what
+-- all of that means, unless
 -- the port failed or memory ran out.
-pub record Asks {I O K N : Type 0} (ports : Ports I O) (k : Sight K) (n : Sight N) (job : Remote) (on : Option (List ℕ)) (input input_new : I)
+pub record Asks {I O K N : Type 0} (ports : Ports I O) (k : Sight K) (n : Sight N) (job : Remote)
+    (on : Option (List ℕ)) (input input_new : I)
     (output output_new : O) (sink sink_new : K) (note note_new : N) (end : ToolEnd) : Type 0 where
   pub answer : Result Outcome RemoteError
   pub converses : Converses ports job on input input_new output output_new answer

@@ -6,7 +6,8 @@ use Rattle.adb_remote_words.specs.declared.remote.Remote.{Remote}
 use Rattle.adb_remote_words.specs.declared.remote.Outcome.{Outcome}
 use Rattle.adb_remote_words.specs.declared.remote.RemoteError.TheVariants as errors
 use Rattle.adb_asking.specs.declared.ends.ToolEnd.{ToolEnd}
-use Rattle.adb_asking.specs.declared.ends.ToolEnd.TheVariants.{Done, Usage, ReadFault, WriteFault, OutOfMemory, Refused, BadAnswer, PortFault, TooLarge}
+use Rattle.adb_asking.specs.declared.ends.ToolEnd.TheVariants.{Done, Usage, ReadFault, WriteFault, OutOfMemory, Refused, BadAnswer}
+use Rattle.adb_asking.specs.declared.ends.ToolEnd.TheVariants.{PortFault, TooLarge}
 use Rattle.adb_asking.specs.declared.input.TheConstants.{MAX_INPUT}
 use Rattle.adb_asking.specs.Asking.{answered}
 use Rattle.adb_asking.specs.Ends.{is_write_fault}
@@ -40,7 +41,8 @@ pub record HasOutcome (job : Remote) (answers : List ℕ) (P : Parts → Type 0)
 -- outcome, the end says why.
 abbrev pub EndsBy : Remote → List ℕ → ToolEnd → (sink sink_new noted noted_new : Option (List ℕ)) → Type 0
 EndsBy job answers Done sink sink_new noted noted_new = HasOutcome job answers (λ p. PartsBy Done p sink sink_new noted noted_new)
-EndsBy job answers WriteFault sink sink_new noted noted_new = HasOutcome job answers (λ p. PartsBy WriteFault p sink sink_new noted noted_new)
+EndsBy job answers WriteFault sink sink_new noted noted_new =
+    HasOutcome job answers (λ p. PartsBy WriteFault p sink sink_new noted noted_new)
 EndsBy job answers (Refused text) sink sink_new noted noted_new = answered job answers ≡ Some (Err (errors.Refused text))
 EndsBy job answers (BadAnswer offset) sink sink_new noted noted_new = answered job answers ≡ Some (Err (errors.BadAnswer offset))
 EndsBy job answers PortFault sink sink_new noted noted_new = Unit {0}

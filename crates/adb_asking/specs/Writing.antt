@@ -18,7 +18,8 @@ abbrev pub HasFront : List ℕ → Option (List ℕ) → Option (List ℕ) → T
 HasFront text before after = (had : List ℕ) → before ≡ Some had → IsBegun had text after
 
 -- A text was written: all of it, or a front where the sink failed.
-pub record Puts {K : Type 0} (steady : K → Type 0) (faults : K → ℕ) (written : K → Option (List ℕ)) (text : List ℕ) (old new : K) (done : Bool)
+pub record Puts {K : Type 0} (steady : K → Type 0) (faults : K → ℕ) (written : K → Option (List ℕ)) (text : List ℕ)
+    (old new : K) (done : Bool)
     : Type 0 where
   pub whole : done ≡ true → HasText text (written old) (written new)
   pub front : HasFront text (written old) (written new)

@@ -1,5 +1,7 @@
 -- What the searches of a byte string say of its cut at the first of a byte, and of the NULs at its end.
-use Rattle.std.proofs.Common.{ℕ, ◌+◌, ◌-◌, ◌≡◌, ◌≤◌, ◌<◌, ◌==◌, Bool, true, false, not, ◌||◌, cond, nat_lt, nat_le, ◌&&◌, List, [], ◌∷◌, length, take, drop, get_or, count_by, Option, Some, None, MatchOption, refl, sym, ap, ◌∙◌, subst, arith, zero, suc, add-zero}
+use Rattle.std.proofs.Common.{ℕ, ◌+◌, ◌-◌, ◌≡◌, ◌≤◌, ◌<◌, ◌==◌, Bool, true, false, not, ◌||◌, cond, nat_lt, nat_le, ◌&&◌, List, [], ◌∷◌}
+use Rattle.std.proofs.Common.{length, take, drop, get_or, count_by, Option, Some, None, MatchOption, refl, sym, ap, ◌∙◌, subst, arith, zero}
+use Rattle.std.proofs.Common.{suc, add-zero}
 use Rattle.std.proofs.lemmas.Bool.{false≢true, eqb-true, eq-eqb}
 use Rattle.std.proofs.lemmas.Bool.Decides.{nat_tests}
 use Rattle.std.proofs.lemmas.List.Elements.{All-head, All-tail, All-from_get_or}
@@ -45,7 +47,9 @@ taken bytes n le nuls =
 pub without_nuls_is : (bytes : List ℕ) (last : Option ℕ) → IsLastByte (not_in (0 ∷ [])) bytes last
     → MatchOption last ([] ≡ without_nuls bytes) (λ k. take (k + 1) bytes ≡ without_nuls bytes)
 without_nuls_is bytes None none =
-    taken bytes 0 (omega arith) (suffix_len_is is_nul bytes 0 0 (omega arith) (λ k lo hi. nul_from_not _ (none k lo hi)) (λ no. absurd (omega arith)))
+    taken bytes 0 (omega arith)
+    (suffix_len_is is_nul bytes 0 0 (omega arith) (λ k lo hi. nul_from_not _ (none k lo hi))
+    (λ no. absurd (omega arith)))
 without_nuls_is bytes (Some k) found =
     let inside : k + 1 ≤ length bytes = omega (arith, found.0.high) in
     let back : k + 1 - 1 ≡ k = omega arith in
@@ -121,8 +125,10 @@ module _ (c : ℕ) (bytes : List ℕ) where
       go : (b : Bool) → nat_lt first (length bytes) ≡ b → FindsNeedle bytes (c ∷ []) 0 (cond b (Some first) None)
       go true lt =
           let inside : first < length bytes = grind (arith, nat_tests) in
-          let is : get_or bytes first 0 ≡ c = eqb-true _ c (passes_at_first is_it bytes 0 inside) in
-          (record { low = omega arith; high = omega arith; before = λ k lo hi occurs. not_before k hi occurs }, occurs_there first inside is)
+          let is : get_or bytes first 0 ≡ c = eqb-true _ c (passes_at_first is_it bytes 0 inside) in (
+            record { low = omega arith; high = omega arith; before = λ k lo hi occurs. not_before k hi occurs },
+            occurs_there first inside is,
+          )
       go false ge =
           let end : length bytes ≤ first = grind (arith, nat_tests) in
           λ k lo hi occurs. not_before k (omega (arith, occurs.fits)) occurs
@@ -184,7 +190,8 @@ module _ (text : List ℕ) where
   pub is_identity-none : count_by is_colon text ≡ 0 → is_identity text ≡ false
   is_identity-none none = few (count_by is_colon text) (length text) (omega arith)
 
-  module _ (rest : List ℕ) (some : count_by is_colon text ≡ count_by is_colon (after_first is_colon text) + 1) (is : rest ≡ after_first is_colon text) where
+  module _ (rest : List ℕ) (some : count_by is_colon text ≡ count_by is_colon (after_first is_colon text) + 1)
+      (is : rest ≡ after_first is_colon text) where
     pub is_identity-one : count_by is_colon rest ≡ 0 → is_identity text ≡ false
     is_identity-one none =
         let same = ap (count_by is_colon) is in few (count_by is_colon text) (length text) (omega arith)

@@ -1,8 +1,10 @@
 -- The value of the last part that has a key.
-use Rattle.std.proofs.Common.{ℕ, ◌+◌, ◌≡◌, ◌≤◌, Bool, true, false, cond, List, [], ◌∷◌, ◌++◌, length, Option, Some, None, unwrap_or, refl, ap, ◌∙◌, arith, length-drop, map}
+use Rattle.std.proofs.Common.{ℕ, ◌+◌, ◌≡◌, ◌≤◌, Bool, true, false, cond, List, [], ◌∷◌, ◌++◌, length, Option, Some, None, unwrap_or, refl}
+use Rattle.std.proofs.Common.{ap, ◌∙◌, arith, length-drop, map}
 use Rattle.std.proofs.lemmas.List.{map-append}
 use Rattle.std.proofs.lemmas.List.Elements.{All-nil, All-cons, All-head, All-tail, filter_map-append, All-weaker}
-use Rattle.std.specs.List.{All, filter_map, cons_option, last_or, after_first, position_or_len, slice_split, onto_first, before_first, list_any}
+use Rattle.std.specs.List.{All, filter_map, cons_option, last_or, after_first, position_or_len, slice_split, onto_first, before_first}
+use Rattle.std.specs.List.{list_any}
 use Rattle.std.specs.Borrow.{Bor}
 use Rattle.std.specs.Str.{bytes_eq}
 use Rattle.adb_banner.specs.Banner.{is_equals, part_value, last_value}
@@ -17,7 +19,8 @@ pub last_value-push : (key : List ℕ) (parts : List (List ℕ)) (part : List �
 unfolding last_value
 last_value-push key parts part =
     ap (λ vs. unwrap_or (last_or None vs) []) (filter_map-append (part_value key) parts (part ∷ []))
-    ∙ (ap (λ o. unwrap_or o []) (last_or-append None (values parts) (values (part ∷ []))) ∙ go (part_value key part) (last_or None (values parts)))
+    ∙ (ap (λ o. unwrap_or o []) (last_or-append None (values parts) (values (part ∷ [])))
+    ∙ go (part_value key part) (last_or None (values parts)))
   where
     values : List (List ℕ) → List (List ℕ)
     values = filter_map (part_value key)
@@ -57,19 +60,22 @@ All-slice_split p (x ∷ xs) = go (p x) (slice_split p xs) (All-slice_split p xs
         let head = All-head (IsUpTo (length xs)) part parts all in
         All-cons (IsUpTo (length (x ∷ xs))) (x ∷ part) parts (omega arith) (longer parts (All-tail (IsUpTo (length xs)) part parts all))
 
-    go : (b : Bool) (parts : List (List ℕ)) → All (IsUpTo (length xs)) parts → All (IsUpTo (length (x ∷ xs))) (cond b ([] ∷ parts) (onto_first x parts))
+    go : (b : Bool) (parts : List (List ℕ)) → All (IsUpTo (length xs)) parts
+        → All (IsUpTo (length (x ∷ xs))) (cond b ([] ∷ parts) (onto_first x parts))
     go true parts all = All-cons (IsUpTo (length (x ∷ xs))) [] parts (omega arith) (longer parts all)
     go false parts all = onto parts all
 
 -- The value found so far, among the parts left, is no longer than the longest part.
-length-found : (key : List ℕ) (n : ℕ) (found : Option (List ℕ)) (parts : List (List ℕ)) → IsUpTo n (unwrap_or found []) → All (IsUpTo n) parts
+length-found : (key : List ℕ) (n : ℕ) (found : Option (List ℕ)) (parts : List (List ℕ))
+    → IsUpTo n (unwrap_or found []) → All (IsUpTo n) parts
     → IsUpTo n (unwrap_or (last_or found (filter_map (part_value key) parts)) [])
 length-found key n found [] short all = short
 length-found key n found (part ∷ parts) short all =
     go (part_value key part) refl (λ next less. length-found key n next parts less (All-tail (IsUpTo n) part parts all))
   where
     go : (value : Option (List ℕ)) → part_value key part ≡ value
-        → ((next : Option (List ℕ)) → IsUpTo n (unwrap_or next []) → IsUpTo n (unwrap_or (last_or next (filter_map (part_value key) parts)) []))
+        → ((next : Option (List ℕ)) → IsUpTo n (unwrap_or next [])
+        → IsUpTo n (unwrap_or (last_or next (filter_map (part_value key) parts)) []))
         → IsUpTo n (unwrap_or (last_or found (cons_option value (filter_map (part_value key) parts))) [])
     go None is later = later found short
     go (Some value) is later =
@@ -78,7 +84,8 @@ length-found key n found (part ∷ parts) short all =
         later (Some value) (omega arith)
 
 -- no value is longer than the longest part
-pub length-last_value : (key : List ℕ) (n : ℕ) (parts : List (List ℕ)) → All (λ part. length part ≤ n) parts → length (last_value key parts) ≤ n
+pub length-last_value : (key : List ℕ) (n : ℕ) (parts : List (List ℕ)) → All (λ part. length part ≤ n) parts
+    → length (last_value key parts) ≤ n
 unfolding last_value
 length-last_value key n parts short = length-found key n None parts (omega arith) short
 
@@ -91,6 +98,7 @@ pub part_value-some : (key part : List ℕ) → list_any is_equals part ≡ true
 part_value-some key part some = rw some refl
 
 pub last_value-yielded : (key : List ℕ) (yielded : List (Bor (List ℕ))) (part : Bor (List ℕ))
-    → last_value key (map (λ p. p.now) (yielded ++ part ∷ [])) ≡ unwrap_or (part_value key part.now) (last_value key (map (λ p. p.now) yielded))
+    → last_value key (map (λ p. p.now) (yielded ++ part ∷ []))
+    ≡ unwrap_or (part_value key part.now) (last_value key (map (λ p. p.now) yielded))
 last_value-yielded key yielded part =
     ap (last_value key) (map-append (λ p. p.now) yielded (part ∷ [])) ∙ last_value-push key (map (λ p. p.now) yielded) part.now

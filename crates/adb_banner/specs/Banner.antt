@@ -1,5 +1,7 @@
--- The identity `<system>:<serial>:<banner>` of a device, whose banner is parts `<key>=<value>` between `;` (protocol.txt, "The CONNECT message").
-use Rattle.std.specs.Prelude.{ℕ, Bool, ◌==◌, ◌&&◌, ◌-◌, nat_le, if◌then◌else◌, List, [], length, take, count_by, Option, Some, None, unwrap_or, codes, bytes_eq}
+-- The identity `<system>:<serial>:<banner>` of a device, whose banner is parts `<key>=<value>` between `;`
+-- (protocol.txt, "The CONNECT message").
+use Rattle.std.specs.Prelude.{ℕ, Bool, ◌==◌, ◌&&◌, ◌-◌, nat_le, if◌then◌else◌, List, [], length, take, count_by, Option, Some, None}
+use Rattle.std.specs.Prelude.{unwrap_or, codes, bytes_eq}
 use Rattle.std.specs.List.{suffix_len, before_first, after_first, slice_split, filter_map, last_or, list_any}
 use Rattle.adb_outside.specs.declared.identity.Identity.{Identity}
 use Rattle.adb_banner.specs.declared.identity.TheConstants.{MAX_IDENTITY}

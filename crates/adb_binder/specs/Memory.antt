@@ -50,7 +50,8 @@ pub record Offers (before : Bindings) (asked : ℕ) (binding : Binding) (after :
 -- Who asks for any port is given one behind the other.
 pub record Binds (before : Bindings) (asked : ℕ) (binding : Binding) (after : Bindings) : Type 0 where
   pub fails : Contains before.failing after.calls → binding ≡ Failed
-  pub failed : binding ≡ Failed → Contains before.failing after.calls ⊎ (offered before.next asked ≡ None) ⊎ IsLost before.answered after.answered
+  pub failed : binding ≡ Failed → Contains before.failing after.calls ⊎ (offered before.next asked ≡ None)
+      ⊎ IsLost before.answered after.answered
   pub bound : (port : ℕ) → binding ≡ Bound port → offered before.next asked ≡ Some port
   pub told : (port : ℕ) → binding ≡ Bound port → is_some after.answered ≡ is_some before.answered
   pub calls : after.calls ≡ counted_on before.calls

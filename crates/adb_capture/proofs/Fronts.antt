@@ -1,9 +1,11 @@
 -- A record at the front of some bytes: what it tells, and what tells it.
-use Rattle.std.proofs.Common.{ℕ, ◌+◌, ◌≡◌, ◌≢◌, ◌≤◌, ◌<◌, Bool, true, false, not, if◌then◌else◌, List, ◌++◌, length, take, drop, Option, Some, None, refl}
+use Rattle.std.proofs.Common.{ℕ, ◌+◌, ◌≡◌, ◌≢◌, ◌≤◌, ◌<◌, Bool, true, false, not, if◌then◌else◌, List, ◌++◌, length, take, drop, Option}
+use Rattle.std.proofs.Common.{Some, None, refl}
 use Rattle.std.proofs.Common.{sym, ◌∙◌, ap, arith, inl, inr}
 use Rattle.std.specs.Prelude.{nat_lt}
 use Rattle.std.proofs.lemmas.Bool.{cases_lt, ltb-true, ltb-false, le-ltb}
-use Rattle.std.proofs.lemmas.List.{length-append, length-drop, length-take-le, take-append-le, drop-append-le, take-append-drop, get_or_append_left}
+use Rattle.std.proofs.lemmas.List.{length-append, length-drop, length-take-le, take-append-le, drop-append-le, take-append-drop}
+use Rattle.std.proofs.lemmas.List.{get_or_append_left}
 use Rattle.byteorder.specs.Endian.{little_number}
 use Rattle.byteorder.specs.Numbers.{little_from-append}
 use Rattle.adb_outside.specs.declared.framer.Front.{Front}
@@ -33,7 +35,9 @@ on_header offset kind size others =
     else others))
 
 as_tested : (offset : ℕ) (x : List ℕ)
-    → record_at offset x ≡ (if nat_lt (length x) RECORD_HEADER_LEN then More else on_header offset (kind_in x) (size_in x) (on_content offset x))
+    → record_at offset x
+    ≡ (if nat_lt (length x) RECORD_HEADER_LEN then More else on_header offset (kind_in x) (size_in x)
+    (on_content offset x))
 unfolding record_at
 as_tested offset x = refl
 
@@ -76,7 +80,8 @@ pub record IsWhole (offset : ℕ) (x : List ℕ) (n : ℕ) : Type 0 where
   pub entry : Entry
   pub formed : entry_of x ≡ Some entry
 
-formed_whole : (offset size n : ℕ) (e : Option Entry) → formed offset size e ≡ Whole n → (n ≡ RECORD_HEADER_LEN + size) × ((entry : Entry) × (e ≡ Some entry))
+formed_whole : (offset size n : ℕ) (e : Option Entry) → formed offset size e ≡ Whole n
+    → (n ≡ RECORD_HEADER_LEN + size) × ((entry : Entry) × (e ≡ Some entry))
 formed_whole offset size n None h = cc
 formed_whole offset size n (Some e) h = (cc, (e, refl))
 
@@ -117,7 +122,8 @@ pub kind_before : (x y : List ℕ) → RECORD_HEADER_LEN ≤ length x → kind_i
 kind_before x y h = get_or_append_left x y 0 0 (omega arith)
 
 pub number_before : (i : ℕ) (x y : List ℕ) → i + 4 ≤ length x → little_number 4 (drop i (x ++ y)) ≡ little_number 4 (drop i x)
-number_before i x y h = ap (λ b. little_number 4 b) (drop-append-le i x y (omega arith)) ∙ little_from-append 4 (drop i x) y (omega (arith, length-drop i x))
+number_before i x y h = ap (λ b. little_number 4 b) (drop-append-le i x y (omega arith))
+    ∙ little_from-append 4 (drop i x) y (omega (arith, length-drop i x))
 
 pub data_before : (x y : List ℕ) → RECORD_HEADER_LEN + size_in x ≤ length x → data_in (x ++ y) ≡ data_in x
 data_before x y h =
@@ -230,7 +236,8 @@ pub more_is_part : (offset : ℕ) (x y : List ℕ) (n : ℕ) → record_at offse
 more_is_part offset x y n more whole = elim (cases_lt (length x) n) [
   | inl lt ↦ lt
   | inr le ↦
-      let front : record_at offset (take n x) ≡ Whole n = ap (record_at offset) (sym (take-append-le n x y le)) ∙ whole_alone offset (x ++ y) n whole in
+      let front : record_at offset (take n x) ≡ Whole n = ap (record_at offset) (sym (take-append-le n x y le))
+      ∙ whole_alone offset (x ++ y) n whole in
       let here : record_at offset x ≡ Whole n =
       ap (record_at offset) (sym (take-append-drop n x)) ∙ whole_stays offset (take n x) (drop n x) n front in
       absurd (let clash : More ≡ Whole n = sym more ∙ here in cc)

@@ -1,5 +1,6 @@
 -- What is spelled is read back, and what is read is spelled so.
-use Rattle.std.proofs.Common.{ℕ, ◌+◌, ◌-◌, ◌/◌, ◌%◌, ◌^◌, ◌≡◌, ◌≤◌, ◌<◌, Bool, true, false, if◌then◌else◌, List, [], ◌∷◌, ◌++◌, length, take, drop}
+use Rattle.std.proofs.Common.{ℕ, ◌+◌, ◌-◌, ◌/◌, ◌%◌, ◌^◌, ◌≡◌, ◌≤◌, ◌<◌, Bool, true, false, if◌then◌else◌, List, [], ◌∷◌, ◌++◌, length}
+use Rattle.std.proofs.Common.{take, drop}
 use Rattle.std.proofs.Common.{Option, Some, None, refl, sym, ◌∙◌, ap, subst, arith, suc}
 use Rattle.std.specs.Prelude.{nat_eq, All}
 use Rattle.std.proofs.lemmas.Bool.{eqb-true, eqb-false, ne_eqb}
@@ -18,8 +19,10 @@ use Rattle.adb_outside.specs.declared.kinds.Cause.TheVariants.{Eof, Fault, Starv
 use Rattle.adb_capture.specs.declared.entry.Entry.{Entry}
 use Rattle.adb_capture.specs.declared.entry.Entry.TheVariants.{Join, Enter, Read, End, Bound, Attach, Recv, Detach, Put, Send}
 use Rattle.adb_capture.specs.declared.limits.TheConstants.{RECORD_HEADER_LEN, MAX_CAPTURE}
-use Rattle.adb_capture.specs.Records.{record_at, is_kind, kind_in, owner_in, size_in, data_in, entry_at, entry_in, or_join, kind_of, number_of}
-use Rattle.adb_capture.specs.Records.{data_of, record_of, cause_byte, plug_letter, HasRecord, HasPort, cause_at, port_at, plug_at, join_at, enter_at}
+use Rattle.adb_capture.specs.Records.{record_at, is_kind, kind_in, owner_in, size_in, data_in, entry_at, entry_in, or_join, kind_of}
+use Rattle.adb_capture.specs.Records.{number_of}
+use Rattle.adb_capture.specs.Records.{data_of, record_of, cause_byte, plug_letter, HasRecord, HasPort, cause_at, port_at, plug_at, join_at}
+use Rattle.adb_capture.specs.Records.{enter_at}
 use Rattle.adb_capture.specs.Records.{bound_at, end_at, detach_at, attach_by, attach_at}
 use Rattle.adb_capture.proofs.Fronts.{IsWhole, entry_of, whole_tells, whole_told, whole_alone}
 
@@ -129,12 +132,20 @@ by_kind : (kind k n : ℕ) (bytes : List ℕ) (o others : Option Entry) → AreS
 by_kind kind k n bytes o others h i = go (nat_eq kind k) refl
   where
     go : (b : Bool) → nat_eq kind k ≡ b → AreSpelled kind n bytes (if b then o else others)
-    go true t = λ e is. let s = h e is in record { kind_is = eqb-true kind k t ∙ s.kind_is; owner_is = s.owner_is; data_is = s.data_is; port = s.port }
+    go true t = λ e is. let s =
+        h e is in record {
+          kind_is = eqb-true kind k t ∙ s.kind_is;
+          owner_is = s.owner_is;
+          data_is = s.data_is;
+          port =
+              s.port;
+        }
     go false t = i
 
 this_entry : (e : Entry) → HasPort e → AreSpelled (kind_of e) (number_of e) (data_of e) (Some e)
 this_entry e port other is = let same : e ≡ other = cc in
-    subst (λ (x : Entry). Spells (kind_of e) (number_of e) (data_of e) x) same (record { kind_is = refl; owner_is = refl; data_is = refl; port = port })
+    subst (λ (x : Entry). Spells (kind_of e) (number_of e) (data_of e) x) same
+    (record { kind_is = refl; owner_is = refl; data_is = refl; port = port })
 
 no_entry : (kind n : ℕ) (bytes : List ℕ) → AreSpelled kind n bytes None
 no_entry kind n bytes e is = cc
@@ -164,14 +175,16 @@ enter_spells n (a ∷ b ∷ []) h = go (nat_eq port 0) refl
         → AreSpelled 78 n (a ∷ b ∷ []) (if t then None else Some (Enter n (little_number 2 (a ∷ b ∷ []))))
     go true t = no_entry 78 n (a ∷ b ∷ [])
     go false t = subst (λ bytes. AreSpelled 78 n bytes (Some (Enter n (little_number 2 (a ∷ b ∷ []))))) (two_bytes a b ha hb)
-        (this_entry (Enter n (little_number 2 (a ∷ b ∷ []))) (let ne = eqb-false (little_number 2 (a ∷ b ∷ [])) 0 t in omega (arith, ne), port_fits a b ha hb))
+        (this_entry (Enter n (little_number 2 (a ∷ b ∷ [])))
+        (let ne = eqb-false (little_number 2 (a ∷ b ∷ [])) 0 t in omega (arith, ne), port_fits a b ha hb))
 enter_spells n (a ∷ b ∷ c ∷ bytes) h = no_entry 78 n (a ∷ b ∷ c ∷ bytes)
 
 bound_spells : (n : ℕ) (bytes : List ℕ) → All IsByte bytes → AreSpelled 66 n bytes (bound_at n (port_at bytes))
 bound_spells n [] h = no_entry 66 n []
 bound_spells n (a ∷ []) h = no_entry 66 n (a ∷ [])
 bound_spells n (a ∷ b ∷ []) h =
-    subst (λ bytes. AreSpelled 66 n bytes (Some (Bound n (little_number 2 (a ∷ b ∷ []))))) (two_bytes a b (h 0 0 (omega arith)) (h 1 0 (omega arith)))
+    subst (λ bytes. AreSpelled 66 n bytes (Some (Bound n (little_number 2 (a ∷ b ∷ [])))))
+    (two_bytes a b (h 0 0 (omega arith)) (h 1 0 (omega arith)))
     (this_entry (Bound n (little_number 2 (a ∷ b ∷ []))) (port_fits a b (h 0 0 (omega arith)) (h 1 0 (omega arith))))
 bound_spells n (a ∷ b ∷ c ∷ bytes) h = no_entry 66 n (a ∷ b ∷ c ∷ bytes)
 
@@ -190,13 +203,16 @@ cause_spells (b ∷ []) cause h = zeroth (nat_eq b 0) refl h
     second true t h = let e : Starved ≡ cause = cc in ap (λ k. k ∷ []) (eqb-true b 2 t) ∙ ap (λ (k : Cause). cause_byte k ∷ []) e
     second false t h = third (nat_eq b 3) refl h
 
-    first : (t : Bool) → nat_eq b 1 ≡ t → (if t then Some Fault else (if nat_eq b 2 then Some Starved else (if nat_eq b 3 then Some NoThread else None))) ≡
+    first : (t : Bool) → nat_eq b 1 ≡ t
+        → (if t then Some Fault else
+        (if nat_eq b 2 then Some Starved else (if nat_eq b 3 then Some NoThread else None))) ≡
         Some cause → b ∷ [] ≡ cause_byte cause ∷ []
     first true t h = let e : Fault ≡ cause = cc in ap (λ k. k ∷ []) (eqb-true b 1 t) ∙ ap (λ (k : Cause). cause_byte k ∷ []) e
     first false t h = second (nat_eq b 2) refl h
 
     zeroth : (t : Bool) → nat_eq b 0 ≡ t → (if t then Some Eof else
-        (if nat_eq b 1 then Some Fault else (if nat_eq b 2 then Some Starved else (if nat_eq b 3 then Some NoThread else None)))) ≡ Some cause
+        (if nat_eq b 1 then Some Fault else
+        (if nat_eq b 2 then Some Starved else (if nat_eq b 3 then Some NoThread else None)))) ≡ Some cause
         → b ∷ [] ≡ cause_byte cause ∷ []
     zeroth true t h = let e : Eof ≡ cause = cc in ap (λ k. k ∷ []) (eqb-true b 0 t) ∙ ap (λ (k : Cause). cause_byte k ∷ []) e
     zeroth false t h = first (nat_eq b 1) refl h
@@ -206,14 +222,16 @@ end_spells n bytes = go (cause_at bytes) refl
   where
     go : (o : Option Cause) → cause_at bytes ≡ o → AreSpelled 69 n bytes (end_at n o)
     go None is = no_entry 69 n bytes
-    go (Some cause) is = subst (λ x. AreSpelled 69 n x (Some (End n cause))) (sym (cause_spells bytes cause is)) (this_entry (End n cause) tt)
+    go (Some cause) is = subst (λ x. AreSpelled 69 n x (Some (End n cause))) (sym (cause_spells bytes cause is))
+        (this_entry (End n cause) tt)
 
 detach_spells : (n : ℕ) (bytes : List ℕ) → AreSpelled 68 n bytes (detach_at n (cause_at bytes))
 detach_spells n bytes = go (cause_at bytes) refl
   where
     go : (o : Option Cause) → cause_at bytes ≡ o → AreSpelled 68 n bytes (detach_at n o)
     go None is = no_entry 68 n bytes
-    go (Some cause) is = subst (λ x. AreSpelled 68 n x (Some (Detach n cause))) (sym (cause_spells bytes cause is)) (this_entry (Detach n cause) tt)
+    go (Some cause) is = subst (λ x. AreSpelled 68 n x (Some (Detach n cause))) (sym (cause_spells bytes cause is))
+        (this_entry (Detach n cause) tt)
 
 plug_spells : (b : ℕ) (kind : Kind) → plug_at b ≡ Some kind → b ≡ plug_letter kind
 plug_spells b kind h = first (nat_eq b 117) refl h
@@ -222,7 +240,8 @@ plug_spells b kind h = first (nat_eq b 117) refl h
     second true t h = let e : Local ≡ kind = cc in eqb-true b 108 t ∙ ap plug_letter e
     second false t h = cc
 
-    first : (t : Bool) → nat_eq b 117 ≡ t → (if t then Some Usb else (if nat_eq b 108 then Some Local else None)) ≡ Some kind → b ≡ plug_letter kind
+    first : (t : Bool) → nat_eq b 117 ≡ t → (if t then Some Usb else (if nat_eq b 108 then Some Local else None))
+        ≡ Some kind → b ≡ plug_letter kind
     first true t h = let e : Usb ≡ kind = cc in eqb-true b 117 t ∙ ap plug_letter e
     first false t h = second (nat_eq b 108) refl h
 
@@ -303,7 +322,8 @@ read_spelled offset (k ∷ tail) all w = record {
     part = take_all (size_in (k ∷ tail)) (drop 8 tail) (omega (arith, size))
 
     s : Spells k (little_number 4 tail) (drop 8 tail) t.entry
-    s = entry_spells k (little_number 4 tail) (drop 8 tail) content_are t.entry (ap (λ x. entry_at k (little_number 4 tail) x) (sym part) ∙ t.formed)
+    s = entry_spells k (little_number 4 tail) (drop 8 tail) content_are t.entry
+        (ap (λ x. entry_at k (little_number 4 tail) x) (sym part) ∙ t.formed)
 
     same : t.entry ≡ (entry_in offset (k ∷ tail)).1
     same = ap or_join (sym t.formed)
@@ -323,7 +343,8 @@ front_spelled offset n bytes all w =
 pub whole_header : (offset : ℕ) (x : List ℕ) → record_at offset x ≡ Whole (length x) → RECORD_HEADER_LEN ≤ length x
 whole_header offset x w = let t = whole_tells offset x (length x) w in omega (arith, t.size)
 
-whole_data : (offset : ℕ) (x : List ℕ) → record_at offset x ≡ Whole (length x) → data_in x ≡ take (length x - RECORD_HEADER_LEN) (drop RECORD_HEADER_LEN x)
+whole_data : (offset : ℕ) (x : List ℕ) → record_at offset x ≡ Whole (length x)
+    → data_in x ≡ take (length x - RECORD_HEADER_LEN) (drop RECORD_HEADER_LEN x)
 whole_data offset x w = let t = whole_tells offset x (length x) w in let e : size_in x
     ≡ length x - RECORD_HEADER_LEN = omega (arith, t.size) in ap (λ n. take n (drop RECORD_HEADER_LEN x)) e
 
@@ -338,5 +359,7 @@ whole_read offset x w none =
 
 -- and this one
 pub entry_read : (offset : ℕ) (x : List ℕ) (e : Entry) → record_at offset x ≡ Whole (length x)
-    → Some e ≡ entry_at (kind_in x) (owner_in x) (take (length x - RECORD_HEADER_LEN) (drop RECORD_HEADER_LEN x)) → (offset, e) ≡ entry_in offset x
-entry_read offset x e w is = ap (λ o. (offset, or_join o)) (is ∙ ap (λ b. entry_at (kind_in x) (owner_in x) b) (sym (whole_data offset x w)))
+    → Some e ≡ entry_at (kind_in x) (owner_in x) (take (length x - RECORD_HEADER_LEN) (drop RECORD_HEADER_LEN x))
+    → (offset, e) ≡ entry_in offset x
+entry_read offset x e w is =
+    ap (λ o. (offset, or_join o)) (is ∙ ap (λ b. entry_at (kind_in x) (owner_in x) b) (sym (whole_data offset x w)))

@@ -1,5 +1,6 @@
 -- The records of captures: one spelling for each entry.
-use Rattle.std.specs.Prelude.{ℕ, ◌+◌, ◌^◌, ◌≤◌, ◌<◌, Bool, if◌then◌else◌, ◌||◌, not, nat_lt, nat_eq, List, [], ◌∷◌, ◌++◌, length, take, drop, All}
+use Rattle.std.specs.Prelude.{ℕ, ◌+◌, ◌^◌, ◌≤◌, ◌<◌, Bool, if◌then◌else◌, ◌||◌, not, nat_lt, nat_eq, List, [], ◌∷◌, ◌++◌, length, take}
+use Rattle.std.specs.Prelude.{drop, All}
 use Rattle.std.specs.Prelude.{flat_map, slice_index, Option, Some, None, codes}
 use Rattle.byteorder.specs.Endian.{little_bytes, little_number}
 use Rattle.adb_outside.specs.declared.framer.Front.{Front}

@@ -9,7 +9,8 @@ use Rattle.adb_capture_reader.specs.Counting.{is_fault}
 use Rattle.adb_capture_reader.specs.Awaiting.{AwaitsRecord}
 
 -- a refusal at the front is what was waited for
-pub bad_awaited : (offset : ℕ) (first : List ℕ) (before : Option (List ℕ)) (held : List ℕ) (fault : FormFault) → record_at offset held ≡ Bad fault
+pub bad_awaited : (offset : ℕ) (first : List ℕ) (before : Option (List ℕ)) (held : List ℕ) (fault : FormFault)
+    → record_at offset held ≡ Bad fault
     → AwaitsRecord offset first before held (Err (error_of fault))
 bad_awaited offset first before held (BadRecord at why) h = h
 bad_awaited offset first before held (TooLong at) h = h

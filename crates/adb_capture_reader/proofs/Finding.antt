@@ -19,7 +19,8 @@ found_whole offset first before held (Err e) h = tt
 -- and where a read failed, what is held is less
 pub found_fault : (offset : ℕ) (first : List ℕ) (before : Option (List ℕ)) (held : List ℕ) (result : Result (Option ℕ) CaptureError)
     → AwaitsRecord offset first before held result → result ≡ Err ReadFault → record_at offset held ≡ More
-found_fault offset first before held result h is = subst (λ (r : Result (Option ℕ) CaptureError). AwaitsRecord offset first before held r) is h
+found_fault offset first before held result h is =
+    subst (λ (r : Result (Option ℕ) CaptureError). AwaitsRecord offset first before held r) is h
 
 -- what holds of each size holds of the one that was found
 pub found_each : (P Q : ℕ → Type 0) → ((size : ℕ) → P size → Q size) → (result : Result (Option ℕ) CaptureError)

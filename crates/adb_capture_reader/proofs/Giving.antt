@@ -17,7 +17,8 @@ use Rattle.adb_capture.proofs.Fronts.{whole_tells, whole_stays, whole_alone, bad
 pub whole_fits : (offset : ℕ) (x : List ℕ) (n : ℕ) → record_at offset x ≡ Whole n → (n ≤ length x) × (offset + n ≤ MAX_CAPTURE)
 whole_fits offset x n w = let t = whole_tells offset x n w in (omega (arith, t.size, t.fits), omega (arith, t.size, t.near))
 
-pub whole_given : (offset : ℕ) (x y : List ℕ) (n : ℕ) → record_at offset x ≡ Whole n → y ≡ x → record_at offset (take n y) ≡ Whole (length (take n y))
+pub whole_given : (offset : ℕ) (x y : List ℕ) (n : ℕ) → record_at offset x ≡ Whole n → y ≡ x
+    → record_at offset (take n y) ≡ Whole (length (take n y))
 whole_given offset x y n w same =
     let f = whole_fits offset x n w in
     let here : record_at offset (take n y) ≡ Whole n = ap (λ b. record_at offset (take n b)) same ∙ whole_alone offset x n w in
@@ -45,7 +46,8 @@ held_first held whole None h = let e : None ≡ Some whole = h in cc
 held_first held whole (Some rest) h = let e : Some (held ++ rest) ≡ Some whole = h in (rest, refl, cc)
 
 -- the record at the front of what is held is the first of all that is ahead
-pub gives_record : (offset : ℕ) (held bytes : List ℕ) (after : Option (List ℕ)) (size : ℕ) → option_map (λ rest. held ++ rest) after ≡ Some bytes
+pub gives_record : (offset : ℕ) (held bytes : List ℕ) (after : Option (List ℕ)) (size : ℕ)
+    → option_map (λ rest. held ++ rest) after ≡ Some bytes
     → record_at offset held ≡ Whole size
     → GivesRecord offset bytes (entry_in offset (take size held)) (offset + size) (option_map (λ rest. drop size held ++ rest) after)
 gives_record offset held bytes after size h whole =
@@ -62,7 +64,8 @@ gives_record offset held bytes after size h whole =
     }
 
 -- the end
-pub gives_end : (offset : ℕ) (held bytes : List ℕ) (after : Option (List ℕ)) → option_map (λ rest. held ++ rest) after ≡ Some bytes → held ≡ [] → held ≡ bytes
+pub gives_end : (offset : ℕ) (held bytes : List ℕ) (after : Option (List ℕ))
+    → option_map (λ rest. held ++ rest) after ≡ Some bytes → held ≡ [] → held ≡ bytes
     → GivesNext offset bytes (Ok None) offset (option_map (λ rest. held ++ rest) after)
 gives_end offset held bytes after h none all = let empty : bytes ≡ [] = sym all ∙ none in (empty, h ∙ ap Some empty, refl)
 
@@ -76,7 +79,8 @@ gives_refusal offset first held coming after (BadRecord at why) h is = let f = h
 gives_refusal offset first held coming after (Truncated at) h is =
     let all : held ≡ first ++ coming = is.3 coming refl in
     (λ none. is.1 (all ∙ none), ap (record_at offset) (sym all) ∙ is.2, is.0)
-gives_refusal offset first held coming after (TooLong at) h is = let f = held_first held (first ++ coming) after h in ap (record_at offset) f.2
+gives_refusal offset first held coming after (TooLong at) h is = let f =
+    held_first held (first ++ coming) after h in ap (record_at offset) f.2
     ∙ bad_stays offset held f.0 (form.TooLong at) is
 gives_refusal offset first held coming after ReadFault h is = tt
 gives_refusal offset first held coming after OutOfMemory h is = tt

@@ -9,7 +9,8 @@ use lib.Seq.{take-add}
 use Rattle.adb_outside.specs.Source.{Takes}
 
 -- the first bytes that were to come are held now
-pub keeps_more : (old held chunk coming : List ℕ) (after : Option (List ℕ)) (n : ℕ) → held ≡ old ++ take n chunk → Takes coming after chunk n
+pub keeps_more : (old held chunk coming : List ℕ) (after : Option (List ℕ)) (n : ℕ) → held ≡ old ++ take n chunk
+    → Takes coming after chunk n
     → option_map (λ rest. held ++ rest) after ≡ Some (old ++ coming)
 keeps_more old held chunk coming after n is t =
     ap (λ a. option_map (λ (rest : List ℕ). held ++ rest) a) t.rest

@@ -37,7 +37,8 @@ HoldsAll held_before before held = (coming : List ℕ) → before ≡ Some comin
 abbrev pub AwaitsMagic : List ℕ → Option (List ℕ) → List ℕ → Option (List ℕ) → Result (Unit {0}) CaptureError → Type 0
 AwaitsMagic held_before before held after (Ok x) = (coming : List ℕ) → before ≡ Some coming
     → option_map (λ rest. magic ++ (held ++ rest)) after ≡ Some (held_before ++ coming)
-AwaitsMagic held_before before held after (Err BadMagic) = (coming : List ℕ) → before ≡ Some coming → past_magic (held_before ++ coming) ≡ None
+AwaitsMagic held_before before held after (Err BadMagic) = (coming : List ℕ) → before ≡ Some coming
+    → past_magic (held_before ++ coming) ≡ None
 AwaitsMagic held_before before held after (Err ReadFault) = (length held < length magic) × KeepsBytes held_before before held after
 AwaitsMagic held_before before held after (Err OutOfMemory) = KeepsBytes held_before before held after
 AwaitsMagic held_before before held after (Err _) = ⊥

@@ -7,7 +7,8 @@ use Rattle.adb_capture.specs.declared.error.CaptureError.TheVariants.{ReadFault}
 
 -- What is held and what is still to come are together the bytes that they were before.
 abbrev pub KeepsBytes : List ℕ → Option (List ℕ) → List ℕ → Option (List ℕ) → Type 0
-KeepsBytes held_before before held after = (coming : List ℕ) → before ≡ Some coming → option_map (λ rest. held ++ rest) after ≡ Some (held_before ++ coming)
+KeepsBytes held_before before held after = (coming : List ℕ) → before ≡ Some coming
+    → option_map (λ rest. held ++ rest) after ≡ Some (held_before ++ coming)
 
 -- whether a read failed; one that found no memory was not made
 abbrev pub is_failed : {E : Type 0} → Result Got E → Bool

@@ -1,5 +1,6 @@
 -- What a reader of captures has before it, and what it gives of it.
-use Rattle.std.specs.Prelude.{ℕ, ◌+◌, ◌≡◌, ◌≢◌, ◌<◌, ◌≤◌, Bool, true, false, if◌then◌else◌, List, [], ◌++◌, length, take, drop, Option, Some, None}
+use Rattle.std.specs.Prelude.{ℕ, ◌+◌, ◌≡◌, ◌≢◌, ◌<◌, ◌≤◌, Bool, true, false, if◌then◌else◌, List, [], ◌++◌, length, take, drop, Option}
+use Rattle.std.specs.Prelude.{Some, None}
 use Rattle.std.specs.Prelude.{option_and_then, Result, Ok, Err, IfOk, IfSome, bytes_eq}
 use Rattle.adb_outside.specs.declared.framer.Front.TheVariants.{More, Bad, Whole}
 use Rattle.adb_capture.specs.declared.entry.Entry.{Entry}
@@ -10,7 +11,8 @@ use Rattle.adb_capture.specs.declared.limits.TheConstants.{RECORD_HEADER_LEN, MA
 use Rattle.adb_capture_reader.specs.Counting.{KeepsBytes}
 use Rattle.adb_capture.specs.Records.{magic, record_at, entry_in, offset_after, HasRecord}
 
--- A reader: whether the magic was read, the offset of the next record, the bytes that were read past it, and the error that it answers from now on.
+-- A reader: whether the magic was read, the offset of the next record, the bytes that were read past it, and the
+-- error that it answers from now on.
 pub record Reading : Type 0 where
   pub opened : Bool
   pub offset : ℕ

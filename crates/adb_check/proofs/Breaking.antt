@@ -82,7 +82,8 @@ module _ (s : State) (going : s.stopped ≡ false) where
         })
 
     plugs_refused : (next : Bool) → nat_eq t (s.devices.drawn + 1) ≡ next → (why : Reason)
-        → cond next (attach_reason (attach_refusal s.devices serial)) (Some reason.NotDrawn) ≡ Some why → IsReasonFor (reason_rule why) s plugs
+        → cond next (attach_reason (attach_refusal s.devices serial)) (Some reason.NotDrawn) ≡ Some why
+        → IsReasonFor (reason_rule why) s plugs
     plugs_refused true next why is = refused_for (eqb-true t (s.devices.drawn + 1) next) (attach_refusal s.devices serial) refl why is
     plugs_refused false other why is =
         let same : reason.NotDrawn ≡ why = cc in

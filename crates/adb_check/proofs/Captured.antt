@@ -1,5 +1,6 @@
 -- How far the history of a capture was judged, and what that comes to.
-use Rattle.std.proofs.Common.{ℕ, ◌+◌, ◌≡◌, ◌≢◌, ◌≤◌, true, false, List, [], ◌∷◌, ◌++◌, length, take, drop, reverse, Option, Some, None, Result, Ok, Err}
+use Rattle.std.proofs.Common.{ℕ, ◌+◌, ◌≡◌, ◌≢◌, ◌≤◌, true, false, List, [], ◌∷◌, ◌++◌, length, take, drop, reverse, Option, Some, None}
+use Rattle.std.proofs.Common.{Result, Ok, Err}
 use Rattle.std.proofs.Common.{refl, sym, ◌∙◌, ap, subst, arith}
 use Rattle.std.specs.Prelude.{option_and_then}
 use Rattle.std.proofs.lemmas.List.{append_assoc, append-nil, reverse-append, reverse-reverse, length-reverse}
@@ -50,10 +51,12 @@ formed_front offset bytes (Whole n) =
 
 formed_first : (offset : ℕ) (bytes : List ℕ) → formed_records offset bytes ≡ formed_front offset bytes (record_at offset bytes)
 formed_first offset bytes =
-    ap (λ (c : Cut ℕ (ℕ × Entry) FormFault). formed_cut c) (cut_first record_at entry_in offset_after framing offset bytes) ∙ go (record_at offset bytes)
+    ap (λ (c : Cut ℕ (ℕ × Entry) FormFault). formed_cut c)
+    (cut_first record_at entry_in offset_after framing offset bytes) ∙ go (record_at offset bytes)
   where
     go : (f : Front FormFault)
-        → formed_cut (cut_by record_at entry_in offset_after offset bytes f (cut record_at entry_in offset_after)) ≡ formed_front offset bytes f
+        → formed_cut (cut_by record_at entry_in offset_after offset bytes f (cut record_at entry_in offset_after))
+        ≡ formed_front offset bytes f
     go More = refl
     go (Bad why) = refl
     go (Whole n) = refl
@@ -67,7 +70,8 @@ behind_next : (e : Entry) (given : History) (f : Formed) → behind given (with_
 behind_next e given f i = record { entries = entries i; refused = f.refused }
   where
     entries : reverse given ++ e ∷ f.entries ≡ reverse (e ∷ given) ++ f.entries
-    entries = sym (append_assoc (reverse given) (e ∷ []) f.entries) ∙ ap (λ (g : List Entry). g ++ f.entries) (sym (reverse-append (e ∷ []) given))
+    entries = sym (append_assoc (reverse given) (e ∷ []) f.entries)
+        ∙ ap (λ (g : List Entry). g ++ f.entries) (sym (reverse-append (e ∷ []) given))
 
 -- the history of entries that were given, behind nothing
 pub history_given : (given : History) (refused : Option Refusal) → history_of (behind given (ends_with refused)) ≡ given
@@ -94,7 +98,8 @@ pub record JudgingOn (before : Option (List ℕ)) (now : Reading) (left : Option
   pub sound : now.failed ≡ None
   pub came : (all : List ℕ) → before ≡ Some all → Came all now left given
 
-pub judging_first : (before : Option (List ℕ)) (now : Reading) (judge : Judging) → now ≡ record { opened = false; offset = 8; held = []; failed = None }
+pub judging_first : (before : Option (List ℕ)) (now : Reading) (judge : Judging)
+    → now ≡ record { opened = false; offset = 8; held = []; failed = None }
     → Judges judge [] → JudgingOn before now before 0 judge
 judging_first before now judge is judges = subst (λ (r : Reading). JudgingOn before r before 0 judge) (sym is) (record {
   given = [];
@@ -142,7 +147,8 @@ module _ (all : List ℕ) (now : Reading) (left : Option (List ℕ)) (given : Hi
 
           first : formed_records now.offset bytes ≡ with_entry e (formed_records new.offset (drop g.size bytes))
           first = formed_so now.offset bytes (Whole g.size) g.whole
-              ∙ (ap (λ (p : ℕ × Entry). with_entry p.1 (formed_records (offset_after now.offset (take g.size bytes)) (drop g.size bytes))) (sym g.is)
+              ∙ (ap (λ (p : ℕ × Entry). with_entry p.1
+              (formed_records (offset_after now.offset (take g.size bytes)) (drop g.size bytes))) (sym g.is)
               ∙ ap (λ n. with_entry e (formed_records n (drop g.size bytes))) (sym g.next_offset_is))
 
   -- the end of the source
@@ -176,7 +182,8 @@ module _ (all : List ℕ) (now : Reading) (left : Option (List ℕ)) (given : Hi
   refused_so bytes capture.ReadFault some is = absurd (some refl)
   refused_so bytes capture.OutOfMemory some is = absurd (some refl)
 
-  no_magic : (why : CaptureError) → refusal_by why ≢ None → IsMagicRefused (Err why) → ends_with (refusal_by capture.BadMagic) ≡ ends_with (refusal_by why)
+  no_magic : (why : CaptureError) → refusal_by why ≢ None → IsMagicRefused (Err why)
+      → ends_with (refusal_by capture.BadMagic) ≡ ends_with (refusal_by why)
   no_magic capture.BadMagic some is = refl
   no_magic (capture.BadRecord at why) some is = absurd is
   no_magic (capture.Truncated at) some is = absurd is
@@ -206,7 +213,8 @@ pub record Turn : Type 0 where
   pub given : Gives now left (Ok (Some (offset, entry))) new after
 
 -- A legal entry more was judged.
-pub judging_on : {before : Option (List ℕ)} (t : Turn) (entries : ℕ) (judge new : Judging) → (j : JudgingOn before t.now t.left entries judge)
+pub judging_on : {before : Option (List ℕ)} (t : Turn) (entries : ℕ) (judge new : Judging)
+    → (j : JudgingOn before t.now t.left entries judge)
     → Says Legal (t.entry ∷ j.given) → Judges new (t.entry ∷ j.given) → t.new.failed ≡ None
     → JudgingOn before t.new t.after (entries + 1) new
 judging_on t entries judge new j legal judges sound = record {
@@ -220,7 +228,8 @@ judging_on t entries judge new j legal judges sound = record {
 }
 
 -- An entry was found that may not come.
-pub judging_broken : {before : Option (List ℕ)} (t : Turn) (entries : ℕ) (judge : Judging) (rule : Rule) → (j : JudgingOn before t.now t.left entries judge)
+pub judging_broken : {before : Option (List ℕ)} (t : Turn) (entries : ℕ) (judge : Judging) (rule : Rule)
+    → (j : JudgingOn before t.now t.left entries judge)
     → Says (Illegal rule) (t.entry ∷ j.given) → (all : List ℕ) → before ≡ Some all → (last : Option (List ℕ))
     → JudgesCapture (Ok (judgement.Illegal (entries + 1) rule)) (formed all) last
 judging_broken {before} t entries judge rule j says all was last =
@@ -228,7 +237,8 @@ judging_broken {before} t entries judge rule j says all was last =
       later = reverse rest.entries ++ bad.later;
       entry = bad.entry;
       earlier = bad.earlier;
-      is = ap (λ (h : History). reverse rest.entries ++ h) bad.is ∙ sym (append_assoc (reverse rest.entries) bad.later (bad.entry ∷ bad.earlier));
+      is = ap (λ (h : History). reverse rest.entries ++ h) bad.is
+          ∙ sym (append_assoc (reverse rest.entries) bad.later (bad.entry ∷ bad.earlier));
       legal = bad.legal;
       illegal = bad.illegal;
       at = place ∙ bad.at;
@@ -263,7 +273,8 @@ left_none new after opened e =
     s.1 ∙ ap Some (none_held new.held s.0 none)
 
 -- The source was read to its end.
-pub judging_over : {before : Option (List ℕ)} {now : Reading} {left : Option (List ℕ)} {entries : ℕ} {judge : Judging} (new : Reading) (after : Option (List ℕ))
+pub judging_over : {before : Option (List ℕ)} {now : Reading} {left : Option (List ℕ)} {entries : ℕ} {judge : Judging}
+    (new : Reading) (after : Option (List ℕ))
     → Gives now left (Ok None) new after → new.opened ≡ true → JudgingOn before now left entries judge → (all : List ℕ) → before ≡ Some all
     → JudgesCapture (Ok (judgement.Legal entries)) (formed all) after
 judging_over {now = now} {left = left} {entries = entries} new after gives opened j all was =

@@ -1,5 +1,6 @@
 -- What a hub that was asked for a hand-out says of it.
-use Rattle.std.proofs.Common.{ℕ, ◌≡◌, true, false, Bool, if◌then◌else◌, List, [], ◌∷◌, ◌++◌, length, take, Option, Some, None, Result, Ok, Err}
+use Rattle.std.proofs.Common.{ℕ, ◌≡◌, true, false, Bool, if◌then◌else◌, List, [], ◌∷◌, ◌++◌, length, take, Option, Some, None, Result, Ok}
+use Rattle.std.proofs.Common.{Err}
 use Rattle.std.proofs.Common.{refl, sym, ◌∙◌, ap, subst, arith}
 use Rattle.std.specs.Prelude.{IfOk, OnErr, bytes_eq, max}
 use Rattle.std.proofs.lemmas.List.{take_at}
@@ -101,7 +102,8 @@ module _ (h : History) (old new : Kept) (c : ℕ) (bytes : List ℕ) where
   client_may None other may = may
   client_may (Some client) other may = other may
 
-  no_client : (told : HubError) → unless_drawn (is_drawn (state h).joined c) (NoClient c) ≡ Some told → Takes (Some NotDrawn) (Put c bytes) h new
+  no_client : (told : HubError) → unless_drawn (is_drawn (state h).joined c) (NoClient c) ≡ Some told
+      → Takes (Some NotDrawn) (Put c bytes) h new
   no_client told is = record {
     breaks = λ drawn. no_kill (sym (untested (is_drawn (state h).joined c) (NoClient c) told is) ∙ drawn_tested (state h).joined c drawn);
     before = λ k. no_kill k.0;
@@ -130,9 +132,12 @@ module _ (h : History) (old new : Kept) (t : ℕ) (bytes : List ℕ) where
   link_may None other may = may
   link_may (Some link) other may = other may
 
-  no_link : (told : HubError) → unless_drawn (is_drawn (state h).devices.drawn t) (NoLink t) ≡ Some told → Takes (Some NotDrawn) (Send t bytes) h new
+  no_link : (told : HubError) → unless_drawn (is_drawn (state h).devices.drawn t) (NoLink t) ≡ Some told
+      → Takes (Some NotDrawn) (Send t bytes) h new
   no_link told is = record {
-    breaks = λ drawn. no_kill (sym (untested (is_drawn (state h).devices.drawn t) (NoLink t) told is) ∙ drawn_tested (state h).devices.drawn t drawn);
+    breaks = λ drawn. no_kill
+        (sym (untested (is_drawn (state h).devices.drawn t) (NoLink t) told is)
+        ∙ drawn_tested (state h).devices.drawn t drawn);
     before = λ k. no_kill k.0;
   }
 
@@ -151,7 +156,8 @@ module _ (h : History) (old new : Kept) (t : ℕ) (bytes : List ℕ) where
 
 -- ---- as before
 -- a hub that is as before where it answers an error is so where want of memory is told
-pub err_same : (old new : Kept) (answer : Result Handed HubError) (bytes : List ℕ) → OnErr answer (new ≡ old) → OnErr (broken_by answer bytes) (new ≡ old)
+pub err_same : (old new : Kept) (answer : Result Handed HubError) (bytes : List ℕ) → OnErr answer (new ≡ old)
+    → OnErr (broken_by answer bytes) (new ≡ old)
 err_same old new (Ok given) bytes same = tt
 err_same old new (Err OutOfMemory) bytes same = same
 err_same old new (Err Stopped) bytes same = tt

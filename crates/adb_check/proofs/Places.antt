@@ -86,7 +86,8 @@ place_next e h bad legal b = go b.later b.is
 -- of two ends of a list, one behind the other, one is the other or lies within it
 abbrev pub EndsWithin : (first other : Entry) (older rest : History) → Type 0
 EndsWithin first other older rest =
-    ((first ≡ other) × (older ≡ rest)) ⊎ ((newer : History) × (older ≡ newer ++ other ∷ rest)) ⊎ ((newer : History) × (rest ≡ newer ++ first ∷ older))
+    ((first ≡ other) × (older ≡ rest)) ⊎ ((newer : History) × (older ≡ newer ++ other ∷ rest))
+    ⊎ ((newer : History) × (rest ≡ newer ++ first ∷ older))
 
 ends_within : (later more : History) (first other : Entry) (older rest : History) → later ++ first ∷ older ≡ more ++ other ∷ rest
     → EndsWithin first other older rest

@@ -1,5 +1,6 @@
 -- Lists that end alike: the handles of a front.
-use Rattle.std.proofs.Common.{◌≡◌, ℕ, ◌-◌, ◌<◌, ◌≤◌, List, [], ◌++◌, length, take, drop, zero, suc, All, Option, Some, None, IfSome, refl, ap, ◌∙◌, arith, append_assoc, length-append, take-append-drop}
+use Rattle.std.proofs.Common.{◌≡◌, ℕ, ◌-◌, ◌<◌, ◌≤◌, List, [], ◌++◌, length, take, drop, zero, suc, All, Option, Some, None, IfSome, refl}
+use Rattle.std.proofs.Common.{ap, ◌∙◌, arith, append_assoc, length-append, take-append-drop}
 use Rattle.std.specs.Option.{option_to_list}
 use Rattle.std.specs.Prelude.{unwrap_or}
 use Rattle.std.proofs.Math.Seq.{drop-append_seam}
@@ -20,7 +21,8 @@ ends_drop end all h =
     rw (n, ← h.is) (drop-append_seam h.start end)
 
 -- one of the handles was taken, and the front became shorter
-pub ends_all : (n : ℕ) (front : List ℕ) (all rest : List (List ℕ)) (one : Option (List ℕ)) → all ≡ rest ++ option_to_list one → All (EndsWith front) all
+pub ends_all : (n : ℕ) (front : List ℕ) (all rest : List (List ℕ)) (one : Option (List ℕ))
+    → all ≡ rest ++ option_to_list one → All (EndsWith front) all
     → All (EndsWith (drop n front)) rest
 ends_all n front all rest one is ends =
     All-weaker (EndsWith front) (EndsWith (drop n front)) (ends_less n front) rest (All-pop (EndsWith front) all rest one is ends).0

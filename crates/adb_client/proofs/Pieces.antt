@@ -29,7 +29,8 @@ module _ (whole front piece : List ℕ) (n len : ℕ) (is : whole ≡ front ++ p
   }
 
   -- so much of it stays
-  pub stays_in_part : (new : List ℕ) → n < len → len - length piece < n → new ≡ front ++ take (n - (len - length piece)) piece → Keeps n whole new n
+  pub stays_in_part : (new : List ℕ) → n < len → len - length piece < n
+      → new ≡ front ++ take (n - (len - length piece)) piece → Keeps n whole new n
   stays_in_part new less more now =
       let left = n - (len - length piece) in
       let sum : n ≡ length front + left = omega (arith, more, place) in
@@ -58,7 +59,8 @@ keeps_all n len whole counted = record {
 }
 
 -- those that were to stay
-module _ (n len : ℕ) (whole now : List ℕ) (left : ℕ) (counted : len ≡ length whole) (k : Keeps (min len n) whole now left) (done : left ≤ n) where
+module _ (n len : ℕ) (whole now : List ℕ) (left : ℕ) (counted : len ≡ length whole)
+    (k : Keeps (min len n) whole now left) (done : left ≤ n) where
   pub kept_len : left ≡ min len n
   kept_len = omega (arith, k.enough, k.len, ap length k.kept, length-take left whole, counted, done)
 

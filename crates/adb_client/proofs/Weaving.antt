@@ -39,7 +39,8 @@ behind_three : (xs ys zs more : List ℕ) → xs ++ (ys ++ (zs ++ more)) ≡ (xs
 behind_three xs ys zs more = ap (λ (l : List ℕ). xs ++ l) (sym (append_assoc ys zs more)) ∙ sym (append_assoc xs (ys ++ zs) more)
 
 -- own bytes are put behind
-pub woven_own : (slices : List Slice) (own more : List ℕ) → own_before slices ≤ length own → woven slices (own ++ more) ≡ woven slices own ++ more
+pub woven_own : (slices : List Slice) (own more : List ℕ) → own_before slices ≤ length own
+    → woven slices (own ++ more) ≡ woven slices own ++ more
 woven_own [] own more h = refl
 woven_own (s ∷ slices) own more h =
     let within = behind_first s slices own h in
@@ -55,7 +56,8 @@ pub woven_slice : (slices : List Slice) (own : List ℕ) (slice : Slice) → own
 woven_slice [] own slice h =
     let all : length own ≤ slice.before = omega (arith, h) in
     ap (λ (l : List ℕ). l ++ (slice.bytes ++ drop slice.before own)) (take_all slice.before own all)
-    ∙ (ap (λ (l : List ℕ). own ++ (slice.bytes ++ l)) (drop_all slice.before own all) ∙ ap (λ (l : List ℕ). own ++ l) (append-nil slice.bytes))
+    ∙ (ap (λ (l : List ℕ). own ++ (slice.bytes ++ l)) (drop_all slice.before own all)
+    ∙ ap (λ (l : List ℕ). own ++ l) (append-nil slice.bytes))
 woven_slice (s ∷ slices) own slice h =
     let left = drop s.before own in
     let here : own_before slices + slice.before ≡ length left = omega (arith, h, before_more s slices, length-drop s.before own) in
@@ -75,7 +77,8 @@ cut_own n slice slices own few within =
     let own_rest : drop (before - n) (drop n own) ≡ drop before own = drop-drop (before - n) n own ∙ ap (λ (m : ℕ). drop m own) all in
     let fits : n ≤ length (take before own) = omega (arith, few, within, length-take-le before own within) in
     ap (λ (l : List ℕ). l ++ rest (drop (before - n) (drop n own))) own_first
-    ∙ (ap (λ (l : List ℕ). drop n (take before own) ++ rest l) own_rest ∙ sym (drop-append-le n (take before own) (rest (drop before own)) fits))
+    ∙ (ap (λ (l : List ℕ). drop n (take before own) ++ rest l) own_rest
+    ∙ sym (drop-append-le n (take before own) (rest (drop before own)) fits))
 
 abbrev is_some : Slice → Type 0
 is_some slice = 0 < length slice.bytes
@@ -90,7 +93,8 @@ count_rest slice slices before shared h = record {
 }
 
 -- own bytes before the first slice go
-pub count_own : (n : ℕ) (slice : Slice) (slices : List Slice) (before shared : ℕ) → IsCounted (slice ∷ slices) before shared → n ≤ slice.before
+pub count_own : (n : ℕ) (slice : Slice) (slices : List Slice) (before shared : ℕ)
+    → IsCounted (slice ∷ slices) before shared → n ≤ slice.before
     → IsCounted (record { before = slice.before - n; bytes = slice.bytes } ∷ slices) (before - n) shared
 count_own n slice slices before shared h few =
     let less : Slice = record { before = slice.before - n; bytes = slice.bytes } in

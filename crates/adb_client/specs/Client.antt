@@ -3,7 +3,8 @@ use Rattle.std.specs.Prelude.{ℕ, List, Bool, false, None}
 use Rattle.adb_client.specs.declared.about.About.{About}
 use Rattle.adb_client.specs.declared.phase.Phase.TheVariants.{Asking}
 
--- What is plain of a client; what it sent that is held, in order; how many of the first of these bytes can be cut off without memory, and in how many pieces;
+-- What is plain of a client; what it sent that is held, in order; how many of the first of these bytes can be cut off
+-- without memory, and in how many pieces;
 -- what is due to it, in order; and how many bytes more, and how many slices more, can become due without memory.
 pub record SeenClient : Type 0 where
   pub about : About

@@ -7,7 +7,8 @@ use Rattle.adb_client.specs.declared.fronts.Fronts.TheInside.{Inside}
 abbrev pub ahead : Inside → Ahead
 ahead i = record { bytes = i.first.bytes ++ i.second.bytes; ready = i.ready; cuts = i.cuts }
 
--- All can be counted; what is ready was cut ahead; nothing stands behind a first slice that is empty; and as long as bytes of a slice are ready, there are
+-- All can be counted; what is ready was cut ahead; nothing stands behind a first slice that is empty; and as long as
+-- bytes of a slice are ready, there are
 -- handles of it for the cuts.
 pub record IsAhead (i : Inside) : Type 0 where
   pub bounded : length i.first.bytes + length i.second.bytes < 2 ^ 63

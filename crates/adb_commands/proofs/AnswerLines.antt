@@ -1,5 +1,6 @@
 -- Answer lines that are kept, one after the other, and go out.
-use Rattle.std.proofs.Common.{ℕ, ◌+◌, ◌≡◌, ◌<◌, suc, length, drop, get_or, inr, List, [], ◌∷◌, ◌++◌, Option, Some, None, Result, Ok, Err, refl, sym, ◌∙◌, ap, subst, append_assoc, arith}
+use Rattle.std.proofs.Common.{ℕ, ◌+◌, ◌≡◌, ◌<◌, suc, length, drop, get_or, inr, List, [], ◌∷◌, ◌++◌, Option, Some, None, Result, Ok, Err}
+use Rattle.std.proofs.Common.{refl, sym, ◌∙◌, ap, subst, append_assoc, arith}
 use Rattle.std.specs.List.{concat}
 use Rattle.std.specs.Prelude.{option_map}
 use Rattle.std.proofs.lemmas.List.{append-nil}
@@ -41,7 +42,8 @@ says_none all before = record { said = []; whole = refl; kept = λ had k. k }
 pub says_all : (all rest : List (List ℕ)) (before now : Out) → Saying all rest before now → rest ≡ []
     → (had : List ℕ) → Keeps had [] before → KeepsText (Ok tt) had (concat all) now
 says_all all rest before now s none had k =
-    subst (λ (ls : List (List ℕ)). Keeps had (concat ls) now) (sym (append-nil s.said) ∙ (ap (λ (end : List (List ℕ)). s.said ++ end) (sym none) ∙ s.whole))
+    subst (λ (ls : List (List ℕ)). Keeps had (concat ls) now)
+    (sym (append-nil s.said) ∙ (ap (λ (end : List (List ℕ)). s.said ++ end) (sym none) ∙ s.whole))
     (s.kept had k)
 
 module _ (all rest : List (List ℕ)) (before now : Out) (s : Saying all rest before now) where
@@ -60,7 +62,8 @@ module _ (all rest : List (List ℕ)) (before now : Out) (s : Saying all rest be
     says_more keeps = record {
       said = s.said ++ line ∷ [];
       whole = longer;
-      kept = λ had k. subst (λ (text : List ℕ). Keeps had text new) (sym (concat-one s.said line)) (keeps had (concat s.said) (s.kept had k));
+      kept = λ had k. subst (λ (text : List ℕ). Keeps had text new) (sym (concat-one s.said line))
+          (keeps had (concat s.said) (s.kept had k));
     }
 
     -- a front of what is kept with a line more is a front of all
@@ -104,7 +107,8 @@ pub answers_on : {first now next : LinesLeft} {old world left : View} {before af
 answers_on {first} {now} {next} {old} {world} {left} {before} {after} {new} {answer = answer} a runs keeps counts = record {
   idle = runs.idle;
   given = (let one = runs.given in let given = a.given in omega (arith, one, given));
-  saying = says_more (answers_left first old) (answers_left now world) before after a.saying answer (answers_left next left) runs.answers new keeps;
+  saying = says_more (answers_left first old) (answers_left now world) before after a.saying answer
+      (answers_left next left) runs.answers new keeps;
   counts = counts;
 }
 
@@ -130,7 +134,8 @@ pub keeps_none : (had gathered : List ℕ) (written : Option (List ℕ)) → wri
 keeps_none had gathered written is none = record { growth = []; is = is ∙ ap Some (sym (append-nil had)); whole = none }
 
 -- a front of a front
-front_on : (had kept text : List ℕ) (written : Option (List ℕ)) → IsPrefixOf kept text → HasFront had kept written → HasFront had text written
+front_on : (had kept text : List ℕ) (written : Option (List ℕ)) → IsPrefixOf kept text → HasFront had kept written
+    → HasFront had text written
 front_on had kept text written f h = record {
   growth = h.growth;
   is = h.is;
@@ -138,7 +143,8 @@ front_on had kept text written f h = record {
 }
 
 module _ (had all : List ℕ) (mid : Out) (after : Option (List ℕ)) where
-  pub text_out : (ended : Result (Unit {0}) Stop) → KeepsText ended had all mid → ((had text : List ℕ) → Keeps had text mid → after ≡ Some (had ++ text))
+  pub text_out : (ended : Result (Unit {0}) Stop) → KeepsText ended had all mid
+      → ((had text : List ℕ) → Keeps had text mid → after ≡ Some (had ++ text))
       → (mid.1 ≡ [] → after ≡ mid.0) → WritesOut ended had all after
   text_out (Ok done) k out same = out had all k
   text_out (Err lost.ReadFault) k out same = absurd k
@@ -146,7 +152,8 @@ module _ (had all : List ℕ) (mid : Out) (after : Option (List ℕ)) where
   text_out (Err lost.OutOfMemory) k out same = record { growth = k.kept; is = out had k.kept k.keeps; front = k.front }
   text_out (Err (lost.Refused refusal)) k out same = absurd k
 
-  pub text_lost : (ended : Result (Unit {0}) Stop) → KeepsText ended had all mid → ((had text : List ℕ) → Keeps had text mid → HasFront had text after)
+  pub text_lost : (ended : Result (Unit {0}) Stop) → KeepsText ended had all mid
+      → ((had text : List ℕ) → Keeps had text mid → HasFront had text after)
       → (mid.1 ≡ [] → after ≡ mid.0) → HasFront had all after
   text_lost (Ok done) k out same = out had all k
   text_lost (Err lost.ReadFault) k out same = absurd k
@@ -159,7 +166,8 @@ pub none_out : (had all : List ℕ) (written : Option (List ℕ)) → written �
 none_out had all written is = record { growth = []; is = is ∙ ap Some (sym (append-nil had)); front = (all, refl) }
 
 -- ---- why a script is not answered
-pub lost_out : (kind : ScriptKind) (why : Stop) (ended : ScriptStop) (script text had : List ℕ) (written : Option (List ℕ)) → IsLostBy why ended
+pub lost_out : (kind : ScriptKind) (why : Stop) (ended : ScriptStop) (script text had : List ℕ)
+    (written : Option (List ℕ)) → IsLostBy why ended
     → answer_lines kind script ≡ Some text → HasFront had text written → StopsOut kind ended script had written
 lost_out kind lost.ReadFault ended script text had written by is part = absurd by
 lost_out kind lost.WriteFault ended script text had written by is part =
@@ -169,7 +177,8 @@ lost_out kind lost.OutOfMemory ended script text had written by is part =
 lost_out kind (lost.Refused refusal) ended script text had written by is part = absurd by
 
 -- ---- the answer lines of a script of which no line is refused
-pub answers_are : (script : List ℕ) → asked.first_bad script ≡ None → answer_lines kinds.Local script ≡ Some (concat (answers_from 1 [] (lines_in script)))
+pub answers_are : (script : List ℕ) → asked.first_bad script ≡ None
+    → answer_lines kinds.Local script ≡ Some (concat (answers_from 1 [] (lines_in script)))
 answers_are script good = ap (λ (bad : Option ℕ). option_map concat (answers_unless bad (lines_in script))) good
 
 -- the same of the lines that are left

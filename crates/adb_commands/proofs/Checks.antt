@@ -21,7 +21,8 @@ comes_to (judged.Legal entries) f left j = ((j.0, promised (history_of f) j.1, j
 comes_to (judged.Illegal place rule) f left j = (j, tt)
 
 -- An error of the reader.
-pub judges_stopped : (why : CaptureError) (f : Formed) (left : Option (List ℕ)) → IsRefusedAs (refusal_by why) f → JudgesSo (Err (stop_of why)) f left
+pub judges_stopped : (why : CaptureError) (f : Formed) (left : Option (List ℕ)) → IsRefusedAs (refusal_by why) f
+    → JudgesSo (Err (stop_of why)) f left
 judges_stopped capture.BadMagic f left is = is
 judges_stopped (capture.BadRecord at why) f left is = is
 judges_stopped (capture.Truncated at) f left is = is
@@ -61,7 +62,8 @@ line_out judgement f had piece written same is = is ∙ ap (λ (b : List ℕ). S
 
 -- A front of it did.
 pub line_lost : (judgement : Judgement) (f : Formed) (left : Option (List ℕ)) (had piece : List ℕ) (taken : ℕ) (written : Option (List ℕ))
-    → JudgesCapture (Ok judgement) f left → piece ≡ judged_line judgement → written ≡ Some (had ++ take taken piece) → LosesLine f had written
+    → JudgesCapture (Ok judgement) f left → piece ≡ judged_line judgement → written ≡ Some (had ++ take taken piece)
+    → LosesLine f had written
 line_lost judgement f left had piece taken written j same is = record {
   judgement = judgement;
   comes = (comes_to judgement f left j).0;

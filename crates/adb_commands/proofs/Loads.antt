@@ -1,5 +1,6 @@
 -- What a run of a load leaves.
-use Rattle.std.proofs.Common.{ℕ, ◌≡◌, ◌≤◌, ◌-◌, ◌^◌, ◌&&◌, nat_le, ◌∙◌, Bool, true, false, if◌then◌else◌, List, [], ◌∷◌, ◌++◌, take, drop, codes}
+use Rattle.std.proofs.Common.{ℕ, ◌≡◌, ◌≤◌, ◌-◌, ◌^◌, ◌&&◌, nat_le, ◌∙◌, Bool, true, false, if◌then◌else◌, List, [], ◌∷◌, ◌++◌, take, drop}
+use Rattle.std.proofs.Common.{codes}
 use Rattle.std.proofs.Common.{Option, Some, None, refl, subst, arith}
 use Rattle.std.specs.Prelude.{option_and_then, option_map, bytes_eq}
 use Rattle.std.proofs.lemmas.Bool.{leb-true}
@@ -31,7 +32,8 @@ part_out text piece had taken written same is = record {
 }
 
 -- ---- the size of a load that words name
-within : (least most : ℕ) (o : Option ℕ) (n : ℕ) → option_and_then (λ m. if nat_le least m && nat_le m most then Some m else None) o ≡ Some n → n ≤ most
+within : (least most : ℕ) (o : Option ℕ) (n : ℕ) → option_and_then
+    (λ m. if nat_le least m && nat_le m most then Some m else None) o ≡ Some n → n ≤ most
 within least most None n e = absurd (let clash : None ≡ Some n = e in cc)
 within least most (Some m) n e = go (nat_le least m) (nat_le m most) refl e
   where
@@ -58,7 +60,8 @@ no_load : (command : Command) (words : List (List ℕ)) (seed streams : ℕ) →
 no_load command [] seed streams other e = other e
 no_load command (word ∷ words) seed streams other e = let clash : None ≡ Some (Gen seed streams) = e in cc
 
-no_script : (seeded : ℕ → Command) (seed_named : Option ℕ) (seed streams : ℕ) → ((named : ℕ) → ¬ (Some (seeded named) ≡ Some (Gen seed streams)))
+no_script : (seeded : ℕ → Command) (seed_named : Option ℕ) (seed streams : ℕ)
+    → ((named : ℕ) → ¬ (Some (seeded named) ≡ Some (Gen seed streams)))
     → option_map seeded seed_named ≡ Some (Gen seed streams) → ⊥
 no_script seeded None seed streams other e = let clash : None ≡ Some (Gen seed streams) = e in cc
 no_script seeded (Some named) seed streams other e = other named e
@@ -69,7 +72,8 @@ few_named (name ∷ words) seed streams e = go (bytes_eq name (codes "replay")) 
     (bytes_eq name (codes "local")) (bytes_eq name (codes "copy")) e
   where
     go : (a b c d f : Bool) → (if a then bare_of Replay words else (if b then bare_of Check words else (if c then gen_of words
-        else (if d then option_map Local (seed_of words) else (if f then option_map Copy (seed_of words) else None))))) ≡ Some (Gen seed streams)
+        else (if d then option_map Local (seed_of words) else
+        (if f then option_map Copy (seed_of words) else None))))) ≡ Some (Gen seed streams)
         → streams ≤ MAX_STREAMS
     go true b c d f is = absurd (no_load Replay words seed streams (λ e. cc) is)
     go false true c d f is = absurd (no_load Check words seed streams (λ e. cc) is)

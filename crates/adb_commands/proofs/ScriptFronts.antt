@@ -1,5 +1,6 @@
 -- A script that is too long is refused as every front of it is that is too long.
-use Rattle.std.proofs.Common.{ℕ, ◌+◌, ◌≡◌, ◌<◌, ◌≤◌, Bool, true, false, cond, List, [], ◌∷◌, ◌++◌, length, Option, Some, None, refl, sym, ◌∙◌, ap, subst, arith}
+use Rattle.std.proofs.Common.{ℕ, ◌+◌, ◌≡◌, ◌<◌, ◌≤◌, Bool, true, false, cond, List, [], ◌∷◌, ◌++◌, length, Option, Some, None, refl, sym}
+use Rattle.std.proofs.Common.{◌∙◌, ap, subst, arith}
 use Rattle.std.specs.List.{onto_first}
 use Rattle.std.specs.Prelude.{if◌then◌else◌, is_none, ◌||◌, Result}
 use Rattle.std.specs.Result.{result_err}
@@ -33,13 +34,15 @@ front_of_any [] line lines = refl
 front_of_any (byte ∷ front) line lines = refl
 
 -- one byte more stands before it
-one_more : (byte : ℕ) (front : List ℕ) (lines : List (List ℕ)) → with_front front (onto_first byte lines) ≡ with_front (front ++ byte ∷ []) lines
+one_more : (byte : ℕ) (front : List ℕ) (lines : List (List ℕ))
+    → with_front front (onto_first byte lines) ≡ with_front (front ++ byte ∷ []) lines
 one_more byte [] [] = refl
 one_more byte [] (line ∷ lines) = refl
 one_more byte (first ∷ front) [] = refl
 one_more byte (first ∷ front) (line ∷ lines) = ap (λ text. (first ∷ text) ∷ lines) (sym (append_assoc front (byte ∷ []) line))
 
--- Lines that are read one behind the other: each by what those before it made, by its number and by how many bytes of the script there are up to its end.
+-- Lines that are read one behind the other: each by what those before it made, by its number and by how many bytes of
+-- the script there are up to its end.
 -- It is refused, always where these are too many, or the lines behind it are read by what it makes.
 pub record Walk (S : Type 0) : Type 1 where
   pub next : ℕ → ℕ → S → List ℕ → Option S
@@ -47,7 +50,8 @@ pub record Walk (S : Type 0) : Type 1 where
   pub far : (number end : ℕ) (s : S) (line : List ℕ) → is_too_far number end ≡ true → next number end s line ≡ None
   pub refused : (number before : ℕ) (s : S) (line : List ℕ) (lines : List (List ℕ)) → next number (before + length line) s line ≡ None
       → bad_among number before s (line ∷ lines) ≡ Some number
-  pub passed : (number before : ℕ) (s now : S) (line : List ℕ) (lines : List (List ℕ)) → next number (before + length line) s line ≡ Some now
+  pub passed : (number before : ℕ) (s now : S) (line : List ℕ) (lines : List (List ℕ))
+      → next number (before + length line) s line ≡ Some now
       → bad_among number before s (line ∷ lines) ≡ bad_among (number + 1) (before + length line) now lines
 
 -- Two scripts are refused at the same line.
@@ -114,12 +118,15 @@ module _ {S : Type 0} (w : Walk S) where
           → ((front : List ℕ) (number before : ℕ) (s : S) → before ≤ most → most < before + length front + length script
           → AreRefused w (with_front front (lines_of script)) (with_front front (lines_of (script ++ more))) number before s)
           → AreRefused w (with_front front (cond t ((byte ∷ []) ∷ lines_of script) (onto_first byte (lines_of script))))
-          (with_front front (cond t ((byte ∷ []) ∷ lines_of (script ++ more)) (onto_first byte (lines_of (script ++ more))))) number before s
+          (with_front front
+          (cond t ((byte ∷ []) ∷ lines_of (script ++ more)) (onto_first byte (lines_of (script ++ more)))))
+          number before s
       go true next =
           let line = front ++ byte ∷ [] in
           let long = length-append front (byte ∷ []) in
           let both = behind number before s line (lines_of script) (lines_of (script ++ more)) (λ now end.
-          subst (λ (ls : List (List ℕ)). AreRefused w ls (lines_of (script ++ more)) (number + 1) (before + length line) now) (none_before (lines_of script))
+          subst (λ (ls : List (List ℕ)). AreRefused w ls (lines_of (script ++ more)) (number + 1)
+          (before + length line) now) (none_before (lines_of script))
           (subst (λ (ls : List (List ℕ)). AreRefused w (with_front [] (lines_of script)) ls (number + 1) (before + length line) now)
           (none_before (lines_of (script ++ more)))
           (next [] (number + 1) (before + length line) now end (omega (arith, far, long))))) in
@@ -152,7 +159,8 @@ far_asked : (too_far none : Bool) → too_far ≡ true → (if too_far || none t
 far_asked true none is = refl
 far_asked false none is = absurd (cc)
 
-refused_asked : (bad : Bool) (number : ℕ) (more : Option ℕ) → (if bad then None else taken) ≡ None → (if bad then Some number else more) ≡ Some number
+refused_asked : (bad : Bool) (number : ℕ) (more : Option ℕ) → (if bad then None else taken) ≡ None
+    → (if bad then Some number else more) ≡ Some number
 refused_asked true number more is = refl
 refused_asked false number more is = absurd (let clash : taken ≡ None = is in cc)
 
@@ -169,7 +177,8 @@ asked_walk = record {
   refused = λ number before s line lines is.
       refused_asked (asked.is_bad number (before + length line) line) number (asked.bad_among (number + 1) (before + length line) lines) is;
   passed = λ number before s now line lines is.
-      passed_asked (asked.is_bad number (before + length line) line) number (asked.bad_among (number + 1) (before + length line) lines) now is;
+      passed_asked (asked.is_bad number (before + length line) line) number
+      (asked.bad_among (number + 1) (before + length line) lines) now is;
 }
 
 -- ---- scripts of `copy`: by the tree that the lines before it name
@@ -178,7 +187,8 @@ far_named : (number end : ℕ) (tree : Tree) (line : List ℕ) (too_far : Bool) 
 far_named number end tree line true is = refl
 far_named number end tree line false is = absurd (cc)
 
-refused_named : (number : ℕ) (o : Option Tree) (more : Tree → Result Tree ℕ) → o ≡ None → result_err (named.then_reads number o more) ≡ Some number
+refused_named : (number : ℕ) (o : Option Tree) (more : Tree → Result Tree ℕ) → o ≡ None
+    → result_err (named.then_reads number o more) ≡ Some number
 refused_named number None more is = refl
 refused_named number (Some tree) more is = absurd (let clash : Some tree ≡ None = is in cc)
 

@@ -49,7 +49,8 @@ no_piece before script most none = record {
 
 -- more might have been read
 module _ (coming : List ℕ) (after : Option (List ℕ)) (old new : List ℕ) (least most : ℕ) (some : 0 < least) (less : least ≤ most) where
-  by_more : (result : Result Bool ScriptStop) (taken rest : List ℕ) → PieceBy result taken rest old new least → PieceBy result taken rest old new most
+  by_more : (result : Result Bool ScriptStop) (taken rest : List ℕ) → PieceBy result taken rest old new least
+      → PieceBy result taken rest old new most
   by_more (Ok true) taken rest by = by
   by_more (Ok false) taken rest by = go by.1
     where
@@ -63,7 +64,8 @@ module _ (coming : List ℕ) (after : Option (List ℕ)) (old new : List ℕ) (l
   grows_more (Ok false) g = g
   grows_more (Err why) g = tt
 
-  takes_more : (result : Result Bool ScriptStop) → TakesPiece result coming after old new least → TakesPiece result coming after old new most
+  takes_more : (result : Result Bool ScriptStop) → TakesPiece result coming after old new least
+      → TakesPiece result coming after old new most
   takes_more result t = record {
     taken = t.taken;
     rest = t.rest;
@@ -73,7 +75,8 @@ module _ (coming : List ℕ) (after : Option (List ℕ)) (old new : List ℕ) (l
     by = by_more result t.taken t.rest t.by;
   }
 
-pub piece_of_more : (before after : Option (List ℕ)) (old new : List ℕ) (least most : ℕ) (result : Result Bool ScriptStop) → 0 < least → least ≤ most
+pub piece_of_more : (before after : Option (List ℕ)) (old new : List ℕ) (least most : ℕ)
+    (result : Result Bool ScriptStop) → 0 < least → least ≤ most
     → ReadsPiece before after old new least result → ReadsPiece before after old new most result
 piece_of_more before after old new least most result some less piece = record {
   told = λ coming is. takes_more coming after old new least most some less result (piece.told coming is);
@@ -130,7 +133,8 @@ module _ (before now after : Option (List ℕ)) (script new : List ℕ) (so : Re
       whole (inr none) = inr (omega (arith, none, few, ap (length {A = ℕ}) piece.grows))
 
   -- what was read is within the bound, however the last piece ended
-  pub read_within : (result : Result Bool ScriptStop) → length script ≤ MAX_SCRIPT_READ → Piece result → (coming : List ℕ) → before ≡ Some coming
+  pub read_within : (result : Result Bool ScriptStop) → length script ≤ MAX_SCRIPT_READ → Piece result
+      → (coming : List ℕ) → before ≡ Some coming
       → ReadsFront coming after
   read_within result few piece = λ coming is.
       let h = so coming is in

@@ -48,7 +48,8 @@ unless_good None lines text is = refl
 unless_good (Some line) lines text is = absurd (let clash : ◌≡◌ {A = Option (List ℕ)} None (Some text) = is in cc)
 
 read_good : (read : Result Tree ℕ) (text : List ℕ)
-    → option_map concat (option_map shown_lines (option_map (λ (tree : Tree). tree.files) (result_ok read))) ≡ Some text → result_err read ≡ None
+    → option_map concat (option_map shown_lines (option_map (λ (tree : Tree). tree.files) (result_ok read)))
+    ≡ Some text → result_err read ≡ None
 read_good (Ok tree) text is = refl
 read_good (Err line) text is = absurd (let clash : ◌≡◌ {A = Option (List ℕ)} None (Some text) = is in cc)
 
@@ -58,7 +59,8 @@ answered_good kinds.Local script text is = unless_good (asked.first_bad script) 
 answered_good kinds.Copy script text is = read_good (named.read script) text is
 
 -- ---- from what was read to what was to come
-pub read_as : (script slice : List ℕ) (before after : Option (List ℕ)) → slice ≡ script → ReadsScript script before after → ReadsScript slice before after
+pub read_as : (script slice : List ℕ) (before after : Option (List ℕ)) → slice ≡ script
+    → ReadsScript script before after → ReadsScript slice before after
 read_as script slice before after same read = λ coming was. subst (λ (s : List ℕ). IsRead s coming after) (sym same) (read coming was)
 
 module _ (kind : ScriptKind) (script coming : List ℕ) (after : Option (List ℕ)) (read : IsRead script coming after) where
@@ -82,14 +84,16 @@ module _ (kind : ScriptKind) (script coming : List ℕ) (after : Option (List �
           let r = front_refused kind script read.rest (omega (arith, long)) in
           absurd (let clash : None ≡ Some r.at = sym good ∙ r.one in cc)
 
-  pub refuses_all : {T : Type 0} (result : Result T ScriptStop) → RefusesAs result (first_bad kind script) → RefusesAs result (first_bad kind coming)
+  pub refuses_all : {T : Type 0} (result : Result T ScriptStop) → RefusesAs result (first_bad kind script)
+      → RefusesAs result (first_bad kind coming)
   refuses_all result r = subst (λ (bad : Option ℕ). RefusesAs result bad) bad_alike r
 
   front_all : (had : List ℕ) (written : Option (List ℕ)) → LosesLines kind script had written → LosesLines kind coming had written
   front_all had written lost =
       subst (λ (s : List ℕ). LosesLines kind s had written) (whole_read (answered_good kind script lost.text lost.answers)).0 lost
 
-  pub answers_all : (result : Result (Unit {0}) ScriptStop) (had : List ℕ) (written : Option (List ℕ)) → RefusesAs result (first_bad kind script)
+  pub answers_all : (result : Result (Unit {0}) ScriptStop) (had : List ℕ) (written : Option (List ℕ))
+      → RefusesAs result (first_bad kind script)
       → AnswersAs kind result script had written → AnswersAs kind result coming had written
   answers_all (Ok done) had written r a = subst (λ (s : List ℕ). WritesLines kind s had written) (whole_read r).0 a
   answers_all (Err stop.ReadFault) had written r a = a

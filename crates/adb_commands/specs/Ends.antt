@@ -38,7 +38,8 @@ module _ {S K : Type 0} (s : Sight S) (k : Sight K) (source source_new : S) (sin
   -- The history of its capture was judged, and the line of that was written.
   pub record LeavesCheck (result : Result Judgement Stop) : Type 0 where
     pub judges : (capture : List ℕ) → s.told source ≡ Some capture → JudgesSo result (formed capture) (s.told source_new)
-    pub writes : (capture had : List ℕ) → s.told source ≡ Some capture → k.told sink ≡ Some had → WritesSo result (formed capture) had (k.told sink_new)
+    pub writes : (capture had : List ℕ) → s.told source ≡ Some capture → k.told sink ≡ Some had
+        → WritesSo result (formed capture) had (k.told sink_new)
 
   -- A load was made, and its lines were written.
   pub record LeavesLoad (seed streams : ℕ) (result : Result (Unit {0}) LoadStop) : Type 0 where
@@ -48,7 +49,8 @@ module _ {S K : Type 0} (s : Sight S) (k : Sight K) (source source_new : S) (sin
   -- A script was read to its end, or as far as a script may go, and its answer lines were written.
   pub record LeavesScript (kind : ScriptKind) (result : Result (Unit {0}) ScriptStop) : Type 0 where
     pub refuses : (script : List ℕ) → s.told source ≡ Some script → RefusesAs result (first_bad kind script)
-    pub writes : (script had : List ℕ) → s.told source ≡ Some script → k.told sink ≡ Some had → AnswersAs kind result script had (k.told sink_new)
+    pub writes : (script had : List ℕ) → s.told source ≡ Some script → k.told sink ≡ Some had
+        → AnswersAs kind result script had (k.told sink_new)
     pub whole : result ≡ Ok tt → (script : List ℕ) → s.told source ≡ Some script → s.told source_new ≡ Some []
     pub within : ReadsWithin (s.told source) (s.told source_new)
     pub unwritten : (line : ℕ) → result ≡ Err (stop.BadLine line) → sink_new ≡ sink
@@ -58,7 +60,8 @@ abbrev pub Leaves : {A S K : Type 0} → List (String A) → CommandEnd → Sigh
 Leaves words (NotRun unread.Usage) s k source source_new sink sink_new = IsNoCommand words × IsUntouched source source_new sink sink_new
 Leaves words (NotRun unread.OutOfMemory) s k source source_new sink sink_new =
     (names_command (texts words) ≡ true) × IsUntouched source source_new sink sink_new
-Leaves words (Replayed result) s k source source_new sink sink_new = IsReplay words × LeavesReplay s k source source_new sink sink_new result
+Leaves words (Replayed result) s k source source_new sink sink_new = IsReplay words
+    × LeavesReplay s k source source_new sink sink_new result
 Leaves words (Judged result) s k source source_new sink sink_new = IsCheck words × LeavesCheck s k source source_new sink sink_new result
 Leaves words (Generated result) s k source source_new sink sink_new =
     (seed streams : ℕ) × IsLoad seed streams words × LeavesLoad s k source source_new sink sink_new seed streams result

@@ -10,7 +10,8 @@ PieceBy (Ok false) taken rest old new most = (taken ≡ []) × ((rest ≡ []) �
 PieceBy (Err why) taken rest old new most = Unit {0}
 
 -- A piece of what was to come was taken, of at most so many bytes.
-pub record TakesPiece (result : Result Bool ScriptStop) (coming : List ℕ) (after : Option (List ℕ)) (old new : List ℕ) (most : ℕ) : Type 0 where
+pub record TakesPiece (result : Result Bool ScriptStop) (coming : List ℕ) (after : Option (List ℕ)) (old new : List ℕ)
+    (most : ℕ) : Type 0 where
   pub taken : List ℕ
   pub rest : List ℕ
   pub is : coming ≡ taken ++ rest

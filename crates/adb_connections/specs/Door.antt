@@ -3,7 +3,8 @@ use Rattle.std.specs.Prelude.{◌≡◌, ◌≢◌, Bool, true, false}
 use Rattle.adb_connections.specs.declared.door.Came.{Came}
 use Rattle.adb_connections.specs.declared.door.Came.TheVariants.{Port, Forward, Device, Closed, Failed}
 use Rattle.adb_connections.specs.declared.door.Arrival.{Arrival}
-use Rattle.adb_connections.specs.declared.door.Arrival.TheVariants.{Port as PortCame, Forward as ForwardCame, Device as DeviceCame, Closed as HasClosed, Failed as HasFailed}
+use Rattle.adb_connections.specs.declared.door.Arrival.TheVariants.{Port as PortCame, Forward as ForwardCame, Device as DeviceCame}
+use Rattle.adb_connections.specs.declared.door.Arrival.TheVariants.{Closed as HasClosed, Failed as HasFailed}
 
 -- A connection to a forward has come by its port, which is not 0.
 abbrev pub FitsCame : {I O X Z : Type 0} → Came I O X Z → Type 0

@@ -25,5 +25,7 @@ module _ (tree : List Entry) (old new : View) (map : IsFileMap tree) where
       (refl, ap (λ (q : Pushed). q.files) both)
   all_stored (Err errors.OutOfMemory) p none memory = absurd (memory refl)
   all_stored (Err (errors.Refused from why)) p none memory =
-      let clash = ap (λ (q : Pushed). q.refused) (sym (p.refused from why refl) ∙ (ap (λ (files : List Entry). pushed files tree) none ∙ all_taken tree map)) in
+      let clash = ap (λ (q : Pushed). q.refused)
+      (sym (p.refused from why refl) ∙ (ap (λ (files : List Entry). pushed files tree) none ∙ all_taken tree map))
+      in
       absurd (cc)

@@ -24,7 +24,8 @@ module _ (old new : View) (entry : Entry) (copied : IsCopied entry) (time : entr
   is_answered = (is_sent old.files entry copied time).ended
 
   -- the text that was asked and the answer that was heard are those of the file
-  pub heard_is : (ask asked answer heard : List ℕ) → ask ≡ push_text entry.path entry.file.mode entry.file.mtime entry.file.bytes → asked ≡ ask
+  pub heard_is : (ask asked answer heard : List ℕ) → ask ≡ push_text entry.path entry.file.mode entry.file.mtime
+      entry.file.bytes → asked ≡ ask
       → answer ≡ (served old.files asked).answer → heard ≡ answer → heard ≡ (sent old.files entry copied time).answer
   heard_is ask asked answer heard text same told again =
       again ∙ (told ∙ ap (λ (bytes : List ℕ). (served old.files bytes).answer) (same ∙ text))
@@ -41,7 +42,8 @@ module _ (old new : View) (entry : Entry) (copied : IsCopied entry) (time : entr
     pub ok : OnOk result (push_value answer ≡ steps.Done tt)
     pub refused : (at text : List ℕ) → result ≡ Err (errors.Refused at text) → (at ≡ entry.path) × (push_value answer ≡ steps.Refused text)
 
-  pub pushes_one : (answer : List ℕ) (result : Result ⊤ CopyError) → Exchanged answer → IsRead answer result → Pushes (entry ∷ []) result old new
+  pub pushes_one : (answer : List ℕ) (result : Result ⊤ CopyError) → Exchanged answer → IsRead answer result
+      → Pushes (entry ∷ []) result old new
   pushes_one answer result exchanged read =
       let own = is_sent old.files entry copied time in
       let value : push_value answer ≡ push_value (sent old.files entry copied time).answer = ap push_value exchanged.answer_is in

@@ -1,5 +1,6 @@
 -- The files of a tree fit behind one another: none of them is refused over those before it.
-use Rattle.std.proofs.Common.{ℕ, ◌+◌, ◌≡◌, ◌≤◌, ◌&&◌, ◌||◌, Bool, true, false, cond, not, ltb, List, [], ◌∷◌, ◌++◌, length, Option, Some, None}
+use Rattle.std.proofs.Common.{ℕ, ◌+◌, ◌≡◌, ◌≤◌, ◌&&◌, ◌||◌, Bool, true, false, cond, not, ltb, List, [], ◌∷◌, ◌++◌, length, Option, Some}
+use Rattle.std.proofs.Common.{None}
 use Rattle.std.proofs.Common.{refl, sym, ◌∙◌, ap, subst, append_assoc, arith}
 use Rattle.std.specs.Prelude.{All, bytes_eq, codes, nat_eq}
 use Rattle.std.specs.List.{list_any, starts_with}
@@ -25,7 +26,8 @@ record IsPlain (files : List Entry) (path : List ℕ) : Type 0 where
 is_plain : (files : List Entry) (path : List ℕ) → is_path path ≡ true → is_directory files path ≡ false → IsPlain files path
 is_plain files path form plain = go (bytes_eq path (codes "/")) refl (list_any (λ (e : Entry). is_below path e.path) files) refl
   where
-    go : (root : Bool) → bytes_eq path (codes "/") ≡ root → (any : Bool) → list_any (λ (e : Entry). is_below path e.path) files ≡ any → IsPlain files path
+    go : (root : Bool) → bytes_eq path (codes "/") ≡ root → (any : Bool)
+        → list_any (λ (e : Entry). is_below path e.path) files ≡ any → IsPlain files path
     go false r false a = record { root = r; none = a }
     go false r true a = absurd (cc)
     go true r any a = absurd (cc)
@@ -34,11 +36,13 @@ first_fails : (a b : Bool) → (a || b) ≡ false → a ≡ false
 first_fails false b e = refl
 first_fails true b e = cc
 
-none_at : (test : Entry → Bool) (done : List Entry) (e : Entry) (left : List Entry) → list_any test (done ++ e ∷ left) ≡ false → test e ≡ false
+none_at : (test : Entry → Bool) (done : List Entry) (e : Entry) (left : List Entry)
+    → list_any test (done ++ e ∷ left) ≡ false → test e ≡ false
 none_at test [] e left none = first_fails (test e) (list_any test left) none
 none_at test (x ∷ done) e left none = go (test x) none (none_at test done e left)
   where
-    go : (t : Bool) → (t || list_any test (done ++ e ∷ left)) ≡ false → (list_any test (done ++ e ∷ left) ≡ false → test e ≡ false) → test e ≡ false
+    go : (t : Bool) → (t || list_any test (done ++ e ∷ left)) ≡ false
+        → (list_any test (done ++ e ∷ left) ≡ false → test e ≡ false) → test e ≡ false
     go false n rest = rest n
     go true n rest = cc
 
@@ -54,7 +58,8 @@ module _ (done : List Entry) (e : Entry) (left : List Entry) (fits : IsFileMap (
       let test : Entry → Bool = λ (x : Entry). is_below e.path x.path in
       let own = is_plain tree e.path form (entry_at (λ (x : Entry). is_directory tree x.path ≡ false) done e left fits.plain) in
       let none = first_fails (list_any test done) (list_any test (e ∷ left)) (sym (list_any-append test done (e ∷ left)) ∙ own.none) in
-      ap (λ (t : Bool). t && (bytes_eq e.path (codes "/") || list_any test done)) form ∙ (ap (λ (t : Bool). t || list_any test done) own.root ∙ none)
+      ap (λ (t : Bool). t && (bytes_eq e.path (codes "/") || list_any test done)) form
+      ∙ (ap (λ (t : Bool). t || list_any test done) own.root ∙ none)
 
   -- a file that is no directory has none below it
   apart : (x : Entry) → is_path x.path ≡ true → is_directory tree x.path ≡ false → starts_with nat_eq e.path (x.path ++ codes "/") ≡ false

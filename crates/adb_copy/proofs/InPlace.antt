@@ -23,7 +23,8 @@ abbrev has : List ℕ → Entry → Bool
 has path entry = bytes_eq entry.path path
 
 -- what is looked for among the files that a filter keeps, where it keeps all that pass, or none
-find_kept : (test keep : Entry → Bool) → ((x : Entry) → test x ≡ true → keep x ≡ true) → (files : List Entry) → find test (filter keep files) ≡ find test files
+find_kept : (test keep : Entry → Bool) → ((x : Entry) → test x ≡ true → keep x ≡ true) → (files : List Entry)
+    → find test (filter keep files) ≡ find test files
 find_kept test keep says [] = refl
 find_kept test keep says (x ∷ files) = go (test x) refl (keep x) refl (find_kept test keep says files)
   where
@@ -34,11 +35,13 @@ find_kept test keep says (x ∷ files) = go (test x) refl (keep x) refl (find_ke
     go true is false kept more = let clash = says x is in absurd (cc)
     go false is false kept more = more
 
-find_dropped : (test keep : Entry → Bool) → ((x : Entry) → keep x ≡ true → test x ≡ false) → (files : List Entry) → find test (filter keep files) ≡ None
+find_dropped : (test keep : Entry → Bool) → ((x : Entry) → keep x ≡ true → test x ≡ false) → (files : List Entry)
+    → find test (filter keep files) ≡ None
 find_dropped test keep says [] = refl
 find_dropped test keep says (x ∷ files) = go (keep x) refl (find_dropped test keep says files)
   where
-    go : (k : Bool) → keep x ≡ k → find test (filter keep files) ≡ None → find test (cond k (x ∷ filter keep files) (filter keep files)) ≡ None
+    go : (k : Bool) → keep x ≡ k → find test (filter keep files) ≡ None
+        → find test (cond k (x ∷ filter keep files) (filter keep files)) ≡ None
     go true kept more = ap (λ (t : Bool). cond t (Some x) (find test (filter keep files))) (says x kept) ∙ more
     go false kept more = more
 
@@ -56,7 +59,8 @@ module _ (path : List ℕ) (file : File) (files : List Entry) where
       let none : find (has path) (before path files) ≡ None = find_dropped (has path) (λ (x : Entry). is_lt (path_cmp x.path path))
       (λ x is. apart_by_order x.path path Less refl (less_from_test (path_cmp x.path path) is)) files in
       ap (option_map (λ (x : Entry). x.file)) (in_parts path
-      ∙ (ap (λ (o : Option Entry). option_or o (cond (bytes_eq path path) (Some (entry_of path file)) (find (has path) (behind path files)))) none
+      ∙ (ap (λ (o : Option Entry). option_or o
+      (cond (bytes_eq path path) (Some (entry_of path file)) (find (has path) (behind path files)))) none
       ∙ ap (λ (t : Bool). cond t (Some (entry_of path file)) (find (has path) (behind path files))) (same_by_test path path refl)))
 
   -- a file of another path stands on its own side
@@ -66,7 +70,8 @@ module _ (path : List ℕ) (file : File) (files : List Entry) where
   kept_else : (other : List ℕ) → bytes_eq path other ≡ false → file_at other (with_file path file files) ≡ file_at other files
   kept_else other apart =
       ap (option_map (λ (x : Entry). x.file)) (in_parts other
-      ∙ (ap (λ (t : Bool). option_or (find (has other) (before path files)) (cond t (Some (entry_of path file)) (find (has other) (behind path files)))) apart
+      ∙ (ap (λ (t : Bool). option_or (find (has other) (before path files))
+      (cond t (Some (entry_of path file)) (find (has other) (behind path files)))) apart
       ∙ go (path_cmp other path) refl))
     where
       is_before : Entry → Bool
@@ -86,9 +91,11 @@ module _ (path : List ℕ) (file : File) (files : List Entry) where
       go : (o : Ordering) → path_cmp other path ≡ o
           → option_or (find (has other) (before path files)) (find (has other) (behind path files)) ≡ find (has other) files
       go Less is =
-          let front = find_kept (has other) is_before (λ x same. ap (λ (p : List ℕ). is_lt (path_cmp p path)) (same_side other x same) ∙ ap is_lt is) files in
+          let front = find_kept (has other) is_before
+          (λ x same. ap (λ (p : List ℕ). is_lt (path_cmp p path)) (same_side other x same) ∙ ap is_lt is) files in
           let back = find_dropped (has other) is_behind
-          (λ x more. fails x Greater (greater_back path x.path (less_from_test (path_cmp path x.path) more)) (λ e. let clash = sym is ∙ e in absurd (cc)))
+          (λ x more. fails x Greater (greater_back path x.path (less_from_test (path_cmp path x.path) more))
+          (λ e. let clash = sym is ∙ e in absurd (cc)))
           files in
           ap (λ (o : Option Entry). option_or o (find (has other) (behind path files))) front
           ∙ (ap (λ (o : Option Entry). option_or (find (has other) files) o) back ∙ or_none (find (has other) files))
@@ -110,15 +117,18 @@ in_place : (tree files new : List Entry) → IsRising tree → pushed files tree
     → file_at path new ≡ option_or (file_at path tree) (file_at path files)
 in_place [] files new up is path = ap (file_at path) (sym (ap (λ (p : Pushed). p.files) is))
 in_place (e ∷ more) files new up is path =
-    go (put_refusal files e.path (length e.file.bytes)) is (λ stored. in_place more (with_file e.path e.file files) new (rising_left e more up) stored path)
+    go (put_refusal files e.path (length e.file.bytes)) is
+    (λ stored. in_place more (with_file e.path e.file files) new (rising_left e more up) stored path)
   where
     now : List Entry
     now = with_file e.path e.file files
 
-    here : (t : Bool) → bytes_eq e.path path ≡ t → option_or (file_at path more) (file_at path now) ≡ option_or (file_at path (e ∷ more)) (file_at path files)
+    here : (t : Bool) → bytes_eq e.path path ≡ t → option_or (file_at path more) (file_at path now)
+        ≡ option_or (file_at path (e ∷ more)) (file_at path files)
     here true is =
         let same : e.path ≡ path = (bytes_eq-Decides e.path path).0 is in
-        let none : file_at path more ≡ None = subst (λ (p : List ℕ). file_at p more ≡ None) same (none_found e.path more (are_behind [] e more up)) in
+        let none : file_at path more ≡ None = subst (λ (p : List ℕ). file_at p more ≡ None) same
+        (none_found e.path more (are_behind [] e more up)) in
         let stored : file_at path now ≡ Some e.file =
         subst (λ (p : List ℕ). file_at p now ≡ Some e.file) same (stored_here e.path e.file files) in
         let first : file_at path (e ∷ more) ≡ Some e.file =

@@ -50,7 +50,8 @@ one_request ask request good words place is =
     ap (λ (c : AskReading). requests_of None c.given ++ fault_request c.fault) cut
     ∙ ap (λ (rs : List Request). (rs ++ []) ++ []) is
 
-alone_answered : (files : List Entry) (answer : List ℕ) → then_served (answered files answer) (λ left. answered left []) ≡ answered files answer
+alone_answered : (files : List Entry) (answer : List ℕ) → then_served (answered files answer)
+    (λ left. answered left []) ≡ answered files answer
 alone_answered files answer = ap (answered files) (append-nil answer)
 
 pub list_served : (files : List Entry) (path : List ℕ) → length path ≤ MAX_ASKED_PATH
@@ -80,7 +81,8 @@ recv_in_part files path short =
     one_in_part files (pull_text path) (recv_bytes files path) (Receives path)
     (one_request (asks.Recv path) (Receives path) (omega (arith, short)) tt refl refl) refl
 
-pub recv_served : (files : List Entry) (path : List ℕ) → length path ≤ MAX_ASKED_PATH → served files (pull_text path) ≡ answered files (recv_bytes files path)
+pub recv_served : (files : List Entry) (path : List ℕ) → length path ≤ MAX_ASKED_PATH
+    → served files (pull_text path) ≡ answered files (recv_bytes files path)
 recv_served files path short =
     ap (serve_all files) (one_request (asks.Recv path) (Receives path) (omega (arith, short)) tt refl refl)
     ∙ alone_answered files (recv_bytes files path)
@@ -120,8 +122,10 @@ module _ (s : AnswerFormat) (entry : Dirent) (words : HasWords entry) where
   entry_whole =
       let n = number_at 12 (drop 4 frame) in
       there (length frame) 4 (front_past_id s.offset (answered_at s (take 4 frame)) (drop 4 frame)) (omega (arith, size))
-      ∙ (there (length (drop 4 frame)) 16 (front_of_body s.offset (answer_layout s.list ids.Dent) n (drop 16 (drop 4 frame))) (omega (arith, size))
-      ∙ (there (length (drop 16 (drop 4 frame))) n (Whole (4 + 16 + n)) (omega (arith, count, size)) ∙ ap Whole (omega (arith, count, size))))
+      ∙ (there (length (drop 4 frame)) 16
+      (front_of_body s.offset (answer_layout s.list ids.Dent) n (drop 16 (drop 4 frame))) (omega (arith, size))
+      ∙ (there (length (drop 16 (drop 4 frame))) n (Whole (4 + 16 + n)) (omega (arith, count, size))
+      ∙ ap Whole (omega (arith, count, size))))
 
   entry_front : expected_front lists frame ≡ Whole (length frame)
   entry_front =
@@ -143,18 +147,22 @@ module _ (s : AnswerFormat) (entry : Dirent) (words : HasWords entry) where
       (record said { entries = said.entries ++ entry ∷ [] }) more
   entry_means said more =
       means_frame lists said frame more entry_front
-      ∙ ap (λ (answer : SyncAnswer). ended_or (next_of answer) (told_by said answer) (means (past_expected lists frame) (told_by said answer) more)) entry_read
+      ∙ ap (λ (answer : SyncAnswer). ended_or (next_of answer) (told_by said answer)
+      (means (past_expected lists frame) (told_by said answer) more)) entry_read
 
 -- the end of the list
 end_means : (s : AnswerFormat) (said : Said) → s.list ≡ true
     → means (record { kind = kinds.List; answers = s }) said (answer_bytes answers.ListEnd) ≡ steps.Done said
 end_means s said list =
-    ap (λ (list : Bool). means (record { kind = kinds.List; answers = record { offset = s.offset; list = list } }) said (answer_bytes answers.ListEnd)) list
+    ap (λ (list : Bool). means (record { kind = kinds.List; answers = record { offset = s.offset; list = list } })
+    said (answer_bytes answers.ListEnd)) list
 
 listed : (s : AnswerFormat) (said : Said) (entries : List Dirent) → s.list ≡ true → AllByRecursion HasWords entries
     → means (record { kind = kinds.List; answers = s }) said (flat_map dent_bytes entries ++ answer_bytes answers.ListEnd)
     ≡ steps.Done (record said { entries = said.entries ++ entries })
-listed s said [] list words = end_means s said list ∙ ap (λ (all : List Dirent). steps.Done (record said { entries = all })) (sym (append-nil said.entries))
+listed s said [] list words =
+    end_means s said list ∙ ap (λ (all : List Dirent). steps.Done (record said { entries = all }))
+    (sym (append-nil said.entries))
 listed s said (entry ∷ entries) list words =
     let first = dent_bytes entry in
     let last = answer_bytes answers.ListEnd in

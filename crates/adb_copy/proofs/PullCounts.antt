@@ -1,5 +1,6 @@
 -- Filters of files and of paths, and how many they leave.
-use Rattle.std.proofs.Common.{ℕ, ◌+◌, ◌≡◌, ◌≢◌, ◌≤◌, ◌||◌, Bool, true, false, cond, List, [], ◌∷◌, ◌++◌, length, filter, map, Some, inl, inr}
+use Rattle.std.proofs.Common.{ℕ, ◌+◌, ◌≡◌, ◌≢◌, ◌≤◌, ◌||◌, Bool, true, false, cond, List, [], ◌∷◌, ◌++◌, length, filter, map, Some, inl}
+use Rattle.std.proofs.Common.{inr}
 use Rattle.std.proofs.Common.{refl, ◌∙◌, ap, sym, subst, arith}
 use Rattle.std.specs.Prelude.{bytes_eq, option_map}
 use Rattle.std.specs.Ordering.{is_lt}
@@ -88,7 +89,8 @@ module _ {X : Type 0} where
   any_among t x [] none among = absurd among
   any_among t x (y ∷ xs) none among = go (t y) refl none among (any_among t x xs)
     where
-      go : (b : Bool) → t y ≡ b → (b || list_any t xs) ≡ false → IsAmong x (y ∷ xs) → (list_any t xs ≡ false → IsAmong x xs → t x ≡ false) → t x ≡ false
+      go : (b : Bool) → t y ≡ b → (b || list_any t xs) ≡ false → IsAmong x (y ∷ xs)
+          → (list_any t xs ≡ false → IsAmong x xs → t x ≡ false) → t x ≡ false
       go true is h among more = absurd (cc)
       go false is h (inl same) more = ap t same ∙ is
       go false is h (inr among) more = more h among
@@ -120,7 +122,8 @@ module _ {X : Type 0} where
 abbrev pub AllBehindPath : List ℕ → List Entry → Type 0
 AllBehindPath path files = AllByRecursion (λ (e : Entry). path_cmp path e.path ≡ Less) files
 
-keys_behind : (path : List ℕ) (files : List Entry) → AllByRecursion (λ (p : List ℕ). path_cmp path p ≡ Less) (map (λ (e : Entry). e.path) files)
+keys_behind : (path : List ℕ) (files : List Entry) → AllByRecursion (λ (p : List ℕ). path_cmp path p ≡ Less)
+    (map (λ (e : Entry). e.path) files)
     → AllBehindPath path files
 keys_behind path [] all = tt
 keys_behind path (e ∷ files) all = (all.0, keys_behind path files all.1)
@@ -164,7 +167,8 @@ path_counted entry [] rising among = absurd among
 path_counted entry (e ∷ files) rising (inl same) =
     let parts = rising_parts e files rising in
     let here : bytes_eq entry.path e.path ≡ true = same_by_test entry.path e.path (ap (λ (x : Entry). x.path) same) in
-    let none = all_fail (λ (x : Entry). bytes_eq entry.path x.path) files (all_from_among (λ (x : Entry). bytes_eq entry.path x.path ≡ false) files
+    let none = all_fail (λ (x : Entry). bytes_eq entry.path x.path) files
+    (all_from_among (λ (x : Entry). bytes_eq entry.path x.path ≡ false) files
     (λ x among. apart_by_order entry.path x.path Less refl (ap (λ (y : Entry). path_cmp y.path x.path) same
     ∙ all_among (λ (y : Entry). path_cmp e.path y.path ≡ Less) x files parts.0 among))) in
     ap (λ (b : Bool). length (cond b (e ∷ filter (λ (x : Entry). bytes_eq entry.path x.path) files)
@@ -193,7 +197,9 @@ module _ (entry : Entry) (keep keeps : Entry → Bool) (left_out : keep entry �
       let behind = all_from_among (λ (x : Entry). path_cmp entry.path x.path ≡ Less) some
       (λ x among. all_among (λ (y : Entry). path_cmp entry.path y.path ≡ Less) x files all (among_of_filter keep x files among)) in
       let none = none_pass is_before some (all_from_among (λ (x : Entry). is_before x ≡ false) some
-      (λ x among. ap is_lt (greater_back entry.path x.path (all_among (λ (y : Entry). path_cmp entry.path y.path ≡ Less) x some behind among)))) in
+      (λ x among. ap is_lt
+      (greater_back entry.path x.path
+      (all_among (λ (y : Entry). path_cmp entry.path y.path ≡ Less) x some behind among)))) in
       let back = all_pass is_behind some (all_from_among (λ (x : Entry). is_behind x ≡ true) some
       (λ x among. ap is_lt (all_among (λ (y : Entry). path_cmp entry.path y.path ≡ Less) x some behind among))) in
       ap (λ (xs : List Entry). xs ++ (entry ∷ filter is_behind some)) none
@@ -209,7 +215,8 @@ module _ (entry : Entry) (keep keeps : Entry → Bool) (left_out : keep entry �
       let others = all_from_among (λ (x : Entry). keeps x ≡ keep x) files (λ x among. same x (inr among) (λ equal. let less = all_among
       (λ (y : Entry). path_cmp entry.path y.path ≡ Less) x files behind among in let self = path_cmp-same entry.path in let clash = sym self
       ∙ (ap (path_cmp entry.path) (sym equal) ∙ less) in absurd (cc))) in
-      ap (λ (b : Bool). let some = cond b (e ∷ filter keep files) (filter keep files) in filter is_before some ++ (entry ∷ filter is_behind some))
+      ap (λ (b : Bool). let some = cond b (e ∷ filter keep files) (filter keep files) in filter is_before some
+      ++ (entry ∷ filter is_behind some))
       (ap keep (sym here) ∙ left_out)
       ∙ (later files behind others
       ∙ (ap (λ (x : Entry). x ∷ filter keeps files) here
@@ -217,7 +224,8 @@ module _ (entry : Entry) (keep keeps : Entry → Bool) (left_out : keep entry �
   put_between (e ∷ files) rising (inr among) same =
       let parts = rising_parts e files rising in
       let less = all_among (λ (x : Entry). path_cmp e.path x.path ≡ Less) entry files parts.0 among in
-      let apart : e.path ≢ entry.path = λ equal. let self = path_cmp-same e.path in let clash = sym self ∙ (ap (path_cmp e.path) equal ∙ less) in cc in
+      let apart : e.path ≢ entry.path = λ equal. let self = path_cmp-same e.path in let clash =
+      sym self ∙ (ap (path_cmp e.path) equal ∙ less) in cc in
       let before : is_before e ≡ true = ap is_lt less in
       let behind : is_behind e ≡ false = ap is_lt (greater_back e.path entry.path less) in
       let more = put_between files parts.1 among (λ x here. same x (inr here)) in
@@ -243,6 +251,7 @@ total_fewer keep (e ∷ files) = go (keep e) (total_fewer keep files)
     size : Entry → ℕ
     size = λ (x : Entry). length x.file.bytes
 
-    go : (b : Bool) → total (filter keep files) ≤ total files → total (cond b (e ∷ filter keep files) (filter keep files)) ≤ total (e ∷ files)
+    go : (b : Bool) → total (filter keep files) ≤ total files
+        → total (cond b (e ∷ filter keep files) (filter keep files)) ≤ total (e ∷ files)
     go true more = omega (arith, more, sum_by-cons size e (filter keep files), sum_by-cons size e files)
     go false more = omega (arith, more, sum_by-cons size e files)

@@ -1,5 +1,6 @@
 -- The directories of files: each once, those in which a file lies, and how many they are.
-use Rattle.std.proofs.Common.{ℕ, ◌+◌, ◌*◌, ◌≡◌, ◌≤◌, ◌&&◌, ◌||◌, Bool, true, false, cond, eqb, List, [], ◌∷◌, ◌++◌, length, drop, filter, ◌⊎◌, inl, inr}
+use Rattle.std.proofs.Common.{ℕ, ◌+◌, ◌*◌, ◌≡◌, ◌≤◌, ◌&&◌, ◌||◌, Bool, true, false, cond, eqb, List, [], ◌∷◌, ◌++◌, length, drop, filter}
+use Rattle.std.proofs.Common.{◌⊎◌, inl, inr}
 use Rattle.std.proofs.Common.{refl, ◌∙◌, ap, sym, subst, append_assoc, arith}
 use Rattle.std.specs.Prelude.{codes, bytes_eq, nat_eq}
 use Rattle.std.specs.List.{AllByRecursion, flat_map, list_all, list_any, starts_with, slice_split, onto_first}
@@ -49,7 +50,9 @@ leads_through front [] more =
     ap (λ (t : Bool). t || list_any (bytes_eq (front ++ [])) (leading_behind (front ++ 47 ∷ []) more))
     (same_by_test (front ++ []) front (append-nil front))
 leads_through front (b ∷ x) more =
-    go (eqb b 47) (subst (λ (p : List ℕ). list_any (bytes_eq p) (leading_behind (front ++ b ∷ []) (x ++ 47 ∷ more)) ≡ true) (append_assoc front (b ∷ []) x)
+    go (eqb b 47)
+    (subst (λ (p : List ℕ). list_any (bytes_eq p) (leading_behind (front ++ b ∷ []) (x ++ 47 ∷ more)) ≡ true)
+    (append_assoc front (b ∷ []) x)
     (leads_through (front ++ b ∷ []) x more))
   where
     rest : List (List ℕ)
@@ -68,7 +71,9 @@ form_starts false false names h is = absurd (cc)
 
 pub path_starts : (path : List ℕ) → is_path path ≡ true → path ≡ codes "/" ++ drop 1 path
 path_starts path form =
-    in_parts path (codes "/") (form_starts (bytes_eq path (codes "/")) (starts_with nat_eq path (codes "/")) (list_all is_name (parts_of path))
+    in_parts path (codes "/")
+    (form_starts (bytes_eq path (codes "/")) (starts_with nat_eq path (codes "/"))
+    (list_all is_name (parts_of path))
     (λ root. ap (λ (p : List ℕ). starts_with nat_eq p (codes "/")) ((bytes_eq-Decides path (codes "/")).0 root)) form)
 
 below_leads : (d path : List ℕ) → is_path d ≡ true → bytes_eq d (codes "/") ≡ false → is_below d path ≡ true
@@ -99,7 +104,8 @@ some_leads d (e ∷ files) form plain some =
     rest : List (List ℕ)
     rest = flat_map (λ (entry : Entry). leading entry.path) files
 
-    go : (t : Bool) → is_below d e.path ≡ t → (t || list_any below files) ≡ true → (list_any below files ≡ true → list_any (bytes_eq d) rest ≡ true)
+    go : (t : Bool) → is_below d e.path ≡ t → (t || list_any below files) ≡ true
+        → (list_any below files ≡ true → list_any (bytes_eq d) rest ≡ true)
         → (list_any (bytes_eq d) (leading e.path) || list_any (bytes_eq d) rest) ≡ true
     go true is h more = ap (λ (t : Bool). t || list_any (bytes_eq d) rest) (below_leads d e.path form plain is)
     go false is h more = or_right (list_any (bytes_eq d) (leading e.path)) (list_any (bytes_eq d) rest) (more h)
@@ -112,7 +118,8 @@ by_parts false root any h = absurd (cc)
 pub directory_form : (files : List Entry) (d : List ℕ) → is_directory files d ≡ true → is_path d ≡ true
 directory_form files d is = (by_parts (is_path d) (bytes_eq d (codes "/")) (list_any (λ (entry : Entry). is_below d entry.path) files) is).0
 
-pub directory_counted : (files : List Entry) (d : List ℕ) → is_directory files d ≡ true → length (filter (bytes_eq d) (directories files)) ≡ 1
+pub directory_counted : (files : List Entry) (d : List ℕ) → is_directory files d ≡ true
+    → length (filter (bytes_eq d) (directories files)) ≡ 1
 directory_counted files d is =
     let parts = by_parts (is_path d) (bytes_eq d (codes "/")) (list_any (λ (entry : Entry). is_below d entry.path) files) is in
     let rest = flat_map (λ (entry : Entry). leading entry.path) files in
@@ -164,14 +171,18 @@ longer_starts : (front more : List ℕ) → starts_with nat_eq front (codes "/")
 longer_starts [] more is = absurd (cc)
 longer_starts (b ∷ front) more is = is
 
-led_below : (front rest : List ℕ) → starts_with nat_eq front (codes "/") ≡ true → AllByRecursion (IsLed (front ++ rest)) (leading_behind front rest)
+led_below : (front rest : List ℕ) → starts_with nat_eq front (codes "/") ≡ true
+    → AllByRecursion (IsLed (front ++ rest)) (leading_behind front rest)
 led_below front [] starts = tt
 led_below front (b ∷ rest) starts =
-    go (eqb b 47) refl (subst (λ (p : List ℕ). AllByRecursion (IsLed p) (leading_behind (front ++ b ∷ []) rest)) (append_assoc front (b ∷ []) rest)
+    go (eqb b 47) refl
+    (subst (λ (p : List ℕ). AllByRecursion (IsLed p) (leading_behind (front ++ b ∷ []) rest))
+    (append_assoc front (b ∷ []) rest)
     (led_below (front ++ b ∷ []) rest (longer_starts front (b ∷ []) starts)))
   where
     go : (t : Bool) → eqb b 47 ≡ t → AllByRecursion (IsLed (front ++ b ∷ rest)) (leading_behind (front ++ b ∷ []) rest)
-        → AllByRecursion (IsLed (front ++ b ∷ rest)) (cond t (front ∷ leading_behind (front ++ b ∷ []) rest) (leading_behind (front ++ b ∷ []) rest))
+        → AllByRecursion (IsLed (front ++ b ∷ rest))
+        (cond t (front ∷ leading_behind (front ++ b ∷ []) rest) (leading_behind (front ++ b ∷ []) rest))
     go true is all =
         ((starts, subst (λ (k : ℕ). is_below front (front ++ k ∷ rest) ≡ true) (sym (eqb-true b 47 is)) (below_front front rest)), all)
     go false is all = all
@@ -180,7 +191,8 @@ weaker : (P Q : List ℕ → Type 0) → ((x : List ℕ) → P x → Q x) → (x
 weaker P Q f [] all = tt
 weaker P Q f (x ∷ xs) all = (f x all.0, weaker P Q f xs all.1)
 
-all_led : (all files : List Entry) → ((e : Entry) → IsAmong e files → IsAmong e all) → AllByRecursion (λ (e : Entry). is_path e.path ≡ true) files
+all_led : (all files : List Entry) → ((e : Entry) → IsAmong e files → IsAmong e all)
+    → AllByRecursion (λ (e : Entry). is_path e.path ≡ true) files
     → AllByRecursion (IsRootOrHasFile all) (flat_map (λ (entry : Entry). leading entry.path) files)
 all_led all [] here forms = tt
 all_led all (e ∷ files) here forms =
@@ -207,7 +219,8 @@ led_length front [] = refl
 led_length front (b ∷ rest) = go (eqb b 47) (led_length (front ++ b ∷ []) rest)
   where
     go : (t : Bool) → length (leading_behind (front ++ b ∷ []) rest) ≡ slashes rest
-        → length (cond t (front ∷ leading_behind (front ++ b ∷ []) rest) (leading_behind (front ++ b ∷ []) rest)) ≡ cond t (1 + slashes rest) (slashes rest)
+        → length (cond t (front ∷ leading_behind (front ++ b ∷ []) rest) (leading_behind (front ++ b ∷ []) rest))
+        ≡ cond t (1 + slashes rest) (slashes rest)
     go true more = omega (arith, more)
     go false more = more
 
@@ -297,5 +310,6 @@ led_few (e ∷ files) forms short =
 
 pub few_directories : (files : List Entry) → IsFileMap files → AreCopied files → length (directories files) ≤ 1 + 500 * length files
 few_directories files ok copied =
-    let led = led_few files (recursion_from_All (λ (e : Entry). is_path e.path ≡ true) files ok.paths) (recursion_from_All IsCopied files copied) in
+    let led = led_few files (recursion_from_All (λ (e : Entry). is_path e.path ≡ true) files ok.paths)
+    (recursion_from_All IsCopied files copied) in
     omega (arith, led, once_fewer (codes "/" ∷ flat_map (λ (entry : Entry). leading entry.path) files))

@@ -1,5 +1,6 @@
 -- A directory makes place for its entries.
-use Rattle.std.proofs.Common.{ℕ, ◌+◌, ◌≡◌, ◌≢◌, ◌<◌, ◌≤◌, ◌&&◌, ◌||◌, Bool, true, false, cond, not, ltb, List, [], ◌∷◌, ◌++◌, length, filter, map, Option, Some, None, inl, inr}
+use Rattle.std.proofs.Common.{ℕ, ◌+◌, ◌≡◌, ◌≢◌, ◌<◌, ◌≤◌, ◌&&◌, ◌||◌, Bool, true, false, cond, not, ltb, List, [], ◌∷◌, ◌++◌, length}
+use Rattle.std.proofs.Common.{filter, map, Option, Some, None, inl, inr}
 use Rattle.std.proofs.Common.{refl, ◌∙◌, ap, sym, subst, arith}
 use Rattle.std.specs.Prelude.{codes, bytes_eq, nat_eq}
 use Rattle.std.specs.List.{AllByRecursion, list_all, list_any, starts_with, position_or_len}
@@ -17,11 +18,14 @@ use Rattle.adb_files.proofs.Lookups.{same_by_test, apart_by_test}
 use Rattle.adb_copy.specs.declared.found.Found.{Found}
 use Rattle.adb_copy.specs.Pulling.{directories}
 use Rattle.adb_copy.specs.Waiting.{IsThere, Walks, found_in, owed, reaches, waits}
-use Rattle.adb_copy.proofs.PullCounts.{all_among, all_append, all_fail, all_from_among, all_front, any_from_among, file_among, none_from_among, one, same_filter, split_count}
+use Rattle.adb_copy.proofs.PullCounts.{all_among, all_append, all_fail, all_from_among, all_front, any_from_among, file_among}
+use Rattle.adb_copy.proofs.PullCounts.{none_from_among, one, same_filter, split_count}
 use Rattle.adb_copy.proofs.PullDirectories.{IsRootOrHasFile, directories_have_files, directory_counted, directory_form, path_starts}
 use Rattle.adb_copy.proofs.PullListing.{IsAmong, IsShownBy, Shown, has_name, shown_alone, shown_once, shown_there}
-use Rattle.adb_copy.proofs.PullPaths.{HasNoSlash, eq_front, first_clean, first_is, first_of, in_parts, is_deeper, is_slash, reaches_child, reaches_no_child, reaches_up, starts_long}
-use Rattle.adb_copy.proofs.PullSteps.{first_part, form_of, forms, here_gone, name_some, one_part, others_wait_not, parts_below, plain_of, plains, reaches_same, times, times_append, wait_before, waits_append}
+use Rattle.adb_copy.proofs.PullPaths.{HasNoSlash, eq_front, first_clean, first_is, first_of, in_parts, is_deeper, is_slash, reaches_child}
+use Rattle.adb_copy.proofs.PullPaths.{reaches_no_child, reaches_up, starts_long}
+use Rattle.adb_copy.proofs.PullSteps.{first_part, form_of, forms, here_gone, name_some, one_part, others_wait_not, parts_below, plain_of}
+use Rattle.adb_copy.proofs.PullSteps.{plains, reaches_same, times, times_append, wait_before, waits_append}
 
 or_false : (t : Bool) → (t || false) ≡ t
 or_false true = refl
@@ -38,7 +42,8 @@ module _ {X Y : Type 0} (t : Y → Bool) (f : X → Y) where
   count_map (x ∷ xs) = go (t (f x)) (count_map xs)
     where
       go : (b : Bool) → length (filter t (map f xs)) ≡ length (filter (λ x. t (f x)) xs)
-          → length (cond b (f x ∷ filter t (map f xs)) (filter t (map f xs))) ≡ length (cond b (x ∷ filter (λ x. t (f x)) xs) (filter (λ x. t (f x)) xs))
+          → length (cond b (f x ∷ filter t (map f xs)) (filter t (map f xs)))
+          ≡ length (cond b (x ∷ filter (λ x. t (f x)) xs) (filter (λ x. t (f x)) xs))
       go true more = omega (arith, more)
       go false more = more
 
@@ -63,7 +68,8 @@ pub record IsNameIn (name : List ℕ) : Type 0 where
 
 without_slash : (rest : List ℕ) → HasNoSlash rest → slash_in rest ≡ None
 without_slash rest clean =
-    ap (λ (t : Bool). cond t (Some (position_or_len is_slash rest)) None) (past (position_or_len is_slash rest) (length rest) (all rest clean))
+    ap (λ (t : Bool). cond t (Some (position_or_len is_slash rest)) None)
+    (past (position_or_len is_slash rest) (length rest) (all rest clean))
   where
     all : (rest : List ℕ) → HasNoSlash rest → position_or_len is_slash rest ≡ length rest
     all [] clean = refl
@@ -97,7 +103,8 @@ module _ (files : List Entry) (ok : IsFileMap files) (directory : List ℕ) (the
       let rest = rest_below directory e.path in
       let is : e.path ≡ inside directory ++ rest = in_parts e.path (inside directory) below in
       let names : list_all is_name (parts_of e.path) ≡ true =
-      names_of (bytes_eq e.path (codes "/")) (starts_with nat_eq e.path (codes "/")) (list_all is_name (parts_of e.path)) (plain_of files ok e among).plain
+      names_of (bytes_eq e.path (codes "/")) (starts_with nat_eq e.path (codes "/"))
+      (list_all is_name (parts_of e.path)) (plain_of files ok e among).plain
       (form_of files ok e among) in
       let here = (parts_below directory rest form).1 (sym (ap (λ (p : List ℕ). list_all is_name (parts_of p)) is) ∙ names) in
       let p = first_part rest in
@@ -127,9 +134,11 @@ module _ (files : List Entry) (ok : IsFileMap files) (directory : List ℕ) (the
       any_map (λ (f : Found). reaches f.path path) (found_in directory) (map dirent_of shown)
       ∙ any_map (λ (d : Dirent). reaches (inside directory ++ d.name) path) dirent_of shown
 
-  by_name : (path : List ℕ) → is_below directory path ≡ true → AllByRecursion (λ (s : Shown). reach_by path s ≡ has_name (name_below directory path) s) shown
+  by_name : (path : List ℕ) → is_below directory path ≡ true
+      → AllByRecursion (λ (s : Shown). reach_by path s ≡ has_name (name_below directory path) s) shown
   by_name path below = all_from_among (λ (s : Shown). reach_by path s ≡ has_name (name_below directory path) s) shown
-      (λ s here. let h = all_among (λ (x : Shown). IsNameIn x.0) s shown names_in here in reaches_child directory s.0 path h.clean h.some below)
+      (λ s here. let h = all_among (λ (x : Shown). IsNameIn x.0) s shown names_in here
+      in reaches_child directory s.0 path h.clean h.some below)
 
   by_none : (path : List ℕ) → is_below directory path ≡ false → AllByRecursion (λ (s : Shown). reach_by path s ≡ false) shown
   by_none path below = all_from_among (λ (s : Shown). reach_by path s ≡ false) shown (λ s here. reaches_no_child directory s.0 path below)
@@ -162,7 +171,8 @@ module _ (files : List Entry) (ok : IsFileMap files) (directory : List ℕ) (the
       ∙ (ap (λ (n : List ℕ). list_any (has_name n) shown) (sym same) ∙ shown_there directory e files among here))
 
   -- what lies below it waits as it did
-  alike_by : (path : List ℕ) → directory ≢ path → (is_below directory path ≡ true → waits entries path ≡ true) → waits entries path ≡ reaches directory path
+  alike_by : (path : List ℕ) → directory ≢ path → (is_below directory path ≡ true → waits entries path ≡ true)
+      → waits entries path ≡ reaches directory path
   alike_by path apart here =
       go (is_below directory path) refl ∙ sym (ap (λ (t : Bool). t || is_below directory path) (apart_by_test directory path apart))
     where
@@ -275,14 +285,17 @@ module _ (files : List Entry) (ok : IsFileMap files) (pending : List Found) (fou
 
   not_alike : AllByRecursion (λ (e : Entry). not (waits (pending ++ found ∷ []) e.path) ≡ not (waits (pending ++ within) e.path)) files
   not_alike = all_from_among (λ (e : Entry). not (waits (pending ++ found ∷ []) e.path) ≡ not (waits (pending ++ within) e.path)) files
-      (λ e among. ap not (sym (all_among (λ (x : Entry). waits (pending ++ within) x.path ≡ waits (pending ++ found ∷ []) x.path) e files files_alike among)))
+      (λ e among. ap not
+      (sym (all_among (λ (x : Entry). waits (pending ++ within) x.path ≡ waits (pending ++ found ∷ []) x.path) e
+      files files_alike among)))
 
   once_still : (path : List ℕ) → times (pending ++ within) path ≤ 1
   once_still path = go (is_below found.path path) refl
     where
       go : (t : Bool) → is_below found.path path ≡ t → times (pending ++ within) path ≤ 1
       go true below =
-          let none = others_wait_not files pending found tree w path (or_right (bytes_eq found.path path) (is_below found.path path) below) in
+          let none = others_wait_not files pending found tree w path
+          (or_right (bytes_eq found.path path) (is_below found.path path) below) in
           let few = times_below files ok found.path is path in
           omega (arith, none, few, ap one below, times_append pending within path)
       go false below =
@@ -292,10 +305,12 @@ module _ (files : List Entry) (ok : IsFileMap files) (pending : List Found) (fou
 
   pub directory_walks : Walks files (pending ++ within) tree
   directory_walks = record {
-    known = all_append (IsThere files) pending within (all_front (IsThere files) pending (found ∷ []) w.known) (entries_known files ok found.path is);
+    known = all_append (IsThere files) pending within (all_front (IsThere files) pending (found ∷ []) w.known)
+        (entries_known files ok found.path is);
     once = once_still;
     tree = w.tree
-        ∙ same_filter (λ (e : Entry). not (waits (pending ++ found ∷ []) e.path)) (λ (e : Entry). not (waits (pending ++ within) e.path)) files not_alike;
+        ∙ same_filter (λ (e : Entry). not (waits (pending ++ found ∷ []) e.path))
+        (λ (e : Entry). not (waits (pending ++ within) e.path)) files not_alike;
   }
 
   counted_one : (d : List ℕ) → IsRootOrHasFile files d
@@ -307,7 +322,8 @@ module _ (files : List Entry) (ok : IsFileMap files) (pending : List Found) (fou
           let same = (bytes_eq-Decides found.path d).0 equal in
           let gone : waits pending d ≡ false = ap (waits pending) (sym same) ∙ here_gone files pending found tree w in
           let before : waits (pending ++ found ∷ []) d ≡ true = wait_before files pending found tree w d
-          ∙ (ap (λ (t : Bool). waits pending d || t) (ap (reaches found.path) (sym same) ∙ reaches_same found.path) ∙ or_right (waits pending d) true refl) in
+          ∙ (ap (λ (t : Bool). waits pending d || t) (ap (reaches found.path) (sym same) ∙ reaches_same found.path)
+          ∙ or_right (waits pending d) true refl) in
           let after : waits (pending ++ within) d ≡ false = wait_behind d
           ∙ (ap (λ (t : Bool). t || waits within d) gone ∙ (ap (waits within) (sym same) ∙ none_up files ok found.path is)) in
           omega (arith, ap one before, ap one after)
@@ -321,13 +337,17 @@ module _ (files : List Entry) (ok : IsFileMap files) (pending : List Found) (fou
   pub directory_owed : owed files (pending ++ found ∷ []) ≡ owed files (pending ++ within) + 1
   directory_owed =
       let places = directories files in
-      let alike = same_filter (λ (e : Entry). waits (pending ++ within) e.path) (λ (e : Entry). waits (pending ++ found ∷ []) e.path) files files_alike in
+      let alike = same_filter (λ (e : Entry). waits (pending ++ within) e.path)
+      (λ (e : Entry). waits (pending ++ found ∷ []) e.path) files files_alike in
       let count = split_count (waits (pending ++ found ∷ [])) (waits (pending ++ within)) (bytes_eq found.path) places
-      (all_from_among (λ (d : List ℕ). one (waits (pending ++ found ∷ []) d) ≡ one (waits (pending ++ within) d) + one (bytes_eq found.path d)) places
+      (all_from_among
+      (λ (d : List ℕ). one (waits (pending ++ found ∷ []) d)
+      ≡ one (waits (pending ++ within) d) + one (bytes_eq found.path d)) places
       (λ d here. counted_one d (all_among (IsRootOrHasFile files) d places (directories_have_files files (forms files ok)) here))) in
       let once = directory_counted files found.path is in
       omega (arith, count, once, ap (λ (es : List Entry). length es) alike)
 
   -- what is listed are the entries
   pub listed : map (found_in found.path) (listing found.path files) ≡ within
-  listed = ap (λ (t : Bool). map (found_in found.path) (cond t (map dirent_of (shown_in found.path files)) [])) (directory_form files found.path is)
+  listed = ap (λ (t : Bool). map (found_in found.path) (cond t (map dirent_of (shown_in found.path files)) []))
+      (directory_form files found.path is)

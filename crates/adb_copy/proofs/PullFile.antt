@@ -1,5 +1,6 @@
 -- A file comes into the tree.
-use Rattle.std.proofs.Common.{ℕ, ◌+◌, ◌≡◌, ◌≢◌, ◌≤◌, ◌&&◌, ◌||◌, Bool, true, false, cond, not, ltb, List, [], ◌∷◌, ◌++◌, length, filter, Option, Some, None}
+use Rattle.std.proofs.Common.{ℕ, ◌+◌, ◌≡◌, ◌≢◌, ◌≤◌, ◌&&◌, ◌||◌, Bool, true, false, cond, not, ltb, List, [], ◌∷◌, ◌++◌, length, filter}
+use Rattle.std.proofs.Common.{Option, Some, None}
 use Rattle.std.proofs.Common.{refl, ◌∙◌, ap, sym, subst, arith}
 use Rattle.std.specs.Prelude.{codes, bytes_eq, nat_eq}
 use Rattle.std.specs.List.{list_any, starts_with}
@@ -9,17 +10,20 @@ use Rattle.adb_files.specs.declared.file.FileError.{FileError}
 use Rattle.adb_files.specs.declared.file.FileError.TheVariants as refusals
 use Rattle.adb_files.specs.declared.files.TheConstants.{MAX_STORED}
 use Rattle.adb_files.specs.Entries.{Entry}
-use Rattle.adb_files.specs.Files.{IsFileMap, file_at, is_directory, is_under_file, none_there, put_refusal, read_refusal, total, with_file, without}
+use Rattle.adb_files.specs.Files.{IsFileMap, file_at, is_directory, is_under_file, none_there, put_refusal, read_refusal, total, with_file}
+use Rattle.adb_files.specs.Files.{without}
 use Rattle.adb_files.specs.Paths.{is_path, is_below}
 use Rattle.adb_files.proofs.Lookups.{apart_by_test}
 use Rattle.adb_files.proofs.Rising.{entry_of, total-with}
 use Rattle.adb_copy.specs.declared.found.Found.{Found}
 use Rattle.adb_copy.specs.Pulling.{directories}
 use Rattle.adb_copy.specs.Waiting.{IsFile, Walks, owed, reaches, waits}
-use Rattle.adb_copy.proofs.PullCounts.{all_among, all_from_among, all_front, among_file, among_of_filter, any_among, none_from_among, one, path_counted, put_between, split_count, same_filter, total_fewer}
+use Rattle.adb_copy.proofs.PullCounts.{all_among, all_from_among, all_front, among_file, among_of_filter, any_among, none_from_among, one}
+use Rattle.adb_copy.proofs.PullCounts.{path_counted, put_between, split_count, same_filter, total_fewer}
 use Rattle.adb_copy.proofs.PullDirectories.{IsRootOrHasFile, directories_have_files}
 use Rattle.adb_copy.proofs.PullListing.{IsAmong}
-use Rattle.adb_copy.proofs.PullSteps.{form_of, forms, here_gone, plain_of, plains, reaches_itself, reaches_no_directory, reaches_same, times_append, wait_before}
+use Rattle.adb_copy.proofs.PullSteps.{form_of, forms, here_gone, plain_of, plains, reaches_itself, reaches_no_directory, reaches_same}
+use Rattle.adb_copy.proofs.PullSteps.{times_append, wait_before}
 
 or_false : (t : Bool) → (t || false) ≡ t
 or_false true = refl
@@ -37,7 +41,8 @@ one_of false true apart = refl
 one_of false false apart = refl
 
 -- ---- a file is read with no refusal
-pub file_readable : (files : List Entry) (ok : IsFileMap files) (found : Found) (is : IsFile files found) → read_refusal files found.path ≡ None
+pub file_readable : (files : List Entry) (ok : IsFileMap files) (found : Found) (is : IsFile files found)
+    → read_refusal files found.path ≡ None
 file_readable files ok found is =
     let entry : Entry = entry_of found.path is.file in
     let among : IsAmong entry files = among_file found.path is.file files is.there in
@@ -142,10 +147,12 @@ module _ (files : List Entry) (ok : IsFileMap files) (pending : List Found) (fou
   file_granted =
       let room : ltb MAX_STORED (total (without found.path tree) + length is.file.bytes) ≡ false =
       within (total (without found.path tree) + length is.file.bytes) small in
-      let large : Option FileError = cond (ltb MAX_STORED (total (without found.path tree) + length is.file.bytes)) (Some refusals.NoSpace) None in
+      let large : Option FileError = cond (ltb MAX_STORED (total (without found.path tree) + length is.file.bytes))
+      (Some refusals.NoSpace) None in
       ap (λ (t : Bool). cond (not t) (Some refusals.BadPath) (cond (is_directory tree found.path) (Some refusals.IsDirectory)
       (cond (is_under_file tree found.path) (Some refusals.NotDirectory) large))) (form_of files ok entry among)
-      ∙ (ap (λ (t : Bool). cond t (Some refusals.IsDirectory) (cond (is_under_file tree found.path) (Some refusals.NotDirectory) large)) not_directory
+      ∙ (ap (λ (t : Bool). cond t (Some refusals.IsDirectory)
+      (cond (is_under_file tree found.path) (Some refusals.NotDirectory) large)) not_directory
       ∙ (ap (λ (t : Bool). cond t (Some refusals.NotDirectory) large) not_under
       ∙ ap (λ (t : Bool). cond t (Some refusals.NoSpace) None) room))
     where

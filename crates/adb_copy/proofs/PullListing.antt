@@ -36,7 +36,8 @@ above_on : (a b : List ℕ) (es : List Shown) → path_cmp a b ≡ Less → AllA
 above_on a b [] less all = tt
 above_on a b (e ∷ es) less all = (nat_list_cmp_total.trans a b e.0 less all.0, above_on a b es less all.1)
 
-above_with : (name k : List ℕ) (v : Stat) (es : List Shown) → path_cmp name k ≡ Less → AllAbove name es → AllAbove name (insert_entry path_cmp es k v)
+above_with : (name k : List ℕ) (v : Stat) (es : List Shown) → path_cmp name k ≡ Less → AllAbove name es
+    → AllAbove name (insert_entry path_cmp es k v)
 above_with name k v [] less all = (less, tt)
 above_with name k v (e ∷ es) less all = go (path_cmp k e.0) (above_with name k v es less all.1)
   where
@@ -56,7 +57,8 @@ rise_with (e ∷ es) k v rise = go (path_cmp k e.0) refl (rise_with es k v rise.
     go Equal is more = rise
     go Greater is more = (above_with e.0 k v es (less_back k e.0 is) rise.0, more)
 
-rise_all : (directory : List ℕ) (files : List Entry) (found : List Shown) → NamesRise found → NamesRise (fold (with_shown directory) found files)
+rise_all : (directory : List ℕ) (files : List Entry) (found : List Shown) → NamesRise found
+    → NamesRise (fold (with_shown directory) found files)
 rise_all directory [] found rise = rise
 rise_all directory (e ∷ files) found rise =
     rise_all directory files (with_shown directory found e) (rise_with found (name_below directory e.path) (stat_below directory e) rise)
@@ -67,7 +69,8 @@ has_name name shown = bytes_eq shown.0 name
 none_above : (name : List ℕ) (es : List Shown) → AllAbove name es → length (filter (has_name name) es) ≡ 0
 none_above name [] all = refl
 none_above name (e ∷ es) all =
-    let apart : has_name name e ≡ false = apart_by_test e.0 name (λ same. let clash = sym (ap (path_cmp name) same) ∙ all.0 in less_self name clash) in
+    let apart : has_name name e ≡ false = apart_by_test e.0 name
+    (λ same. let clash = sym (ap (path_cmp name) same) ∙ all.0 in less_self name clash) in
     ap (λ (t : Bool). length (cond t (e ∷ filter (has_name name) es) (filter (has_name name) es))) apart ∙ none_above name es all.1
   where
     less_self : (x : List ℕ) → path_cmp x x ≡ Less → ⊥
@@ -133,11 +136,13 @@ put_all : (directory : List ℕ) (entry : Entry) (files : List Entry) (found : L
 put_all directory entry [] found among = absurd among
 put_all directory entry (e ∷ files) found (inl same) =
     let name = name_below directory e.path in
-    ap (λ (x : Entry). list_any (has_name (name_below directory x.path)) (fold (with_shown directory) (with_shown directory found e) files)) same
+    ap (λ (x : Entry). list_any (has_name (name_below directory x.path))
+    (fold (with_shown directory) (with_shown directory found e) files)) same
     ∙ stays_all directory name files (with_shown directory found e) (name_put found name (stat_below directory e))
 put_all directory entry (e ∷ files) found (inr among) = put_all directory entry files (with_shown directory found e) among
 
-pub among_filter : (test : Entry → Bool) (entry : Entry) (files : List Entry) → IsAmong entry files → test entry ≡ true → IsAmong entry (filter test files)
+pub among_filter : (test : Entry → Bool) (entry : Entry) (files : List Entry) → IsAmong entry files
+    → test entry ≡ true → IsAmong entry (filter test files)
 among_filter test entry [] among pass = absurd among
 among_filter test entry (e ∷ files) (inl same) pass =
     subst (λ (t : Bool). IsAmong entry (cond t (e ∷ filter test files) (filter test files))) (sym (ap test (sym same) ∙ pass)) (inl same)
@@ -182,7 +187,8 @@ module _ (P : Shown → Type 0) where
       (all_with found (name_below directory e.path) (stat_below directory e) all (each e (inl refl)))
       (λ x among. each x (inr among))
 
-passed : (test : Entry → Bool) (entry : Entry) (files : List Entry) → IsAmong entry (filter test files) → IsAmong entry files × (test entry ≡ true)
+passed : (test : Entry → Bool) (entry : Entry) (files : List Entry) → IsAmong entry (filter test files)
+    → IsAmong entry files × (test entry ≡ true)
 passed test entry [] among = absurd among
 passed test entry (e ∷ files) among = go (test e) refl among (passed test entry files)
   where

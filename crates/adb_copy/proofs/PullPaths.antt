@@ -1,5 +1,6 @@
 -- Paths below a directory, by the name that they show there.
-use Rattle.std.proofs.Common.{ℕ, suc, ◌+◌, ◌≡◌, ◌<◌, ◌≤◌, ◌&&◌, ◌||◌, Bool, true, false, cond, not, eqb, ltb, List, [], ◌∷◌, ◌++◌, length, take, drop, Some, None}
+use Rattle.std.proofs.Common.{ℕ, suc, ◌+◌, ◌≡◌, ◌<◌, ◌≤◌, ◌&&◌, ◌||◌, Bool, true, false, cond, not, eqb, ltb, List, [], ◌∷◌, ◌++◌, length}
+use Rattle.std.proofs.Common.{take, drop, Some, None}
 use Rattle.std.proofs.Common.{refl, ◌∙◌, ap, sym, append_assoc, arith}
 use Rattle.std.specs.Prelude.{codes, bytes_eq, nat_eq}
 use Rattle.std.specs.List.{AllByRecursion, starts_with, position_or_len}
@@ -113,7 +114,8 @@ same_first (a ∷ name) (b ∷ rest) clean = go (nat_eq a b) refl (is_slash b) r
   where
     go : (t : Bool) → nat_eq a b ≡ t → (s : Bool) → is_slash b ≡ s
         → (bytes_eq name rest || starts_with nat_eq rest (name ++ codes "/")) ≡ bytes_eq name (first_of rest)
-        → ((t && bytes_eq name rest) || (t && starts_with nat_eq rest (name ++ codes "/"))) ≡ bytes_eq (a ∷ name) (cond s [] (b ∷ first_of rest))
+        → ((t && bytes_eq name rest) || (t && starts_with nat_eq rest (name ++ codes "/")))
+        ≡ bytes_eq (a ∷ name) (cond s [] (b ∷ first_of rest))
     go true same true slash more =
         let clash = sym clean.0 ∙ (ap is_slash (eqb-true a b same) ∙ slash) in absurd (cc)
     go true same false slash more = more ∙ sym (ap (λ (t : Bool). t && bytes_eq name (first_of rest)) same)
@@ -147,16 +149,19 @@ reaches_no_child directory name path not_below =
     let base = inside directory in
     let q = base ++ name in
     let apart : bytes_eq q path ≡ false = apart_by_test q path
-    (λ e. let there = ap (λ (p : List ℕ). starts_with nat_eq p base) (sym e) ∙ starts_there base name in let clash = sym not_below ∙ there in cc) in
+    (λ e. let there = ap (λ (p : List ℕ). starts_with nat_eq p base) (sym e) ∙ starts_there base name in let clash =
+    sym not_below ∙ there in cc) in
     ap (λ (t : Bool). t || is_below q path) apart
-    ∙ (ap (starts_with nat_eq path) (append_assoc base name (slash_behind q)) ∙ starts_with-neither path base (name ++ slash_behind q) not_below)
+    ∙ (ap (starts_with nat_eq path) (append_assoc base name (slash_behind q))
+    ∙ starts_with-neither path base (name ++ slash_behind q) not_below)
 
 -- no name in a directory reaches the directory
 pub reaches_up : (directory name : List ℕ) → 0 < length name → reaches (inside directory ++ name) directory ≡ false
 reaches_up directory name some =
     let q = inside directory ++ name in
     let longer : length directory < length q = omega (arith, some, inside_longer directory, length-append (inside directory) name) in
-    let apart : bytes_eq q directory ≡ false = apart_by_test q directory (λ e. absurd (omega (arith, longer, ap (λ (bs : List ℕ). length bs) e))) in
+    let apart : bytes_eq q directory ≡ false = apart_by_test q directory
+    (λ e. absurd (omega (arith, longer, ap (λ (bs : List ℕ). length bs) e))) in
     ap (λ (t : Bool). t || is_below q directory) apart
     ∙ false_from_ne_true (is_below q directory)
     (λ t. let fits = starts_long directory (inside q) t in absurd (omega (arith, longer, fits, inside_longer q)))
@@ -167,7 +172,8 @@ pub record IsDeeper (directory place path : List ℕ) : Type 0 where
   pub below : is_below directory path ≡ true
   pub name : name_below directory path ≡ name_below directory place
 
-pub is_deeper : (directory place path : List ℕ) → bytes_eq place (codes "/") ≡ false → is_below directory place ≡ true → is_below place path ≡ true
+pub is_deeper : (directory place path : List ℕ) → bytes_eq place (codes "/") ≡ false → is_below directory place ≡ true
+    → is_below place path ≡ true
     → IsDeeper directory place path
 is_deeper directory place path plain below behind =
     let base = inside directory in
@@ -179,7 +185,8 @@ is_deeper directory place path plain below behind =
     in_parts path (inside place) behind
     ∙ (ap (λ (bs : List ℕ). bs ++ more) (whole ∙ ap (λ (bs : List ℕ). bs ++ codes "/") first)
     ∙ (append_assoc (base ++ rest) (codes "/") more ∙ append_assoc base rest (47 ∷ more))) in
-    let there : is_below directory path ≡ true = ap (λ (p : List ℕ). starts_with nat_eq p base) is ∙ starts_there base (rest ++ 47 ∷ more) in
+    let there : is_below directory path ≡ true = ap (λ (p : List ℕ). starts_with nat_eq p base) is
+    ∙ starts_there base (rest ++ 47 ∷ more) in
     let rest_is : rest_below directory path ≡ rest ++ 47 ∷ more = ap (drop (length base)) is ∙ drop_front base (rest ++ 47 ∷ more) in
     record {
       below = there;

@@ -24,7 +24,8 @@ slash_cut : (xs ys : List ℕ) → list_all is_name (slice_split is_slash (xs ++
     ≡ (list_all is_name (slice_split is_slash xs) && list_all is_name (slice_split is_slash ys))
 slash_cut xs ys = ap (list_all is_name) (cut xs ys) ∙ list_all-append is_name (slice_split is_slash xs) (slice_split is_slash ys)
   where
-    some : (xs : List ℕ) (b : ℕ) (qs : List (List ℕ)) → onto_first b (slice_split is_slash xs ++ qs) ≡ onto_first b (slice_split is_slash xs) ++ qs
+    some : (xs : List ℕ) (b : ℕ) (qs : List (List ℕ)) → onto_first b (slice_split is_slash xs ++ qs)
+        ≡ onto_first b (slice_split is_slash xs) ++ qs
     some [] b qs = refl
     some (x ∷ xs) b qs = go (is_slash x) (some xs x qs)
       where
@@ -104,7 +105,8 @@ parts_below directory rest form = go (bytes_eq directory (codes "/")) refl
         × (list_all is_name (parts_of (inside directory ++ rest)) ≡ true → list_all is_name (slice_split is_slash rest) ≡ true)
     go true is =
         let same = (bytes_eq-Decides directory (codes "/")).0 is in
-        let whole : parts_of (inside directory ++ rest) ≡ slice_split is_slash rest = ap (λ (d : List ℕ). parts_of (inside d ++ rest)) same in
+        let whole : parts_of (inside directory ++ rest) ≡ slice_split is_slash rest =
+        ap (λ (d : List ℕ). parts_of (inside d ++ rest)) same in
         (λ h. ap (list_all is_name) whole ∙ h, λ h. sym (ap (list_all is_name) whole) ∙ h)
     go false is =
         let front : inside directory ++ rest ≡ 47 ∷ (tail ++ 47 ∷ rest) =
@@ -151,7 +153,8 @@ module _ (files : List Entry) (ok : IsFileMap files) where
   -- a file's path reaches its own file alone
   pub reaches_itself : (e x : Entry) → IsAmong e files → IsAmong x files → reaches e.path x.path ≡ bytes_eq e.path x.path
   reaches_itself e x among other =
-      ap (λ (t : Bool). bytes_eq e.path x.path || t) (any_among (λ (y : Entry). is_below e.path y.path) x files (plain_of e among).none other)
+      ap (λ (t : Bool). bytes_eq e.path x.path || t)
+      (any_among (λ (y : Entry). is_below e.path y.path) x files (plain_of e among).none other)
       ∙ or_false (bytes_eq e.path x.path)
     where
       or_false : (t : Bool) → (t || false) ≡ t
@@ -161,7 +164,8 @@ module _ (files : List Entry) (ok : IsFileMap files) where
   below_root : (e : Entry) → IsAmong e files → is_below e.path (codes "/") ≡ true → ⊥
   below_root e among below =
       let fits = starts_long (codes "/") (inside e.path) below in
-      let whole : inside e.path ≡ e.path ++ codes "/" = ap (λ (t : Bool). e.path ++ cond t (codes "") (codes "/")) (plain_of e among).plain in
+      let whole : inside e.path ≡ e.path ++ codes "/" = ap (λ (t : Bool). e.path ++ cond t (codes "") (codes "/"))
+      (plain_of e among).plain in
       let some = ap (λ (bs : List ℕ). length bs) (path_starts e.path (form_of e among)) in
       absurd (omega (arith, fits, ap (λ (bs : List ℕ). length bs) whole, length-append e.path (codes "/"), some))
 
@@ -224,7 +228,8 @@ pub reaches_same : (path : List ℕ) → reaches path path ≡ true
 reaches_same path = ap (λ (t : Bool). t || is_below path path) (same_by_test path path refl)
 
 -- of what waits once, and what is taken away, nothing else waits
-module _ (files : List Entry) (pending : List Found) (found : Found) (tree : List Entry) (w : Walks files (pending ++ found ∷ []) tree) where
+module _ (files : List Entry) (pending : List Found) (found : Found) (tree : List Entry)
+    (w : Walks files (pending ++ found ∷ []) tree) where
   pub others_wait_not : (path : List ℕ) → reaches found.path path ≡ true → times pending path ≡ 0
   others_wait_not path is =
       let once = w.once path in

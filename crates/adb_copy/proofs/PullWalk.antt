@@ -1,5 +1,6 @@
 -- A walk begins at the root, and ends with all files; what is asked for on it is short.
-use Rattle.std.proofs.Common.{ℕ, ◌+◌, ◌^◌, ◌≡◌, ◌≢◌, ◌<◌, ◌≤◌, ◌/◌, ◌&&◌, ◌||◌, Bool, true, false, cond, not, List, [], ◌∷◌, length, map, Option, Some, None, ◌⊎◌, inl, inr}
+use Rattle.std.proofs.Common.{ℕ, ◌+◌, ◌^◌, ◌≡◌, ◌≢◌, ◌<◌, ◌≤◌, ◌/◌, ◌&&◌, ◌||◌, Bool, true, false, cond, not, List, [], ◌∷◌, length, map}
+use Rattle.std.proofs.Common.{Option, Some, None, ◌⊎◌, inl, inr}
 use Rattle.std.proofs.Common.{refl, ◌∙◌, ap, sym, arith}
 use Rattle.std.specs.Prelude.{codes, bytes_eq, nat_eq}
 use Rattle.std.specs.List.{AllByRecursion, list_any, starts_with}
@@ -71,12 +72,15 @@ module _ (files : List Entry) (ok : IsFileMap files) where
 -- ---- the end
 pub ends : (files tree : List Entry) → Walks files [] tree → tree ≡ files
 ends files tree w =
-    w.tree ∙ all_pass (λ (e : Entry). not (waits [] e.path)) files (all_from_among (λ (e : Entry). not (waits [] e.path) ≡ true) files (λ e _. refl))
+    w.tree ∙ all_pass (λ (e : Entry). not (waits [] e.path)) files
+    (all_from_among (λ (e : Entry). not (waits [] e.path) ≡ true) files (λ e _. refl))
 
 pub owed_last : (files : List Entry) → owed files [] ≡ 0
 owed_last files =
-    let left = all_fail (λ (e : Entry). waits [] e.path) files (all_from_among (λ (e : Entry). waits [] e.path ≡ false) files (λ e _. refl)) in
-    let right = all_fail (waits []) (directories files) (all_from_among (λ (d : List ℕ). waits [] d ≡ false) (directories files) (λ d _. refl)) in
+    let left = all_fail (λ (e : Entry). waits [] e.path) files
+    (all_from_among (λ (e : Entry). waits [] e.path ≡ false) files (λ e _. refl)) in
+    let right = all_fail (waits []) (directories files)
+    (all_from_among (λ (d : List ℕ). waits [] d ≡ false) (directories files) (λ d _. refl)) in
     omega (arith, left, right)
 
 -- ---- lengths and numbers
@@ -117,7 +121,8 @@ module _ (files : List Entry) (ok : IsFileMap files) (all : AreCopied files) whe
 
   pub found_short : (found : Found) → IsThere files found → length found.path ≤ MAX_ASKED_PATH
   found_short found (inl is) = directory_short found.path is.there
-  found_short found (inr is) = (all_among IsCopied (entry_of found.path is.file) files copied (among_file found.path is.file files is.there)).0
+  found_short found (inr is) =
+      (all_among IsCopied (entry_of found.path is.file) files copied (among_file found.path is.file files is.there)).0
 
   -- what is found with a file's mode is a file, and with a directory's a directory
   pub found_directory : (found : Found) → IsThere files found → found.mode / 4096 ≡ 4 → is_directory files found.path ≡ true
@@ -140,7 +145,8 @@ module _ (files : List Entry) (ok : IsFileMap files) (all : AreCopied files) whe
       c = all_among IsCopied e files copied h.among
 
       time : e.file.mtime < 2 ^ 32
-      time = all_among (λ (x : Entry). x.file.mtime < 2 ^ 32) e files (recursion_from_All (λ (x : Entry). x.file.mtime < 2 ^ 32) files ok.times) h.among
+      time = all_among (λ (x : Entry). x.file.mtime < 2 ^ 32) e files
+          (recursion_from_All (λ (x : Entry). x.file.mtime < 2 ^ 32) files ok.times) h.among
 
       name_short : length s.0 ≤ MAX_ASKED_PATH
       name_short =

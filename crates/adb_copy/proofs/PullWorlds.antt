@@ -42,7 +42,8 @@ pub record Pulling (first now : View) (pending : List Found) (tree : List Entry)
   pub all : done + owed first.files pending ≡ length first.files + length (directories first.files)
   pub fresh : first.spent ≡ true → (now ≡ first) × (pending ≡ root ∷ [])
 
-pub pulling_begins : (first : View) (pending : List Found) (tree : List Entry) → first.settled ≡ true → IsFileMap first.files → pending ≡ root ∷ [] → tree ≡ []
+pub pulling_begins : (first : View) (pending : List Found) (tree : List Entry) → first.settled ≡ true
+    → IsFileMap first.files → pending ≡ root ∷ [] → tree ≡ []
     → Pulling first first pending tree
 pulling_begins first pending tree settled ok only none =
     subst (λ (fs : List Found). Pulling first first fs tree) (sym only)
@@ -71,7 +72,8 @@ next_room first now items pending found tree p is room =
     let given = p.pulls.syncs.given in
     omega (arith, room, same, all, given)
 
-pub next_pulling : (first now next : View) (items pending left : List Found) (found : Found) (tree grown : List Entry) → Pulling first now items tree
+pub next_pulling : (first now next : View) (items pending left : List Found) (found : Found) (tree grown : List Entry)
+    → Pulling first now items tree
     → items ≡ pending ++ found ∷ [] → Pulls 1 now next → Walks now.files left grown
     → owed now.files (pending ++ found ∷ []) ≡ owed now.files left + 1 → (now.spent ≡ true → ⊥) → Pulling first next left grown
 next_pulling first now next items pending left found tree grown p is pulls walks owed_less whole = record {
@@ -88,7 +90,8 @@ next_pulling first now next items pending left found tree grown p is pulls walks
 }
 
 -- what is pending is owed
-pub some_owed : (files : List Entry) (pending : List Found) (found : Found) (tree : List Entry) → IsFileMap files → Walks files (pending ++ found ∷ []) tree
+pub some_owed : (files : List Entry) (pending : List Found) (found : Found) (tree : List Entry) → IsFileMap files
+    → Walks files (pending ++ found ∷ []) tree
     → 1 ≤ owed files (pending ++ found ∷ [])
 some_owed files pending found tree ok w = go (all_back (IsThere files) pending (found ∷ []) w.known).0
   where
@@ -96,8 +99,10 @@ some_owed files pending found tree ok w = go (all_back (IsThere files) pending (
     go (inl is) = omega (arith, directory_owed files ok pending found tree w is.there)
     go (inr is) = omega (arith, file_owed files ok pending found tree w is)
 
-pub stopped : (first now next : View) (items pending : List Found) (found : Found) (tree : List Entry) → IsFileMap first.files → Pulling first now items tree
-    → items ≡ pending ++ found ∷ [] → PullsAtMost 1 now next → PullsAtMost (length first.files + length (directories first.files)) first next
+pub stopped : (first now next : View) (items pending : List Found) (found : Found) (tree : List Entry)
+    → IsFileMap first.files → Pulling first now items tree
+    → items ≡ pending ++ found ∷ [] → PullsAtMost 1 now next
+    → PullsAtMost (length first.files + length (directories first.files)) first next
 stopped first now next items pending found tree ok p is more =
     let w = subst (λ (fs : List Found). Walks first.files fs tree) is p.walks in
     let some = some_owed first.files pending found tree ok w in
@@ -126,7 +131,8 @@ pulled first now items tree p none =
     )
 
 -- ---- one session
-pub synced : (old new : View) → new.files ≡ old.files → new.given ≡ old.given + 1 → AreSame old.sessions new.sessions → IsSettled new → IsCounted new
+pub synced : (old new : View) → new.files ≡ old.files → new.given ≡ old.given + 1 → AreSame old.sessions new.sessions
+    → IsSettled new → IsCounted new
     → new.settled ≡ true → new.spent ≡ false → Pulls 1 old new
 synced old new files given same calm counted settled whole = record {
   files = files;

@@ -29,10 +29,12 @@ module _ (files : List Entry) (entry : Entry) (copied : IsCopied entry) (time : 
   pub record IsSent (served : Served) : Type 0 where
     pub ended : HasAnswered (push_value served.answer)
     pub stored : push_value served.answer ≡ steps.Done tt → pushed files (entry ∷ []) ≡ all_pushed served.files
-    pub refused : (text : List ℕ) → push_value served.answer ≡ steps.Refused text → pushed files (entry ∷ []) ≡ refused_at served.files entry.path text
+    pub refused : (text : List ℕ) → push_value served.answer ≡ steps.Refused text
+        → pushed files (entry ∷ []) ≡ refused_at served.files entry.path text
     pub first : FilesPushed (entry ∷ []) files served.files
 
-  is_by : (refusal : Option FileError) → pushed files (entry ∷ []) ≡ pushed_by refusal files entry (λ stored. pushed stored []) → IsSent (by refusal)
+  is_by : (refusal : Option FileError) → pushed files (entry ∷ [])
+      ≡ pushed_by refusal files entry (λ stored. pushed stored []) → IsSent (by refusal)
   is_by None is = record {
     ended = tt;
     stored = λ e. is;
@@ -51,7 +53,8 @@ module _ (files : List Entry) (entry : Entry) (copied : IsCopied entry) (time : 
   is_sent = subst IsSent (sym sent_by) (is_by (put_refusal files entry.path (length entry.file.bytes)) refl)
 
   -- a prefix of what is sent is nothing, or all of it
-  pub sent_in_part : (left : List Entry) → IsServedInPart files left (push_text entry.path entry.file.mode entry.file.mtime entry.file.bytes)
+  pub sent_in_part : (left : List Entry) → IsServedInPart files left
+      (push_text entry.path entry.file.mode entry.file.mtime entry.file.bytes)
       → FilesPushed (entry ∷ []) files left
   sent_in_part left (k, is) = go k is
     where
@@ -62,7 +65,9 @@ module _ (files : List Entry) (entry : Entry) (copied : IsCopied entry) (time : 
           ≡ Sends entry.path (decimal entry.file.mode) entry.file.bytes entry.file.mtime ∷ []
       requests = push_requests entry.file.mode copied.1 copied.2 entry.path entry.file.bytes entry.file.mtime copied.0 time
 
-      go : (n : ℕ) → left ≡ (serve_all files (take n (requests_in (push_text entry.path entry.file.mode entry.file.mtime entry.file.bytes)))).files
+      go : (n : ℕ) → left
+          ≡ (serve_all files
+          (take n (requests_in (push_text entry.path entry.file.mode entry.file.mtime entry.file.bytes)))).files
           → FilesPushed (entry ∷ []) files left
       go zero same = record { done = []; left = entry ∷ []; split = refl; stored = ap all_pushed (sym same) }
       go (suc n) same =

@@ -21,7 +21,8 @@ AreBefore path files = AllByRecursion (λ k. path_cmp k path ≡ Less) (paths fi
 abbrev pub AreBehind : List ℕ → List Entry → Type 0
 AreBehind path files = AllByRecursion (λ k. path_cmp path k ≡ Less) (paths files)
 
-at_middle : (P : List ℕ → Type 0) (done : List Entry) (e : Entry) (left : List Entry) → AllByRecursion P (paths (done ++ e ∷ left)) → P e.path
+at_middle : (P : List ℕ → Type 0) (done : List Entry) (e : Entry) (left : List Entry)
+    → AllByRecursion P (paths (done ++ e ∷ left)) → P e.path
 at_middle P [] e left all = all.0
 at_middle P (x ∷ done) e left all = at_middle P done e left all.1
 
@@ -45,30 +46,36 @@ unfolding IsStrictlySortedBy
 rising_left e left up = up.1
 
 -- ---- files that all pass a test, or none
-all_pass : (test : Entry → Bool) (P : List ℕ → Type 0) → ((x : Entry) → P x.path → test x ≡ true) → (files : List Entry) → AllByRecursion P (paths files)
+all_pass : (test : Entry → Bool) (P : List ℕ → Type 0) → ((x : Entry) → P x.path → test x ≡ true)
+    → (files : List Entry) → AllByRecursion P (paths files)
     → filter test files ≡ files
 all_pass test P says [] all = refl
 all_pass test P says (x ∷ files) all =
     ap (λ (t : Bool). cond t (x ∷ filter test files) (filter test files)) (says x all.0)
     ∙ ap (λ (more : List Entry). x ∷ more) (all_pass test P says files all.1)
 
-none_pass : (test : Entry → Bool) (P : List ℕ → Type 0) → ((x : Entry) → P x.path → test x ≡ false) → (files : List Entry) → AllByRecursion P (paths files)
+none_pass : (test : Entry → Bool) (P : List ℕ → Type 0) → ((x : Entry) → P x.path → test x ≡ false)
+    → (files : List Entry) → AllByRecursion P (paths files)
     → filter test files ≡ []
 none_pass test P says [] all = refl
 none_pass test P says (x ∷ files) all =
     ap (λ (t : Bool). cond t (x ∷ filter test files) (filter test files)) (says x all.0) ∙ none_pass test P says files all.1
 
 pub all_before : (path : List ℕ) (files : List Entry) → AreBefore path files → before path files ≡ files
-all_before path files less = all_pass (λ (x : Entry). is_lt (path_cmp x.path path)) (λ k. path_cmp k path ≡ Less) (λ x is. ap is_lt is) files less
+all_before path files less = all_pass (λ (x : Entry). is_lt (path_cmp x.path path)) (λ k. path_cmp k path ≡ Less)
+    (λ x is. ap is_lt is) files less
 
 pub none_behind : (path : List ℕ) (files : List Entry) → AreBefore path files → behind path files ≡ []
 none_behind path files less =
-    none_pass (λ (x : Entry). is_lt (path_cmp path x.path)) (λ k. path_cmp k path ≡ Less) (λ x is. ap is_lt (greater_back x.path path is)) files less
+    none_pass (λ (x : Entry). is_lt (path_cmp path x.path)) (λ k. path_cmp k path ≡ Less)
+    (λ x is. ap is_lt (greater_back x.path path is)) files less
 
 all_behind : (path : List ℕ) (files : List Entry) → AreBehind path files → behind path files ≡ files
-all_behind path files more = all_pass (λ (x : Entry). is_lt (path_cmp path x.path)) (λ k. path_cmp path k ≡ Less) (λ x is. ap is_lt is) files more
+all_behind path files more = all_pass (λ (x : Entry). is_lt (path_cmp path x.path)) (λ k. path_cmp path k ≡ Less)
+    (λ x is. ap is_lt is) files more
 
-pub behind_middle : (done : List Entry) (e : Entry) (left : List Entry) → IsRising (done ++ e ∷ left) → behind e.path (done ++ e ∷ left) ≡ left
+pub behind_middle : (done : List Entry) (e : Entry) (left : List Entry) → IsRising (done ++ e ∷ left)
+    → behind e.path (done ++ e ∷ left) ≡ left
 behind_middle done e left up =
     let test : Entry → Bool = λ (x : Entry). is_lt (path_cmp e.path x.path) in
     let here : test e ≡ false = ap is_lt (path_cmp-same e.path) in
@@ -95,13 +102,15 @@ behind_nothing files are =
 abbrev has : List ℕ → Entry → Bool
 has path entry = bytes_eq entry.path path
 
-pub found_middle : (done : List Entry) (e : Entry) (left : List Entry) → AreBefore e.path done → file_at e.path (done ++ e ∷ left) ≡ Some e.file
+pub found_middle : (done : List Entry) (e : Entry) (left : List Entry) → AreBefore e.path done
+    → file_at e.path (done ++ e ∷ left) ≡ Some e.file
 found_middle done e left less = ap (option_map (λ (x : Entry). x.file)) (go done less)
   where
     go : (done : List Entry) → AreBefore e.path done → find (has e.path) (done ++ e ∷ left) ≡ Some e
     go [] less = ap (λ (t : Bool). cond t (Some e) (find (has e.path) left)) (same_by_test e.path e.path refl)
     go (x ∷ done) less =
-        ap (λ (t : Bool). cond t (Some x) (find (has e.path) (done ++ e ∷ left))) (apart_by_order x.path e.path Less refl less.0) ∙ go done less.1
+        ap (λ (t : Bool). cond t (Some x) (find (has e.path) (done ++ e ∷ left)))
+        (apart_by_order x.path e.path Less refl less.0) ∙ go done less.1
 
 pub none_found : (path : List ℕ) (files : List Entry) → AreBehind path files → file_at path files ≡ None
 none_found path files more = ap (option_map (λ (x : Entry). x.file)) (go files more)
@@ -109,4 +118,5 @@ none_found path files more = ap (option_map (λ (x : Entry). x.file)) (go files 
     go : (files : List Entry) → AreBehind path files → find (has path) files ≡ None
     go [] more = refl
     go (x ∷ files) more =
-        ap (λ (t : Bool). cond t (Some x) (find (has path) files)) (apart_by_order x.path path Greater refl (greater_back path x.path more.0)) ∙ go files more.1
+        ap (λ (t : Bool). cond t (Some x) (find (has path) files))
+        (apart_by_order x.path path Greater refl (greater_back path x.path more.0)) ∙ go files more.1

@@ -1,5 +1,6 @@
 -- Pushes one behind the other, up to one that is refused or the end of the tree.
-use Rattle.std.proofs.Common.{ℕ, ◌+◌, ◌≡◌, ◌≢◌, ◌<◌, ◌≤◌, Bool, true, false, cond, List, [], ◌∷◌, ◌++◌, length, Option, Some, None, Result, Ok, Err}
+use Rattle.std.proofs.Common.{ℕ, ◌+◌, ◌≡◌, ◌≢◌, ◌<◌, ◌≤◌, Bool, true, false, cond, List, [], ◌∷◌, ◌++◌, length, Option, Some, None, Result}
+use Rattle.std.proofs.Common.{Ok, Err}
 use Rattle.std.proofs.Common.{refl, sym, ◌∙◌, ap, subst, append_assoc, arith}
 use Rattle.std.specs.Prelude.{IsErr, OnOk, bytes_eq, is_some, option_map, slice_get, ⊤}
 use Rattle.std.specs.List.{find}
@@ -28,7 +29,8 @@ pushed_behind (e ∷ done) more files mid is =
     go (put_refusal files e.path (length e.file.bytes)) is (pushed_behind done more (with_file e.path e.file files) mid)
   where
     go : (o : Option FileError) → pushed_by o files e (λ stored. pushed stored done) ≡ all_pushed mid
-        → (pushed (with_file e.path e.file files) done ≡ all_pushed mid → pushed (with_file e.path e.file files) (done ++ more) ≡ pushed mid more)
+        → (pushed (with_file e.path e.file files) done ≡ all_pushed mid
+        → pushed (with_file e.path e.file files) (done ++ more) ≡ pushed mid more)
         → pushed_by o files e (λ stored. pushed stored (done ++ more)) ≡ pushed mid more
     go None is rest = rest is
     go (Some refusal) is rest = let clash = ap (λ (p : Pushed). p.refused) is in absurd (cc)
@@ -124,7 +126,8 @@ module _ (done more : List Entry) (old mid new : View) (result : Result ⊤ Copy
           (rest.0, rest.1 ∙ same)
       stay (e ∷ done) first spent = let clash : false ≡ true = (first spent).0 (λ none. cc) in absurd (cc)
 
-module _ (done more : List Entry) (old new : View) (result : Result ⊤ CopyError) (stopped : IsErr result) (p : Pushes done result old new) where
+module _ (done more : List Entry) (old new : View) (result : Result ⊤ CopyError) (stopped : IsErr result)
+    (p : Pushes done result old new) where
   pub pushes_stop : Pushes (done ++ more) result old new
   pushes_stop = record {
     ok = never _ result stopped;
@@ -164,7 +167,10 @@ pushes_none old rests = record {
   ok = refl;
   syncs = syncs_none old rests;
   refused = λ path text is. absurd (cc);
-  part = λ whole left. (record { done = []; left = []; split = refl; stored = refl }, record { sessions = 0; few = omega arith; syncs = syncs_none old rests });
+  part = λ whole left. (
+    record { done = []; left = []; split = refl; stored = refl },
+    record { sessions = 0; few = omega arith; syncs = syncs_none old rests },
+  );
   stays = λ spent. ((λ some. absurd (some refl)), refl);
   files = record { done = []; left = []; split = refl; stored = refl };
 }
@@ -175,14 +181,17 @@ pushes_nothing tree old rests = record {
   ok = tt;
   syncs = tt;
   refused = λ path text is. absurd (cc);
-  part = λ whole left.
-      (record { done = []; left = tree; split = refl; stored = refl }, record { sessions = 0; few = omega arith; syncs = syncs_none old rests });
+  part = λ whole left. (
+    record { done = []; left = tree; split = refl; stored = refl },
+    record { sessions = 0; few = omega arith; syncs = syncs_none old rests },
+  );
   stays = λ spent. ((λ some. refl), refl);
   files = record { done = []; left = tree; split = refl; stored = refl };
 }
 
 -- memory ran out in the world
-pub pushes_spent : (tree : List Entry) (old new : View) → new.spent ≡ true → (old.spent ≡ true → new ≡ old) → FilesPushed tree old.files new.files
+pub pushes_spent : (tree : List Entry) (old new : View) → new.spent ≡ true → (old.spent ≡ true → new ≡ old)
+    → FilesPushed tree old.files new.files
     → Pushes tree (Err errors.OutOfMemory) old new
 pushes_spent tree old new spent stays files = record {
   ok = tt;
@@ -199,7 +208,8 @@ error_of None = Ok tt
 error_of (Some refusal) = Err (errors.Refused refusal.path refusal.text)
 
 pub is_told : (tree : List Entry) (old new : View) (result : Result ⊤ CopyError) → Pushes tree result old new → (refusal : Refusal)
-    → (pushed old.files tree).refused ≡ Some refusal → result ≢ Err errors.OutOfMemory → result ≡ Err (errors.Refused refusal.path refusal.text)
+    → (pushed old.files tree).refused ≡ Some refusal → result ≢ Err errors.OutOfMemory
+    → result ≡ Err (errors.Refused refusal.path refusal.text)
 unfolding error_of
 is_told tree old new (Ok done) p refusal is memory = let clash = sym is ∙ ap (λ (q : Pushed). q.refused) p.ok in absurd (cc)
 is_told tree old new (Err errors.OutOfMemory) p refusal is memory = absurd (memory refl)
@@ -218,10 +228,12 @@ pub walks_none : (tree : List Entry) (old : View) → IsFileMap tree → old.set
 walks_none tree old fits rests = record { done = []; split = behind_nothing tree fits.paths; fits = fits; pushes = pushes_none old rests }
 
 -- none is left behind a path
-pub walks_all : (after : List ℕ) (tree : List Entry) (old now : View) → Walks after tree old now → next_path after tree ≡ None → Pushes tree (Ok tt) old now
+pub walks_all : (after : List ℕ) (tree : List Entry) (old now : View) → Walks after tree old now
+    → next_path after tree ≡ None → Pushes tree (Ok tt) old now
 walks_all after tree old now walk none = go (behind after tree) walk.split none
   where
-    go : (left : List Entry) → walk.done ++ left ≡ tree → option_map (λ (e : Entry). e.path) (slice_get left 0) ≡ None → Pushes tree (Ok tt) old now
+    go : (left : List Entry) → walk.done ++ left ≡ tree → option_map (λ (e : Entry). e.path) (slice_get left 0) ≡ None
+        → Pushes tree (Ok tt) old now
     go [] split none = subst (λ (files : List Entry). Pushes files (Ok tt) old now) (sym (append-nil walk.done) ∙ split) walk.pushes
     go (e ∷ left) split none = absurd (cc)
 
@@ -232,11 +244,13 @@ pub record Next (tree done : List Entry) (path : List ℕ) : Type 0 where
   pub split : done ++ entry ∷ left ≡ tree
   pub here : entry.path ≡ path
 
-module _ (after : List ℕ) (tree : List Entry) (old now : View) (walk : Walks after tree old now) (path : List ℕ) (next : next_path after tree ≡ Some path) where
+module _ (after : List ℕ) (tree : List Entry) (old now : View) (walk : Walks after tree old now) (path : List ℕ)
+    (next : next_path after tree ≡ Some path) where
   pub next_is : Next tree walk.done path
   next_is = go (behind after tree) walk.split next
     where
-      go : (left : List Entry) → walk.done ++ left ≡ tree → option_map (λ (e : Entry). e.path) (slice_get left 0) ≡ Some path → Next tree walk.done path
+      go : (left : List Entry) → walk.done ++ left ≡ tree → option_map (λ (e : Entry). e.path) (slice_get left 0)
+          ≡ Some path → Next tree walk.done path
       go [] split is = absurd (cc)
       go (e ∷ left) split is = record { entry = e; left = left; split = split; here = cc }
 
@@ -283,7 +297,8 @@ module _ (after : List ℕ) (tree : List Entry) (old now : View) (walk : Walks a
       (one : (file : File) → file_at path tree ≡ Some file → Pushes (entry_of path file ∷ []) result now new) where
     pub next_pushed : Pushes (next_is.entry ∷ []) result now new
     next_pushed =
-        subst (λ (p : List ℕ). Pushes (entry_of p next_is.entry.file ∷ []) result now new) (sym next_is.here) (one next_is.entry.file next_file)
+        subst (λ (p : List ℕ). Pushes (entry_of p next_is.entry.file ∷ []) result now new) (sym next_is.here)
+        (one next_is.entry.file next_file)
 
     split_again : (walk.done ++ next_is.entry ∷ []) ++ next_is.left ≡ tree
     split_again = append_assoc walk.done (next_is.entry ∷ []) next_is.left ∙ next_is.split
@@ -306,7 +321,8 @@ module _ (after : List ℕ) (tree : List Entry) (old now : View) (walk : Walks a
         (pushes_stop (walk.done ++ next_is.entry ∷ []) next_is.left old new result stopped both)
 
 -- a file that is found in a tree that can be copied can be copied
-pub found_copied : (tree : List Entry) (path : List ℕ) (file : File) → AreCopied tree → file_at path tree ≡ Some file → IsCopied (entry_of path file)
+pub found_copied : (tree : List Entry) (path : List ℕ) (file : File) → AreCopied tree → file_at path tree ≡ Some file
+    → IsCopied (entry_of path file)
 found_copied [] path file are is = absurd (cc)
 found_copied (e ∷ tree) path file are is =
     go (bytes_eq e.path path) refl is (λ more. found_copied tree path file (All-tail IsCopied e tree are) more)

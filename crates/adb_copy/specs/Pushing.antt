@@ -14,7 +14,8 @@ pub record FilesPushed (tree old new : List Entry) : Type 0 where
   pub split : done ++ left ≡ tree
   pub stored : pushed old done ≡ all_pushed new
 
--- The files of a tree were pushed, each by a session of its own, up to one that was refused; or memory ran out. A world that is spent stays.
+-- The files of a tree were pushed, each by a session of its own, up to one that was refused; or memory ran out. A
+-- world that is spent stays.
 pub record Pushes (tree : List Entry) (result : Result ⊤ CopyError) (old new : View) : Type 0 where
   pub ok : OnOk result (pushed old.files tree ≡ all_pushed new.files)
   pub syncs : OnOk result (Syncs (length tree) old new)

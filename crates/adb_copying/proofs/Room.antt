@@ -1,5 +1,6 @@
 -- A line that is kept in the place of a file that may be put is refused for want of room alone.
-use Rattle.std.proofs.Common.{ℕ, ◌+◌, ◌≡◌, Bool, true, false, cond, not, ltb, List, Option, Some, None, Result, Ok, Err, inl, inr, refl, ◌∙◌, ap}
+use Rattle.std.proofs.Common.{ℕ, ◌+◌, ◌≡◌, Bool, true, false, cond, not, ltb, List, Option, Some, None, Result, Ok, Err, inl, inr, refl}
+use Rattle.std.proofs.Common.{◌∙◌, ap}
 use Rattle.std.specs.Prelude.{OnErr, ⊤}
 use Rattle.adb_files.specs.declared.file.FileError.{FileError}
 use Rattle.adb_files.specs.declared.file.FileError.TheVariants as refusals
@@ -12,14 +13,16 @@ use Rattle.adb_trees.proofs.Shadows.{is_directory-kept, is_under_file-kept}
 
 -- what is granted by all tests was granted by each
 granted_by : (form directory under : Bool) (large : Option FileError)
-    → cond (not form) (Some refusals.BadPath) (cond directory (Some refusals.IsDirectory) (cond under (Some refusals.NotDirectory) large)) ≡ None
+    → cond (not form) (Some refusals.BadPath)
+    (cond directory (Some refusals.IsDirectory) (cond under (Some refusals.NotDirectory) large)) ≡ None
     → (form ≡ true) × (directory ≡ false) × (under ≡ false)
 granted_by true false false large is = (refl, refl, refl)
 granted_by false directory under large is = absurd (cc)
 granted_by true true under large is = absurd (cc)
 granted_by true false true large is = absurd (cc)
 
-module _ (path : List ℕ) (size other : ℕ) (kept files : List Entry) (is : kept ≡ with_lines files) (granted : put_refusal files path size ≡ None) where
+module _ (path : List ℕ) (size other : ℕ) (kept files : List Entry) (is : kept ≡ with_lines files)
+    (granted : put_refusal files path size ≡ None) where
   abbrev large : Bool
   large = ltb MAX_STORED (total (without path kept) + other)
 

@@ -28,7 +28,8 @@ pub shows_all : (files : List Entry) (after : List ℕ) (lines : List (List ℕ)
     → next_path after files ≡ None → lines ≡ kept_lines files
 shows_all files after lines s none = go (behind after files) s.split none
   where
-    go : (left : List Entry) → s.done ++ left ≡ files → option_map (λ (e : Entry). e.path) (slice_get left 0) ≡ None → lines ≡ kept_lines files
+    go : (left : List Entry) → s.done ++ left ≡ files → option_map (λ (e : Entry). e.path) (slice_get left 0) ≡ None
+        → lines ≡ kept_lines files
     go [] split none = s.said ∙ ap kept_lines (sym (append-nil s.done) ∙ split)
     go (e ∷ left) split none = absurd (cc)
 
@@ -39,11 +40,13 @@ pub record Next (files done : List Entry) (path : List ℕ) : Type 0 where
   pub split : done ++ entry ∷ left ≡ files
   pub here : entry.path ≡ path
 
-module _ (files : List Entry) (after path : List ℕ) (lines : List (List ℕ)) (s : Shows files after lines) (next : next_path after files ≡ Some path) where
+module _ (files : List Entry) (after path : List ℕ) (lines : List (List ℕ)) (s : Shows files after lines)
+    (next : next_path after files ≡ Some path) where
   next_is : Next files s.done path
   next_is = go (behind after files) s.split next
     where
-      go : (left : List Entry) → s.done ++ left ≡ files → option_map (λ (e : Entry). e.path) (slice_get left 0) ≡ Some path → Next files s.done path
+      go : (left : List Entry) → s.done ++ left ≡ files → option_map (λ (e : Entry). e.path) (slice_get left 0)
+          ≡ Some path → Next files s.done path
       go [] split is = absurd (cc)
       go (e ∷ left) split is = record { entry = e; left = left; split = split; here = cc }
 
@@ -74,7 +77,8 @@ module _ (files : List Entry) (after path : List ℕ) (lines : List (List ℕ)) 
       let parts = length-append s.done (next_is.entry ∷ next_is.left) in
       omega (arith, rest, whole, front, again, parts)
 
-  pub shows_on : (new : List (List ℕ)) → option_map (λ (file : File). lines ++ file.bytes ∷ []) (file_at path files) ≡ Some new → Shows files path new
+  pub shows_on : (new : List (List ℕ)) → option_map (λ (file : File). lines ++ file.bytes ∷ []) (file_at path files)
+      ≡ Some new → Shows files path new
   shows_on new is =
       let told : Some (lines ++ next_is.entry.file.bytes ∷ []) ≡ Some new =
       sym (ap (option_map (λ (file : File). lines ++ file.bytes ∷ [])) next_file) ∙ is in

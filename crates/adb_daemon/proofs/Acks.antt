@@ -1,5 +1,6 @@
 -- The OKAYs for one stream, as packets come.
-use Rattle.std.specs.Prelude.{ℕ, ◌≡◌, ◌<◌, ◌≤◌, ◌+◌, ◌==◌, ◌||◌, if◌then◌else◌, Bool, true, false, List, [], ◌∷◌, ◌++◌, length, map, fold, Option, Some, None}
+use Rattle.std.specs.Prelude.{ℕ, ◌≡◌, ◌<◌, ◌≤◌, ◌+◌, ◌==◌, ◌||◌, if◌then◌else◌, Bool, true, false, List, [], ◌∷◌, ◌++◌, length, map, fold}
+use Rattle.std.specs.Prelude.{Option, Some, None}
 use Rattle.std.proofs.Common.{refl, sym, ◌∙◌, ap, subst, arith, ◌⊎◌, inl, inr}
 use Rattle.std.specs.List.Sorted.{IsStrictlySortedBy}
 use Rattle.std.proofs.lemmas.Bool.{cases_eq, cases_lt, eq-eqb, ne_eqb}
@@ -18,12 +19,15 @@ use Rattle.adb_stream.specs.declared.flow.Flow.TheVariants as flows
 use Rattle.adb_files.specs.Entries.{Entry}
 use Rattle.adb_device_streams.specs.Asked.{Kind}
 use Rattle.adb_device_streams.specs.Service.{Came, came_over, files_fed, files_opened}
-use Rattle.adb_device_streams.specs.Stream.{Row, opened, row_took, row_acked, row_past, row_past_all, row_written, writes, is_done, first_flow}
+use Rattle.adb_device_streams.specs.Stream.{Row, opened, row_took, row_acked, row_past, row_past_all, row_written, writes, is_done}
+use Rattle.adb_device_streams.specs.Stream.{first_flow}
 use Rattle.adb_device_streams.specs.Stream.{wrte, okay, clse, opening_word}
 use Rattle.adb_device_streams.specs.Link.{credit_word_in, link_of}
 use Rattle.adb_device_streams.specs.declared.link.Link.{Link}
-use Rattle.adb_daemon.specs.Serving.{Serving, Sent, Ended, with_sum, owing, granted, ended_at, sent_ack, sent_writes, sent_close, settled_as, settled, gone}
-use Rattle.adb_daemon.specs.Serving.{named, closable, is_taken, kind_for, credit_of, open_as, on_open, written_to, on_write, acked_to, on_okay, closed_to}
+use Rattle.adb_daemon.specs.Serving.{Serving, Sent, Ended, with_sum, owing, granted, ended_at, sent_ack, sent_writes, sent_close}
+use Rattle.adb_daemon.specs.Serving.{settled_as, settled, gone}
+use Rattle.adb_daemon.specs.Serving.{named, closable, is_taken, kind_for, credit_of, open_as, on_open, written_to, on_write, acked_to}
+use Rattle.adb_daemon.specs.Serving.{on_okay, closed_to}
 use Rattle.adb_daemon.specs.Serving.{on_close, all_gone, served}
 use Rattle.adb_daemon.specs.Device.{Device, Setting, step, treated, linked_to, served_on, first_device, device_behind}
 use Rattle.adb_daemon.specs.Streams.{over_at, okay_of, okays_of, ack_for, acks_due, IsAcked}
@@ -36,7 +40,8 @@ okays_more own made more = flat_map-append (okay_of own) made more
 same_okays : (own : ℕ) (made more : List Sent) → okays_of own more ≡ [] → okays_of own (made ++ more) ≡ okays_of own made
 same_okays own made more none = okays_more own made more ∙ (ap (λ l. okays_of own made ++ l) none ∙ append-nil (okays_of own made))
 
-acked_stays : (own : ℕ) (made more : List Sent) → okays_of own more ≡ [] → (row : Option Row) (over : Option Ended) → IsAcked own made row over
+acked_stays : (own : ℕ) (made more : List Sent) → okays_of own more ≡ [] → (row : Option Row) (over : Option Ended)
+    → IsAcked own made row over
     → IsAcked own (made ++ more) row over
 acked_stays own made more none (Some row) over acked = same_okays own made more none ∙ acked
 acked_stays own made more none None (Some e) acked = same_okays own made more none ∙ acked
@@ -58,17 +63,20 @@ past_due (payload ∷ more) row = past_due more (row_past payload row) ∙ go ro
     go (flows.One window) = refl
     go (flows.Credit credit) = refl
 
-acked_due : (flow : Flow) (word : Option ℕ) (past : List Came) → acks_due (has_credit (acknowledged word flow)) past ≡ acks_due (has_credit flow) past
+acked_due : (flow : Flow) (word : Option ℕ) (past : List Came)
+    → acks_due (has_credit (acknowledged word flow)) past ≡ acks_due (has_credit flow) past
 acked_due (flows.One window) word past = refl
 acked_due (flows.Credit credit) None past = refl
 acked_due (flows.Credit credit) (Some more) past = refl
 
 -- the acknowledgement of a write, and that of an OPEN
-own_ack : (own : ℕ) (link : Link) (host : ℕ) (flow : Flow) (n : ℕ) → okays_of own (sent_ack link own host flow n) ≡ ack_for (has_credit flow) n
+own_ack : (own : ℕ) (link : Link) (host : ℕ) (flow : Flow) (n : ℕ)
+    → okays_of own (sent_ack link own host flow n) ≡ ack_for (has_credit flow) n
 own_ack own link host (flows.One window) n = ap (λ (t : Bool). (if t then [] ∷ [] else []) ++ []) (eq-eqb own own refl)
 own_ack own link host (flows.Credit credit) n = go (n == 0)
   where
-    go : (t : Bool) → okays_of own (if t then [] else with_sum link.sums (okay own host (little_bytes 4 n)) ∷ []) ≡ (if t then [] else little_bytes 4 n ∷ [])
+    go : (t : Bool) → okays_of own (if t then [] else with_sum link.sums (okay own host (little_bytes 4 n)) ∷ [])
+        ≡ (if t then [] else little_bytes 4 n ∷ [])
     go true = refl
     go false = ap (λ (t : Bool). (if t then little_bytes 4 n ∷ [] else []) ++ []) (eq-eqb own own refl)
 
@@ -112,7 +120,8 @@ module _ (own q : ℕ) (apart : q ≡ own → ⊥) (link : Link) (row : Row) (s 
             (acked_stays own s.made more none (at own s.rows) (over_at own s.ended) h.heard));
       }
 
-other_settles : (own q : ℕ) (apart : q ≡ own → ⊥) (link : Link) (row : Row) (s : Serving) → IsHeard own s → IsHeard own (settled link q row s)
+other_settles : (own q : ℕ) (apart : q ≡ own → ⊥) (link : Link) (row : Row) (s : Serving) → IsHeard own s
+    → IsHeard own (settled link q row s)
 other_settles own q apart link row s h = go (is_done (row_written link.most row))
   where
     none : okays_of own (sent_writes link q row) ≡ []
@@ -163,7 +172,8 @@ own_settles own link row s r = go (is_done (row_written link.most row))
         record {
           rises = put_at_rises own last s.rows r.rises;
           fresh = λ above. absurd (omega (arith, above, r.drawn));
-          heard = subst (λ (o : Option Row). IsAcked own (s.made ++ sent_writes link own row) o (over_at own s.ended)) (sym (puts_put_at own last s.rows).here)
+          heard = subst (λ (o : Option Row). IsAcked own (s.made ++ sent_writes link own row) o (over_at own s.ended))
+              (sym (puts_put_at own last s.rows).here)
               heard;
         }
     go true =
@@ -218,7 +228,9 @@ module _ (own : ℕ) (s : Serving) (h : IsHeard own s) where
       let n = length p.payload in
       let files = files_fed row.kind row.past came in
       let r = ready row (ap (λ (k : ℕ). at k s.rows) (sym here) ∙ is) in
-      subst (λ (k : ℕ). IsHeard own (settled link k (row_took came row) (record (owing (sent_ack link k row.host row.flow n) s) { files = files }))) (sym here)
+      subst (λ (k : ℕ). IsHeard own
+      (settled link k (row_took came row)
+      (record (owing (sent_ack link k row.host row.flow n) s) { files = files }))) (sym here)
       (own_settles own link (row_took came row) (record (owing (sent_ack link own row.host row.flow n) s) { files = files }) (record {
         rises = r.rises;
         drawn = r.drawn;
@@ -250,12 +262,14 @@ module _ (own : ℕ) (s : Serving) (h : IsHeard own s) where
       go None is = h
       go (Some row) is = close_row link p row (closable_is p.arg0 (at p.arg1 s.rows) row is) (cases_eq p.arg1 own)
 
-  opens : (link : Link) (p : Packet) (kind : Option Kind) → (s.drawn + 1 ≡ own) ⊎ (s.drawn + 1 ≡ own → ⊥) → IsHeard own (open_as link p kind s)
+  opens : (link : Link) (p : Packet) (kind : Option Kind) → (s.drawn + 1 ≡ own) ⊎ (s.drawn + 1 ≡ own → ⊥)
+      → IsHeard own (open_as link p kind s)
   opens link p None known = heard_more own s (with_sum link.sums (clse 0 p.arg0) ∷ []) s.files refl h
   opens link p (Some kind) (inr apart) =
       let given = credit_of link p in
       let hello = with_sum link.sums (okay (s.drawn + 1) p.arg0 (opening_word given)) ∷ [] in
-      let none : okays_of own hello ≡ [] = ap (λ (t : Bool). (if t then opening_word given ∷ [] else []) ++ []) (ne_eqb (s.drawn + 1) own apart) in
+      let none : okays_of own hello ≡ [] = ap (λ (t : Bool). (if t then opening_word given ∷ [] else []) ++ [])
+      (ne_eqb (s.drawn + 1) own apart) in
       let mid = heard_more own s hello (files_opened kind s.files) none h in
       other_settles own (s.drawn + 1) apart link (opened p.arg0 kind s.files given)
       (record (granted (s.drawn + 1) given (owing hello s)) { drawn = s.drawn + 1; files = files_opened kind s.files })
@@ -326,7 +340,8 @@ step_heard own setting d p h = go d.refused
     go true = h
     go false = by (is_cnxn p.command)
 
-all_heard : (own : ℕ) (setting : Setting) (packets : List Packet) (d : Device) → IsHeard own d.serving → IsHeard own (fold (step setting) d packets).serving
+all_heard : (own : ℕ) (setting : Setting) (packets : List Packet) (d : Device) → IsHeard own d.serving
+    → IsHeard own (fold (step setting) d packets).serving
 all_heard own setting [] d h = h
 all_heard own setting (p ∷ more) d h = all_heard own setting more (step setting d p) (step_heard own setting d p h)
 

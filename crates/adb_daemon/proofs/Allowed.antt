@@ -35,7 +35,8 @@ use Rattle.adb_device_streams.specs.Stream.{row_took, row_acked, opened, is_done
 use Rattle.adb_device_streams.specs.Link.{credit_word_in, link_of, link_to}
 use Rattle.adb_device_streams.specs.declared.link.Link.{Link}
 use Rattle.adb_wire.specs.declared.limits.TheConstants.{MIN_VERSION, MIN_MAXDATA}
-use Rattle.adb_daemon.specs.Serving.{Serving, Sent, with_sum, bytes_of, sent_bytes, owing, granted, sent_writes, sent_ack, sent_close, settled_as, settled}
+use Rattle.adb_daemon.specs.Serving.{Serving, Sent, with_sum, bytes_of, sent_bytes, owing, granted, sent_writes, sent_ack, sent_close}
+use Rattle.adb_daemon.specs.Serving.{settled_as, settled}
 use Rattle.adb_daemon.specs.Serving.{named, closable, is_taken, kind_for, credit_of, open_as, written_to, acked_to, closed_to, served}
 use Rattle.adb_daemon.specs.Device.{Device, Setting, step, treated, linked_to, served_on, first_device, device_behind, own_cnxn}
 use Rattle.adb_daemon.specs.Daemon.{HasDone, HasDoneFront, owed}
@@ -82,7 +83,8 @@ module _ (most : ℕ) where
       → (HEADER_LEN + n) + may_write (wrote n flow) ≤ may_write flow
   past_one flow limit n rest fits is some = by flow is
     where
-      go : (t : Bool) → n ≡ length (take (min limit (if t then 0 else limit)) rest) → (HEADER_LEN + n) + 0 ≤ (if t then 0 else HEADER_LEN + most)
+      go : (t : Bool) → n ≡ length (take (min limit (if t then 0 else limit)) rest)
+          → (HEADER_LEN + n) + 0 ≤ (if t then 0 else HEADER_LEN + most)
       go true none = absurd (some (omega (arith, none, length-take (min limit 0) rest)))
       go false next = omega (arith, fits, next, length-take (min limit limit) rest)
 
@@ -138,7 +140,8 @@ module _ (most : ℕ) where
     where
       go : (o : Ordering) → nat_cmp n e.0 ≡ o
           → all_may_write (put_at n row es) + may_write_at (at n es) ≤ all_may_write es + may_write row.flow
-          → all_may_write (put_by n row o e es) + may_write_at (cond (is_eq o) (Some e.1) (at n es)) ≤ all_may_write (e ∷ es) + may_write row.flow
+          → all_may_write (put_by n row o e es) + may_write_at (cond (is_eq o) (Some e.1) (at n es))
+          ≤ all_may_write (e ∷ es) + may_write row.flow
       go Less is later =
           let none : at n (e ∷ es) ≡ None = lookup-none (is_at (nat_cmp n)) (e ∷ es) (none_below_head nat_cmp_total n e es rises is) in
           let here : at n es ≡ None = sym (ap (λ (o : Ordering). cond (is_eq o) (Some e.1) (at n es)) is) ∙ none in
@@ -219,12 +222,14 @@ module _ (most : ℕ) (link : Link) (fits : link.most ≤ most) where
             }))
         go given few =
             let hello = with_sum link.sums (okay (s.drawn + 1) p.arg0 (opening_word given)) ∷ [] in
-            let begun : Serving = record (granted (s.drawn + 1) given (owing hello s)) { drawn = s.drawn + 1; files = files_opened kind s.files } in
+            let begun : Serving = record (granted (s.drawn + 1) given (owing hello s))
+            { drawn = s.drawn + 1; files = files_opened kind s.files } in
             let all = settles ((bound + okay_most) + writes_most most p.arg1) (s.drawn + 1) (opened p.arg0 kind s.files given) begun w.rises
             (omega (arith, w.within, few, size_more s.made hello, word given, first_within most given)) in
             record { rises = all.rises; within = omega (arith, all.within) }
 
-    opens_or_not : (t : Bool) → IsWithin most (bound + lets_out most commands.Open p) (if t then s else open_as link p (kind_for s.drawn p) s)
+    opens_or_not : (t : Bool) → IsWithin most (bound + lets_out most commands.Open p)
+        (if t then s else open_as link p (kind_for s.drawn p) s)
     opens_or_not true = within_more most bound (lets_out most commands.Open p) s w
     opens_or_not false = opens (kind_for s.drawn p)
 
@@ -243,11 +248,13 @@ module _ (most : ℕ) (link : Link) (fits : link.most ≤ most) where
         let came = came_over p.payload s.files in
         let ack = sent_ack link p.arg1 row.host row.flow (length p.payload) in
         let here = ap (may_write_at most) (named_is p.arg0 (at p.arg1 s.rows) row is) in
-        let all = settles (bound + okay_most) p.arg1 (row_took came row) (record (owing ack s) { files = files_fed row.kind row.past came }) w.rises
+        let all = settles (bound + okay_most) p.arg1 (row_took came row)
+        (record (owing ack s) { files = files_fed row.kind row.past came }) w.rises
         (omega (arith, w.within, here, size_more s.made ack, ack_within p.arg1 row.host row.flow (length p.payload))) in
         record { rises = all.rises; within = omega (arith, all.within) }
 
-    acks_to : (found : Option Row) → named p.arg0 (at p.arg1 s.rows) ≡ found → IsWithin most (bound + lets_out most commands.Okay p) (acked_to link p found s)
+    acks_to : (found : Option Row) → named p.arg0 (at p.arg1 s.rows) ≡ found
+        → IsWithin most (bound + lets_out most commands.Okay p) (acked_to link p found s)
     acks_to None is = within_more most bound (lets_out most commands.Okay p) s w
     acks_to (Some row) is =
         let word = credit_word_in p.payload in
@@ -308,9 +315,15 @@ step_bounded setting d p bound b = go d.refused
     on : (o : Option Link) → d.link ≡ o → IsBounded setting (bound + more) (served_on o p d)
     on None is = bounded_more setting bound more d b
     on (Some link) is =
-        record { short = b.short; serving = serves setting.most link (subst (IsShort setting.most) is b.short) p d.serving bound b.serving p.command }
+        record {
+          short = b.short;
+          serving = serves setting.most link (subst (IsShort setting.most) is b.short) p
+              d.serving bound b.serving p.command;
+        }
 
-    by : (t : Bool) → IsBounded setting (bound + more) (if t then linked_to (link_of setting.most setting.credit p) d else served_on d.link p d)
+    by : (t : Bool)
+        → IsBounded setting (bound + more)
+        (if t then linked_to (link_of setting.most setting.credit p) d else served_on d.link p d)
     by true = linked (link_of setting.most setting.credit p) (link_short setting.most setting.credit p)
     by false = on d.link refl
 
@@ -322,7 +335,8 @@ all_bounded : (setting : Setting) (packets : List Packet) (d : Device) (bound : 
     → size_of (fold (step setting) d packets).serving.made ≤ bound + let_out_by setting.most packets
 all_bounded setting [] d bound b = omega (arith, b.serving.within)
 all_bounded setting (p ∷ more) d bound b =
-    let later = all_bounded setting more (step setting d p) (bound + lets_out setting.most p.command p) (step_bounded setting d p bound b) in
+    let later = all_bounded setting more (step setting d p) (bound + lets_out setting.most p.command p)
+    (step_bounded setting d p bound b) in
     omega (arith, later)
 
 -- behind any packets
@@ -345,7 +359,13 @@ due_was_let_out setting packets =
 pub owed_was_let_out : (setting : Setting) (fed taken : List ℕ) (daemon : Daemon) → HasDone setting fed taken daemon
     → length taken + length (owed daemon) ≤ let_out setting (parts_of fed).packets
 owed_was_let_out setting fed taken daemon done =
-    omega (arith, ap (length {A = ℕ}) done.stands.holds.due, length-append taken (owed daemon), due_was_let_out setting (parts_of fed).packets)
+    omega (
+      arith,
+      ap (length {A = ℕ}) done.stands.holds.due,
+      length-append taken (owed daemon),
+      due_was_let_out
+          setting (parts_of fed).packets,
+    )
 
 let_out_front : (most : ℕ) (front rest : List Packet) → let_out_by most front ≤ let_out_by most (front ++ rest)
 let_out_front most [] rest = omega arith

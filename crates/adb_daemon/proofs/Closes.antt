@@ -50,7 +50,8 @@ module _ (p : Packet) (s : Serving) (taken : List ℕ) (view : View) (h : Holds 
       → Holds (on_close p s) taken (record view { drawn = n; streams = streams; hosts = hosts })
   closes host found names n streams hosts is puts =
       let c = closed_row p.arg0 host (at p.arg1 s.rows) (at p.arg1 view.streams) (h.table.stands p.arg1) found names in
-      subst (λ (r : Option Row). Holds (closed_to p.arg1 r s) taken (record view { drawn = n; streams = streams; hosts = hosts })) (sym c.closes) (record {
+      subst (λ (r : Option Row). Holds (closed_to p.arg1 r s) taken
+      (record view { drawn = n; streams = streams; hosts = hosts })) (sym c.closes) (record {
         drawn = is ∙ h.drawn;
         table = table_loses s.rows view.streams view.hosts h.table p.arg1 c.row streams hosts c.is puts.0
             (subst (λ (k : ℕ). Puts k None view.hosts hosts) (sym c.same) puts.1);
@@ -67,7 +68,8 @@ module _ (p : Packet) (s : Serving) (taken : List ℕ) (view : View) (h : Holds 
       free q above (inr apart) = lost.others q apart ∙ h.fresh q above
 
 -- all streams go
-pub clears : (s : Serving) (taken : List ℕ) (view : View) → Holds s taken view → (n : ℕ) (streams : List (ℕ × Stream)) (hosts : List (ℕ × ℕ))
+pub clears : (s : Serving) (taken : List ℕ) (view : View) → Holds s taken view
+    → (n : ℕ) (streams : List (ℕ × Stream)) (hosts : List (ℕ × ℕ))
     → n ≡ view.drawn → streams ≡ [] → hosts ≡ [] → Holds (all_gone s) taken (record view { drawn = n; streams = streams; hosts = hosts })
 clears s taken view h n streams hosts is none empty = record {
   drawn = is ∙ h.drawn;

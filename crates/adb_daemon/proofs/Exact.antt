@@ -1,5 +1,6 @@
 -- A plain stream to which no OKAY came too early may write as much as it took OKAYs for.
-use Rattle.std.specs.Prelude.{ℕ, ◌+◌, ◌≡◌, ◌<◌, ◌≤◌, ◌==◌, ◌||◌, if◌then◌else◌, Bool, true, false, List, [], ◌∷◌, ◌++◌, length, zero, suc, Option, Some, None}
+use Rattle.std.specs.Prelude.{ℕ, ◌+◌, ◌≡◌, ◌<◌, ◌≤◌, ◌==◌, ◌||◌, if◌then◌else◌, Bool, true, false, List, [], ◌∷◌, ◌++◌, length, zero, suc}
+use Rattle.std.specs.Prelude.{Option, Some, None}
 use Rattle.std.proofs.Common.{refl, sym, ◌∙◌, ap, subst, arith, ◌⊎◌, inl, inr, append_assoc}
 use Rattle.std.proofs.lemmas.Bool.{cases_eq, eq-eqb, ne_eqb}
 use Rattle.std.proofs.lemmas.List.{append-nil}
@@ -16,12 +17,15 @@ use Rattle.adb_stream.specs.declared.flow.Flow.TheVariants as flows
 use Rattle.adb_files.specs.Entries.{Entry}
 use Rattle.adb_device_streams.specs.Asked.{Kind}
 use Rattle.adb_device_streams.specs.Service.{came_over, files_fed, files_opened}
-use Rattle.adb_device_streams.specs.Stream.{Row, opened, row_took, row_acked, row_past, row_past_all, row_written, first_flow, next_payload, writes_at, writes}
+use Rattle.adb_device_streams.specs.Stream.{Row, opened, row_took, row_acked, row_past, row_past_all, row_written, first_flow, next_payload}
+use Rattle.adb_device_streams.specs.Stream.{writes_at, writes}
 use Rattle.adb_device_streams.specs.Stream.{unsent, is_done, okay, clse, opening_word}
 use Rattle.adb_device_streams.specs.Link.{credit_word_in, link_of}
 use Rattle.adb_device_streams.specs.declared.link.Link.{Link}
-use Rattle.adb_daemon.specs.Serving.{Serving, Sent, with_sum, owing, granted, gone, sent_ack, sent_writes, sent_close, settled_as, settled, named, closable}
-use Rattle.adb_daemon.specs.Serving.{is_taken, kind_for, credit_of, open_as, on_open, written_to, on_write, acked_to, on_okay, closed_to, on_close, served}
+use Rattle.adb_daemon.specs.Serving.{Serving, Sent, with_sum, owing, granted, gone, sent_ack, sent_writes, sent_close, settled_as, settled}
+use Rattle.adb_daemon.specs.Serving.{named, closable}
+use Rattle.adb_daemon.specs.Serving.{is_taken, kind_for, credit_of, open_as, on_open, written_to, on_write, acked_to, on_okay, closed_to}
+use Rattle.adb_daemon.specs.Serving.{on_close, served}
 use Rattle.adb_daemon.specs.Device.{Device, Setting, step, treated, linked_to, served_on, first_device, device_behind}
 use Rattle.adb_daemon.specs.Streams.{free_of, writes_of, acks_of, IsExact, ExactAt, IsAckedInTime}
 use Rattle.adb_daemon.proofs.Standing.{IsOrderly, silent_writes, silent_close, own_count, writes_more}
@@ -51,14 +55,19 @@ module _ (most acks : ℕ) where
     where
       go : (t : Bool) → IsExact ((count + 1) + length (writes_at k most (row_past (next_payload most row) row))) acks
           (row_past_all (writes_at k most (row_past (next_payload most row) row)) (row_past (next_payload most row) row)).flow
-          → IsExact (count + length (if t then [] else next_payload most row ∷ writes_at k most (row_past (next_payload most row) row))) acks
+          → IsExact (count
+          + length (if t then [] else next_payload most row
+          ∷ writes_at k most (row_past (next_payload most row) row))) acks
           (row_past_all (if t then [] else next_payload most row ∷ writes_at k most (row_past (next_payload most row) row)) row).flow
       go true later = exact_same row.flow count (count + 0) (omega arith) e
-      go false later = exact_same (row_past_all (writes_at k most (row_past (next_payload most row) row)) (row_past (next_payload most row) row)).flow
+      go false later =
+          exact_same (row_past_all (writes_at k most (row_past (next_payload most row) row))
+          (row_past (next_payload most row) row)).flow
           ((count + 1) + length (writes_at k most (row_past (next_payload most row) row)))
           (count + length (next_payload most row ∷ writes_at k most (row_past (next_payload most row) row))) (omega arith) later
 
-  exact_written : (row : Row) (count : ℕ) → IsExact count acks row.flow → IsExact (count + length (writes most row)) acks (row_written most row).flow
+  exact_written : (row : Row) (count : ℕ) → IsExact count acks row.flow
+      → IsExact (count + length (writes most row)) acks (row_written most row).flow
   exact_written row count e = exact_at (length (unsent row)) row count e
 
 -- ---- one stream
@@ -76,7 +85,8 @@ exact_count own made more s (Some row) none e =
 
 module _ (own : ℕ) (s : Serving) where
   -- more became due that is no write of it
-  owing_tight : (more : List Sent) (files : List Entry) → writes_of own more ≡ 0 → IsTight own s → IsTight own (record (owing more s) { files = files })
+  owing_tight : (more : List Sent) (files : List Entry) → writes_of own more ≡ 0 → IsTight own s
+      → IsTight own (record (owing more s) { files = files })
   owing_tight more files none t = record { untaken = t.untaken; exact = exact_count own s.made more s (at own s.rows) none t.exact }
 
   -- another stream took an OKAY
@@ -120,7 +130,8 @@ module _ (own : ℕ) (s : Serving) where
         }
 
   -- this stream settles
-  module _ (o : IsRising s.rows) (below : own ≤ s.drawn) (link : Link) (row : Row) (e : IsExact (writes_of own s.made) (acks_of own s.acks) row.flow) where
+  module _ (o : IsRising s.rows) (below : own ≤ s.drawn) (link : Link) (row : Row)
+      (e : IsExact (writes_of own s.made) (acks_of own s.acks) row.flow) where
     own_tight : IsTight own (settled link own row s)
     own_tight = go (is_done (row_written link.most row))
       where
@@ -165,20 +176,24 @@ module _ (own : ℕ) (s : Serving) (o : IsOrderly own s) (t : IsTight own s) (li
       at_row : (row : Row) (word : Option ℕ) → at p.arg1 s.rows ≡ Some row → (p.arg1 ≡ own) ⊎ (p.arg1 ≡ own → ⊥)
           → acks_of own (settled link p.arg1 (row_acked word row) (granted p.arg1 word s)).acks ≤ 1 + writes_of own s.made
           → IsTight own (settled link p.arg1 (row_acked word row) (granted p.arg1 word s))
-      at_row row word is (inr apart) timely = other_tight own (granted p.arg1 word s) p.arg1 apart o.rises (other_granted own s p.arg1 word apart t) link
+      at_row row word is (inr apart) timely = other_tight own (granted p.arg1 word s) p.arg1 apart o.rises
+          (other_granted own s p.arg1 word apart t) link
           (row_acked word row)
       at_row row word is (inl here) timely =
           let below = drawn own s o row (ap (λ (k : ℕ). at k s.rows) (sym here) ∙ is) in
           let le : acks_of own (granted p.arg1 word s).acks ≤ 1 + writes_of own s.made =
-          subst (λ acks. acks_of own acks ≤ 1 + writes_of own s.made) (settled_acks link p.arg1 (row_acked word row) (granted p.arg1 word s)) timely in
+          subst (λ acks. acks_of own acks ≤ 1 + writes_of own s.made)
+          (settled_acks link p.arg1 (row_acked word row) (granted p.arg1 word s)) timely in
           subst (λ (k : ℕ). IsTight own (settled link k (row_acked word row) (granted p.arg1 word s))) (sym here)
           (own_tight own (granted p.arg1 word s) o.rises below link (row_acked word row)
           (acked row.flow word (writes_of own s.made) (acks_of own (granted p.arg1 word s).acks) le))
 
-      go : (found : Option Row) → named p.arg0 (at p.arg1 s.rows) ≡ found → acks_of own (acked_to link p found s).acks ≤ 1 + writes_of own s.made
+      go : (found : Option Row) → named p.arg0 (at p.arg1 s.rows) ≡ found
+          → acks_of own (acked_to link p found s).acks ≤ 1 + writes_of own s.made
           → IsTight own (acked_to link p found s)
       go None is timely = t
-      go (Some row) is timely = at_row row (credit_word_in p.payload) (named_is p.arg0 (at p.arg1 s.rows) row is) (cases_eq p.arg1 own) timely
+      go (Some row) is timely = at_row row (credit_word_in p.payload) (named_is p.arg0 (at p.arg1 s.rows) row is)
+          (cases_eq p.arg1 own) timely
 
   -- a WRTE, a CLSE and an OPEN
   write_tight : IsTight own (on_write link p s)
@@ -190,12 +205,14 @@ module _ (own : ℕ) (s : Serving) (o : IsOrderly own s) (t : IsTight own s) (li
       }
 
       mid_tight : (row : Row) → IsTight own (mid row)
-      mid_tight row = owing_tight own s (sent_ack link p.arg1 row.host row.flow (length p.payload)) (files_fed row.kind row.past (came_over p.payload s.files))
+      mid_tight row = owing_tight own s (sent_ack link p.arg1 row.host row.flow (length p.payload))
+          (files_fed row.kind row.past (came_over p.payload s.files))
           (silent_ack own link p.arg1 row.host row.flow (length p.payload)).count t
 
       at_row : (row : Row) → at p.arg1 s.rows ≡ Some row → (p.arg1 ≡ own) ⊎ (p.arg1 ≡ own → ⊥)
           → IsTight own (settled link p.arg1 (row_took (came_over p.payload s.files) row) (mid row))
-      at_row row is (inr apart) = other_tight own (mid row) p.arg1 apart o.rises (mid_tight row) link (row_took (came_over p.payload s.files) row)
+      at_row row is (inr apart) = other_tight own (mid row) p.arg1 apart o.rises (mid_tight row) link
+          (row_took (came_over p.payload s.files) row)
       at_row row is (inl here) =
           let mine = ap (λ (k : ℕ). at k s.rows) (sym here) ∙ is in
           subst (λ (k : ℕ). IsTight own (settled link k (row_took (came_over p.payload s.files) row) (mid row))) (sym here)
@@ -212,7 +229,8 @@ module _ (own : ℕ) (s : Serving) (o : IsOrderly own s) (t : IsTight own s) (li
       at_row : (row : Row) → (p.arg1 ≡ own) ⊎ (p.arg1 ≡ own → ⊥) → IsTight own (gone false p.arg1 row s)
       at_row row (inr apart) = record {
         untaken = t.untaken;
-        exact = subst (λ (r : Option Row). ExactAt own s.made s.acks r) (sym ((puts_without p.arg1 s.rows o.rises).others own (λ e. apart (sym e)))) t.exact;
+        exact = subst (λ (r : Option Row). ExactAt own s.made s.acks r)
+            (sym ((puts_without p.arg1 s.rows o.rises).others own (λ e. apart (sym e)))) t.exact;
       }
       at_row row (inl here) = record {
         untaken = t.untaken;
@@ -244,7 +262,8 @@ module _ (own : ℕ) (s : Serving) (o : IsOrderly own s) (t : IsTight own s) (li
           let hello = with_sum link.sums (okay (s.drawn + 1) p.arg0 (opening_word (credit_of link p))) ∷ [] in
           let before = other_granted own (owing hello s) (s.drawn + 1) (credit_of link p) apart (owing_tight own s hello s.files refl t) in
           other_tight own (begun kind) (s.drawn + 1) apart o.rises
-          (record { untaken = λ above. before.untaken (omega (arith, above)); exact = before.exact }) link (opened p.arg0 kind s.files (credit_of link p))
+          (record { untaken = λ above. before.untaken (omega (arith, above)); exact = before.exact }) link
+          (opened p.arg0 kind s.files (credit_of link p))
       new kind (inl here) =
           let one : acks_of own (begun kind).acks ≡ 1 =
           ap (λ (b : Bool). (if b then 1 else 0) + acks_of own s.acks) (eq-eqb (s.drawn + 1) own here)
@@ -281,7 +300,8 @@ module _ (own : ℕ) (some : 0 < own) where
       linked None = t
       linked (Some link) = record { untaken = t.untaken; exact = tt }
 
-      on : (link : Option Link) → acks_of own (served_on link p d).serving.acks ≤ 1 + writes_of own d.serving.made → IsTight own (served_on link p d).serving
+      on : (link : Option Link) → acks_of own (served_on link p d).serving.acks ≤ 1 + writes_of own d.serving.made
+          → IsTight own (served_on link p d).serving
       on None timely = t
       on (Some link) timely = served_tight p.command link p d.serving o t timely
 

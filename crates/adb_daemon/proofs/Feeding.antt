@@ -1,5 +1,6 @@
 -- A piece that is fed.
-use Rattle.std.specs.Prelude.{ℕ, ◌≡◌, ◌≢◌, ◌<◌, Bool, true, false, List, [], ◌∷◌, ◌++◌, fold, Option, Some, None, option_map, Result, Ok, Err}
+use Rattle.std.specs.Prelude.{ℕ, ◌≡◌, ◌≢◌, ◌<◌, Bool, true, false, List, [], ◌∷◌, ◌++◌, fold, Option, Some, None, option_map, Result, Ok}
+use Rattle.std.specs.Prelude.{Err}
 use Rattle.std.proofs.Common.{refl, sym, ◌∙◌, ap, subst, inl}
 use Rattle.std.proofs.lemmas.Bool.{true≢false}
 use Rattle.std.proofs.lemmas.List.{append-nil, append_assoc}
@@ -21,7 +22,8 @@ use Rattle.adb_daemon.specs.Serving.{Serving, sent_bytes}
 use Rattle.adb_daemon.specs.Device.{Device, Setting, step, first_device, device_behind}
 use Rattle.adb_daemon.specs.Held.{CutFiles}
 use Rattle.adb_daemon.specs.Behind.{Stands, setting_of}
-use Rattle.adb_daemon.specs.Daemon.{CutsOff, HasDone, HasDoneFront, Answers, CutAt, Treats, TreatsFront, daemon_of, device_of, verdict, error_of, ran_out, answer_to}
+use Rattle.adb_daemon.specs.Daemon.{CutsOff, HasDone, HasDoneFront, Answers, CutAt, Treats, TreatsFront, daemon_of, device_of, verdict}
+use Rattle.adb_daemon.specs.Daemon.{error_of, ran_out, answer_to}
 use Rattle.adb_daemon.proofs.Machines.{step_more, all_refused}
 
 -- files as before are those behind a front of what a packet asks for
@@ -63,7 +65,8 @@ pub spent_front : (setting : Setting) (fed taken : List ℕ) (daemon : Daemon) (
 spent_front setting fed taken daemon spent h =
     record { front = h.front; rest = h.rest; is = h.is; given_out = h.given_out; files = h.files }
 
-module _ (setting : Setting) (fed taken piece : List ℕ) (read : Deframing) (machine : Machine) (h : HasDone setting fed taken (daemon_of read machine)) where
+module _ (setting : Setting) (fed taken piece : List ℕ) (read : Deframing) (machine : Machine)
+    (h : HasDone setting fed taken (daemon_of read machine)) where
   abbrev all : List ℕ
   all = fed ++ piece
 
@@ -71,7 +74,8 @@ module _ (setting : Setting) (fed taken piece : List ℕ) (read : Deframing) (ma
   before = (parts_of fed).packets
 
   -- the device behind all bytes, where these packets come more
-  behind_all : (others : List Packet) → (parts_of all).packets ≡ before ++ others → device_of setting all ≡ fold (step setting) (device_of setting fed) others
+  behind_all : (others : List Packet) → (parts_of all).packets ≡ before ++ others
+      → device_of setting all ≡ fold (step setting) (device_of setting fed) others
   behind_all others is =
       ap (λ (ps : List Packet). device_behind setting ps) is ∙ step_more setting (first_device setting) before others
 
@@ -86,7 +90,8 @@ module _ (setting : Setting) (fed taken piece : List ℕ) (read : Deframing) (ma
   refused_before bytes is =
       let on = goes_on bytes in
       let over : (device_of setting fed).refused ≡ true = sym h.stands.refused ∙ is in
-      let same : device_of setting all ≡ device_of setting fed = behind_all on.others on.begins ∙ all_refused setting (device_of setting fed) on.others over in
+      let same : device_of setting all ≡ device_of setting fed =
+      behind_all on.others on.begins ∙ all_refused setting (device_of setting fed) on.others over in
       let still : (device_of setting all).refused ≡ true = ap (λ (d : Device). d.refused) same ∙ over in
       record {
         answer = sym (ap (λ (b : Bool). verdict b (parts_of all).fault) still);
@@ -170,7 +175,8 @@ module _ (setting : Setting) (fed taken piece : List ℕ) (read : Deframing) (ma
 
     -- all packets were treated
     pub treat_whole : (new : Deframing) (machine' : Machine) → Treats mid machine new machine'
-        → (result : Result (Unit {0}) DaemonError) → ((fault : Option PacketFault) → option_map error_of mid.fault ≡ option_map error_of fault
+        → (result : Result (Unit {0}) DaemonError)
+        → ((fault : Option PacketFault) → option_map error_of mid.fault ≡ option_map error_of fault
         → result ≡ verdict machine'.refused fault)
         → Answers setting all taken result (daemon_of new machine')
     treat_whole new machine' t result answer =
@@ -194,7 +200,8 @@ module _ (setting : Setting) (fed taken piece : List ℕ) (read : Deframing) (ma
         }
 
 -- A refusal of a CNXN and a fault stay.
-pub answer_stays : (setting : Setting) (fed more : List ℕ) (error : DaemonError) → IsBytes fed → IsBytes more → answer_to setting fed ≡ Err error
+pub answer_stays : (setting : Setting) (fed more : List ℕ) (error : DaemonError) → IsBytes fed → IsBytes more
+    → answer_to setting fed ≡ Err error
     → answer_to setting (fed ++ more) ≡ Err error
 answer_stays setting fed more error bytes others is = go (device_of setting fed).refused refl (parts_of fed).fault refl
   where
@@ -202,10 +209,12 @@ answer_stays setting fed more error bytes others is = go (device_of setting fed)
     cuts = parts_cut fed bytes
 
     on : Continues (parts_of fed) (parts_of (fed ++ more))
-    on = continues fed more (parts_of fed) (parts_of (fed ++ more)) cuts (parts_cut (fed ++ more) (All-append (λ b. b < 256) fed more bytes others))
+    on = continues fed more (parts_of fed) (parts_of (fed ++ more)) cuts
+        (parts_cut (fed ++ more) (All-append (λ b. b < 256) fed more bytes others))
 
     behind : device_of setting (fed ++ more) ≡ fold (step setting) (device_of setting fed) on.others
-    behind = ap (λ (ps : List Packet). device_behind setting ps) on.begins ∙ step_more setting (first_device setting) (parts_of fed).packets on.others
+    behind = ap (λ (ps : List Packet). device_behind setting ps) on.begins
+        ∙ step_more setting (first_device setting) (parts_of fed).packets on.others
 
     go : (refused : Bool) → (device_of setting fed).refused ≡ refused → (fault : Option PacketFault) → (parts_of fed).fault ≡ fault
         → answer_to setting (fed ++ more) ≡ Err error

@@ -14,7 +14,8 @@ use Rattle.adb_files.specs.Entries.{Entry}
 use Rattle.adb_files.specs.Served.{Served}
 use Rattle.adb_device_streams.specs.Asked.{Kind, Echoes, Syncs, Shells}
 use Rattle.adb_device_streams.specs.Service.{Came, bytes_in, served_by, sync_more, sync_answer, service_answer}
-use Rattle.adb_device_streams.specs.Stream.{Row, unsent, next_payload, row_past, row_past_all, row_written, writes_at, writes, room_of, row_took}
+use Rattle.adb_device_streams.specs.Stream.{Row, unsent, next_payload, row_past, row_past_all, row_written, writes_at, writes, room_of}
+use Rattle.adb_device_streams.specs.Stream.{row_took}
 
 -- what follows the answer to payloads in that to more of them
 pub record More (front all : List ℕ) : Type 0 where
@@ -26,7 +27,11 @@ same x y is = record { more = []; is = is ∙ sym (append-nil x) }
 
 from_start : (all front : List ℕ) → StartsWith all front → More front all
 from_start all front starts =
-    record { more = drop (length front) all; is = sym (take-append-drop (length front) all) ∙ ap (λ l. l ++ drop (length front) all) starts }
+    record {
+      more = drop (length front) all;
+      is = sym (take-append-drop (length front) all)
+          ∙ ap (λ l. l ++ drop (length front) all) starts;
+    }
 
 shell_more : (opening : Opening) (fed piece : List ℕ) → More (shell_answer opening fed).bytes (shell_answer opening (fed ++ piece)).bytes
 shell_more opening fed piece = go (reads_input opening) refl (shell_answer opening fed).ended refl
@@ -42,7 +47,8 @@ shell_more opening fed piece = go (reads_input opening) refl (shell_answer openi
     go true reads true over =
         from_start (shell_answer opening (fed ++ piece)).bytes (shell_answer opening fed).bytes (answer_grows opening fed piece None over)
     go true reads false on =
-        from_start (shell_answer opening (fed ++ piece)).bytes (shell_answer opening fed).bytes (answer_grows opening fed piece (Some reading) (record {
+        from_start (shell_answer opening (fed ++ piece)).bytes (shell_answer opening fed).bytes
+        (answer_grows opening fed piece (Some reading) (record {
           input = reads;
           goes_on = on;
           stands = record { frames = sym (append-nil (packets_in fed)); fault = refl; open_rest = λ none. (refl, refl) };
@@ -59,7 +65,8 @@ pub answers_more : (kind : Kind) (first : List Entry) (came : Came) (past : List
     → More (service_answer kind first past).bytes (service_answer kind first (came ∷ past)).bytes
 answers_more Echoes first came past = record { more = came.bytes; is = refl }
 answers_more Syncs first came past = sync_more_is (sync_answer past) (served_by past came)
-answers_more (Shells packets command) first came past = shell_more (record { packets = packets; command = command; files = first }) (bytes_in past) came.bytes
+answers_more (Shells packets command) first came past = shell_more
+    (record { packets = packets; command = command; files = first }) (bytes_in past) came.bytes
 
 -- What was written and what was not are the answer.
 abbrev pub IsFront : Row → Type 0
@@ -89,9 +96,12 @@ front_past most row front =
 module _ (most : ℕ) where
   front_at : (k : ℕ) (row : Row) → IsFront row → IsFront (row_past_all (writes_at k most row) row)
   front_at zero row front = front
-  front_at (suc k) row front = go (length (next_payload most row) == 0) (front_at k (row_past (next_payload most row) row) (front_past most row front))
+  front_at (suc k) row front = go (length (next_payload most row) == 0)
+      (front_at k (row_past (next_payload most row) row) (front_past most row front))
     where
-      go : (t : Bool) → IsFront (row_past_all (writes_at k most (row_past (next_payload most row) row)) (row_past (next_payload most row) row))
+      go : (t : Bool)
+          → IsFront (row_past_all (writes_at k most (row_past (next_payload most row) row))
+          (row_past (next_payload most row) row))
           → IsFront (row_past_all (if t then [] else next_payload most row ∷ writes_at k most (row_past (next_payload most row) row)) row)
       go true later = front
       go false later = later
@@ -113,8 +123,13 @@ module _ (most : ℕ) where
 
       go : (t : Bool) → (length (next_payload most row) == 0) ≡ t
           → (length (unsent (row_past (next_payload most row) row)) ≤ k
-          → next_payload most (row_past_all (writes_at k most (row_past (next_payload most row) row)) (row_past (next_payload most row) row)) ≡ [])
-          → next_payload most (row_past_all (if t then [] else next_payload most row ∷ writes_at k most (row_past (next_payload most row) row)) row) ≡ []
+          → next_payload most
+          (row_past_all (writes_at k most (row_past (next_payload most row) row))
+          (row_past (next_payload most row) row)) ≡ [])
+          → next_payload most
+          (row_past_all
+          (if t then [] else next_payload most row ∷ writes_at k most (row_past (next_payload most row) row))
+          row) ≡ []
       go true is later = nil_from_length (next_payload most row) (true-eqb (length (next_payload most row)) 0 (sym is))
       go false is later =
           let some : length (next_payload most row) ≢ 0 = false-eqb (length (next_payload most row)) 0 (sym is) in

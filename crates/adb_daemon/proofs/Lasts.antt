@@ -1,5 +1,6 @@
 -- Nothing of a stream becomes due behind its CLSE.
-use Rattle.std.specs.Prelude.{ℕ, ◌+◌, ◌≡◌, ◌<◌, ◌==◌, ◌||◌, if◌then◌else◌, Bool, true, false, List, [], ◌∷◌, ◌++◌, length, map, fold, Option, Some, None}
+use Rattle.std.specs.Prelude.{ℕ, ◌+◌, ◌≡◌, ◌<◌, ◌==◌, ◌||◌, if◌then◌else◌, Bool, true, false, List, [], ◌∷◌, ◌++◌, length, map, fold}
+use Rattle.std.specs.Prelude.{Option, Some, None}
 use Rattle.std.specs.List.{list_any}
 use Rattle.std.proofs.Common.{refl, sym, ◌∙◌, ap, subst, arith, ◌⊎◌, inl, inr}
 use Rattle.std.specs.List.Sorted.{IsStrictlySortedBy}
@@ -18,8 +19,10 @@ use Rattle.adb_device_streams.specs.Service.{came_over, files_fed, files_opened}
 use Rattle.adb_device_streams.specs.Stream.{Row, opened, row_took, row_acked, row_written, writes, is_done, wrte, okay, clse, opening_word}
 use Rattle.adb_device_streams.specs.Link.{credit_word_in, link_of}
 use Rattle.adb_device_streams.specs.declared.link.Link.{Link}
-use Rattle.adb_daemon.specs.Serving.{Serving, Sent, Ended, with_sum, owing, granted, sent_ack, sent_writes, sent_close, settled_as, settled, named, closable}
-use Rattle.adb_daemon.specs.Serving.{is_taken, kind_for, credit_of, open_as, on_open, written_to, on_write, acked_to, on_okay, closed_to, on_close, served}
+use Rattle.adb_daemon.specs.Serving.{Serving, Sent, Ended, with_sum, owing, granted, sent_ack, sent_writes, sent_close, settled_as, settled}
+use Rattle.adb_daemon.specs.Serving.{named, closable}
+use Rattle.adb_daemon.specs.Serving.{is_taken, kind_for, credit_of, open_as, on_open, written_to, on_write, acked_to, on_okay, closed_to}
+use Rattle.adb_daemon.specs.Serving.{on_close, served}
 use Rattle.adb_daemon.specs.Device.{Device, Setting, step, treated, linked_to, served_on, first_device, device_behind}
 use Rattle.adb_daemon.specs.Streams.{closes, is_closed, is_of, EndsAtClose, over_at, Writes}
 use Rattle.adb_daemon.proofs.Standing.{IsOrderly, writes_open, closed_more}
@@ -52,7 +55,8 @@ module _ (own : ℕ) where
   behind_others : (made more : List Sent) → EndsAtClose own made → list_any (is_of own) more ≡ false → EndsAtClose own (made ++ more)
   behind_others [] more ends none = ends_without more none
   behind_others (one ∷ made) more ends none = (
-    λ closing. list_any-append (is_of own) made more ∙ or_none (list_any (is_of own) made) (list_any (is_of own) more) (ends.0 closing) none,
+    λ closing. list_any-append (is_of own) made more ∙ or_none (list_any (is_of own) made) (list_any (is_of own) more)
+        (ends.0 closing) none,
     behind_others made more ends.1 none,
   )
 
@@ -68,7 +72,8 @@ module _ (own : ℕ) where
     unclosed : q ≡ own → is_closed own made ≡ false
 
   -- packets of the stream that is served, none of which closes it
-  last_more : (q : ℕ) (made more : List Sent) → IsLast q made → ((q ≡ own → ⊥) → list_any (is_of own) more ≡ false) → is_closed own more ≡ false
+  last_more : (q : ℕ) (made more : List Sent) → IsLast q made → ((q ≡ own → ⊥) → list_any (is_of own) more ≡ false)
+      → is_closed own more ≡ false
       → IsLast q (made ++ more)
   last_more q made more h others none = record { ends = go (cases_eq q own); unclosed = λ here. still (h.unclosed here) }
     where
@@ -83,7 +88,8 @@ module _ (own : ℕ) where
       → list_any (is_of own) (map (λ payload. with_sum sums (wrte q host payload)) payloads) ≡ false
   others_write sums q host apart [] = refl
   others_write sums q host apart (payload ∷ more) =
-      or_none (q == own) (list_any (is_of own) (map (λ p. with_sum sums (wrte q host p)) more)) (ne_eqb q own apart) (others_write sums q host apart more)
+      or_none (q == own) (list_any (is_of own) (map (λ p. with_sum sums (wrte q host p)) more)) (ne_eqb q own apart)
+      (others_write sums q host apart more)
 
   others_ack : (link : Link) (q host : ℕ) (flow : Flow) (n : ℕ) → (q ≡ own → ⊥) → list_any (is_of own) (sent_ack link q host flow n) ≡ false
   others_ack link q host (flows.One window) n apart = ap (λ t. t || false) (ne_eqb q own apart)
@@ -165,7 +171,8 @@ module _ (own : ℕ) (s : Serving) (o : IsOrderly own s) (ends : EndsAtClose own
           let q = s.drawn + 1 in
           let credit = credit_of link p in
           let hello = with_sum link.sums (okay q p.arg0 (opening_word credit)) ∷ [] in
-          settles own link q (opened p.arg0 kind s.files credit) (record (granted q credit (owing hello s)) { drawn = q; files = files_opened kind s.files })
+          settles own link q (opened p.arg0 kind s.files credit)
+          (record (granted q credit (owing hello s)) { drawn = q; files = files_opened kind s.files })
           (last_more own q s.made hello (fresh q (omega arith)) (λ apart. ap (λ t. t || false) (ne_eqb q own apart)) refl)
 
       go : (t : Bool) → EndsAtClose own (if t then s else open_as link p (kind_for s.drawn p) s).made
@@ -196,7 +203,9 @@ module _ (own : ℕ) (some : 0 < own) where
       on None = ends
       on (Some link) = served_last p.command link p d.serving o ends
 
-      by : (t : Bool) → EndsAtClose own (if t then linked_to (link_of setting.most setting.credit p) d else served_on d.link p d).serving.made
+      by : (t : Bool)
+          → EndsAtClose own
+          (if t then linked_to (link_of setting.most setting.credit p) d else served_on d.link p d).serving.made
       by true = linked (link_of setting.most setting.credit p)
       by false = on d.link
 
@@ -211,8 +220,10 @@ module _ (own : ℕ) (some : 0 < own) where
       all_last setting more (step setting d p) (step_orderly own some setting d p o) (step_last setting d p o ends)
 
 -- behind any packets
-pub closes_last : (setting : Setting) (packets : List Packet) (own : ℕ) → 0 < own → EndsAtClose own (device_behind setting packets).serving.made
+pub closes_last : (setting : Setting) (packets : List Packet) (own : ℕ) → 0 < own
+    → EndsAtClose own (device_behind setting packets).serving.made
 unfolding IsStrictlySortedBy
 closes_last setting packets own some =
-    all_last own some setting packets (first_device setting) (record { rises = tt; fresh = λ above. (refl, refl); writes = (refl, refl, refl) })
+    all_last own some setting packets (first_device setting)
+    (record { rises = tt; fresh = λ above. (refl, refl); writes = (refl, refl, refl) })
     (λ closing. refl, tt)

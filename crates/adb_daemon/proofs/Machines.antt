@@ -35,7 +35,8 @@ step_more setting d (p ∷ front) more = step_more setting (step setting d p) fr
 module _ (setting : Setting) (d : Device) (p : Packet) (taken : List ℕ) (machine : Machine) (h : Stands d taken machine) where
   -- a packet that speaks of a stream, on a link
   pub serves : (link : Link) (services : Services) → is_cnxn p.command ≡ false → machine.link ≡ Some link
-      → Holds (served p.command link p d.serving) taken (view_of services) → Stands (treated setting p d) taken (record machine { services = services })
+      → Holds (served p.command link p d.serving) taken (view_of services)
+      → Stands (treated setting p d) taken (record machine { services = services })
   serves link services other linked held =
       let on : d.link ≡ Some link = sym h.link ∙ linked in
       subst (λ (t : Bool). Stands (if t then linked_to (link_of setting.most setting.credit p) d else served_on d.link p d) taken

@@ -1,5 +1,6 @@
 -- What an OPEN of the host leaves of what is served.
-use Rattle.std.specs.Prelude.{ℕ, ◌≡◌, ◌+◌, ◌-◌, ◌^◌, ◌==◌, ◌||◌, ◌++◌, Bool, true, false, cond, if◌then◌else◌, List, [], ◌∷◌, Option, Some, None, is_some, All}
+use Rattle.std.specs.Prelude.{ℕ, ◌≡◌, ◌+◌, ◌-◌, ◌^◌, ◌==◌, ◌||◌, ◌++◌, Bool, true, false, cond, if◌then◌else◌, List, [], ◌∷◌, Option, Some}
+use Rattle.std.specs.Prelude.{None, is_some, All}
 use Rattle.std.specs.Ordering.{nat_cmp, is_eq}
 use Rattle.std.proofs.Common.{refl, sym, ◌∙◌, ap, subst, arith, ◌⊎◌, inl, inr}
 use Rattle.std.proofs.lemmas.Bool.{cases_eq, eq-eqb, ne_eqb}
@@ -23,7 +24,8 @@ of_host : ℕ → ℕ × Row → Bool
 of_host host entry = entry.1.host == host
 
 -- a row that is there is one of those
-some_of : (host own : ℕ) (row : Row) (rows : List (ℕ × Row)) → at own rows ≡ Some row → (row.host == host) ≡ true → is_taken host rows ≡ true
+some_of : (host own : ℕ) (row : Row) (rows : List (ℕ × Row)) → at own rows ≡ Some row → (row.host == host) ≡ true
+    → is_taken host rows ≡ true
 some_of host own row [] there is = cc
 some_of host own row (e ∷ es) there is = go (is_eq (nat_cmp own e.0)) there (λ later. some_of host own row es later is)
   where
@@ -63,14 +65,17 @@ taken_is host rows streams hosts t = go (at host hosts) refl
     go : (o : Option ℕ) → at host hosts ≡ o → is_taken host rows ≡ is_some o
     go (Some own) is = found own (at own rows) refl (t.index host own is)
     go None is =
-        none_of host rows (All-weaker (λ (e : ℕ × Row). at e.0 rows ≡ Some e.1) (λ (e : ℕ × Row). (e.1.host == host) ≡ false) (apart is) rows
+        none_of host rows
+        (All-weaker (λ (e : ℕ × Row). at e.0 rows ≡ Some e.1) (λ (e : ℕ × Row). (e.1.host == host) ≡ false)
+        (apart is) rows
         (at_each rows t.rises))
 
 -- once all ids were drawn there is no service, and before that the one that is asked for
 pub no_ids : (p : Packet) (n : ℕ) → n ≡ 2 ^ 32 - 1 → kind_for n p ≡ None
 no_ids p n is = ap (λ (t : Bool). if t then None else service_of (name_of p.payload)) (eq-eqb n (2 ^ 32 - 1) is)
 
-pub ids_left : (p : Packet) (n : ℕ) (kind : Option Kind) → (n ≡ 2 ^ 32 - 1 → ⊥) → service_of (name_of p.payload) ≡ kind → kind_for n p ≡ kind
+pub ids_left : (p : Packet) (n : ℕ) (kind : Option Kind) → (n ≡ 2 ^ 32 - 1 → ⊥)
+    → service_of (name_of p.payload) ≡ kind → kind_for n p ≡ kind
 ids_left p n kind apart is = ap (λ (t : Bool). if t then None else service_of (name_of p.payload)) (ne_eqb n (2 ^ 32 - 1) apart) ∙ is
 
 module _ (link : Link) (p : Packet) (s : Serving) (taken : List ℕ) (view : View) (h : Holds s taken view) where
@@ -91,12 +96,15 @@ module _ (link : Link) (p : Packet) (s : Serving) (taken : List ℕ) (view : Vie
       (sym (ap (λ (b : Bool). p.arg0 == 0 || b) known ∙ is)) (subst (λ (k : Option Kind). Holds (open_as link p k s) taken new) gets held)
 
   -- it is refused
-  pub refused : (due : List ℕ) → due ≡ view.due ++ packet_bytes link.sums (clse 0 p.arg0) → Holds (open_as link p None s) taken (record view { due = due })
+  pub refused : (due : List ℕ) → due ≡ view.due ++ packet_bytes link.sums (clse 0 p.arg0)
+      → Holds (open_as link p None s) taken (record view { due = due })
   refused due is =
       let close = with_sum link.sums (clse 0 p.arg0) ∷ [] in
-      let more : view.due ++ sent_bytes close ≡ due = ap (λ l. view.due ++ l) (append-nil (packet_bytes link.sums (clse 0 p.arg0))) ∙ sym is in
+      let more : view.due ++ sent_bytes close ≡ due = ap (λ l. view.due ++ l)
+      (append-nil (packet_bytes link.sums (clse 0 p.arg0))) ∙ sym is in
       subst (λ (f : List Entry). Holds (owing close s) taken (record view { files = f; due = due })) (sym h.files)
-      (subst (λ (d : List ℕ). Holds (owing close s) taken (record view { files = s.files; due = d })) more (owes_more s taken view close s.files h))
+      (subst (λ (d : List ℕ). Holds (owing close s) taken (record view { files = s.files; due = d })) more
+      (owes_more s taken view close s.files h))
 
   module _ (kind : Kind) where
     own : ℕ
@@ -130,7 +138,8 @@ module _ (link : Link) (p : Packet) (s : Serving) (taken : List ℕ) (view : Vie
         (view.drawn + 1)) due done
         → Settles link.sums (s.drawn + 1) link.most row stream (view.due ++ sent_bytes hello) due done
     told stream due done settles =
-        subst (λ (l : List ℕ). Settles link.sums (s.drawn + 1) link.most row stream (view.due ++ l) due done) (sym (append-nil (greeting (s.drawn + 1))))
+        subst (λ (l : List ℕ). Settles link.sums (s.drawn + 1) link.most row stream (view.due ++ l) due done)
+        (sym (append-nil (greeting (s.drawn + 1))))
         (subst (λ (f : List Entry). Settles link.sums (s.drawn + 1) link.most (opened p.arg0 kind f (credit_of link p)) stream
         (view.due ++ greeting (s.drawn + 1)) due done) h.files
         (subst (λ (n : ℕ). Settles link.sums (n + 1) link.most (opened p.arg0 kind view.files (credit_of link p)) stream
@@ -147,15 +156,19 @@ module _ (link : Link) (p : Packet) (s : Serving) (taken : List ℕ) (view : Vie
 
     -- the stream goes on, or is done at once
     module _ (stream : Stream) (files : List Entry) (due : List ℕ) (done : Bool) where
-      pub open_goes : done ≡ false → Opens stream files due done → at p.arg0 view.hosts ≡ None → (n : ℕ) (streams : List (ℕ × Stream)) (hosts : List (ℕ × ℕ))
+      pub open_goes : done ≡ false → Opens stream files due done → at p.arg0 view.hosts ≡ None
+          → (n : ℕ) (streams : List (ℕ × Stream)) (hosts : List (ℕ × ℕ))
           → n ≡ view.drawn + 1
           → Puts (view.drawn + 1) (Some stream) view.streams streams × Puts stream.host (Some (view.drawn + 1)) view.hosts hosts
           → Holds (open_as link p (Some kind) s) taken (record { drawn = n; streams = streams; hosts = hosts; files = files; due = due })
       open_goes on o unknown n streams hosts is puts =
           let result = new_settles link (s.drawn + 1) row middle taken seen greeted due stream streams hosts (refl, free, unknown)
-          (told stream due false (subst (Settles link.sums (view.drawn + 1) link.most (opened p.arg0 kind view.files (credit_of link p)) stream
+          (told stream due false
+          (subst (Settles link.sums (view.drawn + 1) link.most
+          (opened p.arg0 kind view.files (credit_of link p)) stream
           (view.due ++ greeting (view.drawn + 1)) due) on o.settles))
-          (subst (λ (k : ℕ). Puts (k + 1) (Some stream) view.streams streams × Puts stream.host (Some (k + 1)) view.hosts hosts) h.drawn puts) in
+          (subst (λ (k : ℕ). Puts (k + 1) (Some stream) view.streams streams
+          × Puts stream.host (Some (k + 1)) view.hosts hosts) h.drawn puts) in
           let left : files_opened kind s.files ≡ files = ap (files_opened kind) (sym h.files) ∙ sym o.left in
           subst (λ (k : ℕ). Holds (open_as link p (Some kind) s) taken
           (record { drawn = k; streams = streams; hosts = hosts; files = files; due = due })) (sym is)
@@ -166,8 +179,11 @@ module _ (link : Link) (p : Packet) (s : Serving) (taken : List ℕ) (view : Vie
           → Holds (open_as link p (Some kind) s) taken (record view { drawn = n; files = files; due = due })
       open_ends over o n is =
           let result = new_ends link (s.drawn + 1) row middle taken seen greeted due stream free
-          (told stream due true (subst (Settles link.sums (view.drawn + 1) link.most (opened p.arg0 kind view.files (credit_of link p)) stream
+          (told stream due true
+          (subst (Settles link.sums (view.drawn + 1) link.most
+          (opened p.arg0 kind view.files (credit_of link p)) stream
           (view.due ++ greeting (view.drawn + 1)) due) over o.settles)) in
           let left : files_opened kind s.files ≡ files = ap (files_opened kind) (sym h.files) ∙ sym o.left in
           subst (λ (k : ℕ). Holds (open_as link p (Some kind) s) taken (record view { drawn = k; files = files; due = due })) (sym is)
-          (subst (λ (f : List Entry). Holds (open_as link p (Some kind) s) taken (record view { drawn = view.drawn + 1; files = f; due = due })) left result)
+          (subst (λ (f : List Entry). Holds (open_as link p (Some kind) s) taken
+          (record view { drawn = view.drawn + 1; files = f; due = due })) left result)

@@ -15,7 +15,8 @@ bytes_more made more = flat_map-append bytes_of made more
 pub bytes_one : (made : List Sent) (one : Sent) → sent_bytes (made ++ one ∷ []) ≡ sent_bytes made ++ bytes_of one
 bytes_one made one = bytes_more made (one ∷ []) ∙ ap (λ (l : List ℕ). sent_bytes made ++ l) (append-nil (bytes_of one))
 
-pub writes_are : (link : Link) (own : ℕ) (row : Row) → sent_bytes (sent_writes link own row) ≡ writes_bytes link.sums own row.host (writes link.most row)
+pub writes_are : (link : Link) (own : ℕ) (row : Row) → sent_bytes (sent_writes link own row)
+    ≡ writes_bytes link.sums own row.host (writes link.most row)
 writes_are link own row = flat_map-map bytes_of (λ payload. with_sum link.sums (wrte own row.host payload)) (writes link.most row)
 
 -- a stream past its writes keeps the host's id

@@ -67,7 +67,9 @@ module _ (link : Link) (p : Packet) (s : Serving) (quiet : IsQuiet link.most s.r
   opens None = quiet
   opens (Some kind) =
       let hello = with_sum link.sums (okay (s.drawn + 1) p.arg0 (opening_word (credit_of link p))) ∷ [] in
-      settles link p (record (granted (s.drawn + 1) (credit_of link p) (owing hello s)) { drawn = s.drawn + 1; files = files_opened kind s.files }) quiet
+      settles link p
+      (record (granted (s.drawn + 1) (credit_of link p) (owing hello s))
+      { drawn = s.drawn + 1; files = files_opened kind s.files }) quiet
       (s.drawn + 1)
       (opened p.arg0 kind s.files (credit_of link p))
 
@@ -116,7 +118,8 @@ step_quiet setting d p quiet = go d.refused
     on (Some found) is = λ link there.
         let same : Some found ≡ Some link = sym is ∙ there in
         let one : link ≡ found = cc in
-        subst (λ (l : Link). IsQuiet l.most (served p.command found p d.serving).rows) (sym one) (serves found p d.serving (quiet found is) p.command)
+        subst (λ (l : Link). IsQuiet l.most (served p.command found p d.serving).rows) (sym one)
+        (serves found p d.serving (quiet found is) p.command)
 
     by : (t : Bool) → IsQuietOn (if t then linked_to (link_of setting.most setting.credit p) d else served_on d.link p d)
     by true = linked (link_of setting.most setting.credit p)
@@ -131,7 +134,8 @@ all_quiet setting [] d quiet = quiet
 all_quiet setting (p ∷ more) d quiet = all_quiet setting more (step setting d p) (step_quiet setting d p quiet)
 
 -- behind any packets
-pub streams_settled : (setting : Setting) (packets : List Packet) (link : Link) (own : ℕ) (row : Row) → (device_behind setting packets).link ≡ Some link
+pub streams_settled : (setting : Setting) (packets : List Packet) (link : Link) (own : ℕ) (row : Row)
+    → (device_behind setting packets).link ≡ Some link
     → at own (device_behind setting packets).serving.rows ≡ Some row → HasSettled link.most row
 unfolding IsQuietOn
 streams_settled setting packets link own row linked is =

@@ -61,7 +61,12 @@ silent_ack own link q host (flows.Credit credit) n = go (n == 0)
 owing_orderly : (own : ℕ) (s : Serving) (more : List Sent) (files : List Entry) → IsSilent own more → IsOrderly own s
     → IsOrderly own (record (owing more s) { files = files })
 owing_orderly own s more files silent o =
-    record { rises = o.rises; fresh = o.fresh; writes = writes_stay own s.made more silent s.acks (at own s.rows) (over_at own s.ended) o.writes }
+    record {
+      rises = o.rises;
+      fresh = o.fresh;
+      writes = writes_stay own s.made more silent s.acks (at own s.rows)
+          (over_at own s.ended) o.writes;
+    }
 
 -- a stream took an OKAY
 granted_orderly : (own q : ℕ) (word : Option ℕ) (s : Serving) → IsOrderly own s → IsOrderly own (granted q word s)
@@ -75,9 +80,11 @@ granted_orderly own q word s o = record {
 module _ (own q count bytes : ℕ) where
   own_ack : (word : Option ℕ) (acks : List Ack) (flow : Flow) → q ≡ own
       → IsWithin count bytes (1 + acks_of own acks) (unwrap_or word 0 + words_of own acks) flow
-      → IsWithin count bytes (acks_of own (record { own = q; word = word } ∷ acks)) (words_of own (record { own = q; word = word } ∷ acks)) flow
+      → IsWithin count bytes (acks_of own (record { own = q; word = word } ∷ acks))
+      (words_of own (record { own = q; word = word } ∷ acks)) flow
   own_ack word acks flow here within =
-      subst (λ (t : Bool). IsWithin count bytes ((if t then 1 else 0) + acks_of own acks) ((if t then unwrap_or word 0 else 0) + words_of own acks) flow)
+      subst (λ (t : Bool). IsWithin count bytes ((if t then 1 else 0) + acks_of own acks)
+      ((if t then unwrap_or word 0 else 0) + words_of own acks) flow)
       (sym (eq-eqb q own here)) within
 
 module _ (own : ℕ) (s : Serving) (o : IsOrderly own s) where
@@ -109,7 +116,8 @@ module _ (own : ℕ) (s : Serving) (o : IsOrderly own s) where
             writes = record { written = r.writes.written; front = r.writes.front };
             unclosed = r.unclosed;
             window = own_ack own own (writes_of own s.made) (length (written own s.made)) word s.acks (acknowledged word row.flow) refl
-                (within_acked row.flow word (writes_of own s.made) (length (written own s.made)) (acks_of own s.acks) (words_of own s.acks) r.window);
+                (within_acked row.flow word (writes_of own s.made) (length (written own s.made)) (acks_of own s.acks)
+                (words_of own s.acks) r.window);
           }))
       at_row row word is (inr apart) =
           other_settles own p.arg1 apart link (row_acked word row) (granted p.arg1 word s) (granted_orderly own p.arg1 word s o)
@@ -159,7 +167,8 @@ module _ (own : ℕ) (s : Serving) (o : IsOrderly own s) where
   pub close_orderly : (p : Packet) → IsOrderly own (on_close p s)
   close_orderly p = go (closable p.arg0 (at p.arg1 s.rows)) refl
     where
-      at_row : (row : Row) → at p.arg1 s.rows ≡ Some row → (p.arg1 ≡ own) ⊎ (p.arg1 ≡ own → ⊥) → IsOrderly own (closed_to p.arg1 (Some row) s)
+      at_row : (row : Row) → at p.arg1 s.rows ≡ Some row → (p.arg1 ≡ own) ⊎ (p.arg1 ≡ own → ⊥)
+          → IsOrderly own (closed_to p.arg1 (Some row) s)
       at_row row is (inl here) =
           subst (λ (k : ℕ). IsOrderly own (closed_to k (Some row) s)) (sym here)
           (own_gone own row s (ready row (ap (λ (k : ℕ). at k s.rows) (sym here) ∙ is)))
@@ -190,7 +199,8 @@ module _ (own : ℕ) (s : Serving) (o : IsOrderly own s) (some : 0 < own) (link 
     greeted = record {
       rises = o.rises;
       fresh = λ above. o.fresh (omega (arith, above));
-      writes = writes_ack own (s.made ++ hello) (record { own = s.drawn + 1; word = credit_of link p }) s.acks (at own s.rows) (over_at own s.ended)
+      writes = writes_ack own (s.made ++ hello) (record { own = s.drawn + 1; word = credit_of link p }) s.acks
+          (at own s.rows) (over_at own s.ended)
           (writes_stay own s.made hello unheard s.acks (at own s.rows) (over_at own s.ended) o.writes);
     }
 
@@ -207,9 +217,11 @@ module _ (own : ℕ) (s : Serving) (o : IsOrderly own s) (some : 0 < own) (link 
           drawn = omega (arith, here);
           writes = record { written = same_written own s.made hello unheard ∙ none.0; front = refl };
           unclosed = same_closed own s.made hello unheard ∙ none.1;
-          window = own_ack own (s.drawn + 1) (writes_of own (s.made ++ hello)) (length (written own (s.made ++ hello))) (credit_of link p) s.acks
+          window = own_ack own (s.drawn + 1) (writes_of own (s.made ++ hello))
+              (length (written own (s.made ++ hello))) (credit_of link p) s.acks
               (first_flow (credit_of link p)) here
-              (subst (λ n. IsWithin n (length (written own (s.made ++ hello))) (1 + acks_of own s.acks) (unwrap_or (credit_of link p) 0 + words_of own s.acks)
+              (subst (λ n. IsWithin n (length (written own (s.made ++ hello))) (1 + acks_of own s.acks)
+              (unwrap_or (credit_of link p) 0 + words_of own s.acks)
               (first_flow (credit_of link p))) (sym count)
               (subst (λ (l : List ℕ). IsWithin 0 (length l) (1 + acks_of own s.acks) (unwrap_or (credit_of link p) 0 + words_of own s.acks)
               (first_flow (credit_of link p))) (sym text) (within_first (credit_of link p) (acks_of own s.acks) (words_of own s.acks))));
@@ -217,7 +229,8 @@ module _ (own : ℕ) (s : Serving) (o : IsOrderly own s) (some : 0 < own) (link 
 
   opened_as : (kind : Option Kind) → IsOrderly own (open_as link p kind s)
   opened_as None =
-      owing_orderly own s (with_sum link.sums (clse 0 p.arg0) ∷ []) s.files (silent_close own link 0 p.arg0 (λ zeroth. omega (arith, zeroth, some))) o
+      owing_orderly own s (with_sum link.sums (clse 0 p.arg0) ∷ []) s.files
+      (silent_close own link 0 p.arg0 (λ zeroth. omega (arith, zeroth, some))) o
   opened_as (Some kind) = new_row kind (cases_eq (s.drawn + 1) own)
 
   pub open_orderly : IsOrderly own (on_open link p s)
@@ -252,7 +265,9 @@ all_over own (e ∷ es) ended = go (cases_eq e.0 own) (all_over own es ended)
         ∙ sym (ap (λ (b : Bool). or_over own (cond b (Some e.1) (at own es)) (over_at own ended)) (at_same own e.0 (sym here))))
     go (inr apart) later =
         ap (λ (b : Bool). cond b (Some (ended_at false e)) (over_at own (map (ended_at false) es ++ ended))) (ne_eqb e.0 own apart)
-        ∙ (later ∙ sym (ap (λ (b : Bool). or_over own (cond b (Some e.1) (at own es)) (over_at own ended)) (at_other own e.0 (λ same. apart (sym same)))))
+        ∙ (later ∙ sym
+        (ap (λ (b : Bool). or_over own (cond b (Some e.1) (at own es)) (over_at own ended))
+        (at_other own e.0 (λ same. apart (sym same)))))
 
 pub gone_orderly : (own : ℕ) (s : Serving) → IsOrderly own s → IsOrderly own (all_gone s)
 unfolding IsStrictlySortedBy
@@ -264,7 +279,8 @@ gone_orderly own s o = record {
   writes = subst (λ (e : Option Ended). Writes own s.made s.acks None e) (sym (all_over own s.rows s.ended)) (go (at own s.rows) o.writes);
 }
   where
-    go : (r : Option Row) → Writes own s.made s.acks r (over_at own s.ended) → Writes own s.made s.acks None (or_over own r (over_at own s.ended))
+    go : (r : Option Row) → Writes own s.made s.acks r (over_at own s.ended)
+        → Writes own s.made s.acks None (or_over own r (over_at own s.ended))
     go None w = w
     go (Some row) w = (refl, record { writes = w.0; closed = w.1; whole = λ closed. absurd (true≢false (sym closed)) }, w.2)
 
@@ -299,7 +315,8 @@ module _ (own : ℕ) (some : 0 < own) where
       go true = o
       go false = by (is_cnxn p.command)
 
-  all_orderly : (setting : Setting) (packets : List Packet) (d : Device) → IsOrderly own d.serving → IsOrderly own (fold (step setting) d packets).serving
+  all_orderly : (setting : Setting) (packets : List Packet) (d : Device) → IsOrderly own d.serving
+      → IsOrderly own (fold (step setting) d packets).serving
   all_orderly setting [] d o = o
   all_orderly setting (p ∷ more) d o = all_orderly setting more (step setting d p) (step_orderly setting d p o)
 
@@ -310,4 +327,5 @@ module _ (own : ℕ) (some : 0 < own) where
       (over_at own (device_behind setting packets).serving.ended)
   unfolding IsStrictlySortedBy
   streams_write setting packets =
-      (all_orderly setting packets (first_device setting) (record { rises = tt; fresh = λ above. (refl, refl); writes = (refl, refl, refl) })).writes
+      (all_orderly setting packets (first_device setting)
+      (record { rises = tt; fresh = λ above. (refl, refl); writes = (refl, refl, refl) })).writes

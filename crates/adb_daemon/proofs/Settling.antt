@@ -1,12 +1,14 @@
 -- A stream settles: what is held then.
-use Rattle.std.specs.Prelude.{ℕ, ◌≡◌, ◌<◌, ◌+◌, Bool, true, false, if◌then◌else◌, List, [], ◌++◌, Option, Some, None, Result, Ok, Err, IfOk, OnOk}
+use Rattle.std.specs.Prelude.{ℕ, ◌≡◌, ◌<◌, ◌+◌, Bool, true, false, if◌then◌else◌, List, [], ◌++◌, Option, Some, None, Result, Ok, Err, IfOk}
+use Rattle.std.specs.Prelude.{OnOk}
 use Rattle.std.proofs.Common.{refl, sym, ◌∙◌, ap, subst, ◌⊎◌, inl, inr, arith}
 use Rattle.std.proofs.lemmas.Bool.{cases_eq}
 use Rattle.std.proofs.lemmas.List.{append-nil, append_assoc}
 use Rattle.adb_outside.specs.Tables.{at, without, Puts}
 use Rattle.adb_outside.proofs.TableLaws.{puts_put_at, puts_without}
 use Rattle.adb_files.specs.Entries.{Entry}
-use Rattle.adb_device_streams.specs.Stream.{Row, StandsFor, Settles, is_done, row_written, writes, writes_bytes, close_bytes, packet_bytes, clse}
+use Rattle.adb_device_streams.specs.Stream.{Row, StandsFor, Settles, is_done, row_written, writes, writes_bytes, close_bytes, packet_bytes}
+use Rattle.adb_device_streams.specs.Stream.{clse}
 use Rattle.adb_device_streams.specs.declared.link.Link.{Link}
 use Rattle.adb_device_streams.specs.declared.stream.Stream.{Stream}
 use Rattle.adb_daemon.specs.Serving.{Serving, Sent, sent_bytes, with_sum, owing, granted, sent_writes, sent_close, settled_as, settled}
@@ -54,11 +56,13 @@ owes_more s taken view more files h = record {
 }
 
 -- as many ids were drawn
-pub redrawn : (s : Serving) (taken : List ℕ) (view : View) (n : ℕ) → n ≡ view.drawn → Holds s taken view → Holds s taken (record view { drawn = n })
+pub redrawn : (s : Serving) (taken : List ℕ) (view : View) (n : ℕ) → n ≡ view.drawn → Holds s taken view
+    → Holds s taken (record view { drawn = n })
 redrawn s taken view n is h = record { drawn = is ∙ h.drawn; table = h.table; fresh = h.fresh; files = h.files; due = h.due }
 
 -- a stream took an OKAY
-pub grants : (s : Serving) (taken : List ℕ) (view : View) (own : ℕ) (word : Option ℕ) → Holds s taken view → Holds (granted own word s) taken view
+pub grants : (s : Serving) (taken : List ℕ) (view : View) (own : ℕ) (word : Option ℕ) → Holds s taken view
+    → Holds (granted own word s) taken view
 grants s taken view own word h = record { drawn = h.drawn; table = h.table; fresh = h.fresh; files = h.files; due = h.due }
 
 -- the next id was drawn
@@ -87,14 +91,19 @@ module _ (link : Link) (own : ℕ) (row : Row) (taken due due' : List ℕ) (made
       ap (λ l. taken ++ l) is
       ∙ (sym (append_assoc taken (due ++ w) close)
       ∙ ap (λ l. l ++ close) (sym (append_assoc taken due w)
-      ∙ (ap (λ l. l ++ w) owes ∙ (ap (λ l. sent_bytes made ++ l) (sym (writes_are link own row)) ∙ sym (bytes_more made (sent_writes link own row))))))
+      ∙ (ap (λ l. l ++ w) owes
+      ∙ (ap (λ l. sent_bytes made ++ l) (sym (writes_are link own row))
+      ∙ sym (bytes_more made (sent_writes link own row))))))
 
   -- what is due behind the writes of a stream that goes on, and of one that is done
   due_open : due' ≡ (due ++ w) ++ close_bytes link.sums own last → is_done last ≡ false → taken ++ due' ≡ sent_bytes all
   due_open is on =
-      due_written [] (is ∙ ap (λ (t : Bool). (due ++ w) ++ (if t then packet_bytes link.sums (clse own last.host) else [])) on) ∙ append-nil (sent_bytes all)
+      due_written []
+      (is ∙ ap (λ (t : Bool). (due ++ w) ++ (if t then packet_bytes link.sums (clse own last.host) else [])) on)
+      ∙ append-nil (sent_bytes all)
 
-  due_done : due' ≡ (due ++ w) ++ close_bytes link.sums own last → is_done last ≡ true → taken ++ due' ≡ sent_bytes (all ++ sent_close true link own last.host)
+  due_done : due' ≡ (due ++ w) ++ close_bytes link.sums own last → is_done last ≡ true
+      → taken ++ due' ≡ sent_bytes (all ++ sent_close true link own last.host)
   due_done is over =
       due_written (packet_bytes link.sums (clse own last.host))
       (is ∙ ap (λ (t : Bool). (due ++ w) ++ (if t then packet_bytes link.sums (clse own last.host) else [])) over)
@@ -110,12 +119,14 @@ module _ (link : Link) (own : ℕ) (row : Row) (x : Serving) (taken : List ℕ) 
   module _ (view : View) (h : Holds x taken view) (due : List ℕ) where
     -- a live stream settles and goes on
     pub live_settles : (old : Row) (streams : List (ℕ × Stream)) → at own x.rows ≡ Some old → row.host ≡ old.host
-        → SettlesAt link own row view.streams streams view.due due false → Holds (settled link own row x) taken (record view { streams = streams; due = due })
+        → SettlesAt link own row view.streams streams view.due due false
+        → Holds (settled link own row x) taken (record view { streams = streams; due = due })
     live_settles old streams is same at_own =
         let on : is_done end ≡ false = sym at_own.settles.done_then in
         subst (λ (s : Serving). Holds s taken (record view { streams = streams; due = due })) (way false on) (record {
           drawn = h.drawn;
-          table = table_changes x.rows view.streams view.hosts h.table own old end at_own.stream streams is (written_host link.most row ∙ same)
+          table = table_changes x.rows view.streams view.hosts h.table own old end at_own.stream streams is
+              (written_host link.most row ∙ same)
               at_own.settles.stands at_own.puts;
           fresh = λ q above. (puts_put_at own end x.rows).others q (apart q above) ∙ h.fresh q above;
           files = h.files;
@@ -127,7 +138,8 @@ module _ (link : Link) (own : ℕ) (row : Row) (x : Serving) (taken : List ℕ) 
 
     -- a live stream settles and is done
     pub live_ends : (old : Row) (streams streams' : List (ℕ × Stream)) (hosts : List (ℕ × ℕ)) → at own x.rows ≡ Some old
-        → SettlesAt link own row view.streams streams view.due due true → Puts own None streams streams' → Puts old.host None view.hosts hosts
+        → SettlesAt link own row view.streams streams view.due due true → Puts own None streams streams'
+        → Puts old.host None view.hosts hosts
         → Holds (settled link own row x) taken (record view { streams = streams'; hosts = hosts; due = due })
     live_ends old streams streams' hosts is at_own puts host_puts =
         let over : is_done end ≡ true = sym at_own.settles.done_then in
@@ -160,7 +172,8 @@ module _ (link : Link) (own : ℕ) (row : Row) (x : Serving) (taken : List ℕ) 
         subst (λ (s : Serving). Holds s taken (record view { streams = streams; hosts = hosts; due = due })) (way false on) (record {
           drawn = h.drawn;
           table = table_gains x.rows view.streams view.hosts h.table own end stream streams hosts free.1
-              (ap (λ (k : ℕ). at k view.hosts) same ∙ free.2) settles.stands puts.0 (subst (λ (k : ℕ). Puts k (Some own) view.hosts hosts) named puts.1);
+              (ap (λ (k : ℕ). at k view.hosts) same ∙ free.2) settles.stands puts.0
+              (subst (λ (k : ℕ). Puts k (Some own) view.hosts hosts) named puts.1);
           fresh = λ q above. (puts_put_at own end x.rows).others q (λ here. omega (arith, above, here, free.0)) ∙ h.fresh q above;
           files = h.files;
           due = due_open link own row taken view.due due x.made h.due settles.written on;

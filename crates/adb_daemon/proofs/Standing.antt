@@ -13,8 +13,10 @@ use Rattle.adb_outside.proofs.TableLaws.{puts_put_at, puts_without, put_at_rises
 use Rattle.adb_device_streams.specs.Service.{service_answer}
 use Rattle.adb_device_streams.specs.Stream.{Row, unsent, is_done, row_written, writes, wrte}
 use Rattle.adb_device_streams.specs.declared.link.Link.{Link}
-use Rattle.adb_daemon.specs.Serving.{Serving, Sent, Ack, Ended, with_sum, owing, ended_at, sent_writes, sent_close, settled_as, settled, gone}
-use Rattle.adb_daemon.specs.Streams.{payload_of, written, closes, is_closed, over_at, writes_of, acks_of, words_of, IsWithin, KeepsWindow, WritesFront, IsOver}
+use Rattle.adb_daemon.specs.Serving.{Serving, Sent, Ack, Ended, with_sum, owing, ended_at, sent_writes, sent_close, settled_as, settled}
+use Rattle.adb_daemon.specs.Serving.{gone}
+use Rattle.adb_daemon.specs.Streams.{payload_of, written, closes, is_closed, over_at, writes_of, acks_of, words_of, IsWithin, KeepsWindow}
+use Rattle.adb_daemon.specs.Streams.{WritesFront, IsOver}
 use Rattle.adb_daemon.specs.Streams.{Writes}
 use Rattle.adb_daemon.proofs.Windows.{within_more, within_written}
 use Rattle.adb_stream.specs.Flow.{is_idle}
@@ -37,18 +39,22 @@ module _ (own : ℕ) (sums : Bool) (q host : ℕ) where
   writes_open [] = refl
   writes_open (payload ∷ more) = writes_open more
 
-  others_write : (q == own) ≡ false → (payloads : List (List ℕ)) → written own (map (λ payload. with_sum sums (wrte q host payload)) payloads) ≡ []
+  others_write : (q == own) ≡ false → (payloads : List (List ℕ))
+      → written own (map (λ payload. with_sum sums (wrte q host payload)) payloads) ≡ []
   others_write is [] = refl
   others_write is (payload ∷ more) =
-      ap (λ (t : Bool). (if t then payload else []) ++ written own (map (λ p. with_sum sums (wrte q host p)) more)) is ∙ others_write is more
+      ap (λ (t : Bool). (if t then payload else []) ++ written own (map (λ p. with_sum sums (wrte q host p)) more)) is
+      ∙ others_write is more
 
-  own_writes : (q == own) ≡ true → (payloads : List (List ℕ)) → written own (map (λ payload. with_sum sums (wrte q host payload)) payloads) ≡ concat payloads
+  own_writes : (q == own) ≡ true → (payloads : List (List ℕ))
+      → written own (map (λ payload. with_sum sums (wrte q host payload)) payloads) ≡ concat payloads
   own_writes is [] = refl
   own_writes is (payload ∷ more) =
       ap (λ (t : Bool). (if t then payload else []) ++ written own (map (λ p. with_sum sums (wrte q host p)) more)) is
       ∙ ap (λ l. payload ++ l) (own_writes is more)
 
-  others_count : (q == own) ≡ false → (payloads : List (List ℕ)) → writes_of own (map (λ payload. with_sum sums (wrte q host payload)) payloads) ≡ 0
+  others_count : (q == own) ≡ false → (payloads : List (List ℕ))
+      → writes_of own (map (λ payload. with_sum sums (wrte q host payload)) payloads) ≡ 0
   others_count is [] = refl
   others_count is (payload ∷ more) =
       ap (λ (t : Bool). (if t then 1 else 0) + writes_of own (map (λ p. with_sum sums (wrte q host p)) more)) is
@@ -84,7 +90,8 @@ window_ack own made ack acks flow keeps =
     within_more flow (writes_of own made) (length (written own made)) (acks_of own acks) (words_of own acks) (acks_of own (ack ∷ acks))
     (words_of own (ack ∷ acks)) (omega arith) (omega arith) keeps
 
-pub writes_ack : (own : ℕ) (made : List Sent) (ack : Ack) (acks : List Ack) (row : Option Row) (over : Option Ended) → Writes own made acks row over
+pub writes_ack : (own : ℕ) (made : List Sent) (ack : Ack) (acks : List Ack) (row : Option Row) (over : Option Ended)
+    → Writes own made acks row over
     → Writes own made (ack ∷ acks) row over
 writes_ack own made ack acks (Some row) over w = (w.0, w.1, window_ack own made ack acks row.flow w.2)
 writes_ack own made ack acks None (Some e) w = (w.0, w.1, window_ack own made ack acks e.row.flow w.2)
@@ -113,16 +120,19 @@ module _ (own : ℕ) (made more : List Sent) (s : IsSilent own more) where
     over.0,
     record {
       writes = record {
-        written = ap (λ (n : ℕ). written n (made ++ more)) over.0 ∙ (same_written ∙ (ap (λ (n : ℕ). written n made) (sym over.0) ∙ over.1.writes.written));
+        written = ap (λ (n : ℕ). written n (made ++ more)) over.0
+            ∙ (same_written ∙ (ap (λ (n : ℕ). written n made) (sym over.0) ∙ over.1.writes.written));
         front = over.1.writes.front;
       };
-      closed = ap (λ (n : ℕ). is_closed n (made ++ more)) over.0 ∙ (same_closed ∙ (ap (λ (n : ℕ). is_closed n made) (sym over.0) ∙ over.1.closed));
+      closed = ap (λ (n : ℕ). is_closed n (made ++ more)) over.0
+          ∙ (same_closed ∙ (ap (λ (n : ℕ). is_closed n made) (sym over.0) ∙ over.1.closed));
       whole = over.1.whole;
     },
     same_window acks e.row.flow over.2,
   )
 
-  pub writes_stay : (acks : List Ack) (row : Option Row) (over : Option Ended) → Writes own made acks row over → Writes own (made ++ more) acks row over
+  pub writes_stay : (acks : List Ack) (row : Option Row) (over : Option Ended) → Writes own made acks row over
+      → Writes own (made ++ more) acks row over
   writes_stay acks (Some row) over w = (front_stays row w.0, same_closed ∙ w.1, same_window acks row.flow w.2)
   writes_stay acks None (Some e) w = over_stays e acks w
   writes_stay acks None None w = (same_written ∙ w.0, same_closed ∙ w.1, omega (arith, writes_more own made more, s.count, w.2))
@@ -184,7 +194,9 @@ module _ (own q : ℕ) (apart : q ≡ own → ⊥) where
       record {
         rises = without_rises q s.rows o.rises;
         fresh = λ above. (same ∙ (o.fresh above).0, over ∙ (o.fresh above).1);
-        writes = subst (λ (r : Option Row). Writes own (s.made ++ more) s.acks r (over_at own (ended_at closed (q, row) ∷ s.ended))) (sym same)
+        writes = subst
+            (λ (r : Option Row). Writes own (s.made ++ more) s.acks r
+            (over_at own (ended_at closed (q, row) ∷ s.ended))) (sym same)
             (subst (λ (e : Option Ended). Writes own (s.made ++ more) s.acks (at own s.rows) e) (sym over)
             (writes_stay own s.made more silent s.acks (at own s.rows) (over_at own s.ended) o.writes));
       }
@@ -204,8 +216,10 @@ module _ (own q : ℕ) (apart : q ≡ own → ⊥) where
             made = made;
           }))
           (sym (append_assoc s.made (sent_writes link q row) (sent_close true link q (row_written link.most row).host)))
-          (other_gone (row_written link.most row) true s (sent_writes link q row ++ sent_close true link q (row_written link.most row).host) o
-          (silent_both own (sent_writes link q row) (sent_close true link q (row_written link.most row).host) (silent_writes own link q row apart)
+          (other_gone (row_written link.most row) true s
+          (sent_writes link q row ++ sent_close true link q (row_written link.most row).host) o
+          (silent_both own (sent_writes link q row) (sent_close true link q (row_written link.most row).host)
+          (silent_writes own link q row apart)
           (silent_close own link q (row_written link.most row).host apart)))
 
 -- This stream, before it settles: what it wrote, in a table in order.
@@ -232,7 +246,9 @@ module _ (own : ℕ) (link : Link) (row : Row) (s : Serving) (r : IsReady own ro
   wrote = record {
     written = written_more own s.made (sent_writes link own row)
         ∙ (ap (λ l. l ++ written own (sent_writes link own row)) r.writes.written
-        ∙ (ap (λ l. row.sent ++ l) (own_writes own link.sums own row.host (eq-eqb own own refl) (writes link.most row)) ∙ sym (sent_written link.most row)));
+        ∙ (ap (λ l. row.sent ++ l)
+        (own_writes own link.sums own row.host (eq-eqb own own refl) (writes link.most row))
+        ∙ sym (sent_written link.most row)));
     front = front_written link.most row r.writes.front;
   }
 
@@ -251,8 +267,10 @@ module _ (own : ℕ) (link : Link) (row : Row) (s : Serving) (r : IsReady own ro
       ap (λ k. writes_of own s.made + k) (sym (own_count own link.sums own row.host (eq-eqb own own refl) (writes link.most row)))
       ∙ sym (writes_more own s.made (sent_writes link own row)) in
       subst (λ k. IsWithin (writes_of own due) k (acks_of own s.acks) (words_of own s.acks) last.flow) text
-      (subst (λ k. IsWithin k (length (written own s.made) + length (concat (writes link.most row))) (acks_of own s.acks) (words_of own s.acks) last.flow) count
-      (within_written link.most (acks_of own s.acks) (words_of own s.acks) row (writes_of own s.made) (length (written own s.made)) r.window))
+      (subst (λ k. IsWithin k (length (written own s.made) + length (concat (writes link.most row)))
+      (acks_of own s.acks) (words_of own s.acks) last.flow) count
+      (within_written link.most (acks_of own s.acks) (words_of own s.acks) row (writes_of own s.made)
+      (length (written own s.made)) r.window))
 
   -- this stream settles
   pub own_settles : IsOrderly own (settled link own row s)
@@ -273,8 +291,11 @@ module _ (own : ℕ) (link : Link) (row : Row) (s : Serving) (r : IsReady own ro
           record {
             rises = without_rises own s.rows r.rises;
             fresh = λ above. absurd (omega (arith, above, r.drawn));
-            writes = subst (λ (o : Option Row). Writes own (due ++ close) s.acks o (over_at own (ended_at true (own, last) ∷ s.ended))) (sym lost.here)
-                (subst (λ (e : Option Ended). Writes own (due ++ close) s.acks None e) (sym (own_over own (ended_at true (own, last)) s.ended refl)) (
+            writes = subst
+                (λ (o : Option Row). Writes own (due ++ close) s.acks o
+                (over_at own (ended_at true (own, last) ∷ s.ended))) (sym lost.here)
+                (subst (λ (e : Option Ended). Writes own (due ++ close) s.acks None e)
+                (sym (own_over own (ended_at true (own, last)) s.ended refl)) (
                   refl,
                   record {
                     writes = record {

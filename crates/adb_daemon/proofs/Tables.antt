@@ -23,7 +23,8 @@ is_there host found row is same = subst (IsOfHost host) (sym is) same
 
 module _ (rows : List (ℕ × Row)) (streams : List (ℕ × Stream)) (hosts : List (ℕ × ℕ)) (t : IsTable rows streams hosts) where
   -- a stream changes, and keeps its ids
-  pub table_changes : (own : ℕ) (old new : Row) (stream : Stream) (streams' : List (ℕ × Stream)) → at own rows ≡ Some old → new.host ≡ old.host
+  pub table_changes : (own : ℕ) (old new : Row) (stream : Stream) (streams' : List (ℕ × Stream))
+      → at own rows ≡ Some old → new.host ≡ old.host
       → StandsFor new stream → Puts own (Some stream) streams streams' → IsTable (put_at own new rows) streams' hosts
   table_changes own old new stream streams' is same stands puts = record {
     rises = put_at_rises own new rows t.rises;
@@ -55,7 +56,8 @@ module _ (rows : List (ℕ × Row)) (streams : List (ℕ × Stream)) (hosts : Li
       indexed q row there (inl here) =
           let found : Some new ≡ Some row = sym row_puts.here ∙ (ap (λ (k : ℕ). at k (put_at own new rows)) (sym here) ∙ there) in
           let one : new ≡ row = cc in
-          ap (λ (k : ℕ). at k hosts) (ap (λ (r : Row). r.host) (sym one) ∙ same) ∙ (t.indexed own old is ∙ ap (λ (k : ℕ). Some k) (sym here))
+          ap (λ (k : ℕ). at k hosts) (ap (λ (r : Row). r.host) (sym one) ∙ same)
+          ∙ (t.indexed own old is ∙ ap (λ (k : ℕ). Some k) (sym here))
       indexed q row there (inr apart) = t.indexed q row (sym (row_puts.others q apart) ∙ there)
 
   -- a stream goes

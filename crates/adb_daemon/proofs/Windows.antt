@@ -14,7 +14,8 @@ use Rattle.adb_daemon.specs.Streams.{free_of, IsWithin}
 
 -- more acknowledgements and credit
 module _ (flow : Flow) (count bytes acks words : ℕ) where
-  pub within_more : (acks' words' : ℕ) → acks ≤ acks' → words ≤ words' → IsWithin count bytes acks words flow → IsWithin count bytes acks' words' flow
+  pub within_more : (acks' words' : ℕ) → acks ≤ acks' → words ≤ words' → IsWithin count bytes acks words flow
+      → IsWithin count bytes acks' words' flow
   within_more acks' words' more given = by flow
     where
       by : (f : Flow) → IsWithin count bytes acks words f → IsWithin count bytes acks' words' f
@@ -65,11 +66,14 @@ module _ (most : ℕ) (acks words : ℕ) where
           ((bytes + length (next_payload most row)) + length (concat (writes_at k most (row_past (next_payload most row) row)))) acks words
           (row_past_all (writes_at k most (row_past (next_payload most row) row)) (row_past (next_payload most row) row)).flow)
           → IsWithin (count + length (if t then [] else next_payload most row ∷ writes_at k most (row_past (next_payload most row) row)))
-          (bytes + length (concat (if t then [] else next_payload most row ∷ writes_at k most (row_past (next_payload most row) row)))) acks words
+          (bytes + length
+          (concat (if t then [] else next_payload most row
+          ∷ writes_at k most (row_past (next_payload most row) row)))) acks words
           (row_past_all (if t then [] else next_payload most row ∷ writes_at k most (row_past (next_payload most row) row)) row).flow
       go true is later = same row.flow count bytes within
       go false is later =
-          moved (row_past_all (writes_at k most (row_past (next_payload most row) row)) (row_past (next_payload most row) row)).flow (next_payload most row)
+          moved (row_past_all (writes_at k most (row_past (next_payload most row) row))
+          (row_past (next_payload most row) row)).flow (next_payload most row)
           (writes_at k most (row_past (next_payload most row) row))
           (later (past_one row.flow most (length (next_payload most row)) (unsent row) count bytes acks words refl
           (false-eqb (length (next_payload most row)) 0 (sym is)) within))

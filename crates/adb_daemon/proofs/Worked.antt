@@ -27,14 +27,17 @@ owed_to credit packets sent = (device_behind (setting credit) packets).serving.m
 
 credit_is_given_and_given_back :
     owed_to true (host ∷ of commands.Open 1 262144 (codes "echo:" ++ 0 ∷ []) ∷ of commands.Wrte 1 1 (codes "abc") ∷ [])
-    (with_sum false (okay 1 1 (0 ∷ 0 ∷ 4 ∷ 0 ∷ [])) ∷ with_sum false (okay 1 1 (3 ∷ 0 ∷ 0 ∷ 0 ∷ [])) ∷ with_sum false (wrte 1 1 (codes "abc")) ∷ [])
+    (with_sum false (okay 1 1 (0 ∷ 0 ∷ 4 ∷ 0 ∷ [])) ∷ with_sum false (okay 1 1 (3 ∷ 0 ∷ 0 ∷ 0 ∷ []))
+    ∷ with_sum false (wrte 1 1 (codes "abc")) ∷ [])
 unfolding step identity_of last_value
 credit_is_given_and_given_back = refl
 
 -- one write at a time; the last OKAY brings the CLSE
 pub shell_v2_packets :
     owed_to false (plain_host ∷ of commands.Open 7 0 (codes "shell,v2,raw:echo hi") ∷ of commands.Okay 7 1 [] ∷ [])
-    (with_sum false (okay 1 7 []) ∷ with_sum false (wrte 1 7 (1 ∷ 3 ∷ 0 ∷ 0 ∷ 0 ∷ 104 ∷ 105 ∷ 10 ∷ 3 ∷ 1 ∷ 0 ∷ 0 ∷ 0 ∷ 0 ∷ [])) ∷ with_sum false
+    (with_sum false (okay 1 7 [])
+    ∷ with_sum false (wrte 1 7 (1 ∷ 3 ∷ 0 ∷ 0 ∷ 0 ∷ 104 ∷ 105 ∷ 10 ∷ 3 ∷ 1 ∷ 0 ∷ 0 ∷ 0 ∷ 0 ∷ []))
+    ∷ with_sum false
     (clse 1 7) ∷ [])
 unfolding step identity_of last_value
 shell_v2_packets = refl

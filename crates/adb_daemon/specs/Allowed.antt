@@ -19,7 +19,8 @@ close_most = HEADER_LEN
 abbrev pub writes_most : ℕ → ℕ → ℕ
 writes_most most word = (HEADER_LEN + most) + (HEADER_LEN + 1) * word
 
--- What a packet of the host lets become due: an OPEN and a WRTE are answered, an OPEN and an OKAY let their stream write, and each of them may end it.
+-- What a packet of the host lets become due: an OPEN and a WRTE are answered, an OPEN and an OKAY let their stream
+-- write, and each of them may end it.
 abbrev pub lets_out : ℕ → Command → Packet → ℕ
 lets_out most commands.Open p = okay_most + (writes_most most p.arg1 + close_most)
 lets_out most commands.Wrte p = okay_most + close_most

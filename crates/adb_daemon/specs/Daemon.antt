@@ -53,7 +53,8 @@ ran_out (Err BadCnxn) = false
 abbrev pub answer_to : Setting → List ℕ → Result (Unit {0}) DaemonError
 answer_to setting fed = verdict (device_of setting fed).refused (parts_of fed).fault
 
--- A device was fed these bytes, and of what it owes these were taken: what was taken and what is out are the bytes of all that became due, and its files are
+-- A device was fed these bytes, and of what it owes these were taken: what was taken and what is out are the bytes of
+-- all that became due, and its files are
 -- those of the definition.
 pub record HasDone (setting : Setting) (fed taken : List ℕ) (daemon : Daemon) : Type 0 where
   pub cuts : Cuts fed (parts_of fed)
@@ -74,7 +75,8 @@ abbrev pub CutAt : List Packet → Serving → List Entry → Type 0
 CutAt [] serving files = files ≡ serving.files
 CutAt (packet ∷ rest) serving files = CutFiles packet.command packet serving files
 
--- Memory ran out: what was taken and what is out are the bytes of all that became due behind a front of the packets, and the files are those behind it, or
+-- Memory ran out: what was taken and what is out are the bytes of all that became due behind a front of the packets,
+-- and the files are those behind it, or
 -- behind a front of what the next packet asks for.
 pub record HasDoneFront (setting : Setting) (fed taken : List ℕ) (daemon : Daemon) : Type 0 where
   pub front : List Packet
@@ -83,7 +85,8 @@ pub record HasDoneFront (setting : Setting) (fed taken : List ℕ) (daemon : Dae
   pub given_out : taken ++ owed daemon ≡ sent_bytes (device_behind setting front).serving.made
   pub files : CutAt rest (device_behind setting front).serving (files_of daemon)
 
--- Memory ran out as more packets came: some more of them were treated, and the files are those after them, or after a prefix of what the next one asks for.
+-- Memory ran out as more packets came: some more of them were treated, and the files are those after them, or after a
+-- prefix of what the next one asks for.
 pub record CutsOff (setting : Setting) (before all : List Packet) (left : List Entry) : Type 0 where
   pub more : List Packet
   pub rest : List Packet

@@ -1,5 +1,6 @@
 -- The streams that a model device serves, and what each packet of the host makes of them (protocol.txt).
-use Rattle.std.specs.Prelude.{ℕ, ◌+◌, ◌-◌, ◌^◌, ◌==◌, ◌||◌, if◌then◌else◌, Bool, true, false, List, [], ◌∷◌, ◌++◌, length, map, Option, Some, None}
+use Rattle.std.specs.Prelude.{ℕ, ◌+◌, ◌-◌, ◌^◌, ◌==◌, ◌||◌, if◌then◌else◌, Bool, true, false, List, [], ◌∷◌, ◌++◌, length, map, Option}
+use Rattle.std.specs.Prelude.{Some, None}
 use Rattle.std.specs.List.{flat_map, list_any}
 use Rattle.adb_outside.specs.Tables.{at, put_at, without}
 use Rattle.byteorder.specs.Endian.{little_bytes}
@@ -11,7 +12,8 @@ use Rattle.adb_stream.specs.declared.flow.Flow.TheVariants as flows
 use Rattle.adb_files.specs.Entries.{Entry}
 use Rattle.adb_device_streams.specs.Asked.{Kind, service_of, name_of}
 use Rattle.adb_device_streams.specs.Service.{came_over, files_opened, files_fed}
-use Rattle.adb_device_streams.specs.Stream.{Row, opened, row_took, row_acked, row_written, writes, is_done, opening_word, packet_bytes, wrte, okay, clse}
+use Rattle.adb_device_streams.specs.Stream.{Row, opened, row_took, row_acked, row_written, writes, is_done, opening_word, packet_bytes}
+use Rattle.adb_device_streams.specs.Stream.{wrte, okay, clse}
 use Rattle.adb_device_streams.specs.Link.{credit_word_in}
 use Rattle.adb_device_streams.specs.declared.link.Link.{Link}
 

@@ -1,5 +1,6 @@
 -- What each stream wrote, in all that became due.
-use Rattle.std.specs.Prelude.{ℕ, ◌+◌, ◌≡◌, ◌≤◌, ◌==◌, ◌&&◌, if◌then◌else◌, Bool, true, false, List, [], ◌∷◌, ◌++◌, length, find, Option, Some, None, unwrap_or}
+use Rattle.std.specs.Prelude.{ℕ, ◌+◌, ◌≡◌, ◌≤◌, ◌==◌, ◌&&◌, if◌then◌else◌, Bool, true, false, List, [], ◌∷◌, ◌++◌, length, find, Option}
+use Rattle.std.specs.Prelude.{Some, None, unwrap_or}
 use Rattle.byteorder.specs.Endian.{little_bytes}
 use Rattle.adb_stream.specs.declared.credit.TheConstants.{CREDIT_WINDOW}
 use Rattle.adb_stream.specs.Flow.{has_credit}
@@ -67,7 +68,8 @@ abbrev pub IsWithin : (count bytes acks words : ℕ) → Flow → Type 0
 IsWithin count bytes acks words (flows.One window) = count + free_of window.outstanding ≤ acks
 IsWithin count bytes acks words (flows.Credit credit) = bytes + credit.to_send ≤ words
 
--- A stream keeps its window: on a plain link its writes, and those that it may still make, are no more than the OKAYs that it took, its OPEN among them; where
+-- A stream keeps its window: on a plain link its writes, and those that it may still make, are no more than the OKAYs
+-- that it took, its OPEN among them; where
 -- the link has credit in bytes what it wrote and may still write is no longer than the sum of their credit words.
 abbrev pub KeepsWindow : ℕ → List Sent → List Ack → Flow → Type 0
 KeepsWindow own made acks flow = IsWithin (writes_of own made) (length (written own made)) (acks_of own acks) (words_of own acks) flow
@@ -92,7 +94,8 @@ pub record IsOver (e : Ended) (made : List Sent) : Type 0 where
   pub closed : is_closed e.own made ≡ e.closed
   pub whole : e.closed ≡ true → WritesAll e.row
 
--- What becomes due for an id: a live stream writes a front of its answer within its window, and is not closed; of an id that was not drawn nothing is due.
+-- What becomes due for an id: a live stream writes a front of its answer within its window, and is not closed; of an
+-- id that was not drawn nothing is due.
 abbrev pub Writes : ℕ → List Sent → List Ack → Option Row → Option Ended → Type 0
 Writes own made acks (Some row) over = WritesFront own row made × (is_closed own made ≡ false) × KeepsWindow own made acks row.flow
 Writes own made acks None (Some e) = (e.own ≡ own) × IsOver e made × KeepsWindow own made acks e.row.flow
@@ -109,7 +112,8 @@ okay_of own one = if is_okay one.packet.command && one.packet.arg0 == own then o
 abbrev pub okays_of : ℕ → List Sent → List (List ℕ)
 okays_of own made = flat_map (okay_of own) made
 
--- What these have to be for the payloads that came, the newest first: behind that of the OPEN one for each write; where the link has credit in bytes the first
+-- What these have to be for the payloads that came, the newest first: behind that of the OPEN one for each write;
+-- where the link has credit in bytes the first
 -- holds the whole window and the others give the bytes back, and there is none where there are none.
 abbrev pub ack_for : Bool → ℕ → List (List ℕ)
 ack_for false n = [] ∷ []

@@ -13,7 +13,8 @@ use Rattle.adb_files.specs.Service.{Service, Feeds, FeedsFront}
 use Rattle.adb_files.proofs.Serving.{serve_all-ended, serve_all-more}
 use Rattle.adb_shell_service.specs.Service.{Answer}
 use Rattle.adb_device_streams.specs.Asked.{Kind, Echoes, Syncs, Shells}
-use Rattle.adb_device_streams.specs.Service.{Came, bytes_in, completed_by, served_by, sync_more, sync_answer, sync_files, files_fed, HasAnswered, HasFrontOfFiles}
+use Rattle.adb_device_streams.specs.Service.{Came, bytes_in, completed_by, served_by, sync_more, sync_answer, sync_files, files_fed}
+use Rattle.adb_device_streams.specs.Service.{HasAnswered, HasFrontOfFiles}
 use Rattle.adb_device_streams.specs.declared.service.Service.TheVariants as services
 
 -- the requests that a piece completes are those that it adds
@@ -35,7 +36,8 @@ record Follows (all front : List ℕ) : Type 0 where
   pub rest : List ℕ
   pub is : all ≡ front ++ rest
 
-front_of_all : (files : List Entry) (front back : List Request) → Follows (serve_all files (front ++ back)).answer (serve_all files front).answer
+front_of_all : (files : List Entry) (front back : List Request)
+    → Follows (serve_all files (front ++ back)).answer (serve_all files front).answer
 front_of_all files front back = go (serve_all files front).ended refl
   where
     go : (t : Bool) → (serve_all files front).ended ≡ t → Follows (serve_all files (front ++ back)).answer (serve_all files front).answer
@@ -54,7 +56,12 @@ module _ (first : List Entry) (past : List Came) (taken : List ℕ) (came : Came
       ≡ record { bytes = (sync_answer past).bytes ++ (serve_all came.files requests).answer; ended = (serve_all came.files requests).ended }
   answers_on requests on is =
       more_on (sync_answer past) (served_by past came) on
-      ∙ ap (λ (rs : List Request). record { bytes = (sync_answer past).bytes ++ (serve_all came.files rs).answer; ended = (serve_all came.files rs).ended })
+      ∙ ap (λ (rs : List Request).
+      record {
+        bytes = (sync_answer past).bytes ++ (serve_all came.files rs).answer;
+        ended =
+            (serve_all came.files rs).ended;
+      })
       (completed (bytes_in past) came.bytes requests is)
 
   -- the files that it leaves
@@ -77,7 +84,8 @@ module _ (first : List Entry) (past : List Came) (taken : List ℕ) (came : Came
           holds = feeds.stands;
           given_out =
               ap (λ (o : List ℕ). taken ++ o) feeds.serves.answer
-              ∙ (sym (append_assoc taken old.out more) ∙ (ap (λ (o : List ℕ). o ++ more) has.given_out ∙ sym (ap (λ (a : Answer). a.bytes) answer)));
+              ∙ (sym (append_assoc taken old.out more)
+              ∙ (ap (λ (o : List ℕ). o ++ more) has.given_out ∙ sym (ap (λ (a : Answer). a.bytes) answer)));
           ends = feeds.serves.ends ∙ sym (ap (λ (a : Answer). a.ended) answer);
         },
         feeds.serves.files ∙ sym (files_on feeds.requests goes feeds.is),
@@ -121,19 +129,22 @@ module _ (first : List Entry) (past : List Came) (taken : List ℕ) (came : Came
       let follows = front_of_all came.files done front.back in
       let base = (sync_answer past).bytes in
       let behind : taken ++ new.out ≡ base ++ told =
-      ap (λ (o : List ℕ). taken ++ o) front.answer ∙ (sym (append_assoc taken old.out told) ∙ ap (λ (o : List ℕ). o ++ told) has.given_out) in
+      ap (λ (o : List ℕ). taken ++ o) front.answer
+      ∙ (sym (append_assoc taken old.out told) ∙ ap (λ (o : List ℕ). o ++ told) has.given_out) in
       let all : (serve_all came.files feeds.requests).answer ≡ told ++ (front.unsaid ++ follows.rest) =
       ap (λ (rs : List Request). (serve_all came.files rs).answer) whole
       ∙ (follows.is ∙ (ap (λ (o : List ℕ). o ++ follows.rest) front.within ∙ append_assoc told front.unsaid follows.rest)) in (
         starts_with_of_append (sync_answer (came ∷ past)).bytes (taken ++ new.out) (front.unsaid ++ follows.rest)
             (ap (λ (a : Answer). a.bytes) (answers_on feeds.requests goes feeds.is)
             ∙ (ap (λ (o : List ℕ). base ++ o) all
-            ∙ (sym (append_assoc base told (front.unsaid ++ follows.rest)) ∙ ap (λ (o : List ℕ). o ++ (front.unsaid ++ follows.rest)) (sym behind)))),
+            ∙ (sym (append_assoc base told (front.unsaid ++ follows.rest))
+            ∙ ap (λ (o : List ℕ). o ++ (front.unsaid ++ follows.rest)) (sym behind)))),
         (
           length done,
           front.files
               ∙ (ap (λ (rs : List Request). (serve_all came.files rs).files)
-              (sym (ap (take (length done)) (completed (bytes_in past) came.bytes feeds.requests feeds.is ∙ whole) ∙ take-append_seam done front.back))
+              (sym (ap (take (length done)) (completed (bytes_in past) came.bytes feeds.requests feeds.is ∙ whole)
+              ∙ take-append_seam done front.back))
               ∙ sym (files_up_to false goes (length done))),
         ),
       )
@@ -149,7 +160,8 @@ module _ (first : List Entry) (past : List Came) (taken : List ℕ) (came : Came
       )
 
 -- The files that a payload leaves are those behind all the sync requests that it makes whole.
-pub whole_front : (kind : Kind) (past : List Came) (came : Came) (files : List Entry) → files ≡ files_fed kind past came → HasFrontOfFiles kind past came files
+pub whole_front : (kind : Kind) (past : List Came) (came : Came) (files : List Entry)
+    → files ≡ files_fed kind past came → HasFrontOfFiles kind past came files
 whole_front Echoes past came files is = is
 whole_front (Shells packets command) past came files is = is
 whole_front Syncs past came files is =

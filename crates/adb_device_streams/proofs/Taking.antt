@@ -49,7 +49,8 @@ module _ (came : Came) (old new : Service) (left : List Entry) where
       go true is =
           let all = front_over first past taken came old is has in
           let same = over is in
-          let here : TakesFrontOfOne Syncs first past taken came (services.Sync old) came.files = record { answer = all.0; files = all.1 } in
+          let here : TakesFrontOfOne Syncs first past taken came (services.Sync old) came.files =
+          record { answer = all.0; files = all.1 } in
           subst (λ (s : Service). TakesFrontOfOne Syncs first past taken came (services.Sync s) left) (sym same.0)
           (subst (TakesFrontOfOne Syncs first past taken came (services.Sync old)) (sym same.1) here)
 
@@ -78,7 +79,8 @@ module _ (came : Came) (old new : Service) (left : List Entry) where
 module _ (came : Came) (old new : Held) where
   -- a shell service took it
   shell_by : (kind : Kind) (first : List Entry) (past : List Came) (taken : List ℕ)
-      → ((opening : Opening) (fed gone : List ℕ) → shell.HasAnswered opening fed gone old → shell.HasAnswered opening (fed ++ came.bytes) gone new)
+      → ((opening : Opening) (fed gone : List ℕ) → shell.HasAnswered opening fed gone old
+      → shell.HasAnswered opening (fed ++ came.bytes) gone new)
       → HasAnswered kind first past taken (services.Shell old) → TakesOne kind first past taken came (services.Shell new) came.files
   shell_by Echoes first past taken all has = absurd has.holds
   shell_by Syncs first past taken all has = absurd has.holds
@@ -87,7 +89,9 @@ module _ (came : Came) (old new : Held) where
       record { answers = record { holds = next; given_out = next.given_out; ends = next.ends }; files = refl }
 
   pub shell_whole : {E : Type 0} (result : Result (Unit {0}) E)
-      → OnOk result ((opening : Opening) (fed gone : List ℕ) → shell.HasAnswered opening fed gone old → shell.HasAnswered opening (fed ++ came.bytes) gone new)
+      → OnOk result
+      ((opening : Opening) (fed gone : List ℕ) → shell.HasAnswered opening fed gone old
+      → shell.HasAnswered opening (fed ++ came.bytes) gone new)
       → OnOk result (Takes came (services.Shell old) (services.Shell new) came.files)
   shell_whole (Err e) all = tt
   shell_whole (Ok x) all = λ kind first past taken has. shell_by kind first past taken all has

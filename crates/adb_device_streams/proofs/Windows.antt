@@ -1,5 +1,6 @@
 -- The writes that a window lets go.
-use Rattle.std.specs.Prelude.{ℕ, ◌-◌, ◌≡◌, ◌≢◌, ◌≤◌, ◌<◌, ◌==◌, cond, Some, None, Bool, true, false, List, [], ◌∷◌, ◌++◌, length, refl, zero, suc}
+use Rattle.std.specs.Prelude.{ℕ, ◌-◌, ◌≡◌, ◌≢◌, ◌≤◌, ◌<◌, ◌==◌, cond, Some, None, Bool, true, false, List, [], ◌∷◌, ◌++◌, length, refl}
+use Rattle.std.specs.Prelude.{zero, suc}
 use Rattle.std.proofs.Common.{◌∙◌, ap, sym, subst, arith}
 use borrow.Author.Tests.{false-eqb}
 use Rattle.std.proofs.lemmas.Bool.{eq-eqb, ne_eqb}
@@ -7,7 +8,8 @@ use Rattle.std.proofs.lemmas.List.{append-nil, append_assoc, length-append, leng
 use Rattle.adb_device_streams.specs.Service.{service_answer}
 use Rattle.adb_device_streams.specs.declared.stream.Stream.{Stream}
 use Rattle.adb_device_streams.specs.declared.writes.Outgoing.{Outgoing}
-use Rattle.adb_device_streams.specs.Stream.{Row, StandsFor, MakesWrite, Writes, room_of, unsent, next_payload, row_past, writes_at, writes, row_past_all}
+use Rattle.adb_device_streams.specs.Stream.{Row, StandsFor, MakesWrite, Writes, room_of, unsent, next_payload, row_past, writes_at, writes}
+use Rattle.adb_device_streams.specs.Stream.{row_past_all}
 use Rattle.adb_device_streams.specs.Stream.{row_written, wrte, packet_bytes, writes_bytes}
 
 -- the writes where there is a payload, and where there is none
@@ -54,7 +56,8 @@ writes_more most row payload is some =
     enough (length (unsent row)) (suc (length (unsent row))) most row (omega arith) (omega arith)
     ∙ (ap (with_more (length (unsent row)) most row) (ne_eqb (length next) 0 there)
     ∙ (ap (λ (more : List (List ℕ)). next ∷ more)
-    (enough (length (unsent row)) (length (unsent (row_past next row))) most (row_past next row) (omega (arith, less_left row next)) (omega arith))
+    (enough (length (unsent row)) (length (unsent (row_past next row))) most (row_past next row)
+    (omega (arith, less_left row next)) (omega arith))
     ∙ ap (λ (p : List ℕ). p ∷ writes most (row_past p row)) (sym is)))
 
 -- no write goes

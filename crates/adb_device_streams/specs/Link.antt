@@ -9,7 +9,8 @@ use Rattle.adb_wire.specs.declared.packets.Packet.{Packet}
 use Rattle.adb_wire.specs.Format.{has_sums}
 use Rattle.adb_device_streams.specs.declared.link.Link.{Link}
 
--- the link to a host of an identity: the lesser of what both ends take, credit where both name it, and sums where the host's version has them
+-- the link to a host of an identity: the lesser of what both ends take, credit where both name it, and sums where the
+-- host's version has them
 abbrev pub link_to : ℕ → Bool → Packet → Option Identity → Option Link
 link_to own_most has_credit cnxn None = None
 link_to own_most has_credit cnxn (Some identity) = Some (record {

@@ -42,7 +42,8 @@ sync_answer (came ∷ before) = sync_more (sync_answer before) (served_by before
 abbrev pub service_answer : Kind → List Entry → List Came → Answer
 service_answer Echoes first past = record { bytes = bytes_in past; ended = false }
 service_answer Syncs first past = sync_answer past
-service_answer (Shells packets command) first past = shell_answer (record { packets = packets; command = command; files = first }) (bytes_in past)
+service_answer (Shells packets command) first past = shell_answer
+    (record { packets = packets; command = command; files = first }) (bytes_in past)
 
 -- the files behind an OPEN: a command was run
 abbrev pub files_opened : Kind → List Entry → List Entry
@@ -78,7 +79,8 @@ Holds (Shells packets command) first past taken (services.Shell service) =
     shell.HasAnswered (record { packets = packets; command = command; files = first }) (bytes_in past) taken service
 Holds _ _ _ _ _ = ⊥
 
--- A service was opened over some files, these payloads came, and these bytes of its answer were taken: the taken ones and those left are its answer to all
+-- A service was opened over some files, these payloads came, and these bytes of its answer were taken: the taken ones
+-- and those left are its answer to all
 -- that came, and it has ended where that ends it.
 pub record HasAnswered (kind : Kind) (first : List Entry) (past : List Came) (taken : List ℕ) (service : Service) : Type 0 where
   pub holds : Holds kind first past taken service
@@ -94,7 +96,8 @@ HasFrontOfFiles Syncs past came files =
 HasFrontOfFiles (Shells packets command) past came files = files ≡ came.files
 
 -- A payload was taken, over the files that stood: the answer is that to all that came with it, and the files are those that it leaves.
-pub record TakesOne (kind : Kind) (first : List Entry) (past : List Came) (taken : List ℕ) (came : Came) (new : Service) (left : List Entry) : Type 0 where
+pub record TakesOne (kind : Kind) (first : List Entry) (past : List Came) (taken : List ℕ) (came : Came)
+    (new : Service) (left : List Entry) : Type 0 where
   pub answers : HasAnswered kind first (came ∷ past) taken new
   pub files : left ≡ files_fed kind past came
 

@@ -1,5 +1,6 @@
 -- A stream at the device's end: what it was opened for, what came and what it wrote, and what its window lets it write.
-use Rattle.std.specs.Prelude.{ℕ, ◌≡◌, ◌<◌, ◌==◌, min, ◌&&◌, if◌then◌else◌, Bool, List, [], ◌∷◌, ◌++◌, length, take, drop, Option, Some, None, is_some, zero, suc}
+use Rattle.std.specs.Prelude.{ℕ, ◌≡◌, ◌<◌, ◌==◌, min, ◌&&◌, if◌then◌else◌, Bool, List, [], ◌∷◌, ◌++◌, length, take, drop, Option, Some}
+use Rattle.std.specs.Prelude.{None, is_some, zero, suc}
 use Rattle.std.specs.List.{flat_map}
 use Rattle.adb_wire.specs.declared.command.Command.TheVariants as commands
 use Rattle.adb_wire.specs.declared.packets.Packet.{Packet}
@@ -85,7 +86,8 @@ pub record TakesFirst (room : ℕ) (old new : Service) (payload : List ℕ) : Ty
   pub answers : (kind : Kind) (first : List Entry) (past : List Came) (gone : List ℕ) → HasAnswered kind first past gone old
       → HasAnswered kind first past (gone ++ payload) new
 
--- The next write was made: its payload is that of the row, and the stream is the one past it; or there is none, and the stream is as before.
+-- The next write was made: its payload is that of the row, and the stream is the one past it; or there is none, and
+-- the stream is as before.
 abbrev pub MakesWrite : ℕ → Row → Stream → Option (List ℕ) → Type 0
 MakesWrite most row new None = (next_payload most row ≡ []) × StandsFor row new
 MakesWrite most row new (Some payload) = (payload ≡ next_payload most row) × (0 < length payload) × StandsFor (row_past payload row) new

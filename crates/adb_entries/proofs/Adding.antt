@@ -21,5 +21,6 @@ drained_adds h (e ∷ inputs) =
     let first = drain_adds (owed (state (e ∷ h))) (e ∷ h) in
     let others = drained_adds (drained_after h e) inputs in (
       others.0 ++ (first.0 ++ e ∷ []),
-      others.1 ∙ (ap (λ g. others.0 ++ g) (first.1 ∙ sym (append_assoc first.0 (e ∷ []) h)) ∙ sym (append_assoc others.0 (first.0 ++ e ∷ []) h)),
+      others.1 ∙ (ap (λ g. others.0 ++ g) (first.1 ∙ sym (append_assoc first.0 (e ∷ []) h))
+          ∙ sym (append_assoc others.0 (first.0 ++ e ∷ []) h)),
     )

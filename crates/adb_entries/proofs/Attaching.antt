@@ -64,6 +64,7 @@ module _ (h : History) (kind : Kind) (serial : List ℕ) (new : Kept) (going : (
   attach_applies (Err OutOfMemory) made same = same
 
 -- a hub that is as before holds what it held
-pub err_lawful : (h : History) (old new : Kept) (result : Result ℕ HubError) → OnErr result (new ≡ old) → IsLawful old h → OnErr result (IsLawful new h)
+pub err_lawful : (h : History) (old new : Kept) (result : Result ℕ HubError) → OnErr result (new ≡ old)
+    → IsLawful old h → OnErr result (IsLawful new h)
 err_lawful h old new (Ok link) same lawful = tt
 err_lawful h old new (Err why) same lawful = subst (λ (k : Kept). IsLawful k h) (sym same) lawful

@@ -25,6 +25,7 @@ on_ok (Ok x) P p = p
 on_ok (Err e) P p = tt
 
 -- what holds where the hub's call made its entry holds where the entry was applied
-pub on_applied : {A : Type 0} (r : Result A HubError) (done : Result (Unit {0}) Refused) (P : Type 0) → done ≡ applied_as r → OnOk r P → OnOk done P
+pub on_applied : {A : Type 0} (r : Result A HubError) (done : Result (Unit {0}) Refused) (P : Type 0)
+    → done ≡ applied_as r → OnOk r P → OnOk done P
 on_applied (Ok x) done P is p = subst (λ (done : Result (Unit {0}) Refused). OnOk done P) (sym is) p
 on_applied (Err e) done P is p = subst (λ (done : Result (Unit {0}) Refused). OnOk done P) (sym is) tt

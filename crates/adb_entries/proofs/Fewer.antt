@@ -54,7 +54,8 @@ hands_fewer drains holds new h e lawful hands =
 
 -- A hand-out to the owner that comes next was made, or memory ran out.
 module _ (drains : (h : History) → IsLegal h → IsDrainedFrom h) (holds new : Kept) (held : IsHeld holds) (n : ℕ) where
-  pub fewer_sent : ((h : History) → IsLawful holds h → next_out (state h) ≡ send_on n ((state h).links n)) → {E : Type 0} (result : Result (Option Entry) E)
+  pub fewer_sent : ((h : History) → IsLawful holds h → next_out (state h) ≡ send_on n ((state h).links n))
+      → {E : Type 0} (result : Result (Option Entry) E)
       → IfOk result (λ out. (h : History) → IsLawful holds h → Sends n h out holds new)
       → IfOk result (λ out. IfSome out (λ _. remaining new < remaining holds))
   fewer_sent next (Ok None) sends = tt

@@ -1,5 +1,6 @@
 -- Which files lie below a directory.
-use Rattle.std.specs.Prelude.{ℕ, ◌≡◌, ◌≢◌, ◌<◌, ◌≤◌, ◌&&◌, ◌||◌, Bool, true, false, List, [], ◌∷◌, ◌++◌, length, take, slice_index_or, nat_eq}
+use Rattle.std.specs.Prelude.{ℕ, ◌≡◌, ◌≢◌, ◌<◌, ◌≤◌, ◌&&◌, ◌||◌, Bool, true, false, List, [], ◌∷◌, ◌++◌, length, take, slice_index_or}
+use Rattle.std.specs.Prelude.{nat_eq}
 use Rattle.std.specs.Prelude.{is_some, None, codes, refl, zero, suc}
 use Rattle.std.proofs.Common.{◌⊎◌, inl, inr, ◌∙◌, ap, sym, subst, arith, Ordering}
 use Rattle.std.specs.Ordering.{nat_cmp, ordering_then}
@@ -34,7 +35,8 @@ not_less (a ∷ x) (b ∷ p) h = go (nat_eq b a) refl (not_less x p)
     go true is rest = rest (sym (ap (λ o. ordering_then o (path_cmp x p)) (level a b (eqb-true b a is))) ∙ h)
 
 -- a path that is not before a front, and before one that begins with it, begins with it too
-pub begins_between : (p x y : List ℕ) → path_cmp x p ≢ Less → path_cmp x y ≡ Less → starts_with nat_eq y p ≡ true → starts_with nat_eq x p ≡ true
+pub begins_between : (p x y : List ℕ) → path_cmp x p ≢ Less → path_cmp x y ≡ Less → starts_with nat_eq y p ≡ true
+    → starts_with nat_eq x p ≡ true
 begins_between [] x y low less begins = refl
 begins_between (b ∷ p) x [] low less begins = absurd cc
 begins_between (b ∷ p) [] (c ∷ y) low less begins = absurd (low refl)
@@ -87,8 +89,12 @@ none_below directory files i rising at first = any_none (λ (e : Entry). is_belo
         go : (k ≡ i) ⊎ ((k < i) ⊎ (i < k)) → is_below directory (slice_index_or files k d).path ≡ false
         go (inl e) = subst (λ (n : ℕ). is_below directory (slice_index_or files n d).path ≡ false) (sym e) (first d (omega (arith, e, h)))
         go (inr (inl m)) = not_less (slice_index_or files k d).path (inside directory) (at.less k d l m)
-        go (inr (inr m)) = false_from_ne_true _ (λ t. let is = begins_between (inside directory) (slice_index_or files i d).path (slice_index_or files k d).path
-            (at.others i d (omega arith) (omega (arith, m, h))) (earlier_less files rising i k d m h) t in let not = first d (omega (arith, m, h)) in cc)
+        go (inr (inr m)) =
+            false_from_ne_true _
+            (λ t. let is = begins_between (inside directory) (slice_index_or files i d).path
+            (slice_index_or files k d).path
+            (at.others i d (omega arith) (omega (arith, m, h))) (earlier_less files rising i k d m h) t in let not =
+            first d (omega (arith, m, h)) in cc)
 
 pub below_tells : (directory tail : List ℕ) (files : List Entry) (i : ℕ) (e : Entry) → tail ≡ slash_behind directory → IsRising files
     → BeginsAt (directory ++ tail) files i → i < length files → e ≡ slice_index_or files i e
@@ -102,8 +108,12 @@ below_tells directory tail files i e slash rising at h here = go (is_below direc
     begins = subst (λ (t : List ℕ). BeginsAt (directory ++ t) files i) slash at
 
     go : (t : Bool) → is_below directory e.path ≡ t → is_below directory e.path ≡ list_any (λ (x : Entry). is_below directory x.path) files
-    go true is = is ∙ sym (any_at (λ (x : Entry). is_below directory x.path) files i e h (ap (λ (x : Entry). is_below directory x.path) (sym (at_i e)) ∙ is))
-    go false is = is ∙ sym (none_below directory files i rising begins (λ d l. ap (λ (x : Entry). is_below directory x.path) (sym (at_i d)) ∙ is))
+    go true is = is
+        ∙ sym (any_at (λ (x : Entry). is_below directory x.path) files i e h
+        (ap (λ (x : Entry). is_below directory x.path) (sym (at_i e)) ∙ is))
+    go false is =
+        is ∙ sym (none_below directory files i rising begins
+        (λ d l. ap (λ (x : Entry). is_below directory x.path) (sym (at_i d)) ∙ is))
 
 pub none_left_below : (directory tail : List ℕ) (files : List Entry) (i : ℕ) → tail ≡ slash_behind directory → IsRising files
     → BeginsAt (directory ++ tail) files i → length files ≤ i → list_any (λ (x : Entry). is_below directory x.path) files ≡ false
@@ -124,19 +134,22 @@ slash_there (y ∷ ys) (x ∷ p) h =
     cat : {a b : ℕ} {s t : List ℕ} → a ≡ b → s ≡ t → a ∷ s ≡ b ∷ t
     cat e f = cc
 
-pub below_slash : (path : List ℕ) (k : ℕ) → k < length path → slice_index_or path k 0 ≡ 47 → starts_with nat_eq path (take k path ++ codes "/") ≡ true
+pub below_slash : (path : List ℕ) (k : ℕ) → k < length path → slice_index_or path k 0 ≡ 47
+    → starts_with nat_eq path (take k path ++ codes "/") ≡ true
 below_slash [] k h is = absurd (omega arith)
 below_slash (y ∷ ys) zero h is = and_from (nat_eq 47 y) true (eq-eqb 47 y (sym is)) refl
 below_slash (y ∷ ys) (suc k) h is =
     and_from (nat_eq y y) (starts_with nat_eq ys (take k ys ++ codes "/")) (eq-eqb y y refl) (below_slash ys k (omega arith) is)
 
-pub under_file : (path : List ℕ) (files : List Entry) (k : ℕ) → k < length path → slice_index_or path k 0 ≡ 47 → is_some (file_at (take k path) files) ≡ true
+pub under_file : (path : List ℕ) (files : List Entry) (k : ℕ) → k < length path → slice_index_or path k 0 ≡ 47
+    → is_some (file_at (take k path) files) ≡ true
     → is_under_file files path ≡ true
 under_file path files k h slash found =
     any_from_file (λ (e : Entry). starts_with nat_eq path (e.path ++ codes "/")) (take k path) files
     (λ e same. ap (λ p. starts_with nat_eq path (p ++ codes "/")) same ∙ below_slash path k h slash) found
 
-pub under_no_file : (path : List ℕ) (files : List Entry) → ((k : ℕ) → k < length path → slice_index_or path k 0 ≡ 47 → file_at (take k path) files ≡ None)
+pub under_no_file : (path : List ℕ) (files : List Entry)
+    → ((k : ℕ) → k < length path → slice_index_or path k 0 ≡ 47 → file_at (take k path) files ≡ None)
     → is_under_file files path ≡ false
 under_no_file path files none =
     any_none (λ (e : Entry). starts_with nat_eq path (e.path ++ codes "/")) files

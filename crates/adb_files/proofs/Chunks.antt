@@ -30,7 +30,8 @@ part_short rest = go (slash_in rest)
 abbrev HasShortNames : List (List ℕ × Stat) → Type 0
 HasShortNames es = AllByRecursion (λ e. length e.0 < 2 ^ 32) es
 
-short-insert : (es : List (List ℕ × Stat)) (k : List ℕ) (v : Stat) → HasShortNames es → length k < 2 ^ 32 → HasShortNames (insert_entry path_cmp es k v)
+short-insert : (es : List (List ℕ × Stat)) (k : List ℕ) (v : Stat) → HasShortNames es → length k < 2 ^ 32
+    → HasShortNames (insert_entry path_cmp es k v)
 short-insert [] k v all h = (h, tt)
 short-insert (e ∷ es) k v all h = go (path_cmp k e.0) (short-insert es k v all.1 h)
   where
@@ -40,7 +41,8 @@ short-insert (e ∷ es) k v all h = go (path_cmp k e.0) (short-insert es k v all
     go Equal rest = (all.0, all.1)
     go Greater rest = (all.0, rest)
 
-short-shown : (directory : List ℕ) (files : List Entry) (found : List (List ℕ × Stat)) → AllByRecursion (λ (e : Entry). length e.path < 2 ^ 32) files
+short-shown : (directory : List ℕ) (files : List Entry) (found : List (List ℕ × Stat))
+    → AllByRecursion (λ (e : Entry). length e.path < 2 ^ 32) files
     → HasShortNames found → HasShortNames (fold (with_shown directory) found (filter (λ (e : Entry). is_below directory e.path) files))
 short-shown directory [] found short all = all
 short-shown directory (e ∷ files) found short all = go (is_below directory e.path) (λ es h. short-shown directory files es short.1 h)
@@ -59,7 +61,8 @@ dirents_short : (es : List (List ℕ × Stat)) → HasShortNames es → AllByRec
 dirents_short [] all = tt
 dirents_short (e ∷ es) all = (all.0, dirents_short es all.1)
 
-pub names_short : (directory : List ℕ) (files : List Entry) → IsFileMap files → All (λ (d : Dirent). length d.name < 2 ^ 32) (listing directory files)
+pub names_short : (directory : List ℕ) (files : List Entry) → IsFileMap files
+    → All (λ (d : Dirent). length d.name < 2 ^ 32) (listing directory files)
 names_short directory files ok = go (is_path directory)
   where
     go : (t : Bool) → All (λ (d : Dirent). length d.name < 2 ^ 32) (cond t (map dirent_of (shown_in directory files)) [])

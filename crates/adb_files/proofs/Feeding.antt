@@ -15,7 +15,8 @@ use Rattle.adb_sync.specs.Asks.{asks_in, ask_fault_in, StandsForAsks}
 use Rattle.adb_files.specs.declared.session.Session.{Session}
 use Rattle.adb_files.specs.Requests.{OpenSend, Request, Fails, requests_of, open_after, fault_request, requests_in}
 use Rattle.adb_files.specs.Served.{fail_bytes, fault_text}
-use Rattle.adb_files.specs.Service.{Run, run, moment, moment_of, held, KeepsSend, Serves, ServesGiven, ServesFront, StandsFor, Feeds, FeedsFront}
+use Rattle.adb_files.specs.Service.{Run, run, moment, moment_of, held, KeepsSend, Serves, ServesGiven, ServesFront, StandsFor, Feeds}
+use Rattle.adb_files.specs.Service.{FeedsFront}
 use Rattle.adb_files.proofs.Serving.{requests_of-append, open_after-append, serves_more, serves_ended, front_none, front_more, front_less}
 
 abbrev Reading : Type 0
@@ -26,7 +27,8 @@ fed_more : (fed piece : List ℕ) (r1 : Reading) → StandsForAsks (fed ++ piece
     → requests_in (fed ++ piece) ≡ requests_in fed ++ (requests_of (open_after None (asks_in fed)) r1.given ++ fault_request r1.fault)
 fed_more fed piece r1 stands sound =
     let send = open_after None (asks_in fed) in
-    let before : requests_in fed ≡ requests_of None (asks_in fed) = ap (λ (f : Option SyncFault). requests_of None (asks_in fed) ++ fault_request f) sound
+    let before : requests_in fed ≡ requests_of None (asks_in fed) =
+    ap (λ (f : Option SyncFault). requests_of None (asks_in fed) ++ fault_request f) sound
     ∙ append-nil (requests_of None (asks_in fed)) in
     ap (λ (f : Option SyncFault). requests_of None (asks_in (fed ++ piece)) ++ fault_request f) stands.fault
     ∙ (ap (λ (xs : List SyncAsk). requests_of None xs ++ fault_request r1.fault) stands.frames
@@ -59,7 +61,8 @@ module _ (fed piece : List ℕ) (old : Run) (read : Reading) (new : Run) (goes_o
   Given = (s : Option OpenSend) → KeepsSend s old.session.sending → ServesGiven s (run read old.session old.files) new
 
   -- a request ended the service
-  pub feeds_ended : Given → new.session.ended ≡ true → Feeds fed piece (held old.reader old.session) (held new.reader new.session) old.files new.files
+  pub feeds_ended : Given → new.session.ended ≡ true → Feeds fed piece (held old.reader old.session)
+      (held new.reader new.session) old.files new.files
   feeds_ended given stop = record {
     requests = requests_of send read.given ++ fault_request read.fault;
     is = fed_more fed piece read now plain;
@@ -75,7 +78,9 @@ module _ (fed piece : List ℕ) (old : Run) (read : Reading) (new : Run) (goes_o
   feeds_fault fault last is given on out stop = record {
     requests = requests_of send read.given ++ fault_request read.fault;
     is = fed_more fed piece read now plain;
-    serves = subst (λ (f : Option SyncFault). Serves (requests_of send read.given ++ fault_request f) (moment_of old) (moment new.files last)) (sym is)
+    serves = subst
+        (λ (f : Option SyncFault). Serves (requests_of send read.given ++ fault_request f) (moment_of old)
+        (moment new.files last)) (sym is)
         (serves_more (requests_of send read.given) (Fails fault ∷ []) (moment_of old) (moment_of new) (moment new.files last) on
         (given send (stood.keeps goes_on)).serves
         (record { files = refl; answer = out; ends = stop }));
@@ -90,7 +95,8 @@ module _ (fed piece : List ℕ) (old : Run) (read : Reading) (new : Run) (goes_o
         requests = requests_of send read.given ++ fault_request read.fault;
         is = fed_more fed piece read now plain;
         serves = subst (λ (rs : List Request). Serves rs (moment_of old) (moment_of new))
-            (sym (ap (λ (f : Option SyncFault). requests_of send read.given ++ fault_request f) sound ∙ append-nil (requests_of send read.given))) g.serves;
+            (sym (ap (λ (f : Option SyncFault). requests_of send read.given ++ fault_request f) sound
+            ∙ append-nil (requests_of send read.given))) g.serves;
         stands = record {
           reads = λ on. subst (StandsForAsks (fed ++ piece) (asks_in (fed ++ piece))) (sym (g.empty on)) (record {
             frames = sym (append-nil (asks_in (fed ++ piece)));
@@ -104,12 +110,15 @@ module _ (fed piece : List ℕ) (old : Run) (read : Reading) (new : Run) (goes_o
       }
 
   -- memory ran out while they were served
-  pub feeds_front : ((s : Option OpenSend) → KeepsSend s old.session.sending → ServesFront (requests_of s read.given) (moment_of old) (moment_of new))
+  pub feeds_front :
+      ((s : Option OpenSend) → KeepsSend s old.session.sending
+      → ServesFront (requests_of s read.given) (moment_of old) (moment_of new))
       → FeedsFront fed piece (held old.reader old.session) (held new.reader new.session) old.files new.files
   feeds_front front = record {
     requests = requests_of send read.given ++ fault_request read.fault;
     is = fed_more fed piece read now plain;
-    front = front_less (requests_of send read.given) (fault_request read.fault) (moment_of old) (moment_of new) (front send (stood.keeps goes_on));
+    front = front_less (requests_of send read.given) (fault_request read.fault) (moment_of old) (moment_of new)
+        (front send (stood.keeps goes_on));
   }
 
   -- memory ran out at the FAIL of a fault

@@ -1,5 +1,6 @@
 -- What a file map has at a path, before and after a change.
-use Rattle.std.specs.Prelude.{ℕ, ◌+◌, ◌≡◌, ◌≢◌, ◌<◌, ◌≤◌, cond, Bool, true, false, List, [], ◌∷◌, ◌++◌, length, take, drop, filter, slice_index_or}
+use Rattle.std.specs.Prelude.{ℕ, ◌+◌, ◌≡◌, ◌≢◌, ◌<◌, ◌≤◌, cond, Bool, true, false, List, [], ◌∷◌, ◌++◌, length, take, drop, filter}
+use Rattle.std.specs.Prelude.{slice_index_or}
 use Rattle.std.specs.Prelude.{Option, Some, None, option_map, bytes_eq, is_some, ◌||◌, not, refl, zero, suc}
 use Rattle.std.specs.Option.{option_copied}
 use Rattle.std.proofs.Common.{ltb, Bor, add-one, ◌⊎◌, inl, inr, ◌∙◌, ap, sym, arith, Ordering}
@@ -15,7 +16,8 @@ use Rattle.adb_files.specs.declared.files.TheConstants.{MAX_STORED}
 use Rattle.adb_files.specs.Entries.{Entry}
 use Rattle.adb_files.specs.declared.file.FileError.TheVariants.{BadPath, IsDirectory, NotDirectory, NoSpace, NoFile}
 use Rattle.adb_files.specs.Paths.{path_cmp, is_path}
-use Rattle.adb_files.specs.Files.{before, behind, file_at, with_file, without, ChangesAt, is_directory, is_under_file, read_refusal, put_refusal}
+use Rattle.adb_files.specs.Files.{before, behind, file_at, with_file, without, ChangesAt, is_directory, is_under_file, read_refusal}
+use Rattle.adb_files.specs.Files.{put_refusal}
 use Rattle.adb_files.specs.Files.{none_there, total}
 use Rattle.adb_files.specs.Places.{StandsAt, FitsAt}
 use Rattle.adb_files.specs.Listing.{directory_stat}
@@ -94,9 +96,12 @@ pub record InParts (path : List ℕ) (files at : List Entry) : Type 0 where
 abbrev pub no_entry : Entry
 no_entry = record { path = []; file = record { mode = 0; mtime = 0; bytes = [] } }
 
-pub parts_where_stands : {path : List ℕ} {files : List Entry} {i : ℕ} → StandsAt path files i → InParts path files (slice_index_or files i no_entry ∷ [])
+pub parts_where_stands : {path : List ℕ} {files : List Entry} {i : ℕ} → StandsAt path files i
+    → InParts path files (slice_index_or files i no_entry ∷ [])
 parts_where_stands {path} {files} {i} s = record {
-  is = sym (take-append-drop i files) ∙ cat (s.front) (drop_more files i no_entry s.within ∙ ap (λ rest. slice_index_or files i no_entry ∷ rest) s.back);
+  is = sym (take-append-drop i files)
+      ∙ cat (s.front)
+      (drop_more files i no_entry s.within ∙ ap (λ rest. slice_index_or files i no_entry ∷ rest) s.back);
   others = λ other apart. ap (λ t. cond t (Some (slice_index_or files i no_entry)) None)
       (apart_by_test (slice_index_or files i no_entry).path other (λ e. apart (sym e ∙ s.here no_entry)));
 }
@@ -136,14 +141,21 @@ middle path other files xs ys none_x none_y =
     let y2 = find-append t ys (behind path files) ∙ ap (λ o. or_else o (find t (behind path files))) none_y in
     ap (option_map (λ (e : Entry). e.file)) (x ∙ (ap (or_else (find t (before path files))) (x2 ∙ sym y2) ∙ sym y))
 
-pub changes-with : (path : List ℕ) (file : File) (files at : List Entry) → InParts path files at → ChangesAt path (Some file) files (with_file path file files)
+pub changes-with : (path : List ℕ) (file : File) (files at : List Entry) → InParts path files at
+    → ChangesAt path (Some file) files (with_file path file files)
 changes-with path file files at parts = record {
-  here = ap (option_map (λ (e : Entry). e.file)) (find-append (λ (e : Entry). bytes_eq e.path path) (before path files) (entry_of path file ∷ behind path files)
-      ∙ (ap (λ o. or_else o (cond (bytes_eq path path) (Some (entry_of path file)) (find (λ (e : Entry). bytes_eq e.path path) (behind path files))))
-      (find_before path files) ∙ ap (λ t. cond t (Some (entry_of path file)) (find (λ (e : Entry). bytes_eq e.path path) (behind path files)))
+  here = ap (option_map (λ (e : Entry). e.file))
+      (find-append (λ (e : Entry). bytes_eq e.path path) (before path files) (entry_of path file ∷ behind path files)
+      ∙ (ap (λ o. or_else o
+      (cond (bytes_eq path path) (Some (entry_of path file))
+      (find (λ (e : Entry). bytes_eq e.path path) (behind path files))))
+      (find_before path files)
+      ∙ ap (λ t. cond t (Some (entry_of path file))
+      (find (λ (e : Entry). bytes_eq e.path path) (behind path files)))
       (same_by_test path path refl)));
   others = λ other apart.
-      middle path other files (entry_of path file ∷ []) at (ap (λ t. cond t (Some (entry_of path file)) None) (apart_by_test path other (λ e. apart (sym e))))
+      middle path other files (entry_of path file ∷ []) at
+      (ap (λ t. cond t (Some (entry_of path file)) None) (apart_by_test path other (λ e. apart (sym e))))
       (parts.others other apart)
       ∙ ap (file_at other) (sym parts.is);
 }
@@ -151,7 +163,8 @@ changes-with path file files at parts = record {
 pub changes-without : (path : List ℕ) (files at : List Entry) → InParts path files at → ChangesAt path None files (without path files)
 changes-without path files at parts = record {
   here = ap (option_map (λ (e : Entry). e.file)) (find-append (λ (e : Entry). bytes_eq e.path path) (before path files) (behind path files)
-      ∙ (ap (λ o. or_else o (find (λ (e : Entry). bytes_eq e.path path) (behind path files))) (find_before path files) ∙ find_behind path files));
+      ∙ (ap (λ o. or_else o (find (λ (e : Entry). bytes_eq e.path path) (behind path files))) (find_before path files)
+      ∙ find_behind path files));
   others = λ other apart.
       middle path other files [] at refl (parts.others other apart)
       ∙ ap (file_at other) (sym parts.is);
@@ -176,7 +189,8 @@ pub no_file_has : (path : List ℕ) (files : List Entry) → file_at path files 
 no_file_has path [] none k d h same = omega arith
 no_file_has path (e ∷ files) none k d h same = go (bytes_eq e.path path) refl none k h same (no_file_has path files)
   where
-    go : (b : Bool) → bytes_eq e.path path ≡ b → option_map (λ (x : Entry). x.file) (cond b (Some e) (find (λ (x : Entry). bytes_eq x.path path) files)) ≡ None
+    go : (b : Bool) → bytes_eq e.path path ≡ b → option_map (λ (x : Entry). x.file)
+        (cond b (Some e) (find (λ (x : Entry). bytes_eq x.path path) files)) ≡ None
         → (k : ℕ) → k < length (e ∷ files) → (slice_index_or (e ∷ files) k d).path ≡ path
         → (file_at path files ≡ None → (k : ℕ) (d : Entry) → k < length files → (slice_index_or files k d).path ≡ path → ⊥) → ⊥
     go true is gone k h same rest = cc
@@ -184,7 +198,8 @@ no_file_has path (e ∷ files) none k d h same = go (bytes_eq e.path path) refl 
     go false is gone (suc k) h same rest = rest gone k d (omega arith) same
 
 -- a map in code: an entry written, put in or taken out at its place
-pub entry_removed : {path : List ℕ} {files : List Entry} {i : ℕ} → StandsAt path files i → take i files ++ drop (suc i) files ≡ without path files
+pub entry_removed : {path : List ℕ} {files : List Entry} {i : ℕ} → StandsAt path files i
+    → take i files ++ drop (suc i) files ≡ without path files
 entry_removed {path} {files} {i} s =
     let back : drop (suc i) files ≡ behind path files = ap (λ n. drop n files) (sym (add-one i)) ∙ s.back in
     let front = s.front in cc
@@ -211,15 +226,20 @@ pub missing : (files : List Entry) (path : List ℕ) → is_path path ≡ true �
 missing files path form plain none = reads form plain ∙ ap none_there none
   where
     reads : is_path path ≡ true → is_directory files path ≡ false → read_refusal files path ≡ none_there (file_at path files)
-    reads f p = ap (λ t. cond (not t) (Some BadPath) (cond (is_directory files path) (Some IsDirectory) (none_there (file_at path files)))) f
+    reads f p = ap
+        (λ t. cond (not t) (Some BadPath)
+        (cond (is_directory files path) (Some IsDirectory) (none_there (file_at path files)))) f
         ∙ ap (λ t. cond t (Some IsDirectory) (none_there (file_at path files))) p
 
-pub present : (files : List Entry) (path : List ℕ) (file : File) → is_path path ≡ true → is_directory files path ≡ false → file_at path files ≡ Some file
+pub present : (files : List Entry) (path : List ℕ) (file : File) → is_path path ≡ true
+    → is_directory files path ≡ false → file_at path files ≡ Some file
     → read_refusal files path ≡ None
 present files path file form plain some = reads form plain ∙ ap none_there some
   where
     reads : is_path path ≡ true → is_directory files path ≡ false → read_refusal files path ≡ none_there (file_at path files)
-    reads f p = ap (λ t. cond (not t) (Some BadPath) (cond (is_directory files path) (Some IsDirectory) (none_there (file_at path files)))) f
+    reads f p = ap
+        (λ t. cond (not t) (Some BadPath)
+        (cond (is_directory files path) (Some IsDirectory) (none_there (file_at path files)))) f
         ∙ ap (λ t. cond t (Some IsDirectory) (none_there (file_at path files))) p
 
 -- where a file of so many bytes may be put
@@ -231,17 +251,22 @@ pub record Granted (files : List Entry) (path : List ℕ) (size : ℕ) : Type 0 
 
 pub granted : (files : List Entry) (path : List ℕ) (size : ℕ) → put_refusal files path size ≡ None → Granted files path size
 granted files path size none =
-    go (is_path path) refl (is_directory files path) refl (is_under_file files path) refl (ltb MAX_STORED (total (without path files) + size)) refl none
+    go (is_path path) refl (is_directory files path) refl (is_under_file files path) refl
+    (ltb MAX_STORED (total (without path files) + size)) refl none
   where
-    go : (form : Bool) → is_path path ≡ form → (directory : Bool) → is_directory files path ≡ directory → (under : Bool) → is_under_file files path ≡ under
+    go : (form : Bool) → is_path path ≡ form → (directory : Bool) → is_directory files path ≡ directory
+        → (under : Bool) → is_under_file files path ≡ under
         → (large : Bool) → ltb MAX_STORED (total (without path files) + size) ≡ large
-        → cond (not form) (Some BadPath) (cond directory (Some IsDirectory) (cond under (Some NotDirectory) (cond large (Some NoSpace) None))) ≡ None
+        → cond (not form) (Some BadPath)
+        (cond directory (Some IsDirectory) (cond under (Some NotDirectory) (cond large (Some NoSpace) None)))
+        ≡ None
         → Granted files path size
     go false f directory d under u large l e = absurd cc
     go true f true d under u large l e = absurd cc
     go true f false d true u large l e = absurd cc
     go true f false d false u true l e = absurd cc
-    go true f false d false u false l e = record { form = f; plain = d; above = u; room = ltb-false MAX_STORED (total (without path files) + size) l }
+    go true f false d false u false l e =
+        record { form = f; plain = d; above = u; room = ltb-false MAX_STORED (total (without path files) + size) l }
 
 -- what a path that is no directory shows
 pub stat_plain : (files : List Entry) (path : List ℕ) (file : Option File) → is_directory files path ≡ false → file_at path files ≡ file

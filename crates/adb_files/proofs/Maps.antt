@@ -11,7 +11,8 @@ use Rattle.adb_files.proofs.Rising.{rising-with, rising-without, all-with, all-w
 use Rattle.adb_files.proofs.Directories.{plain-with, plain-without}
 use Rattle.adb_files.proofs.Lookups.{Granted}
 
-pub map-with : (path : List ℕ) (file : File) (files : List Entry) → IsFileMap files → Granted files path (length file.bytes) → length path < 2 ^ 32
+pub map-with : (path : List ℕ) (file : File) (files : List Entry) → IsFileMap files
+    → Granted files path (length file.bytes) → length path < 2 ^ 32
     → file.mode < 2 ^ 32 → file.mtime < 2 ^ 32 → IsFileMap (with_file path file files)
 map-with path file files ok may short mode mtime = record {
   rising = rising-with path file files ok.rising;
@@ -23,7 +24,8 @@ map-with path file files ok may short mode mtime = record {
   room = omega (arith, total-with path file files, may.room);
 }
 
-pub map-without : (path : List ℕ) (files : List Entry) → IsFileMap files → total (without path files) ≤ total files → IsFileMap (without path files)
+pub map-without : (path : List ℕ) (files : List Entry) → IsFileMap files → total (without path files) ≤ total files
+    → IsFileMap (without path files)
 map-without path files ok less = record {
   rising = rising-without path files ok.rising;
   paths = all-without (λ (e : Entry). is_path e.path ≡ true) path files ok.paths;

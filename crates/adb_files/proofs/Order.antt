@@ -9,7 +9,8 @@ use Rattle.std.proofs.lemmas.Map.Lookups.{exact_unsigned}
 use Rattle.adb_files.specs.Paths.{path_cmp}
 
 -- a comparison with a list in two parts
-pub cmp_parts : (p f b : List ℕ) (n : ℕ) → n ≡ min (length p) (length f) → ordering_then (path_cmp (take n p) f) (path_cmp (drop n p) b) ≡ path_cmp p (f ++ b)
+pub cmp_parts : (p f b : List ℕ) (n : ℕ) → n ≡ min (length p) (length f)
+    → ordering_then (path_cmp (take n p) f) (path_cmp (drop n p) b) ≡ path_cmp p (f ++ b)
 cmp_parts p [] b zero e = refl
 cmp_parts p [] b (suc n) e = absurd (omega (arith, e))
 cmp_parts [] (y ∷ ys) b zero e = refl
@@ -24,7 +25,8 @@ cmp_parts (x ∷ xs) (y ∷ ys) b (suc n) e = go (nat_cmp x y) (cmp_parts xs ys 
     go Greater h = refl
 
 -- to begin with a list in two parts
-pub starts_with-append : (p d s : List ℕ) → starts_with nat_eq p (d ++ s) ≡ (starts_with nat_eq p d && starts_with nat_eq (drop (length d) p) s)
+pub starts_with-append : (p d s : List ℕ) → starts_with nat_eq p (d ++ s)
+    ≡ (starts_with nat_eq p d && starts_with nat_eq (drop (length d) p) s)
 starts_with-append p [] s = refl
 starts_with-append [] (x ∷ d) s = refl
 starts_with-append (y ∷ p) (x ∷ d) s = go (nat_eq x y) (starts_with-append p d s)
@@ -34,7 +36,8 @@ starts_with-append (y ∷ p) (x ∷ d) s = go (nat_eq x y) (starts_with-append p
     go true h = h
     go false h = refl
 
-pub starts_with-both : (p d s : List ℕ) → starts_with nat_eq p d ≡ true → starts_with nat_eq p (d ++ s) ≡ starts_with nat_eq (drop (length d) p) s
+pub starts_with-both : (p d s : List ℕ) → starts_with nat_eq p d ≡ true
+    → starts_with nat_eq p (d ++ s) ≡ starts_with nat_eq (drop (length d) p) s
 starts_with-both p d s e = starts_with-append p d s ∙ ap (λ t. t && starts_with nat_eq (drop (length d) p) s) e
 
 pub starts_with-neither : (p d s : List ℕ) → starts_with nat_eq p d ≡ false → starts_with nat_eq p (d ++ s) ≡ false

@@ -1,5 +1,6 @@
 -- The files before and behind a place of files whose paths rise.
-use Rattle.std.specs.Prelude.{ℕ, ◌+◌, ◌≡◌, ◌<◌, ◌≤◌, cond, Bool, true, false, List, [], ◌∷◌, length, take, drop, map, filter, slice_index_or, Result}
+use Rattle.std.specs.Prelude.{ℕ, ◌+◌, ◌≡◌, ◌<◌, ◌≤◌, cond, Bool, true, false, List, [], ◌∷◌, length, take, drop, map, filter}
+use Rattle.std.specs.Prelude.{slice_index_or, Result}
 use Rattle.std.specs.Prelude.{Ok, Err, MatchResult, refl, zero, suc}
 use Rattle.std.proofs.Common.{⊎_elim, ◌⊎◌, ◌∙◌, ap, sym, subst, arith}
 use Rattle.std.specs.Ordering.{is_lt, ordering_index}
@@ -19,18 +20,22 @@ use Rattle.adb_files.proofs.Order.{greater_back, less_back, same_path, path_cmp-
 
 module _ {X : Type 0} (p : X → Bool) where
   -- what passes is what stands before a place
-  pub filter_front : (xs : List X) (i : ℕ) → AllWithin (λ x. p x ≡ true) xs 0 i → AllWithin (λ x. p x ≡ false) xs i (length xs) → take i xs ≡ filter p xs
+  pub filter_front : (xs : List X) (i : ℕ) → AllWithin (λ x. p x ≡ true) xs 0 i
+      → AllWithin (λ x. p x ≡ false) xs i (length xs) → take i xs ≡ filter p xs
   filter_front [] zero pass fail = refl
   filter_front [] (suc i) pass fail = refl
   filter_front (x ∷ xs) zero pass fail =
       filter_front xs zero (λ k d l h. absurd (omega arith)) (λ k d l h. fail (suc k) d (omega arith) (omega arith))
       ∙ sym (ap (λ t. cond t (x ∷ filter p xs) (filter p xs)) (fail 0 x (omega arith) (omega arith)))
   filter_front (x ∷ xs) (suc i) pass fail =
-      ap (λ rest. x ∷ rest) (filter_front xs i (λ k d l h. pass (suc k) d (omega arith) (omega arith)) (λ k d l h. fail (suc k) d (omega arith) (omega arith)))
+      ap (λ rest. x ∷ rest)
+      (filter_front xs i (λ k d l h. pass (suc k) d (omega arith) (omega arith))
+      (λ k d l h. fail (suc k) d (omega arith) (omega arith)))
       ∙ sym (ap (λ t. cond t (x ∷ filter p xs) (filter p xs)) (pass 0 x (omega arith) (omega arith)))
 
   -- what passes is what stands from a place on
-  pub filter_back : (xs : List X) (i : ℕ) → AllWithin (λ x. p x ≡ false) xs 0 i → AllWithin (λ x. p x ≡ true) xs i (length xs) → drop i xs ≡ filter p xs
+  pub filter_back : (xs : List X) (i : ℕ) → AllWithin (λ x. p x ≡ false) xs 0 i
+      → AllWithin (λ x. p x ≡ true) xs i (length xs) → drop i xs ≡ filter p xs
   filter_back [] zero fail pass = refl
   filter_back [] (suc i) fail pass = refl
   filter_back (x ∷ xs) zero fail pass =
@@ -51,7 +56,8 @@ earlier_less files rising i j d l h =
     cc
 
 -- the answers of a search rise with the paths
-pub searchable : (files : List Entry) (path : List ℕ) → IsRising files → IsNonDecreasingBy (λ (e : Entry). ordering_index (path_cmp e.path path)) files
+pub searchable : (files : List Entry) (path : List ℕ) → IsRising files
+    → IsNonDecreasingBy (λ (e : Entry). ordering_index (path_cmp e.path path)) files
 searchable files path rising =
     searchable_from_sorted nat_list_cmp_total (λ (e : Entry). e.path) files path
     (λ k d l h. ap is_lt (greater_back (slice_index_or files k d).path (slice_index_or files (k + 1) d).path
@@ -64,7 +70,8 @@ fits_at files path i h less greater = record {
   within = h;
   less = less;
   greater = greater;
-  front = filter_front (λ (e : Entry). is_lt (path_cmp e.path path)) files i (λ k d l m. ap is_lt (less k d l m)) (λ k d l m. ap is_lt (greater k d l m));
+  front = filter_front (λ (e : Entry). is_lt (path_cmp e.path path)) files i (λ k d l m. ap is_lt (less k d l m))
+      (λ k d l m. ap is_lt (greater k d l m));
   back = filter_back (λ (e : Entry). is_lt (path_cmp path e.path)) files i (λ k d l m. ap is_lt (greater_back _ path (less k d l m)))
       (λ k d l m. ap is_lt (less_back _ path (greater k d l m)));
 }
@@ -76,7 +83,8 @@ from_cases i k h = grind (arith, cases_order i k)
 below_cases : (i k : ℕ) → k < i + 1 → (i ≡ k) ⊎ (k < i)
 below_cases i k h = grind (arith, cases_order i k)
 
-pub stands_at : (files : List Entry) (path : List ℕ) (i : ℕ) → IsRising files → i < length files → HoldsAt (λ e. path_cmp e.path path ≡ Equal) files i
+pub stands_at : (files : List Entry) (path : List ℕ) (i : ℕ) → IsRising files → i < length files
+    → HoldsAt (λ e. path_cmp e.path path ≡ Equal) files i
     → StandsAt path files i
 stands_at files path i rising h equal = record {
   within = h;
@@ -84,7 +92,8 @@ stands_at files path i rising h equal = record {
   less = λ k d l m. less k d m;
   greater = λ k d l m. greater_back path _ (more k d (omega arith) m);
   front = filter_front (λ (e : Entry). is_lt (path_cmp e.path path)) files i (λ k d l m. ap is_lt (less k d m)) not_before;
-  back = filter_back (λ (e : Entry). is_lt (path_cmp path e.path)) files (i + 1) not_behind (λ k d l m. ap is_lt (more k d (omega arith) m));
+  back = filter_back (λ (e : Entry). is_lt (path_cmp path e.path)) files (i + 1) not_behind
+      (λ k d l m. ap is_lt (more k d (omega arith) m));
 }
   where
     is : (d : Entry) → (slice_index_or files i d).path ≡ path
@@ -100,11 +109,15 @@ stands_at files path i rising h equal = record {
     itself d = ap (path_cmp path) (is d) ∙ path_cmp-same path
 
     not_before : AllWithin (λ e. is_lt (path_cmp e.path path) ≡ false) files i (length files)
-    not_before k d l m = ⊎_elim (λ (e : i ≡ k). subst (λ (n : ℕ). is_lt (path_cmp (slice_index_or files n d).path path) ≡ false) e (ap is_lt (equal d)))
+    not_before k d l m =
+        ⊎_elim (λ (e : i ≡ k). subst (λ (n : ℕ). is_lt (path_cmp (slice_index_or files n d).path path) ≡ false) e
+        (ap is_lt (equal d)))
         (λ (n : i < k). ap is_lt (greater_back path _ (more k d n m))) (from_cases i k l)
 
     not_behind : AllWithin (λ e. is_lt (path_cmp path e.path) ≡ false) files 0 (i + 1)
-    not_behind k d l m = ⊎_elim (λ (e : i ≡ k). subst (λ (n : ℕ). is_lt (path_cmp path (slice_index_or files n d).path) ≡ false) e (ap is_lt (itself d)))
+    not_behind k d l m =
+        ⊎_elim (λ (e : i ≡ k). subst (λ (n : ℕ). is_lt (path_cmp path (slice_index_or files n d).path) ≡ false) e
+        (ap is_lt (itself d)))
         (λ (n : k < i). ap is_lt (greater_back _ path (less k d n))) (below_cases i k m)
 
 -- what a search for a path finds

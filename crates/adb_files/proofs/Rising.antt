@@ -45,12 +45,14 @@ keys_pass p P says (e ∷ files) = go (p e) refl (keys_pass p P says files)
     go true is rest = (says e is, rest)
     go false is rest = rest
 
-keys_append : (P : List ℕ → Type 0) (xs ys : List Entry) → AllByRecursion P (map (λ (e : Entry). e.path) xs) → AllByRecursion P (map (λ (e : Entry). e.path) ys)
+keys_append : (P : List ℕ → Type 0) (xs ys : List Entry) → AllByRecursion P (map (λ (e : Entry). e.path) xs)
+    → AllByRecursion P (map (λ (e : Entry). e.path) ys)
     → AllByRecursion P (map (λ (e : Entry). e.path) (xs ++ ys))
 keys_append P [] ys left right = right
 keys_append P (x ∷ xs) ys left right = (left.0, keys_append P xs ys left.1 right)
 
-keys_weaker : (P Q : List ℕ → Type 0) → ((k : List ℕ) → P k → Q k) → (files : List Entry) → AllByRecursion P (map (λ (e : Entry). e.path) files)
+keys_weaker : (P Q : List ℕ → Type 0) → ((k : List ℕ) → P k → Q k) → (files : List Entry)
+    → AllByRecursion P (map (λ (e : Entry). e.path) files)
     → AllByRecursion Q (map (λ (e : Entry). e.path) files)
 keys_weaker P Q says [] all = tt
 keys_weaker P Q says (e ∷ files) all = (says e.path all.0, keys_weaker P Q says files all.1)
@@ -65,32 +67,41 @@ rising-filter p (e ∷ files) up = go (p e) (rising-filter p files up.1)
     go true rest = (keys_filter p (λ k. path_cmp e.path k ≡ Less) files up.0, rest)
     go false rest = rest
 
-rising-cons : (e : Entry) (files : List Entry) → AllByRecursion (λ k. path_cmp e.path k ≡ Less) (map (λ (x : Entry). x.path) files) → IsRising files
+rising-cons : (e : Entry) (files : List Entry) → AllByRecursion (λ k. path_cmp e.path k ≡ Less)
+    (map (λ (x : Entry). x.path) files) → IsRising files
     → IsRising (e ∷ files)
 unfolding IsStrictlySortedBy
 rising-cons e files less up = (less, up)
 
 -- rising files behind rising files
 rising-append : (xs ys : List Entry) → IsRising xs → IsRising ys
-    → AllByRecursion (λ k. AllByRecursion (λ q. path_cmp k q ≡ Less) (map (λ (e : Entry). e.path) ys)) (map (λ (e : Entry). e.path) xs) → IsRising (xs ++ ys)
+    → AllByRecursion (λ k. AllByRecursion (λ q. path_cmp k q ≡ Less) (map (λ (e : Entry). e.path) ys))
+    (map (λ (e : Entry). e.path) xs) → IsRising (xs ++ ys)
 unfolding IsStrictlySortedBy
 rising-append [] ys up_x up_y less = up_y
 rising-append (x ∷ xs) ys up_x up_y less =
     (keys_append (λ k. path_cmp x.path k ≡ Less) xs ys up_x.0 less.0, rising-append xs ys up_x.1 up_y less.1)
 
-less_keys : (path : List ℕ) (files : List Entry) → AllByRecursion (λ k. path_cmp k path ≡ Less) (map (λ (e : Entry). e.path) (before path files))
+less_keys : (path : List ℕ) (files : List Entry) → AllByRecursion (λ k. path_cmp k path ≡ Less)
+    (map (λ (e : Entry). e.path) (before path files))
 less_keys path files =
-    keys_pass (λ (e : Entry). is_lt (path_cmp e.path path)) (λ k. path_cmp k path ≡ Less) (λ e h. less_from_test (path_cmp e.path path) h) files
+    keys_pass (λ (e : Entry). is_lt (path_cmp e.path path)) (λ k. path_cmp k path ≡ Less)
+    (λ e h. less_from_test (path_cmp e.path path) h) files
 
-more_keys : (path : List ℕ) (files : List Entry) → AllByRecursion (λ k. path_cmp path k ≡ Less) (map (λ (e : Entry). e.path) (behind path files))
+more_keys : (path : List ℕ) (files : List Entry) → AllByRecursion (λ k. path_cmp path k ≡ Less)
+    (map (λ (e : Entry). e.path) (behind path files))
 more_keys path files =
-    keys_pass (λ (e : Entry). is_lt (path_cmp path e.path)) (λ k. path_cmp path k ≡ Less) (λ e h. less_from_test (path_cmp path e.path) h) files
+    keys_pass (λ (e : Entry). is_lt (path_cmp path e.path)) (λ k. path_cmp path k ≡ Less)
+    (λ e h. less_from_test (path_cmp path e.path) h) files
 
 across : (path : List ℕ) (files : List Entry) → AllByRecursion
-    (λ k. AllByRecursion (λ q. path_cmp k q ≡ Less) (map (λ (e : Entry). e.path) (behind path files))) (map (λ (e : Entry). e.path) (before path files))
+    (λ k. AllByRecursion (λ q. path_cmp k q ≡ Less) (map (λ (e : Entry). e.path) (behind path files)))
+    (map (λ (e : Entry). e.path) (before path files))
 across path files =
-    keys_weaker (λ k. path_cmp k path ≡ Less) (λ k. AllByRecursion (λ q. path_cmp k q ≡ Less) (map (λ (e : Entry). e.path) (behind path files)))
-    (λ k l. keys_weaker (λ q. path_cmp path q ≡ Less) (λ q. path_cmp k q ≡ Less) (λ q m. nat_list_cmp_total.trans k path q l m) (behind path files)
+    keys_weaker (λ k. path_cmp k path ≡ Less)
+    (λ k. AllByRecursion (λ q. path_cmp k q ≡ Less) (map (λ (e : Entry). e.path) (behind path files)))
+    (λ k l. keys_weaker (λ q. path_cmp path q ≡ Less) (λ q. path_cmp k q ≡ Less)
+    (λ q m. nat_list_cmp_total.trans k path q l m) (behind path files)
     (more_keys path files))
     (before path files) (less_keys path files)
 
@@ -105,13 +116,16 @@ rising-with path file files up =
     (both (before path files) (less_keys path files) (across path files))
   where
     both : (xs : List Entry) → AllByRecursion (λ k. path_cmp k path ≡ Less) (map (λ (e : Entry). e.path) xs)
-        → AllByRecursion (λ k. AllByRecursion (λ q. path_cmp k q ≡ Less) (map (λ (e : Entry). e.path) (behind path files))) (map (λ (e : Entry). e.path) xs)
+        → AllByRecursion
+        (λ k. AllByRecursion (λ q. path_cmp k q ≡ Less) (map (λ (e : Entry). e.path) (behind path files)))
+        (map (λ (e : Entry). e.path) xs)
         → AllByRecursion (λ k. AllByRecursion (λ q. path_cmp k q ≡ Less) (path ∷ map (λ (e : Entry). e.path) (behind path files)))
         (map (λ (e : Entry). e.path) xs)
     both [] less far = tt
     both (x ∷ xs) less far = ((less.0, far.0), both xs less.1 far.1)
 
-pub total-with : (path : List ℕ) (file : File) (files : List Entry) → total (with_file path file files) ≡ total (without path files) + length file.bytes
+pub total-with : (path : List ℕ) (file : File) (files : List Entry)
+    → total (with_file path file files) ≡ total (without path files) + length file.bytes
 total-with path file files =
     let size = λ (e : Entry). length e.file.bytes in
     omega (

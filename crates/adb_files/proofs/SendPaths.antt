@@ -1,5 +1,6 @@
 -- The SENDs that are cut from bytes have paths of at most 1,024 bytes.
-use Rattle.std.specs.Prelude.{ℕ, ◌≡◌, ◌≤◌, cond, Bool, true, false, List, [], ◌∷◌, ◌++◌, length, take, drop, Option, Some, None, Result, Ok, Err}
+use Rattle.std.specs.Prelude.{ℕ, ◌≡◌, ◌≤◌, cond, Bool, true, false, List, [], ◌∷◌, ◌++◌, length, take, drop, Option, Some, None, Result, Ok}
+use Rattle.std.specs.Prelude.{Err}
 use Rattle.std.proofs.Common.{sym, subst, arith}
 use Rattle.std.specs.List.{AllByRecursion}
 use Rattle.std.proofs.lemmas.List.{length-take, length-drop}
@@ -30,9 +31,17 @@ cut_short text h = go (last_comma text)
     go (Some i) = omega (arith, length-take i text)
 
 -- the text behind the id of a SEND
-send_short : (bytes : List ℕ) → IsBehind (ask_layout ids.Send) (drop 4 bytes) → HasShortPath (send_cut (drop 8 bytes) (last_comma (drop 8 bytes)))
+send_short : (bytes : List ℕ) → IsBehind (ask_layout ids.Send) (drop 4 bytes)
+    → HasShortPath (send_cut (drop 8 bytes) (last_comma (drop 8 bytes)))
 send_short bytes h =
-    cut_short (drop 8 bytes) (omega (arith, h.size, is_within 1024 (number_at 0 (drop 4 bytes)) PathTooLong h.number, length-drop 4 bytes, length-drop 8 bytes))
+    cut_short (drop 8 bytes)
+    (omega (
+      arith,
+      h.size,
+      is_within 1024 (number_at 0 (drop 4 bytes)) PathTooLong h.number,
+      length-drop 4 bytes,
+      length-drop 8 bytes,
+    ))
 
 frame_short : (s : AskFormat) (frame : List ℕ) → ask_front s frame ≡ Whole (length frame) → HasShortPath (ask_of s frame)
 frame_short s frame found =
@@ -53,7 +62,8 @@ frame_short s frame found =
         by : (t : Bool) → cond {A = Result Layout SyncRule} t (Ok (ask_layout ids.Send)) (Err BadPlace) ≡ Ok layout
             → HasShortPath (send_cut (drop 8 frame) (last_comma (drop 8 frame)))
         by false h = absurd (cc)
-        by true h = let same : ask_layout ids.Send ≡ layout = cc in send_short frame (subst (λ (l : Layout). IsBehind l (drop 4 frame)) (sym same) behind)
+        by true h = let same : ask_layout ids.Send ≡ layout =
+            cc in send_short frame (subst (λ (l : Layout). IsBehind l (drop 4 frame)) (sym same) behind)
 
 abbrev GivesShort : AskFormat → List ℕ → AskReading → Type 0
 GivesShort s bytes c = AllByRecursion HasShortPath c.given
@@ -65,7 +75,8 @@ asks_short s bytes = right ask_front ask_of past_ask asks_are_framed (λ s bytes
   goes = λ s frame more c found reads others. (frame_short s frame found, others);
 }) s bytes tt
 
-short_append : (xs ys : List SyncAsk) → AllByRecursion HasShortPath xs → AllByRecursion HasShortPath ys → AllByRecursion HasShortPath (xs ++ ys)
+short_append : (xs ys : List SyncAsk) → AllByRecursion HasShortPath xs → AllByRecursion HasShortPath ys
+    → AllByRecursion HasShortPath (xs ++ ys)
 short_append [] ys left right = right
 short_append (x ∷ xs) ys left right = (left.0, short_append xs ys left.1 right)
 

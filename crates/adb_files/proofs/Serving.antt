@@ -14,7 +14,8 @@ use Rattle.adb_files.specs.Requests.{OpenSend, Request, Lists, Sends, completed,
 use Rattle.adb_files.specs.declared.session.Sending.{Sending}
 use Rattle.adb_files.specs.Served.{Served, serve_one, serve_all, stat_bytes_of, stat_in, list_bytes}
 use Rattle.adb_files.specs.Listing.{listing}
-use Rattle.adb_files.specs.Service.{Moment, Run, moment_of, IsKept, KeepsSend, Serves, ServesFront, TellsFront, ServesGiven, Done, HasShortPath}
+use Rattle.adb_files.specs.Service.{Moment, Run, moment_of, IsKept, KeepsSend, Serves, ServesFront, TellsFront, ServesGiven, Done}
+use Rattle.adb_files.specs.Service.{HasShortPath}
 
 abbrev Reading : Type 0
 Reading = Cut AskFormat SyncAsk SyncFault
@@ -45,7 +46,8 @@ serve_all-ended (q ∷ more) rest files e = by (serve_one files q).ended (serve_
     s = serve_one files q
 
     by : (t : Bool) → ((serve_all s.files more).ended ≡ true → serve_all s.files (more ++ rest) ≡ serve_all s.files more)
-        → (with_later t s (serve_all s.files more)).ended ≡ true → with_later t s (serve_all s.files (more ++ rest)) ≡ with_later t s (serve_all s.files more)
+        → (with_later t s (serve_all s.files more)).ended ≡ true
+        → with_later t s (serve_all s.files (more ++ rest)) ≡ with_later t s (serve_all s.files more)
     by true later h = refl
     by false later h = ap (with_later false s) (later h)
 
@@ -86,7 +88,8 @@ serve_all-one files q = by (serve_one files q).ended
     s : Served
     s = serve_one files q
 
-    by : (t : Bool) → ((with_later t s (serve_all s.files [])).files ≡ s.files) × ((with_later t s (serve_all s.files [])).answer ≡ s.answer)
+    by : (t : Bool) → ((with_later t s (serve_all s.files [])).files ≡ s.files)
+        × ((with_later t s (serve_all s.files [])).answer ≡ s.answer)
     by true = (refl, refl)
     by false = (refl, append-nil s.answer)
 
@@ -113,7 +116,8 @@ serves_ended qs rs a b stop first =
     }
 
 -- a STAT was served
-pub stat_served : (send : Option OpenSend) (ask : SyncAsk) (path : List ℕ) (kept : Option Sending) (a b : Moment) → ask ≡ asks.Stat path → b.files ≡ a.files
+pub stat_served : (send : Option OpenSend) (ask : SyncAsk) (path : List ℕ) (kept : Option Sending) (a b : Moment)
+    → ask ≡ asks.Stat path → b.files ≡ a.files
     → b.out ≡ a.out ++ stat_bytes_of (stat_in a.files path) → b.ended ≡ false → KeepsSend send kept
     → Serves (completed send ask) a b × KeepsSend (open_past send ask) kept
 stat_served send ask path kept a b is same out on keeps =
@@ -137,7 +141,8 @@ front_none qs a b files out = record {
 }
 
 -- memory ran out in the first request
-pub front_one : (q : Request) (qs : List Request) (a b : Moment) → b.files ≡ (serve_one a.files q).files → TellsFront (serve_one a.files q).answer a.out b.out
+pub front_one : (q : Request) (qs : List Request) (a b : Moment) → b.files ≡ (serve_one a.files q).files
+    → TellsFront (serve_one a.files q).answer a.out b.out
     → ServesFront (q ∷ qs) a b
 front_one q qs a b files tells = record {
   whole = [];
@@ -170,7 +175,8 @@ send_front send mtime a b (inr done) out =
 -- memory ran out at a DONE
 pub finish_front : (send : Option OpenSend) (ask : SyncAsk) (mtime : ℕ) (sending : Sending) (a b : Moment) → ask ≡ asks.Finish mtime
     → KeepsSend send (Some sending)
-    → ((s : OpenSend) → IsKept s sending → (b.files ≡ a.files) ⊎ (b.files ≡ (serve_one a.files (Sends s.path s.mode s.bytes mtime)).files)) → b.out ≡ a.out
+    → ((s : OpenSend) → IsKept s sending → (b.files ≡ a.files)
+    ⊎ (b.files ≡ (serve_one a.files (Sends s.path s.mode s.bytes mtime)).files)) → b.out ≡ a.out
     → ServesFront (completed send ask) a b
 finish_front None ask mtime sending a b is keeps files out = absurd keeps
 finish_front (Some s) ask mtime sending a b is keeps files out =
@@ -201,13 +207,17 @@ front_more qs rs a b c on first front = record {
   back = front.back;
   is = ap (λ (xs : List Request). qs ++ xs) front.is ∙ sym (append_assoc qs front.whole (front.last ++ front.back));
   one = front.one;
-  files = front.files ∙ (sym (moved (front.whole ++ front.last)).0 ∙ ap (λ (xs : List Request). (serve_all a.files xs).files) (sym together));
+  files = front.files
+      ∙ (sym (moved (front.whole ++ front.last)).0 ∙ ap (λ (xs : List Request). (serve_all a.files xs).files)
+      (sym together));
   said = front.said;
   unsaid = front.unsaid;
   answer = front.answer
       ∙ (ap (λ (o : List ℕ). o ++ (told ++ front.said)) first.answer
       ∙ (append_assoc a.out before (told ++ front.said)
-      ∙ ap (λ (o : List ℕ). a.out ++ o) (sym (append_assoc before told front.said) ∙ ap (λ (o : List ℕ). o ++ front.said) (sym (moved front.whole).1))));
+      ∙ ap (λ (o : List ℕ). a.out ++ o)
+      (sym (append_assoc before told front.said) ∙ ap (λ (o : List ℕ). o ++ front.said)
+      (sym (moved front.whole).1))));
   within = ap (λ (xs : List Request). (serve_all a.files xs).answer) together
       ∙ ((moved (front.whole ++ front.last)).1
       ∙ (ap (λ (o : List ℕ). before ++ o) front.within
@@ -239,7 +249,8 @@ front_less qs rs a b front = record {
   last = front.last;
   back = front.back ++ rs;
   is = ap (λ (xs : List Request). xs ++ rs) front.is
-      ∙ (append_assoc front.whole (front.last ++ front.back) rs ∙ ap (λ (xs : List Request). front.whole ++ xs) (append_assoc front.last front.back rs));
+      ∙ (append_assoc front.whole (front.last ++ front.back) rs
+      ∙ ap (λ (xs : List Request). front.whole ++ xs) (append_assoc front.last front.back rs));
   one = front.one;
   files = front.files;
   said = front.said;
@@ -261,7 +272,8 @@ done_more send r0 r1 r2 ask on d next take =
       is = d.is ∙ (ap (λ (r : Reading). d.done ++ r.given) next ∙ sym (append_assoc d.done (ask ∷ []) r2.reader.given));
       same = same;
       serves = subst (λ (rs : List Request). Serves rs (moment_of r0) (moment_of r2)) (sym requests)
-          (serves_more (requests_of send d.done) (completed (open_after send d.done) ask) (moment_of r0) (moment_of r1) (moment_of r2) on d.serves t.0);
+          (serves_more (requests_of send d.done) (completed (open_after send d.done) ask) (moment_of r0)
+          (moment_of r1) (moment_of r2) on d.serves t.0);
       keeps = subst (λ (s : Option OpenSend). KeepsSend s r2.session.sending) (sym (open_after-append send d.done (ask ∷ []))) t.1;
     }
   where
@@ -281,7 +293,8 @@ pub given_ended : (send : Option OpenSend) (r0 r1 : Run) → r1.session.ended �
 given_ended send r0 r1 stop d = record {
   serves = subst (λ (rs : List Request). Serves rs (moment_of r0) (moment_of r1))
       (sym (ap (requests_of send) d.is ∙ requests_of-append send d.done r1.reader.given))
-      (serves_ended (requests_of send d.done) (requests_of (open_after send d.done) r1.reader.given) (moment_of r0) (moment_of r1) stop d.serves);
+      (serves_ended (requests_of send d.done) (requests_of (open_after send d.done) r1.reader.given) (moment_of r0)
+      (moment_of r1) stop d.serves);
   empty = λ on. absurd (true≢false (sym stop ∙ on));
   keeps = λ on. absurd (true≢false (sym stop ∙ on));
 }
@@ -294,7 +307,8 @@ pub given_front : (send : Option OpenSend) (r0 r1 r2 : Run) (ask : SyncAsk) → 
 given_front send r0 r1 r2 ask on d next take =
     let s = open_after send d.done in
     subst (λ (rs : List Request). ServesFront rs (moment_of r0) (moment_of r2))
-    (sym (ap (requests_of send) (d.is ∙ ap (λ (r : Reading). d.done ++ r.given) next) ∙ requests_of-append send d.done (ask ∷ r2.reader.given)))
+    (sym (ap (requests_of send) (d.is ∙ ap (λ (r : Reading). d.done ++ r.given) next)
+    ∙ requests_of-append send d.done (ask ∷ r2.reader.given)))
     (front_more (requests_of send d.done) (requests_of s (ask ∷ r2.reader.given)) (moment_of r0) (moment_of r1) (moment_of r2) on d.serves
     (front_less (completed s ask) (requests_of (open_past s ask) r2.reader.given) (moment_of r1) (moment_of r2) (take s d.keeps)))
 

@@ -1,5 +1,6 @@
 -- What the files of a part of the map show of a directory.
-use Rattle.std.specs.Prelude.{ℕ, ◌+◌, ◌-◌, ◌≡◌, ◌≢◌, ◌<◌, ◌≤◌, ◌==◌, cond, true, false, List, [], ◌∷◌, ◌++◌, length, take, drop, filter, fold}
+use Rattle.std.specs.Prelude.{ℕ, ◌+◌, ◌-◌, ◌≡◌, ◌≢◌, ◌<◌, ◌≤◌, ◌==◌, cond, true, false, List, [], ◌∷◌, ◌++◌, length, take, drop, filter}
+use Rattle.std.specs.Prelude.{fold}
 use Rattle.std.specs.Prelude.{slice_index_or, Option, Some, None, Vec, nat_eq, codes, refl, zero, suc}
 use Rattle.std.proofs.Common.{add-zero, ◌⊎◌, inl, inr, ◌∙◌, ap, sym, subst, arith, Ordering}
 use Rattle.std.specs.Ordering.{match_ordering}
@@ -8,7 +9,8 @@ use Rattle.std.specs.Cmp.Lexicographic.{pointwise}
 use Rattle.std.specs.BTreeMap.{insert_entry}
 use Rattle.std.specs.List.{starts_with, AllWithin}
 use Rattle.std.proofs.lemmas.Bool.{cases_order, eqb-true, false_from_ne_true}
-use Rattle.std.proofs.lemmas.List.{get_or_read, get_or-drop, get_or-take, append-nil, take_rest, length-append, length-take, length-drop, take-append-drop}
+use Rattle.std.proofs.lemmas.List.{get_or_read, get_or-drop, get_or-take, append-nil, take_rest, length-append, length-take, length-drop}
+use Rattle.std.proofs.lemmas.List.{take-append-drop}
 use Rattle.std.proofs.lemmas.List.Elements.{filter_more, filter-append}
 use Rattle.std.proofs.lemmas.List.Sums.{fold-append}
 use Rattle.std.proofs.lemmas.List.Quantifiers.{position-Some}
@@ -35,20 +37,28 @@ named-insert {A} cmp says (e ∷ es) k v =
   where
     go : (o : Ordering) → named (insert_entry cmp es k v) ≡ insert_entry path_cmp (named es) k.items v
         → named (match_ordering o ((k, v) ∷ e ∷ es) ((e.0, v) ∷ es) (e ∷ insert_entry cmp es k v)) ≡ match_ordering o
-        ((k.items, v) ∷ (e.0.items, e.1) ∷ named es) ((e.0.items, v) ∷ named es) ((e.0.items, e.1) ∷ insert_entry path_cmp (named es) k.items v)
+        ((k.items, v) ∷ (e.0.items, e.1) ∷ named es) ((e.0.items, v) ∷ named es)
+        ((e.0.items, e.1) ∷ insert_entry path_cmp (named es) k.items v)
     go Less rest = refl
     go Equal rest = refl
     go Greater rest = ap (λ (xs : List (List ℕ × Stat)). (e.0.items, e.1) ∷ xs) rest
 
 -- to put the same again changes nothing
-insert-insert : (es : List (List ℕ × Stat)) (k : List ℕ) (v : Stat) → insert_entry path_cmp (insert_entry path_cmp es k v) k v ≡ insert_entry path_cmp es k v
-insert-insert [] k v = ap (λ o. match_ordering o ((k, v) ∷ (k, v) ∷ []) ((k, v) ∷ []) ((k, v) ∷ insert_entry path_cmp [] k v)) (path_cmp-same k)
+insert-insert : (es : List (List ℕ × Stat)) (k : List ℕ) (v : Stat)
+    → insert_entry path_cmp (insert_entry path_cmp es k v) k v ≡ insert_entry path_cmp es k v
+insert-insert [] k v =
+    ap (λ o. match_ordering o ((k, v) ∷ (k, v) ∷ []) ((k, v) ∷ []) ((k, v) ∷ insert_entry path_cmp [] k v))
+    (path_cmp-same k)
 insert-insert (e ∷ es) k v = go (path_cmp k e.0) refl (insert-insert es k v)
   where
     go : (o : Ordering) → path_cmp k e.0 ≡ o → insert_entry path_cmp (insert_entry path_cmp es k v) k v ≡ insert_entry path_cmp es k v
-        → insert_entry path_cmp (match_ordering o ((k, v) ∷ e ∷ es) ((e.0, v) ∷ es) (e ∷ insert_entry path_cmp es k v)) k v ≡ match_ordering o ((k, v) ∷ e ∷ es)
+        → insert_entry path_cmp
+        (match_ordering o ((k, v) ∷ e ∷ es) ((e.0, v) ∷ es) (e ∷ insert_entry path_cmp es k v)) k v
+        ≡ match_ordering o ((k, v) ∷ e ∷ es)
         ((e.0, v) ∷ es) (e ∷ insert_entry path_cmp es k v)
-    go Less is rest = ap (λ o. match_ordering o ((k, v) ∷ (k, v) ∷ e ∷ es) ((k, v) ∷ e ∷ es) ((k, v) ∷ insert_entry path_cmp (e ∷ es) k v)) (path_cmp-same k)
+    go Less is rest =
+        ap (λ o. match_ordering o ((k, v) ∷ (k, v) ∷ e ∷ es) ((k, v) ∷ e ∷ es)
+        ((k, v) ∷ insert_entry path_cmp (e ∷ es) k v)) (path_cmp-same k)
     go Equal is rest = ap (λ o. match_ordering o ((k, v) ∷ (e.0, v) ∷ es) ((e.0, v) ∷ es) ((e.0, v) ∷ insert_entry path_cmp es k v)) is
     go Greater is rest =
         ap (λ o. match_ordering o ((k, v) ∷ e ∷ insert_entry path_cmp es k v) ((e.0, v) ∷ insert_entry path_cmp es k v)
@@ -56,7 +66,8 @@ insert-insert (e ∷ es) k v = go (path_cmp k e.0) refl (insert-insert es k v)
         ∙ ap (λ (xs : List (List ℕ × Stat)). e ∷ xs) rest
 
 -- one more file below the directory
-one_more : (directory : List ℕ) (files : List Entry) (k : ℕ) (d : Entry) → k < length files → is_below directory (slice_index_or files k d).path ≡ true
+one_more : (directory : List ℕ) (files : List Entry) (k : ℕ) (d : Entry) → k < length files
+    → is_below directory (slice_index_or files k d).path ≡ true
     → shown_in directory (take (k + 1) files) ≡ with_shown directory (shown_in directory (take k files)) (slice_index_or files k d)
 one_more directory files k d h below =
     let p = λ (e : Entry). is_below directory e.path in
@@ -86,7 +97,8 @@ shown_file directory files at lies none =
 -- files that all show the same
 many_more : (directory name : List ℕ) (files : List Entry) (at count : ℕ) → at + count < length files
     → ((k : ℕ) → at ≤ k → k ≤ at + count → (is_below directory (slice_index_or files k no_entry).path ≡ true) ×
-    ((found : List (List ℕ × Stat)) → with_shown directory found (slice_index_or files k no_entry) ≡ insert_entry path_cmp found name directory_stat))
+    ((found : List (List ℕ × Stat)) → with_shown directory found (slice_index_or files k no_entry)
+    ≡ insert_entry path_cmp found name directory_stat))
     → shown_in directory (take (at + count + 1) files) ≡ insert_entry path_cmp (shown_in directory (take at files)) name directory_stat
 many_more directory name files at zero h each =
     let first = each at (omega arith) (omega arith) in
@@ -94,15 +106,18 @@ many_more directory name files at zero h each =
     ∙ (one_more directory files at no_entry (omega arith) first.0 ∙ first.1 (shown_in directory (take at files)))
 many_more directory name files at (suc count) h each =
     let last = each (at + suc count) (omega arith) (omega arith) in
-    let before : shown_in directory (take (at + suc count) files) ≡ insert_entry path_cmp (shown_in directory (take at files)) name directory_stat = ap
-    (λ n. shown_in directory (take n files)) (omega arith) ∙ many_more directory name files at count (omega arith) (λ k l m. each k l (omega arith)) in
+    let before : shown_in directory (take (at + suc count) files)
+    ≡ insert_entry path_cmp (shown_in directory (take at files)) name directory_stat = ap
+    (λ n. shown_in directory (take n files)) (omega arith) ∙ many_more directory name files at count (omega arith)
+    (λ k l m. each k l (omega arith)) in
     one_more directory files (at + suc count) no_entry h last.0
     ∙ (last.1 (shown_in directory (take (at + suc count) files))
     ∙ (ap (λ (found : List (List ℕ × Stat)). insert_entry path_cmp found name directory_stat) before
     ∙ insert-insert (shown_in directory (take at files)) name directory_stat))
 
 -- what a path shows that is alike up to the end of a further directory's name
-alike_shows : (directory : List ℕ) (x e : Entry) (i : ℕ) → is_below directory e.path ≡ true → slash_in (rest_below directory e.path) ≡ Some i
+alike_shows : (directory : List ℕ) (x e : Entry) (i : ℕ) → is_below directory e.path ≡ true
+    → slash_in (rest_below directory e.path) ≡ Some i
     → Alike (length (inside directory) + (i + 1)) x.path e.path
     → (is_below directory x.path ≡ true) × ((found : List (List ℕ × Stat))
     → with_shown directory found x ≡ insert_entry path_cmp found (take i (rest_below directory e.path)) directory_stat)
@@ -119,7 +134,8 @@ alike_shows directory x e i below found alike =
 
 -- all the files that lie in one further directory
 pub shown_directory : (directory : List ℕ) (files : List Entry) (at next i : ℕ) (lies : LiesBelow directory files at) → IsRising files
-    → BeginsAt (take (length (inside directory) + i) lies.entry.path ++ codes "0") files next → slash_in (rest_below directory lies.entry.path) ≡ Some i
+    → BeginsAt (take (length (inside directory) + i) lies.entry.path ++ codes "0") files next
+    → slash_in (rest_below directory lies.entry.path) ≡ Some i
     → (at < next) × (shown_in directory (take next files)
     ≡ insert_entry path_cmp (shown_in directory (take at files)) (take i (rest_below directory lies.entry.path)) directory_stat)
 shown_directory directory files at next i lies rising begins slash = (onward, all)
@@ -160,7 +176,8 @@ shown_directory directory files at next i lies rising begins slash = (onward, al
             ((take (length (inside directory) + i) e.path) ++ codes "/") ≡ true
         go (inl s) = subst (λ (j : ℕ). starts_with nat_eq (slice_index_or files j no_entry).path
             ((take (length (inside directory) + i) e.path) ++ codes "/") ≡ true) s
-            (ap (λ (x : Entry). starts_with nat_eq x.path ((take (length (inside directory) + i) e.path) ++ codes "/")) (sym (at_is no_entry)) ∙ goes_on)
+            (ap (λ (x : Entry). starts_with nat_eq x.path
+            ((take (length (inside directory) + i) e.path) ++ codes "/")) (sym (at_is no_entry)) ∙ goes_on)
         go (inr (inl f)) = front_between (take (length (inside directory) + i) e.path) e.path (slice_index_or files k no_entry).path goes_on
             (ap (λ (x : Entry). path_cmp x.path (slice_index_or files k no_entry).path) (at_is no_entry)
             ∙ earlier_less files rising at k no_entry f (omega (arith, m, begins.within))) (begins.less k no_entry (omega arith) m)
@@ -168,8 +185,10 @@ shown_directory directory files at next i lies rising begins slash = (onward, al
 
     alike : (k : ℕ) → at ≤ k → k < next → Alike (length (inside directory) + (i + 1)) (slice_index_or files k no_entry).path e.path
     alike k l m =
-        let a = alike_fronts (take (length (inside directory) + i) e.path) (slice_index_or files k no_entry).path e.path (begins_there k l m) goes_on in
-        subst (λ (j : ℕ). Alike j (slice_index_or files k no_entry).path e.path) (omega (arith, long, length-take (length (inside directory) + i) e.path)) a
+        let a = alike_fronts (take (length (inside directory) + i) e.path) (slice_index_or files k no_entry).path
+        e.path (begins_there k l m) goes_on in
+        subst (λ (j : ℕ). Alike j (slice_index_or files k no_entry).path e.path)
+        (omega (arith, long, length-take (length (inside directory) + i) e.path)) a
 
     ends_at : at + (next - at - 1) + 1 ≡ next
     ends_at = omega (arith, onward)
@@ -194,14 +213,17 @@ shown_all directory files at rising h others stop = ap (fold (with_shown directo
         go : (at ≡ k) ⊎ ((at < k) ⊎ (k < at)) → is_below directory (slice_index_or files k d).path ≡ false
         go (inl s) = subst (λ (j : ℕ). is_below directory (slice_index_or files j d).path ≡ false) s (stop d (omega arith))
         go (inr (inl f)) = false_from_ne_true _ (λ t. let is = begins_between (inside directory) (slice_index_or files at d).path
-            (slice_index_or files k d).path (others at d (omega arith) (omega arith)) (earlier_less files rising at k d f m) t in let not = stop d
+            (slice_index_or files k d).path (others at d (omega arith) (omega arith))
+            (earlier_less files rising at k d f m) t in let not = stop d
             (omega arith) in cc)
         go (inr (inr f)) = absurd (omega arith)
 
     none : (xs : List Entry) → ((k : ℕ) (d : Entry) → k < length xs → is_below directory (slice_index_or xs k d).path ≡ false)
         → filter (λ (e : Entry). is_below directory e.path) xs ≡ []
     none [] each = refl
-    none (x ∷ xs) each = ap (λ t. cond t (x ∷ filter (λ (e : Entry). is_below directory e.path) xs) (filter (λ (e : Entry). is_below directory e.path) xs))
+    none (x ∷ xs) each =
+        ap (λ t. cond t (x ∷ filter (λ (e : Entry). is_below directory e.path) xs)
+        (filter (λ (e : Entry). is_below directory e.path) xs))
         (each 0 x (omega arith)) ∙ none xs (λ k d l. each (suc k) d (omega arith))
 
     same : filter (λ (e : Entry). is_below directory e.path) (take at files) ≡ filter (λ (e : Entry). is_below directory e.path) files
@@ -236,7 +258,9 @@ shown_none directory files i h less = ap (fold (with_shown directory) []) (none 
     none : (xs : List Entry) → ((k : ℕ) (d : Entry) → k < length xs → is_below directory (slice_index_or xs k d).path ≡ false)
         → filter (λ (e : Entry). is_below directory e.path) xs ≡ []
     none [] fails = refl
-    none (x ∷ xs) fails = ap (λ t. cond t (x ∷ filter (λ (e : Entry). is_below directory e.path) xs) (filter (λ (e : Entry). is_below directory e.path) xs))
+    none (x ∷ xs) fails =
+        ap (λ t. cond t (x ∷ filter (λ (e : Entry). is_below directory e.path) xs)
+        (filter (λ (e : Entry). is_below directory e.path) xs))
         (fails 0 x (omega arith)) ∙ none xs (λ k d l. fails (suc k) d (omega arith))
 
     each : (k : ℕ) (d : Entry) → k < length (take i files) → is_below directory (slice_index_or (take i files) k d).path ≡ false

@@ -1,5 +1,6 @@
 -- The files below a directory that lie in one further directory stand next to each other.
-use Rattle.std.specs.Prelude.{ℕ, ◌+◌, ◌≡◌, ◌<◌, ◌≤◌, ◌==◌, cond, true, false, List, [], ◌∷◌, ◌++◌, length, take, drop, slice_index_or, nat_eq, Some}
+use Rattle.std.specs.Prelude.{ℕ, ◌+◌, ◌≡◌, ◌<◌, ◌≤◌, ◌==◌, cond, true, false, List, [], ◌∷◌, ◌++◌, length, take, drop, slice_index_or}
+use Rattle.std.specs.Prelude.{nat_eq, Some}
 use Rattle.std.specs.Prelude.{None, codes, refl}
 use Rattle.std.proofs.Common.{◌∙◌, ap, sym, subst, arith, Ordering, ltb}
 use Rattle.std.specs.Ordering.{MatchOrdering, nat_cmp, ordering_then}
@@ -47,7 +48,8 @@ lt_from_less x y xs h = go (nat_cmp x y) (ranked x y (nat_cmp x y) refl) xs h
     go Greater m xs e = absurd cc
 
 -- and whatever stands between them goes on with a slash too
-pub front_between : (q x e : List ℕ) → starts_with nat_eq x (q ++ codes "/") ≡ true → path_cmp x e ≡ Less → path_cmp e (q ++ codes "0") ≡ Less
+pub front_between : (q x e : List ℕ) → starts_with nat_eq x (q ++ codes "/") ≡ true → path_cmp x e ≡ Less
+    → path_cmp e (q ++ codes "0") ≡ Less
     → starts_with nat_eq e (q ++ codes "/") ≡ true
 front_between [] [] e begins low high = absurd cc
 front_between [] (a ∷ x) [] begins low high = absurd cc
@@ -75,7 +77,8 @@ pub record Alike (n : ℕ) (x y : List ℕ) : Type 0 where
   pub long : n ≤ length x
   pub agree : take n x ≡ take n y
 
-pub alike_fronts : (q x y : List ℕ) → starts_with nat_eq x (q ++ codes "/") ≡ true → starts_with nat_eq y (q ++ codes "/") ≡ true → Alike (length q + 1) x y
+pub alike_fronts : (q x y : List ℕ) → starts_with nat_eq x (q ++ codes "/") ≡ true
+    → starts_with nat_eq y (q ++ codes "/") ≡ true → Alike (length q + 1) x y
 alike_fronts q x y hx hy =
     let size : length (q ++ codes "/") ≡ length q + 1 = length-append q (codes "/") in
     let fx = front_there x (q ++ codes "/") hx in
@@ -86,7 +89,8 @@ alike_fronts q x y hx hy =
     }
 
 -- the first slash, where it is
-pub slash_here : (r : List ℕ) (i : ℕ) → i < length r → ((k : ℕ) → k < i → (slice_index_or r k 0 == 47) ≡ false) → (slice_index_or r i 0 == 47) ≡ true
+pub slash_here : (r : List ℕ) (i : ℕ) → i < length r → ((k : ℕ) → k < i → (slice_index_or r k 0 == 47) ≡ false)
+    → (slice_index_or r i 0 == 47) ≡ true
     → slash_in r ≡ Some i
 slash_here r i h before at =
     let is : position_or_len (λ byte. byte == 47) r ≡ i = position_or_len_is (λ byte. byte == 47) r i 0 (omega arith) before (λ l. at) in

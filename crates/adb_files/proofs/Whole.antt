@@ -13,7 +13,8 @@ use Rattle.adb_sync.specs.Framed.{asks_are_framed}
 use Rattle.adb_files.specs.Entries.{Entry}
 use Rattle.adb_files.specs.Requests.{Request, requests_of, open_after, fault_request, requests_in}
 use Rattle.adb_files.specs.Served.{serve_all}
-use Rattle.adb_files.specs.Service.{Service, Moment, moment_behind, moment_first, StandsFor, Serves, ServesFront, Feeds, FeedsFront, HasServed}
+use Rattle.adb_files.specs.Service.{Service, Moment, moment_behind, moment_first, StandsFor, Serves, ServesFront, Feeds, FeedsFront}
+use Rattle.adb_files.specs.Service.{HasServed}
 use Rattle.adb_files.proofs.Serving.{requests_of-append, serves_more, serves_ended, front_none, front_whole, front_more, front_less}
 
 -- more bytes have the requests of those before, and further ones
@@ -30,7 +31,8 @@ requests_grow fed piece = go (ask_fault_in fed) refl
         record {
           further = [];
           is = ap (λ (c : Option SyncFault). requests_of None (asks_in (fed ++ piece)) ++ fault_request c) (stays.1 ∙ sym is)
-              ∙ (ap (λ (xs : List SyncAsk). requests_of None xs ++ fault_request (ask_fault_in fed)) stays.0 ∙ sym (append-nil (requests_in fed)));
+              ∙ (ap (λ (xs : List SyncAsk). requests_of None xs ++ fault_request (ask_fault_in fed)) stays.0
+              ∙ sym (append-nil (requests_in fed)));
         }
     go None is =
         let more = cut_piece ask_front ask_of past_ask asks_are_framed (length fed) asks_start fed piece (omega arith) is in
@@ -40,9 +42,11 @@ requests_grow fed piece = go (ask_fault_in fed) refl
           further = requests_of (open_after None (asks_in fed)) next.given ++ fault_request next.fault;
           is = ap (λ (d : Cut AskFormat SyncAsk SyncFault). requests_of None d.given ++ fault_request d.fault) more
               ∙ (ap (λ (rs : List Request). rs ++ fault_request next.fault) (requests_of-append None (asks_in fed) next.given)
-              ∙ (append_assoc (requests_of None (asks_in fed)) (requests_of (open_after None (asks_in fed)) next.given) (fault_request next.fault)
+              ∙ (append_assoc (requests_of None (asks_in fed))
+              (requests_of (open_after None (asks_in fed)) next.given) (fault_request next.fault)
               ∙ ap (λ (rs : List Request). rs ++ (requests_of (open_after None (asks_in fed)) next.given ++ fault_request next.fault))
-              (sym (ap (λ (f : Option SyncFault). requests_of None (asks_in fed) ++ fault_request f) is ∙ append-nil (requests_of None (asks_in fed))))));
+              (sym (ap (λ (f : Option SyncFault). requests_of None (asks_in fed) ++ fault_request f) is
+              ∙ append-nil (requests_of None (asks_in fed))))));
         }
 
 -- all that was served so far
@@ -54,14 +58,16 @@ so_far first files fed taken service has = record { files = has.left; answer = h
 abbrev behind : List ℕ → Moment → Moment
 behind taken m = record { files = m.files; out = taken ++ m.out; ended = m.ended }
 
-serves_behind : (taken : List ℕ) (requests : List Request) (a b : Moment) → Serves requests a b → Serves requests (behind taken a) (behind taken b)
+serves_behind : (taken : List ℕ) (requests : List Request) (a b : Moment) → Serves requests a b
+    → Serves requests (behind taken a) (behind taken b)
 serves_behind taken requests a b all = record {
   files = all.files;
   answer = ap (λ (o : List ℕ). taken ++ o) all.answer ∙ sym (append_assoc taken a.out (serve_all a.files requests).answer);
   ends = all.ends;
 }
 
-front_behind : (taken : List ℕ) (requests : List Request) (a b : Moment) → ServesFront requests a b → ServesFront requests (behind taken a) (behind taken b)
+front_behind : (taken : List ℕ) (requests : List Request) (a b : Moment) → ServesFront requests a b
+    → ServesFront requests (behind taken a) (behind taken b)
 front_behind taken requests a b front = record {
   whole = front.whole;
   last = front.last;
@@ -71,16 +77,19 @@ front_behind taken requests a b front = record {
   files = front.files;
   said = front.said;
   unsaid = front.unsaid;
-  answer = ap (λ (o : List ℕ). taken ++ o) front.answer ∙ sym (append_assoc taken a.out ((serve_all a.files front.whole).answer ++ front.said));
+  answer = ap (λ (o : List ℕ). taken ++ o) front.answer ∙ sym
+      (append_assoc taken a.out ((serve_all a.files front.whole).answer ++ front.said));
   within = front.within;
 }
 
 -- whether a service is spent says nothing of what it holds
-stands_unspent : (fed : List ℕ) (service : Service) (spent : Bool) → StandsFor fed service → StandsFor fed (record service { spent = spent })
+stands_unspent : (fed : List ℕ) (service : Service) (spent : Bool) → StandsFor fed service
+    → StandsFor fed (record service { spent = spent })
 stands_unspent fed service spent stands = record { reads = stands.reads; sound = stands.sound; keeps = stands.keeps }
 
 -- want of memory at a piece of which nothing was served
-pub feeds_none : (fed piece : List ℕ) (old new : Service) (files : List Entry) → new.out ≡ old.out → FeedsFront fed piece old new files files
+pub feeds_none : (fed piece : List ℕ) (old new : Service) (files : List Entry) → new.out ≡ old.out
+    → FeedsFront fed piece old new files files
 feeds_none fed piece old new files same =
     let grows = requests_grow fed piece in
     record {
@@ -108,7 +117,8 @@ module _ (first : List Entry) (fed taken piece : List ℕ) where
   served_dropped old files stop has =
       let grows = requests_grow fed piece in
       let all = subst (λ (rs : List Request). Serves rs (moment_first first) (moment_behind taken files old)) (sym grows.is)
-      (serves_ended (requests_in fed) grows.further (moment_first first) (moment_behind taken files old) stop (so_far first files fed taken old has)) in
+      (serves_ended (requests_in fed) grows.further (moment_first first) (moment_behind taken files old) stop
+      (so_far first files fed taken old has)) in
       record {
         stands = record {
           reads = λ on. absurd (true≢false (sym stop ∙ on));
@@ -141,21 +151,32 @@ module _ (first : List Entry) (fed taken piece : List ℕ) where
 
 -- A call on an open service, seen before as another view of the same.
 module _ (old view new : Service) (files files' : List Entry) (piece : List ℕ) (same : view ≡ old) (on : view.ended ≡ false) where
-  before : (first : List Entry) (fed taken : List ℕ) → HasServed first fed taken old files → HasServed first fed taken (record view { spent = false }) files
+  before : (first : List Entry) (fed taken : List ℕ) → HasServed first fed taken old files
+      → HasServed first fed taken (record view { spent = false }) files
   before first fed taken has =
       let seen = subst (λ (s : Service). HasServed first fed taken s files) (sym same) has in
       record { stands = stands_unspent fed view false seen.stands; left = seen.left; given_out = seen.given_out; ends = seen.ends }
 
-  pub call_served : ((fed : List ℕ) → StandsFor fed (record view { spent = false }) → Feeds fed piece (record view { spent = false }) new files files')
+  pub call_served :
+      ((fed : List ℕ) → StandsFor fed (record view { spent = false })
+      → Feeds fed piece (record view { spent = false }) new files files')
       → (spent : Bool)
       → (first : List Entry) (fed taken : List ℕ) → HasServed first fed taken old files
       → HasServed first (fed ++ piece) taken (record new { spent = spent }) files'
   call_served call spent first fed taken has =
       let fresh = before first fed taken has in
       let after = served_more first fed taken piece (record view { spent = false }) new files files' on fresh (call fed fresh.stands) in
-      record { stands = stands_unspent (fed ++ piece) new spent after.stands; left = after.left; given_out = after.given_out; ends = after.ends }
+      record {
+        stands = stands_unspent (fed ++ piece) new spent after.stands;
+        left = after.left;
+        given_out =
+            after.given_out;
+        ends = after.ends;
+      }
 
-  pub call_front : ((fed : List ℕ) → StandsFor fed (record view { spent = false }) → FeedsFront fed piece (record view { spent = false }) new files files')
+  pub call_front :
+      ((fed : List ℕ) → StandsFor fed (record view { spent = false })
+      → FeedsFront fed piece (record view { spent = false }) new files files')
       → (first : List Entry) (fed taken : List ℕ) → HasServed first fed taken old files
       → ServesFront (requests_in (fed ++ piece)) (moment_first first) (moment_behind taken files' new)
   call_front call first fed taken has =

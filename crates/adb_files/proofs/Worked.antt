@@ -28,14 +28,16 @@ unknown : served one_file (codes "STA2" ++ number 2 ++ codes "/a") ≡ record
 unknown = refl
 
 -- what follows a QUIT is dropped
-quit : served one_file (codes "QUIT" ++ number 0 ++ codes "STAT" ++ number 2 ++ codes "/a") ≡ record { files = one_file; answer = []; ended = true }
+quit : served one_file (codes "QUIT" ++ number 0 ++ codes "STAT" ++ number 2 ++ codes "/a")
+    ≡ record { files = one_file; answer = []; ended = true }
 quit = refl
 
 -- a push changes nothing before its DONE
 open_push : served one_file push ≡ record { files = one_file; answer = []; ended = false }
 open_push = refl
 
-whole_push : served one_file (push ++ codes "DONE" ++ number 5) ≡ record { files = pushed; answer = codes "OKAY" ++ number 0; ended = false }
+whole_push : served one_file (push ++ codes "DONE" ++ number 5)
+    ≡ record { files = pushed; answer = codes "OKAY" ++ number 0; ended = false }
 whole_push = refl
 
 -- a push below a file

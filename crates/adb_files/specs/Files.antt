@@ -1,5 +1,6 @@
 -- The files of a device as a finite map, from paths in rising order of their bytes.
-use Rattle.std.specs.Prelude.{ℕ, ◌+◌, ◌^◌, ◌≡◌, ◌≢◌, ◌<◌, ◌≤◌, ◌&&◌, ◌||◌, nat_lt, if◌then◌else◌, Bool, true, false, not, nat_eq, List, ◌∷◌, ◌++◌}
+use Rattle.std.specs.Prelude.{ℕ, ◌+◌, ◌^◌, ◌≡◌, ◌≢◌, ◌<◌, ◌≤◌, ◌&&◌, ◌||◌, nat_lt, if◌then◌else◌, Bool, true, false, not, nat_eq, List, ◌∷◌}
+use Rattle.std.specs.Prelude.{◌++◌}
 use Rattle.std.specs.Prelude.{length, All, map, filter, sum_by, slice_get, Option, Some, None, option_map, codes, bytes_eq}
 use Rattle.std.specs.List.{list_any, find, starts_with}
 use Rattle.std.specs.List.Sorted.{IsStrictlySortedBy}

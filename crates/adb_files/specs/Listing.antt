@@ -1,5 +1,6 @@
 -- What a directory holds (SYNC.TXT, LIST): its direct entries in the order of the bytes of their names.
-use Rattle.std.specs.Prelude.{ℕ, ◌≡◌, ◌==◌, ◌<◌, ◌≤◌, if◌then◌else◌, List, [], length, take, drop, map, filter, fold, Option, Some, None, Vec}
+use Rattle.std.specs.Prelude.{ℕ, ◌≡◌, ◌==◌, ◌<◌, ◌≤◌, if◌then◌else◌, List, [], length, take, drop, map, filter, fold, Option, Some, None}
+use Rattle.std.specs.Prelude.{Vec}
 use Rattle.std.specs.List.{position}
 use Rattle.std.specs.BTreeMap.{insert_entry}
 use Rattle.adb_sync.specs.declared.answer.Dirent.{Dirent}
@@ -58,7 +59,8 @@ listing directory files = if is_path directory then map dirent_of (shown_in dire
 abbrev pub named : {A : Type 0} → List (Vec ℕ A × Stat) → List (List ℕ × Stat)
 named {A} entries = map (λ (entry : Vec ℕ A × Stat). (entry.0.items, entry.1)) entries
 
--- A step along the files: the next place is behind this one, and what was found of the files before this place is now that of the files before the next.
+-- A step along the files: the next place is behind this one, and what was found of the files before this place is now
+-- that of the files before the next.
 pub record Advances (directory : List ℕ) (files : List Entry) (at next : ℕ) (old new : List (List ℕ × Stat)) : Type 0 where
   pub onward : at < next
   pub within : next ≤ length files

@@ -1,4 +1,5 @@
--- The whole requests of the bytes that a sync service was fed (SYNC.TXT): a SEND with its DATA and its DONE is one, and a fault of the bytes is one.
+-- The whole requests of the bytes that a sync service was fed (SYNC.TXT): a SEND with its DATA and its DONE is one,
+-- and a fault of the bytes is one.
 use Rattle.std.specs.Prelude.{ℕ, List, [], ◌∷◌, ◌++◌, Option, Some, None}
 use Rattle.adb_sync.specs.declared.ask.SyncAsk.{SyncAsk}
 use Rattle.adb_sync.specs.declared.ask.SyncAsk.TheVariants as asks

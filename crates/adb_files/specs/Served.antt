@@ -116,7 +116,12 @@ serve_one files (Fails fault) = ended_with files (fail_bytes (fault_text fault))
 abbrev pub then_served : Served → (List Entry → Served) → Served
 then_served served more =
     if served.ended then served
-    else record { files = (more served.files).files; answer = served.answer ++ (more served.files).answer; ended = (more served.files).ended }
+    else record {
+      files = (more served.files).files;
+      answer = served.answer ++ (more served.files).answer;
+      ended =
+          (more served.files).ended;
+    }
 
 -- whole requests in order, each over the files that the one before it left
 abbrev pub serve_all : List Entry → List Request → Served

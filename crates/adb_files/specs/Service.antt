@@ -13,7 +13,8 @@ use Rattle.adb_files.specs.declared.files.TheConstants.{MAX_STORED}
 use Rattle.adb_files.specs.Requests.{OpenSend, Request, requests_of, open_after, requests_in}
 use Rattle.adb_files.specs.Served.{serve_all, served}
 
--- the reader of requests, the SEND that is open, the answers that were not taken yet, whether the service has ended, and whether it is spent by want of memory
+-- the reader of requests, the SEND that is open, the answers that were not taken yet, whether the service has ended,
+-- and whether it is spent by want of memory
 pub record Service : Type 0 where
   pub reading : Cut AskFormat SyncAsk SyncFault
   pub sending : Option Sending
@@ -52,7 +53,8 @@ moment_behind taken files service = record { files = files; out = taken ++ servi
 abbrev pub moment_first : List Entry → Moment
 moment_first files = record { files = files; out = []; ended = false }
 
--- Requests were served: the files are those that they leave, their answer stands behind what was there, and the service has ended where they end it.
+-- Requests were served: the files are those that they leave, their answer stands behind what was there, and the
+-- service has ended where they end it.
 pub record Serves (requests : List Request) (old new : Moment) : Type 0 where
   pub files : new.files ≡ (serve_all old.files requests).files
   pub answer : new.out ≡ old.out ++ (serve_all old.files requests).answer
@@ -68,7 +70,8 @@ pub record TellsUpTo (answer unsaid out out' : List ℕ) : Type 0 where
 abbrev pub TellsFront : List ℕ → List ℕ → List ℕ → Type 0
 TellsFront answer out out' = (unsaid : List ℕ) × TellsUpTo answer unsaid out out'
 
--- Memory ran out while requests were served. The first of them were served and wholly answered. Of at most one more the files are what it leaves, and a front
+-- Memory ran out while requests were served. The first of them were served and wholly answered. Of at most one more
+-- the files are what it leaves, and a front
 -- of its answer is told. No other was served.
 pub record ServesFront (requests : List Request) (old new : Moment) : Type 0 where
   pub whole : List Request
@@ -112,7 +115,8 @@ moment_of r = moment r.files r.session
 abbrev pub held : Cut AskFormat SyncAsk SyncFault → Session → Service
 held reader session = record { reading = reader; sending = session.sending; out = session.out; ended = session.ended; spent = false }
 
--- The requests that a reader gives were served. Where the service goes on the reader has none left, and what is kept is that of the SEND that they leave open.
+-- The requests that a reader gives were served. Where the service goes on the reader has none left, and what is kept
+-- is that of the SEND that they leave open.
 pub record ServesGiven (send : Option OpenSend) (old new : Run) : Type 0 where
   pub serves : Serves (requests_of send old.reader.given) (moment_of old) (moment_of new)
   pub empty : new.session.ended ≡ false → new.reader ≡ record old.reader { given = [] }
@@ -126,14 +130,16 @@ pub record Done (send : Option OpenSend) (old new : Run) : Type 0 where
   pub serves : Serves (requests_of send done) (moment_of old) (moment_of new)
   pub keeps : KeepsSend (open_after send done) new.session.sending
 
--- What a service that goes on holds of all the bytes that it was fed: their requests were served, no fault is among them, and what is kept is that of the SEND
+-- What a service that goes on holds of all the bytes that it was fed: their requests were served, no fault is among
+-- them, and what is kept is that of the SEND
 -- that they leave open.
 pub record StandsFor (fed : List ℕ) (service : Service) : Type 0 where
   pub reads : service.ended ≡ false → StandsForAsks fed (asks_in fed) service.reading
   pub sound : service.ended ≡ false → service.reading.fault ≡ None
   pub keeps : service.ended ≡ false → KeepsSend (open_after None (asks_in fed)) service.sending
 
--- A piece was taken: the requests that it completes are those of all bytes behind those of the bytes before it, and they were served over the files that were
+-- A piece was taken: the requests that it completes are those of all bytes behind those of the bytes before it, and
+-- they were served over the files that were
 -- lent.
 pub record Feeds (fed piece : List ℕ) (old new : Service) (files files' : List Entry) : Type 0 where
   pub requests : List Request
@@ -147,7 +153,8 @@ pub record FeedsFront (fed piece : List ℕ) (old new : Service) (files files' :
   pub is : requests_in (fed ++ piece) ≡ requests_in fed ++ requests
   pub front : ServesFront requests (moment_behind [] files old) (moment_behind [] files' new)
 
--- A service that began over some files, that was fed these bytes and of whose answers these were taken, where nobody else changed the files between its feeds:
+-- A service that began over some files, that was fed these bytes and of whose answers these were taken, where nobody
+-- else changed the files between its feeds:
 -- the files, its answers, the taken ones and those that are left, and whether it has ended are as all the bytes are served.
 pub record HasServed (first : List Entry) (fed taken : List ℕ) (service : Service) (files : List Entry) : Type 0 where
   pub stands : StandsFor fed service

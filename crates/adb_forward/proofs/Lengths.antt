@@ -20,7 +20,14 @@ list_fits : (table : List (ℕ × ForwardRow)) → IsForwardTable table → leng
 list_fits table is =
     let rows = values_of table in
     let all = each_row (λ (e : ℕ × ForwardRow). IsRow e.0 e.1) (λ row. length (forward_line row) ≤ 588) length-line table is.rows in
-    omega (arith, is.room, length-values_of table, length-flat_map forward_line rows, sum_by-le (λ row. length (forward_line row)) 588 rows all)
+    omega (
+      arith,
+      is.room,
+      length-values_of table,
+      length-flat_map forward_line rows,
+      sum_by-le
+          (λ row. length (forward_line row)) 588 rows all,
+    )
 
 -- the lines so far, and those that are left
 pub part_fits : (table : List (ℕ × ForwardRow)) → IsForwardTable table → (text : List ℕ) (left : List ForwardRow)

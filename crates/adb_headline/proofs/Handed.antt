@@ -1,5 +1,6 @@
 -- What was handed to a client stays.
-use Rattle.std.proofs.Common.{◌≡◌, ℕ, ◌<◌, ◌≤◌, Bool, true, false, cond, List, [], ◌∷◌, ◌++◌, length, drop, Option, Some, None, refl, sym, ap, subst, ◌∙◌}
+use Rattle.std.proofs.Common.{◌≡◌, ℕ, ◌<◌, ◌≤◌, Bool, true, false, cond, List, [], ◌∷◌, ◌++◌, length, drop, Option, Some, None, refl, sym}
+use Rattle.std.proofs.Common.{ap, subst, ◌∙◌}
 use Rattle.std.proofs.Common.{append_assoc, arith, eqb, ◌⊎◌, inl, inr, ◌+◌}
 use Rattle.std.specs.Prelude.{is_some}
 use Rattle.std.proofs.lemmas.Bool.{cases_lt}
@@ -76,5 +77,6 @@ module _ (l : ℕ) (b : Birth) (e : Entry) (older : History) where
 pub stays_handed : (newer older : History) → IsLegal (newer ++ older) → StaysHanded newer older
 stays_handed [] older legal l b is = prefix_same (handed_to l b older)
 stays_handed (e ∷ newer) older legal l b is =
-    prefix_then (handed_to l b older) (handed_to l b (newer ++ older)) (handed_to l b (e ∷ newer ++ older)) (stays_handed newer older legal.0 l b is)
+    prefix_then (handed_to l b older) (handed_to l b (newer ++ older)) (handed_to l b (e ∷ newer ++ older))
+    (stays_handed newer older legal.0 l b is)
     (handed_next l b e (newer ++ older) legal.0 (born_still newer older l b is))

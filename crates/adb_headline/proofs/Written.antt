@@ -1,5 +1,6 @@
 -- A byte that was handed was written.
-use Rattle.std.proofs.Common.{◌≡◌, ℕ, ◌+◌, zero, suc, Bool, true, false, cond, List, [], ◌∷◌, ◌++◌, length, drop, Option, Some, None, refl, sym, ap, subst}
+use Rattle.std.proofs.Common.{◌≡◌, ℕ, ◌+◌, zero, suc, Bool, true, false, cond, List, [], ◌∷◌, ◌++◌, length, drop, Option, Some, None, refl}
+use Rattle.std.proofs.Common.{sym, ap, subst}
 use Rattle.std.proofs.Common.{◌∙◌, ◌⊎◌, inl, inr, arith, eqb}
 use Rattle.std.specs.Prelude.{◌&&◌, not, ◌==◌, nat_eq, slice_get}
 use Rattle.std.proofs.lemmas.Bool.{eqb-true}
@@ -72,7 +73,8 @@ both true b e = (refl, e)
 both false b e = absurd (let clash : false ≡ true = e in cc)
 
 module _ (remote l : ℕ) (p : Packet) (ps : List Packet) where
-  passed : (many byte : ℕ) → (is_wrte p.command && is_between remote l p) ≡ false → WrittenIn remote l ps many byte → WrittenIn remote l (p ∷ ps) many byte
+  passed : (many byte : ℕ) → (is_wrte p.command && is_between remote l p) ≡ false → WrittenIn remote l ps many byte
+      → WrittenIn remote l (p ∷ ps) many byte
   passed many byte off w = record {
     number = suc w.number;
     write = w.write;
@@ -141,7 +143,8 @@ written_in remote l (p ∷ ps) many byte is = go (is_wrte p.command && is_betwee
     go false off at later = passed remote l p ps many byte off (later many byte at)
     go true on at later = split (get_either p.payload (joined (told_in remote l ps)) many byte at)
       where
-        split : (slice_get p.payload many ≡ Some byte) ⊎ IsIn p.payload (joined (told_in remote l ps)) many byte → WrittenIn remote l (p ∷ ps) many byte
+        split : (slice_get p.payload many ≡ Some byte) ⊎ IsIn p.payload (joined (told_in remote l ps)) many byte
+            → WrittenIn remote l (p ∷ ps) many byte
         split (inl here) = in_it remote l p ps on many byte here
         split (inr x) = behind_it remote l p ps on many byte x.place x.order (later x.place byte x.is)
 
@@ -160,7 +163,8 @@ opening_last l (p ∷ ps) o is = by p.command is (opening_last l ps o)
     past : Later → opening_in l ps ≡ Some o → Last
     past later e = let x = later e in (p ∷ x.0, ap (λ (y : List Packet). p ∷ y) x.1)
 
-    okay : (b : Bool) → cond b (Some (record { remote = p.arg0; word = credit_word p.payload; later = ps })) (opening_in l ps) ≡ Some o → Later → Last
+    okay : (b : Bool) → cond b (Some (record { remote = p.arg0; word = credit_word p.payload; later = ps }))
+        (opening_in l ps) ≡ Some o → Later → Last
     okay true e later =
         let same : record { remote = p.arg0; word = credit_word p.payload; later = ps } ≡ o = cc in
         (p ∷ [], ap (λ (x : Opening). p ∷ x.later) (sym same))
@@ -209,7 +213,8 @@ module _ (h : History) (l : ℕ) (b : Birth) (many byte : ℕ) where
       go None is at = absurd (let clash : None ≡ Some byte = at in cc)
       go (Some o) is at = written_since o is (written_in o.remote l o.later many byte at)
 
-  handed_is_written : IsPrefixOf (handed_to l b h) (joined (told_to l b h)) → slice_get (handed_to l b h) many ≡ Some byte → IsWritten h l b many byte
+  handed_is_written : IsPrefixOf (handed_to l b h) (joined (told_to l b h))
+      → slice_get (handed_to l b h) many ≡ Some byte → IsWritten h l b many byte
   handed_is_written front at = told_is_written
       (subst (λ (x : List ℕ). slice_get x many ≡ Some byte) front.1 (get_front (handed_to l b h) front.0 many byte at))
 

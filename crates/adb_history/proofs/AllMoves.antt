@@ -14,9 +14,11 @@ module _ {P : State → List Event → Type 0} (k : Serves P) where
   hears_kept : (o : Option Client) (c : ℕ) (s : State) (w : List Event) → P s w → After P w (hears_okay o c s)
   hears_kept None c s w h = after_quietly P w s h
   hears_kept (Some client) c s w h =
-      after_if P w client.about.forwarded (quietly s) (owe_client c (codes "OKAY") s) (λ e. after_quietly P w s h) (λ e. k.due c (codes "OKAY") s w h)
+      after_if P w client.about.forwarded (quietly s) (owe_client c (codes "OKAY") s) (λ e. after_quietly P w s h)
+      (λ e. k.due c (codes "OKAY") s w h)
 
-  hears_row : (o : Option Client) (c l : ℕ) (s : State) (stream : Stream) → s.streams l ≡ Some stream → (hears_okay o c s).state.streams l ≡ Some stream
+  hears_row : (o : Option Client) (c l : ℕ) (s : State) (stream : Stream) → s.streams l ≡ Some stream
+      → (hears_okay o c s).state.streams l ≡ Some stream
   hears_row None c l s stream is = is
   hears_row (Some client) c l s stream is = go client.about.forwarded
     where
@@ -24,13 +26,15 @@ module _ {P : State → List Event → Type 0} (k : Serves P) where
       go true = is
       go false = is
 
-  opened_kept : (l remote : ℕ) (word : Option ℕ) (stream : Stream) (s : State) (w : List Event) → s.streams l ≡ Some stream → IsOpenedBy remote stream
+  opened_kept : (l remote : ℕ) (word : Option ℕ) (stream : Stream) (s : State) (w : List Event)
+      → s.streams l ≡ Some stream → IsOpenedBy remote stream
       → P s w → After P w (opened l remote word stream s)
   opened_kept l remote word stream s w is by h =
       let heard : Made = hears_okay (s.clients stream.client) stream.client s in
       after_then P w heard (λ s. quietly (open_now l remote word stream s)) (hears_kept (s.clients stream.client) stream.client s w h)
       (λ v now. after_quietly P v (open_now l remote word stream heard.state)
-      (k.opens l remote word stream heard.state v (hears_row (s.clients stream.client) stream.client l s stream is) (by.new, by.owned, by.by) now))
+      (k.opens l remote word stream heard.state v (hears_row (s.clients stream.client) stream.client l s stream is)
+      (by.new, by.owned, by.by) now))
 
   -- what a hand-out, a piece and the up rule keep, whatever they touch
   pub all_served : (scope : Scope) (asker : ℕ) → Serving scope asker P

@@ -1,5 +1,6 @@
 -- A request opens a service of a device whose number was drawn.
-use Rattle.std.proofs.Common.{ℕ, ◌+◌, ◌≡◌, ◌≤◌, ◌<◌, ◌++◌, true, false, List, length, Option, Some, None, is_some, sym, ◌∙◌, zero, suc, take, drop}
+use Rattle.std.proofs.Common.{ℕ, ◌+◌, ◌≡◌, ◌≤◌, ◌<◌, ◌++◌, true, false, List, length, Option, Some, None, is_some, sym, ◌∙◌, zero, suc}
+use Rattle.std.proofs.Common.{take, drop}
 use Rattle.std.proofs.Common.{inl, inr, ◌⊎◌, ap}
 use Rattle.std.proofs.lemmas.Bool.{cases_lt}
 use Rattle.adb_outside.specs.Tables.{at}
@@ -26,7 +27,8 @@ NextWithin plugged None = Unit {0}
 NextWithin plugged (Some next) = OpensWithin plugged next
 
 -- a device that is there has a number that was drawn
-pub row_within : (plugged id : ℕ) (devices : DeviceTable) → HasRowsWithin plugged devices → is_some (at id devices.rows) ≡ true → id ≤ plugged
+pub row_within : (plugged id : ℕ) (devices : DeviceTable) → HasRowsWithin plugged devices
+    → is_some (at id devices.rows) ≡ true → id ≤ plugged
 row_within plugged id devices h e = go (cases_lt plugged id)
   where
     go : (plugged < id) ⊎ (id ≤ plugged) → id ≤ plugged

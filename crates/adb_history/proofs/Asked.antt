@@ -1,5 +1,6 @@
 -- What follows from reading requests: on what was asked before, on the bytes past them, and on what comes last.
-use Rattle.std.proofs.Common.{ℕ, ◌+◌, ◌≡◌, ◌≤◌, cond, List, ◌∷◌, ◌++◌, length, take, drop, Option, Some, None, refl, sym, ◌∙◌, ap, append_assoc}
+use Rattle.std.proofs.Common.{ℕ, ◌+◌, ◌≡◌, ◌≤◌, cond, List, ◌∷◌, ◌++◌, length, take, drop, Option, Some, None, refl, sym, ◌∙◌, ap}
+use Rattle.std.proofs.Common.{append_assoc}
 use Rattle.std.proofs.Common.{arith, zero, suc, ltb}
 use Rattle.std.proofs.lemmas.List.{length-append, length-drop, drop-drop, drop-append-le}
 use Rattle.std.proofs.lemmas.Bool.Decides.{nat_tests}
@@ -52,7 +53,8 @@ module _ (devices : DeviceTable) (forwards : List (ℕ × ForwardRow)) where
   module _ (before : Asked) where
     replied_behind : (reply : List ℕ) (size : ℕ) (q : Asked) → replied reply size (behind before q) ≡ behind before (replied reply size q)
     replied_behind reply size q =
-        let joined : (before.replies ++ q.replies) ++ reply ≡ before.replies ++ (q.replies ++ reply) = append_assoc before.replies q.replies reply in
+        let joined : (before.replies ++ q.replies) ++ reply ≡ before.replies ++ (q.replies ++ reply) =
+        append_assoc before.replies q.replies reply in
         let sum : before.used + q.used + size ≡ before.used + (q.used + size) = omega arith in
         λ i. record { replies = joined i; used = sum i; rest = drop size q.rest; selected = q.selected; next = q.next }
 
@@ -63,18 +65,21 @@ module _ (devices : DeviceTable) (forwards : List (ℕ × ForwardRow)) where
         ap (λ (x : Asked). others (record x { selected = Some id })) (replied_behind reply size q)
         ∙ rest (record (replied reply size q) { selected = Some id })
     next_behind Close reply size others q rest = ap (λ (x : Asked). record x { next = Some Close }) (replied_behind reply size q)
-    next_behind (Track long) reply size others q rest = ap (λ (x : Asked). record x { next = Some (Track long) }) (replied_behind reply size q)
+    next_behind (Track long) reply size others q rest = ap (λ (x : Asked). record x { next = Some (Track long) })
+        (replied_behind reply size q)
     next_behind (Open transport service) reply size others q rest =
         ap (λ (x : Asked). record x { next = Some (Open transport service) }) (replied_behind reply size q)
     next_behind (Bind transport local remote chosen) reply size others q rest =
         ap (λ (x : Asked). record x { next = Some (Bind transport local remote chosen) }) (replied_behind reply size q)
     next_behind (Rebind transport local remote) reply size others q rest =
         ap (λ (x : Asked). record x { next = Some (Rebind transport local remote) }) (replied_behind reply size q)
-    next_behind (Unbind local) reply size others q rest = ap (λ (x : Asked). record x { next = Some (Unbind local) }) (replied_behind reply size q)
+    next_behind (Unbind local) reply size others q rest = ap (λ (x : Asked). record x { next = Some (Unbind local) })
+        (replied_behind reply size q)
     next_behind UnbindAll reply size others q rest = ap (λ (x : Asked). record x { next = Some UnbindAll }) (replied_behind reply size q)
     next_behind Stop reply size others q rest = ap (λ (x : Asked). record x { next = Some Stop }) (replied_behind reply size q)
 
-    found_behind_it : (found : Found) (others : Asked → Asked) (q : Asked) → ((x : Asked) → others (behind before x) ≡ behind before (others x))
+    found_behind_it : (found : Found) (others : Asked → Asked) (q : Asked)
+        → ((x : Asked) → others (behind before x) ≡ behind before (others x))
         → after_found devices forwards found others (behind before q) ≡ behind before (after_found devices forwards found others q)
     found_behind_it More others q rest = refl
     found_behind_it Malformed others q rest = refl
@@ -87,10 +92,12 @@ module _ (devices : DeviceTable) (forwards : List (ℕ × ForwardRow)) where
     reads_behind (suc k) q = found_behind_it (request_at q.rest) (reads k) q (λ x. reads_behind k x)
 
     -- what was asked before changes no answer
-    pub asks_behind : (bytes : List ℕ) (q : Asked) → asks_with devices forwards bytes (behind before q) ≡ behind before (asks_with devices forwards bytes q)
+    pub asks_behind : (bytes : List ℕ) (q : Asked) → asks_with devices forwards bytes (behind before q)
+        ≡ behind before (asks_with devices forwards bytes q)
     asks_behind bytes q = reads_behind (length (q.rest ++ bytes)) (record q { rest = q.rest ++ bytes })
 
-  replied_unused : (input reply : List ℕ) (size : ℕ) (q : Asked) → size ≤ length q.rest → Unused input q → Unused input (replied reply size q)
+  replied_unused : (input reply : List ℕ) (size : ℕ) (q : Asked) → size ≤ length q.rest → Unused input q
+      → Unused input (replied reply size q)
   replied_unused input reply size q le h = record {
     within = omega (arith, le, ap length h.rest, length-drop q.used input, h.within);
     rest = ap (drop size) h.rest ∙ drop-drop size q.used input;

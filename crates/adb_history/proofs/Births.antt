@@ -49,7 +49,8 @@ one_more drawn w e all here = All-append (IsOfBorn drawn) w (e ∷ []) all (All-
 
 born_plain : Plain Born
 born_plain = record {
-  tells_link = λ t p check s w of h. record { rows = h.rows; told = one_more s.drawn w (due_to_link t p check) h.told (of_born s p h.rows of) };
+  tells_link = λ t p check s w of h.
+      record { rows = h.rows; told = one_more s.drawn w (due_to_link t p check) h.told (of_born s p h.rows of) };
   tells_client = λ c bytes s w h. record { rows = h.rows; told = one_more s.drawn w (due_to_client c bytes) h.told tt };
   tells_end = λ l ending s w h. record { rows = h.rows; told = one_more s.drawn w (ended l ending) h.told tt };
   client = λ c f s w h. record { rows = drawn_plain.client c f s w h.rows; told = h.told };
@@ -68,7 +69,8 @@ born_plain = record {
 begins_born : (e : Entry) (s : State) (w : List Event) → May s e → Born s w → Begins (plain_moves born_plain) e s w
 begins_born (Join c) s w may h = record { rows = begins_drawn (Join c) s may h.rows; told = h.told }
 begins_born (Enter c port) s w may h =
-    let rows = begins_drawn (Enter c port) s may h.rows in (record { rows = rows.0; told = h.told }, record { rows = rows.1; told = h.told })
+    let rows = begins_drawn (Enter c port) s may h.rows
+    in (record { rows = rows.0; told = h.told }, record { rows = rows.1; told = h.told })
 begins_born (Attach t kind serial) s w may h = record { rows = begins_drawn (Attach t kind serial) s may h.rows; told = h.told }
 begins_born (Read c bytes) s w may h =
     (h, λ client is asking. record { rows = (begins_drawn (Read c bytes) s may h.rows).1 client is asking; told = h.told })
@@ -77,7 +79,8 @@ begins_born _ s w may h = h
 all_born : (h : History) → IsLegal h → Born (state h) (told h)
 all_born [] legal = record { rows = all_drawn [] tt; told = All-nil (IsOfBorn 0) }
 all_born (e ∷ older) legal =
-    step_kept (plain_moves born_plain) e (state older) (told older) (begins_born e (state older) (told older) legal.2 (all_born older legal.0))
+    step_kept (plain_moves born_plain) e (state older) (told older)
+    (begins_born e (state older) (told older) legal.2 (all_born older legal.0))
 
 -- No packet is due of a stream that was not born.
 pub told_of_born : (h : History) → IsLegal h → AreOfBorn h

@@ -37,7 +37,8 @@ use Rattle.adb_history.specs.Book.{Book}
 use Rattle.adb_history.proofs.BookTurns.{IsBooked}
 
 -- a client that does not ask now, as before
-pub is_other : (o : Option Client) (r next : Said) → asks_now o ≡ false → next.asking ≡ r.asking → next.waits ≡ r.waits → IsAs o r → IsAs o next
+pub is_other : (o : Option Client) (r next : Said) → asks_now o ≡ false → next.asking ≡ r.asking
+    → next.waits ≡ r.waits → IsAs o r → IsAs o next
 is_other o r next none asking waits h = record {
   asks = h.asks ∙ sym asking;
   waits = h.waits ∙ sym waits;
@@ -94,7 +95,8 @@ module _ (older : History) (legal : IsLegal older) (b : IsBooked (state older) o
     waits = cond here None ((book older).waits c);
   }
 
-  pub booked_end : (n : ℕ) (cause : Cause) → May s (End n cause) → IsBooked (client_ends n cause (s.clients n) s).state (End n cause ∷ older)
+  pub booked_end : (n : ℕ) (cause : Cause) → May s (End n cause)
+      → IsBooked (client_ends n cause (s.clients n) s).state (End n cause ∷ older)
   booked_end n cause may =
       let m = client_ends n cause (s.clients n) s in
       let keeps = keeps_client_ends came links n cause (s.clients n) s tie.streams in
@@ -116,7 +118,8 @@ module _ (older : History) (legal : IsLegal older) (b : IsBooked (state older) o
 
   -- ---- bound
   led_bound : (want : Want) (port : ℕ) → s.stopped ≡ false → AreLed s.devices (bound_by want port s.devices s.forwards).forwards
-  led_bound want port on = go (is_unbound want.local port s.forwards) (is_none (at want.transport s.devices.rows)) (length s.forwards == MAX_FORWARDS)
+  led_bound want port on = go (is_unbound want.local port s.forwards) (is_none (at want.transport s.devices.rows))
+      (length s.forwards == MAX_FORWARDS)
     where
       go : (unbound none full : Bool) → AreLed s.devices (cond {A = Bound_to} unbound
           (record { reply = (failed (codes "cannot bind listener")).bytes; forwards = s.forwards })
@@ -144,7 +147,8 @@ module _ (older : History) (legal : IsLegal older) (b : IsBooked (state older) o
   bound_none : (n port : ℕ) → May s (Bound n port) → wants_now (s.clients n) ≡ None → IsBooked s (Bound n port ∷ older)
   bound_none n port may none =
       let same : book (Bound n port ∷ older) ≡ book older =
-      ap (λ (o : Option Want). bound_turn n port (devices_if (book older).killed older) o (book older)) (sym (b.clients may.0 n).waits ∙ none) in
+      ap (λ (o : Option Want). bound_turn n port (devices_if (book older).killed older) o (book older))
+      (sym (b.clients may.0 n).waits ∙ none) in
       record {
         killed = b.killed ∙ sym (ap (λ (x : Book). x.killed) same);
         forwards = b.forwards ∙ sym (ap (λ (x : Book). x.forwards) same);
@@ -154,7 +158,8 @@ module _ (older : History) (legal : IsLegal older) (b : IsBooked (state older) o
         free = b.free;
       }
 
-  bound_some : (n port : ℕ) (client : Client) (want : Want) → s.clients n ≡ Some client → client.about.phase ≡ Binding → client.about.want ≡ Some want
+  bound_some : (n port : ℕ) (client : Client) (want : Want) → s.clients n ≡ Some client → client.about.phase ≡ Binding
+      → client.about.want ≡ Some want
       → May s (Bound n port) → IsBooked (bound_to n (bound_by want port s.devices s.forwards) s).state (Bound n port ∷ older)
   bound_some n port client want is phase wanted may =
       let binding = bound_by want port s.devices s.forwards in
@@ -188,7 +193,8 @@ module _ (older : History) (legal : IsLegal older) (b : IsBooked (state older) o
   pub booked_bound : (n port : ℕ) → May s (Bound n port) → IsBooked (bound n port s).state (Bound n port ∷ older)
   booked_bound n port may = go (s.clients n) refl
     where
-      wanted : (client : Client) → s.clients n ≡ Some client → client.about.phase ≡ Binding → (want : Option Want) → client.about.want ≡ want
+      wanted : (client : Client) → s.clients n ≡ Some client → client.about.phase ≡ Binding → (want : Option Want)
+          → client.about.want ≡ want
           → IsBooked (bound_for want n port s).state (Bound n port ∷ older)
       wanted client is phase None e =
           bound_none n port may (ap wants_now is ∙ (ap (λ (p : Phase). wants_in p client.about.want) phase ∙ e))

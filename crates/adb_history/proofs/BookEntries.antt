@@ -1,5 +1,6 @@
 -- What each entry makes of a state is what it says of a history.
-use Rattle.std.proofs.Common.{ℕ, ◌+◌, ◌≡◌, ◌≢◌, ◌≤◌, ◌<◌, Bool, true, false, cond, List, [], ◌∷◌, ◌++◌, length, drop, Option, Some, None, is_some}
+use Rattle.std.proofs.Common.{ℕ, ◌+◌, ◌≡◌, ◌≢◌, ◌≤◌, ◌<◌, Bool, true, false, cond, List, [], ◌∷◌, ◌++◌, length, drop, Option, Some, None}
+use Rattle.std.proofs.Common.{is_some}
 use Rattle.std.proofs.Common.{refl, sym, ◌∙◌, ap, subst, arith, eqb, inl, inr, ◌⊎◌}
 use Rattle.std.proofs.lemmas.Bool.{eqb-true, ne_eqb, cases_eq}
 use Rattle.std.proofs.lemmas.List.Elements.{All-weaker}
@@ -41,7 +42,8 @@ use Rattle.adb_history.proofs.Received.{received}
 use Rattle.adb_history.proofs.DeviceTurns.{IsGood, turns_link_ends, turns_cut}
 use Rattle.adb_history.proofs.TableStays.{puts_tables}
 use Rattle.adb_history.proofs.Devices.{ShowsDevices, shows_devices, shows_rule, all_devices}
-use Rattle.adb_history.proofs.Waiting.{NoneWaits, AreFree, Leaves, leaves_all, leaves_over, free_after, none_waits_after, leaves_mark_all, leaves_receives, leaves_unplugs, leaves_puts}
+use Rattle.adb_history.proofs.Waiting.{NoneWaits, AreFree, Leaves, leaves_all, leaves_over, free_after, none_waits_after, leaves_mark_all}
+use Rattle.adb_history.proofs.Waiting.{leaves_receives, leaves_unplugs, leaves_puts}
 use Rattle.adb_history.proofs.Asked.{Unused}
 use Rattle.adb_history.proofs.OwnEntries.{Owns, owns_free, owns_opens, opened_row}
 use Rattle.adb_history.proofs.ForwardTurns.{AreLed, Leads, leads_link_ends, leads_cut, led_after, led_filter}
@@ -50,7 +52,8 @@ use Rattle.adb_history.proofs.Booked.{is_stays, holds_receives, holds_puts}
 use Rattle.adb_history.proofs.BookTurns.{IsUnheard, all_unheard, IsBooked, booked_still, still_keeps}
 
 -- ---- hand-outs
-takes_forwards : (came plugged c n : ℕ) (o : Option Client) (s : State) → AreWithin came plugged s.streams → (takes_of c n o s).state.forwards ≡ s.forwards
+takes_forwards : (came plugged c n : ℕ) (o : Option Client) (s : State) → AreWithin came plugged s.streams
+    → (takes_of c n o s).state.forwards ≡ s.forwards
 takes_forwards came plugged c n None s all = refl
 takes_forwards came plugged c n (Some client) s all =
     (keeps_client_left came plugged client.about.phase (length (drop n client.due)) (to_client c (hands n) s) all).forwards
@@ -78,7 +81,8 @@ led_attached kind serial devices forwards led =
     row = new_row id kind serial
 
     there : (k : ℕ) → is_some (at k devices.rows) ≡ true → (k ≡ id) ⊎ (k ≡ id → ⊥) → is_some (at k (put_at id row devices.rows)) ≡ true
-    there k e (inl same) = ap (λ (n : ℕ). is_some (at n (put_at id row devices.rows))) same ∙ ap is_some (puts_put_at id row devices.rows).here
+    there k e (inl same) = ap (λ (n : ℕ). is_some (at n (put_at id row devices.rows))) same
+        ∙ ap is_some (puts_put_at id row devices.rows).here
     there k e (inr apart) = ap is_some ((puts_put_at id row devices.rows).others k apart) ∙ e
 
 module _ (older : History) (legal : IsLegal older) (b : IsBooked (state older) older) where
@@ -210,7 +214,9 @@ module _ (older : History) (legal : IsLegal older) (b : IsBooked (state older) o
 
       others : (o : Option Link) (k : ℕ) → k ≢ t → at k (receives_on o t bytes s).state.devices.rows ≡ at k s.devices.rows
       others None k apart = refl
-      others (Some link) k apart = (turns_cut came links t (cut_packets (record { sums = link.sums }) (link.rest ++ bytes)) s good le).others k apart
+      others (Some link) k apart =
+          (turns_cut came links t (cut_packets (record { sums = link.sums }) (link.rest ++ bytes)) s good le).others k
+          apart
 
       leads : (o : Option Link) → Leads t s (receives_on o t bytes s)
       leads None = inl (refl, refl)
@@ -250,7 +256,8 @@ module _ (older : History) (legal : IsLegal older) (b : IsBooked (state older) o
           ((changes_link_ends came links t ending.Lost s tie.streams).clients k)
 
   -- ---- join, and enter
-  apart_streams : (forwarded : Bool) (n : ℕ) → n ≡ s.joined + 1 → (l : ℕ) (stream : Stream) → s.streams l ≡ Some stream → stream.client ≤ came
+  apart_streams : (forwarded : Bool) (n : ℕ) → n ≡ s.joined + 1 → (l : ℕ) (stream : Stream)
+      → s.streams l ≡ Some stream → stream.client ≤ came
   apart_streams forwarded n is l stream e = (subst (λ (o : Option Stream). IsWithin came links o) e (tie.streams l)).0
 
   free_comes : (forwarded : Bool) (n : ℕ) → n ≡ s.joined + 1 → AreFree (comes forwarded n s)
@@ -334,7 +341,8 @@ module _ (older : History) (legal : IsLegal older) (b : IsBooked (state older) o
   booked_enter n port may = go (at port s.forwards)
     where
       by : (row : ForwardRow) (connected : Bool) → is_connected row.transport s.devices ≡ connected
-          → IsBooked (cond connected (opens true n row.transport row.remote (comes true n s)) (quietly (comes_in_vain s))).state (Enter n port ∷ older)
+          → IsBooked (cond connected (opens true n row.transport row.remote (comes true n s))
+          (quietly (comes_in_vain s))).state (Enter n port ∷ older)
       by row true e = booked_opens n port row may e
       by row false e = booked_in_vain n port may
 

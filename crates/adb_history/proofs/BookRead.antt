@@ -1,5 +1,6 @@
 -- Bytes that are read from a client: the server keeps what the entries say.
-use Rattle.std.proofs.Common.{ℕ, ◌≡◌, ◌≤◌, ◌<◌, Bool, true, false, cond, List, ◌∷◌, ◌++◌, Option, Some, None, refl, sym, ◌∙◌, ap, subst, arith, eqb}
+use Rattle.std.proofs.Common.{ℕ, ◌≡◌, ◌≤◌, ◌<◌, Bool, true, false, cond, List, ◌∷◌, ◌++◌, Option, Some, None, refl, sym, ◌∙◌, ap, subst}
+use Rattle.std.proofs.Common.{arith, eqb}
 use Rattle.std.proofs.lemmas.Bool.{eq-eqb}
 use Rattle.std.specs.Prelude.{◌&&◌, ◌||◌, not, option_and_then}
 use Rattle.adb_registry.specs.Registry.{DeviceTable}
@@ -17,7 +18,8 @@ use Rattle.adb_history.specs.Losing.{stops}
 use Rattle.adb_history.specs.Reading.{goes_on, asked_before, asks, reads_in, reads_from, reads}
 use Rattle.adb_history.specs.Machine.{History, state, May, IsLegal}
 use Rattle.adb_history.specs.Bytes.{has_joined, has_ended}
-use Rattle.adb_history.specs.Book.{plugged_count, devices_if, book, asked, still_asks, newly, forwards_by, kills, wanted_by, asked_with, read_turn, reads_turn}
+use Rattle.adb_history.specs.Book.{plugged_count, devices_if, book, asked, still_asks, newly, forwards_by, kills, wanted_by, asked_with}
+use Rattle.adb_history.specs.Book.{read_turn, reads_turn}
 use Rattle.adb_history.specs.Tied.{bytes_asked, came_count}
 use Rattle.adb_history.proofs.AnswersWithin.{NextWithin, asks_within}
 use Rattle.adb_history.proofs.OutputEntries.{IsTied, tied}
@@ -28,7 +30,8 @@ use Rattle.adb_history.proofs.Asked.{behind}
 use Rattle.adb_history.proofs.OwnEntries.{Owns, owns_all, own_row, none_of, owns_to_client}
 use Rattle.adb_history.proofs.ForwardTurns.{AreLed}
 use Rattle.adb_history.proofs.Booked.{Said, said, asks_in, asks_now, wants_in, SameAsked, IsAs}
-use Rattle.adb_history.proofs.BookReads.{led_next, goes_on_forwards, none_next, newly_same, and_parts, asked_all, replied_state, owns_asks, asks_is}
+use Rattle.adb_history.proofs.BookReads.{led_next, goes_on_forwards, none_next, newly_same, and_parts, asked_all, replied_state, owns_asks}
+use Rattle.adb_history.proofs.BookReads.{asks_is}
 use Rattle.adb_history.proofs.BookReads.{stopped_idle}
 use Rattle.adb_history.specs.Book.{Book}
 use Rattle.adb_history.proofs.BookTurns.{IsUnheard, all_unheard, IsBooked}
@@ -160,8 +163,10 @@ module _ (older : History) (legal : IsLegal older) (b : IsBooked (state older) o
       same =
           ap (λ (x : Bool). reads_turn n (devices_if (book older).killed older)
           (asked_with x (devices_if (book older).killed older) (book older).forwards bytes (asked n older)) (book older)) asks_on
-          ∙ (ap (λ (d : DeviceTable). reads_turn n d (asks_with d (book older).forwards bytes (asked n older)) (book older)) (sym (devices_now older legal b))
-          ∙ (ap (λ (f : List (ℕ × ForwardRow)). reads_turn n s.devices (asks_with s.devices f bytes (asked n older)) (book older)) (sym b.forwards)
+          ∙ (ap (λ (d : DeviceTable). reads_turn n d (asks_with d (book older).forwards bytes (asked n older))
+          (book older)) (sym (devices_now older legal b))
+          ∙ (ap (λ (f : List (ℕ × ForwardRow)). reads_turn n s.devices (asks_with s.devices f bytes (asked n older))
+          (book older)) (sym b.forwards)
           ∙ ap (λ (x : Option Next). read_turn n s.devices q x (book older))
           (ap (λ (x : Option Next). newly x q.next) open_next ∙ ap (λ (x : Asked). x.next) all)))
 
@@ -216,7 +221,8 @@ module _ (older : History) (legal : IsLegal older) (b : IsBooked (state older) o
             owns = owns_asks n bytes client s (asked n older) is asking same_asked.rest same_asked.selected open_next on;
             killed = ap (λ (x : Book). x.killed) same ∙ (ap (λ (x : Bool). (book older).killed || x) on ∙ or_false (book older).killed);
             forwards = forwards ∙ (ap (forwards_by p.next s.devices) b.forwards ∙ sym (ap (λ (x : Book). x.forwards) same));
-            led = subst (λ (f : List (ℕ × ForwardRow)). AreLed s.devices f) (sym forwards) (led_next p.next s.devices s.forwards (b.led may.0));
+            led = subst (λ (f : List (ℕ × ForwardRow)). AreLed s.devices f) (sym forwards)
+                (led_next p.next s.devices s.forwards (b.led may.0));
             here = subst (λ (r : Said). IsAs (m.state.clients n) r) (sym here)
                 (asks_is n bytes client s (asked n older) is asking same_asked.rest same_asked.selected open_next
                 (record { asking = still_asks q; asked = q; input = bytes_asked n older ++ bytes; waits = wanted_by p.next None })
@@ -232,8 +238,12 @@ module _ (older : History) (legal : IsLegal older) (b : IsBooked (state older) o
           let left = replied_state n bytes client s (asked n older) is asking same_asked.rest same_asked.selected open_next in
           let state : m.state ≡ (stops n left).state = ap (λ (x : Option Next). (goes_on x n left).state) stop in
           record {
-            killed = gone.stopped ∙ sym (ap (λ (x : Book). x.killed) same ∙ (ap (λ (x : Bool). (book older).killed || x) off ∙ or_true (book older).killed));
-            forwards = gone.forwards ∙ sym (ap (λ (x : Book). x.forwards) same ∙ ap (λ (x : Option Next). forwards_by x s.devices (book older).forwards) stop);
+            killed = gone.stopped
+                ∙ sym (ap (λ (x : Book). x.killed) same
+                ∙ (ap (λ (x : Bool). (book older).killed || x) off ∙ or_true (book older).killed));
+            forwards = gone.forwards
+                ∙ sym (ap (λ (x : Book). x.forwards) same ∙ ap
+                (λ (x : Option Next). forwards_by x s.devices (book older).forwards) stop);
             led = λ on. let clash : true ≡ false = sym gone.stopped ∙ on in cc;
             clients = λ on c. let clash : true ≡ false = sym gone.stopped ∙ on in cc;
             idle = λ x c. subst (λ (y : State). NoneWaits (y.clients c)) (sym state)
@@ -270,7 +280,8 @@ module _ (older : History) (legal : IsLegal older) (b : IsBooked (state older) o
             (λ idle a e. none_of n (with_held (client.held ++ bytes) a) (record a { held = client.held ++ bytes }) refl (idle a e)))
             (tables_same s next refl refl refl) refl (ap asks_now row ∙ none) (sym (b.clients may.0 n).asks ∙ (ap asks_now is ∙ none))
             (subst (λ (o : Option Client). IsAs o (said n older)) (sym row)
-            (other_held client (client.held ++ bytes) (said n older) none (subst (λ (o : Option Client). IsAs o (said n older)) is (b.clients may.0 n))))
+            (other_held client (client.held ++ bytes) (said n older) none
+            (subst (λ (o : Option Client). IsAs o (said n older)) is (b.clients may.0 n))))
 
         by : (client : Client) → s.clients n ≡ Some client → (phase : Phase) → client.about.phase ≡ phase
             → IsBooked (reads_in phase n bytes client s).state (Read n bytes ∷ older)

@@ -1,5 +1,6 @@
 -- Bytes that are read from a client that asks: what the server makes of them is what the entries say.
-use Rattle.std.proofs.Common.{ℕ, ◌+◌, ◌≡◌, ◌≤◌, Bool, true, false, cond, List, [], ◌++◌, Option, Some, None, is_some, refl, sym, ◌∙◌, ap, subst, arith, eqb}
+use Rattle.std.proofs.Common.{ℕ, ◌+◌, ◌≡◌, ◌≤◌, Bool, true, false, cond, List, [], ◌++◌, Option, Some, None, is_some, refl, sym, ◌∙◌, ap}
+use Rattle.std.proofs.Common.{subst, arith, eqb}
 use Rattle.std.proofs.lemmas.Bool.{eqb-true}
 use Rattle.std.proofs.lemmas.List.{append-nil}
 use Rattle.std.proofs.lemmas.List.Elements.{All-nil}
@@ -27,7 +28,8 @@ use Rattle.adb_history.proofs.GrowingRules.{keeps_opens}
 use Rattle.adb_history.proofs.AnswersWithin.{NextWithin}
 use Rattle.adb_history.proofs.Asked.{behind, Unused, EndsReading, asks_behind, asks_unused, asks_ends}
 use Rattle.adb_history.proofs.Waiting.{NoneWaits}
-use Rattle.adb_history.proofs.OwnEntries.{Owns, owns_then, own_row, none_of, owns_to_client, owns_owe_client, owns_goes_on, LeftRow, closed_row}
+use Rattle.adb_history.proofs.OwnEntries.{Owns, owns_then, own_row, none_of, owns_to_client, owns_owe_client, owns_goes_on, LeftRow}
+use Rattle.adb_history.proofs.OwnEntries.{closed_row}
 use Rattle.adb_history.proofs.ForwardTurns.{AreLed}
 use Rattle.adb_history.proofs.Booked.{Said, asks_now, wants_now, SameAsked, IsAs, idle_is}
 
@@ -48,13 +50,15 @@ pub led_next : (next : Option Next) (devices : DeviceTable) (forwards : List (�
 led_next (Some (what.Rebind transport local remote)) devices forwards led = led_put devices local transport remote forwards led
 led_next (Some (what.Unbind local)) devices forwards led =
     All-without (λ (entry : ℕ × ForwardRow). is_some (at entry.1.transport devices.rows) ≡ true) local forwards led
-led_next (Some what.UnbindAll) devices forwards led = All-nil (λ (entry : ℕ × ForwardRow). is_some (at entry.1.transport devices.rows) ≡ true)
+led_next (Some what.UnbindAll) devices forwards led = All-nil
+    (λ (entry : ℕ × ForwardRow). is_some (at entry.1.transport devices.rows) ≡ true)
 led_next (Some what.Stop) devices forwards led = All-nil (λ (entry : ℕ × ForwardRow). is_some (at entry.1.transport devices.rows) ≡ true)
 led_next _ devices forwards led = led
 
 pub goes_on_forwards : (came plugged c : ℕ) (next : Option Next) (s : State) → c ≤ came → NextWithin plugged next
     → (goes_on next c s).state.forwards ≡ forwards_by next s.devices s.forwards
-goes_on_forwards came plugged c (Some (what.Open transport service)) s le within = (keeps_opens came plugged false c transport service s le within).forwards
+goes_on_forwards came plugged c (Some (what.Open transport service)) s le within =
+    (keeps_opens came plugged false c transport service s le within).forwards
 goes_on_forwards came plugged c _ s le within = refl
 
 -- ---- what comes next
@@ -76,7 +80,8 @@ and_parts true true true e = (refl, refl, refl)
 and_parts _ _ _ e = let clash : false ≡ true = e in cc
 
 -- ---- a client that asks reads
-module _ (c : ℕ) (bytes : List ℕ) (client : Client) (s : State) (before : Asked) (is : s.clients c ≡ Some client) (asking : client.about.phase ≡ Asking)
+module _ (c : ℕ) (bytes : List ℕ) (client : Client) (s : State) (before : Asked) (is : s.clients c ≡ Some client)
+    (asking : client.about.phase ≡ Asking)
     (rest : client.held ≡ before.rest) (selected : client.about.selected ≡ before.selected) (open_next : before.next ≡ None) where
   -- what it asks with these bytes
   abbrev pub now_asked : Asked
@@ -111,7 +116,8 @@ module _ (c : ℕ) (bytes : List ℕ) (client : Client) (s : State) (before : As
   owns_replied : Owns c s (owe_client c now_asked.replies (to_client c (has_asked now_asked) s))
   owns_replied = owns_then c s (quietly (to_client c (has_asked now_asked) s)) (λ x. owe_client c now_asked.replies x)
       (owns_to_client c (has_asked now_asked) s
-      (λ none a e. none_of c (has_asked now_asked a) (record a { about = record a.about { selected = now_asked.selected }; held = now_asked.rest }) refl
+      (λ none a e. none_of c (has_asked now_asked a)
+      (record a { about = record a.about { selected = now_asked.selected }; held = now_asked.rest }) refl
       (none a e)))
       (owns_owe_client c now_asked.replies (to_client c (has_asked now_asked) s))
 
@@ -124,13 +130,17 @@ module _ (c : ℕ) (bytes : List ℕ) (client : Client) (s : State) (before : As
   went_on on = owns_goes_on c now_asked.next replied_row replied_state replied_is asking ends on
 
   pub owns_asks : kills now_asked.next ≡ false → Owns c s (asks now_asked c s)
-  owns_asks on = owns_then c s (owe_client c now_asked.replies (to_client c (has_asked now_asked) s)) (goes_on now_asked.next c) owns_replied (went_on on).0
+  owns_asks on = owns_then c s (owe_client c now_asked.replies (to_client c (has_asked now_asked) s))
+      (goes_on now_asked.next c) owns_replied (went_on on).0
 
   -- what the entries say of it then
-  is_left : (next : Option Next) (r : Said) (o : Option Client) → kills next ≡ false → EndsReading next → r.asking ≡ still_asks r.asked → r.asked.next ≡ next
+  is_left : (next : Option Next) (r : Said) (o : Option Client) → kills next ≡ false → EndsReading next
+      → r.asking ≡ still_asks r.asked → r.asked.next ≡ next
       → (next ≡ None → SameAsked r replied_row) → r.waits ≡ wanted_by next None → LeftRow c next replied_row o → IsAs o r
   is_left None r o on end asks next same waits left = record {
-    asks = ap asks_now left ∙ (ap (λ (p : Phase). asks_now (Some (record replied_row { about = record replied_row.about { phase = p } }))) asking
+    asks = ap asks_now left
+        ∙ (ap (λ (p : Phase). asks_now (Some (record replied_row { about = record replied_row.about { phase = p } })))
+        asking
         ∙ sym (asks ∙ ap is_none next));
     waits = ap wants_now left ∙ (ap (λ (p : Phase). wants_now
         (Some (record replied_row { about = record replied_row.about { phase = p } }))) asking ∙ sym waits);
@@ -192,4 +202,5 @@ module _ (c : ℕ) (bytes : List ℕ) (client : Client) (s : State) (before : As
       go false e = subst NoneWaits (sym (gone e)) (λ a f. let clash : None ≡ Some a = f in cc)
         where
           gone : eqb c k ≡ false → (closes c left).clients k ≡ None
-          gone e = ap (λ (b : Bool). cond b (option_and_then closing (rows k)) (rows k)) e ∙ ap (λ (b : Bool). cond b (replied_state.clients k) None) e
+          gone e = ap (λ (b : Bool). cond b (option_and_then closing (rows k)) (rows k)) e
+              ∙ ap (λ (b : Bool). cond b (replied_state.clients k) None) e

@@ -1,5 +1,6 @@
 -- The server keeps what the entries say: whether a kill stands, the forwards, what clients asked, and which wait for a listener.
-use Rattle.std.proofs.Common.{ℕ, ◌≡◌, ◌≤◌, ◌<◌, Bool, true, false, cond, List, [], ◌∷◌, ◌++◌, Option, Some, None, refl, sym, ◌∙◌, ap, subst, arith, eqb}
+use Rattle.std.proofs.Common.{ℕ, ◌≡◌, ◌≤◌, ◌<◌, Bool, true, false, cond, List, [], ◌∷◌, ◌++◌, Option, Some, None, refl, sym, ◌∙◌, ap, subst}
+use Rattle.std.proofs.Common.{arith, eqb}
 use Rattle.std.proofs.lemmas.Bool.{ne_eqb}
 use Rattle.std.specs.Prelude.{◌&&◌, ◌||◌, not}
 use Rattle.adb_registry.specs.Registry.{DeviceTable}
@@ -28,7 +29,8 @@ pub record IsUnheard (h : History) (c : ℕ) : Type 0 where
   pub input : bytes_asked c h ≡ []
   pub waits : (book h).waits c ≡ None
 
-bound_waits : (n port c : ℕ) (d : DeviceTable) (o : Option Want) (h : History) → eqb n c ≡ false → (bound_turn n port d o (book h)).waits c ≡ (book h).waits c
+bound_waits : (n port c : ℕ) (d : DeviceTable) (o : Option Want) (h : History) → eqb n c ≡ false
+    → (bound_turn n port d o (book h)).waits c ≡ (book h).waits c
 bound_waits n port c d None h e = refl
 bound_waits n port c d (Some want) h e = ap (λ (b : Bool). cond b None ((book h).waits c)) e
 
@@ -56,7 +58,8 @@ module _ (older : History) (tie : IsTied older) (un : (c : ℕ) → came_count o
       let u = un c lt in
       let e = apart n c may.1.1 lt in
       let b = book older in
-      let q = asked_with (has_joined n older && not (has_ended n older) && still_asks (b.asked n)) (devices_if b.killed older) b.forwards bytes (b.asked n) in
+      let q = asked_with (has_joined n older && not (has_ended n older) && still_asks (b.asked n))
+      (devices_if b.killed older) b.forwards bytes (b.asked n) in
       record {
         joined = u.joined;
         ended = u.ended;
@@ -113,9 +116,11 @@ pub booked_still : (s : State) (m : Made) (h next : History) → IsBooked s h �
 booked_still s m h next b still killed forwards same = record {
   killed = still.stopped ∙ (b.killed ∙ sym killed);
   forwards = still.forwards ∙ (b.forwards ∙ sym forwards);
-  led = λ on. subst (λ (f : List (ℕ × ForwardRow)). AreLed m.state.devices f) (sym still.forwards) (still.led (b.led (sym still.stopped ∙ on)));
+  led = λ on. subst (λ (f : List (ℕ × ForwardRow)). AreLed m.state.devices f) (sym still.forwards)
+      (still.led (b.led (sym still.stopped ∙ on)));
   clients = λ on c. subst (λ (r : Said). IsAs (m.state.clients c) r) (sym (same c))
-      (is_stays (s.clients c) (m.state.clients c) (said c h) (still.leaves.clients c) (still.holds c) (b.clients (sym still.stopped ∙ on) c));
+      (is_stays (s.clients c) (m.state.clients c) (said c h) (still.leaves.clients c) (still.holds c)
+      (b.clients (sym still.stopped ∙ on) c));
   idle = λ off c. none_waits_after (s.clients c) (m.state.clients c) (still.leaves.clients c) (b.idle (sym still.stopped ∙ off) c);
   free = free_after s m still.leaves b.free;
 }

@@ -1,5 +1,6 @@
 -- What a client's row has to do with what the entries say of it.
-use Rattle.std.proofs.Common.{ℕ, ◌≡◌, ◌≤◌, Bool, true, false, cond, List, [], ◌∷◌, ◌++◌, length, drop, Option, Some, None, refl, sym, ◌∙◌, ap, subst}
+use Rattle.std.proofs.Common.{ℕ, ◌≡◌, ◌≤◌, Bool, true, false, cond, List, [], ◌∷◌, ◌++◌, length, drop, Option, Some, None, refl, sym, ◌∙◌}
+use Rattle.std.proofs.Common.{ap, subst}
 use Rattle.std.proofs.Common.{eqb, inl, inr}
 use Rattle.std.specs.Prelude.{◌&&◌, not, option_and_then}
 use Rattle.adb_outside.specs.Framing.{Cut}
@@ -84,7 +85,12 @@ holds (Some a) (Some b) t h = record { asks = h.asks; binds = h.binds }
 
 pub holds_same : (o : Option Client) → RowStep Holds o o []
 holds_same None = tt
-holds_same (Some a) = record { asks = λ e. record { phase = e; held = refl; selected = refl }; binds = λ e. record { phase = e; want = refl } }
+holds_same (Some a) =
+    record {
+      asks = λ e. record { phase = e; held = refl; selected = refl };
+      binds =
+          λ e. record { phase = e; want = refl };
+    }
 
 pub holds_then : (o p q : Option Client) → RowStep Holds o p [] → RowStep Holds p q [] → RowStep Holds o q []
 holds_then o p q h i = row_then (record {
@@ -94,7 +100,8 @@ holds_then o p q h i = row_then (record {
   follows = λ a b c t u h i. record {
     asks = λ e. let later = i.asks e in let before = h.asks later.phase in
         record { phase = before.phase; held = later.held ∙ before.held; selected = later.selected ∙ before.selected };
-    binds = λ e. let later = i.binds e in let before = h.binds later.phase in record { phase = before.phase; want = later.want ∙ before.want };
+    binds = λ e. let later = i.binds e in let before = h.binds later.phase
+        in record { phase = before.phase; want = later.want ∙ before.want };
   };
 }) o p q [] [] h i
 
@@ -139,7 +146,8 @@ is_stays (Some a) (Some b) r w h is = go w
     }
     go (inr phase) = record {
       asks = ap asks_in phase ∙ is.asks;
-      waits = wants_same b.about.phase a.about.want b.about.want (λ e. (h.binds e).want) ∙ (ap (λ (x : Phase). wants_in x a.about.want) phase ∙ is.waits);
+      waits = wants_same b.about.phase a.about.want b.about.want (λ e. (h.binds e).want)
+          ∙ (ap (λ (x : Phase). wants_in x a.about.want) phase ∙ is.waits);
       same = λ c e f.
           let same : b ≡ c = let both : Some b ≡ Some c = e in cc in
           let stays = h.asks (ap (λ (x : Client). x.about.phase) same ∙ f) in
@@ -158,7 +166,8 @@ module _ (came plugged : ℕ) where
       let first = hears_all came plugged t c.given rested le all in
       let fault = faulty t c.fault m.state in
       let second = changes_faulty came plugged (m.state.links t) t c.fault m.state (first.streams all) in
-      holds_then (s.clients k) (m.state.clients k) (fault.state.clients k) (holds (s.clients k) (m.state.clients k) (owed_to k m.told) (first.clients k))
+      holds_then (s.clients k) (m.state.clients k) (fault.state.clients k)
+      (holds (s.clients k) (m.state.clients k) (owed_to k m.told) (first.clients k))
       (holds (m.state.clients k) (fault.state.clients k) (owed_to k fault.told) (second.clients k))
 
   pub holds_receives : (o : Option Link) (t : ℕ) (bytes : List ℕ) (s : State) → t ≤ plugged → AreWithin came plugged s.streams → (k : ℕ)
@@ -168,8 +177,18 @@ module _ (came plugged : ℕ) where
 
   holds_left : (phase : Phase) (due : List ℕ) (a : Client) → RowStep Holds (Some a) (left_in phase due a) []
   holds_left Closing [] a = tt
-  holds_left Closing (b ∷ due) a = record { asks = λ e. let clash : Closing ≡ Asking = e in cc; binds = λ e. let clash : Closing ≡ Binding = e in cc }
-  holds_left _ due a = record { asks = λ e. record { phase = e; held = refl; selected = refl }; binds = λ e. record { phase = e; want = refl } }
+  holds_left Closing (b ∷ due) a =
+      record {
+        asks = λ e. let clash : Closing ≡ Asking = e in cc;
+        binds = λ e. let clash : Closing ≡ Binding =
+            e in cc;
+      }
+  holds_left _ due a =
+      record {
+        asks = λ e. record { phase = e; held = refl; selected = refl };
+        binds =
+            λ e. record { phase = e; want = refl };
+      }
 
   holds_hands : (c n : ℕ) (s : State) (k : ℕ) → RowStep Holds (s.clients k) ((to_client c (hands n) s).clients k) []
   holds_hands c n s k = go (eqb c k) (s.clients k)

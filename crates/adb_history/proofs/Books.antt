@@ -24,7 +24,8 @@ use Rattle.adb_history.proofs.BookEntries.{booked_put, booked_send, booked_attac
 use Rattle.adb_history.proofs.BookClients.{booked_end, booked_bound}
 use Rattle.adb_history.proofs.BookRead.{booked_read}
 
-booked_rule : (e : Entry) (older : History) → IsLegal (e ∷ older) → IsBooked (state older) older → IsBooked (rule e (state older)).state (e ∷ older)
+booked_rule : (e : Entry) (older : History) → IsLegal (e ∷ older) → IsBooked (state older) older
+    → IsBooked (rule e (state older)).state (e ∷ older)
 booked_rule (Join c) older l b = booked_join older l.0 b c l.2
 booked_rule (Enter c port) older l b = booked_enter older l.0 b c port l.2
 booked_rule (Read c bytes) older l b = booked_read older l.0 b c bytes l.2
@@ -58,7 +59,8 @@ booked [] l = record {
 booked (e ∷ older) l = booked_step e older l (booked older l.0)
 
 -- ---- the laws
-waits_as : (h : History) → IsLegal h → (stopped : Bool) → (state h).stopped ≡ stopped → (c : ℕ) (client : Client) → (state h).clients c ≡ Some client
+waits_as : (h : History) → IsLegal h → (stopped : Bool) → (state h).stopped ≡ stopped → (c : ℕ) (client : Client)
+    → (state h).clients c ≡ Some client
     → client.about.phase ≡ Binding → client.about.want ≡ (book h).waits c
 waits_as h l true off c client is phase =
     let clash : true ≡ false = sym (ap is_waiting phase) ∙ (booked h l).idle off c client is in cc
@@ -75,7 +77,8 @@ all_books h l =
       killed = b.killed;
     }
 
-asked_as : (h : History) → IsLegal h → (stopped : Bool) → (state h).stopped ≡ stopped → (c : ℕ) (client : Client) → (state h).clients c ≡ Some client
+asked_as : (h : History) → IsLegal h → (stopped : Bool) → (state h).stopped ≡ stopped → (c : ℕ) (client : Client)
+    → (state h).clients c ≡ Some client
     → client.about.phase ≡ Asking → IsAskedAs h c client
 asked_as h l true off c client is phase =
     absurd (let clash : true ≡ false = sym (ap is_waiting phase) ∙ (booked h l).idle off c client is in cc)

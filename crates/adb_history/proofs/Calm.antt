@@ -1,5 +1,6 @@
 -- Where no stream may send, the up rule makes nothing, and hand-outs leave it so.
-use Rattle.std.proofs.Common.{ℕ, ◌++◌, ◌&&◌, ◌≡◌, ◌≢◌, Bool, true, false, cond, List, [], ◌∷◌, length, drop, min, Option, Some, None, refl, sym, ◌∙◌}
+use Rattle.std.proofs.Common.{ℕ, ◌++◌, ◌&&◌, ◌≡◌, ◌≢◌, Bool, true, false, cond, List, [], ◌∷◌, length, drop, min, Option, Some, None, refl}
+use Rattle.std.proofs.Common.{sym, ◌∙◌}
 use Rattle.std.proofs.Common.{ap, subst, zero, suc, eqb, ◌⊎◌, inl, inr}
 use Rattle.std.specs.Prelude.{option_and_then}
 use Rattle.std.proofs.lemmas.Bool.{ne_eqb, eq-eqb, cases_eq}
@@ -43,7 +44,8 @@ pub record SendsSame (l : ℕ) (old new : Client) : Type 0 where
   pub ended : new.about.ended ≡ old.about.ended
 
 -- a row that a change leaves was there before
-before_change : {A : Type 0} (rows : Rows (Option A)) (n q : ℕ) (f : A → Option A) (new : A) → change_row n (option_and_then f) rows q ≡ Some new
+before_change : {A : Type 0} (rows : Rows (Option A)) (n q : ℕ) (f : A → Option A) (new : A)
+    → change_row n (option_and_then f) rows q ≡ Some new
     → (q ≢ n → ⊥) ⊎ (rows q ≡ Some new)
 before_change rows n q f new is = by_place (cases_eq n q)
   where
@@ -57,7 +59,8 @@ pub record WasChanged {A : Type 0} (f : A → Option A) (before : Option A) (new
   pub is : before ≡ Some old
   pub to : f old ≡ Some new
 
-pub was_changed : {A : Type 0} (f : A → Option A) (before : Option A) (new : A) → option_and_then f before ≡ Some new → WasChanged f before new
+pub was_changed : {A : Type 0} (f : A → Option A) (before : Option A) (new : A) → option_and_then f before ≡ Some new
+    → WasChanged f before new
 was_changed f None new is = absurd (let clash : None ≡ Some new = is in cc)
 was_changed f (Some old) new is = record { old = old; is = refl; to = is }
 
@@ -78,22 +81,26 @@ calm_to_client c f s keeps calm l stream client is here streaming = by_place (ca
 
     by_place : ◌⊎◌ (c ≡ stream.client) (c ≢ stream.client) → SendsNothing s.devices stream client
     by_place (inl same) = by_row (was_changed f (s.clients stream.client) client
-        (sym (ap (λ b. cond b (option_and_then f (s.clients stream.client)) (s.clients stream.client)) (eq-eqb c stream.client same)) ∙ here))
+        (sym (ap (λ b. cond b (option_and_then f (s.clients stream.client)) (s.clients stream.client))
+        (eq-eqb c stream.client same)) ∙ here))
     by_place (inr other) = calm l stream client is
-        (sym (ap (λ b. cond b (option_and_then f (s.clients stream.client)) (s.clients stream.client)) (ne_eqb c stream.client other)) ∙ here) streaming
+        (sym (ap (λ b. cond b (option_and_then f (s.clients stream.client)) (s.clients stream.client))
+        (ne_eqb c stream.client other)) ∙ here) streaming
 
 -- a flow that lets the same be sent
 pub record LetsSame (old new : Flow) : Type 0 where
   pub payloads : (maxdata : ℕ) (held : List ℕ) → payloads new maxdata held ≡ payloads old maxdata held
   pub over : (ended : Bool) (held : List ℕ) → is_over ended held new ≡ is_over ended held old
 
-pub over_same : (old new : Flow) → is_idle new ≡ is_idle old → (ended : Bool) (held : List ℕ) → is_over ended held new ≡ is_over ended held old
+pub over_same : (old new : Flow) → is_idle new ≡ is_idle old → (ended : Bool) (held : List ℕ)
+    → is_over ended held new ≡ is_over ended held old
 over_same old new same ended [] = ap (λ b. ended && b) same
 over_same old new same ended (b ∷ held) = refl
 
 pub lets_same : (left : ℕ) (flow : Flow) → LetsSame flow (handed_to left flow)
 lets_same left (One window) = record { payloads = λ m held. refl; over = over_same (One window) (handed_to left (One window)) refl }
-lets_same left (Credit credit) = record { payloads = λ m held. refl; over = over_same (Credit credit) (handed_to left (Credit credit)) refl }
+lets_same left (Credit credit) =
+    record { payloads = λ m held. refl; over = over_same (Credit credit) (handed_to left (Credit credit)) refl }
 
 pub calm_to_stream : (l : ℕ) (stream : Stream) (flow : Flow) (s : State) → s.streams l ≡ Some stream → LetsSame stream.part.flow flow
     → IsCalm s → IsCalm (to_stream l (with_stream_part (with_flow flow stream.part)) s)
@@ -115,9 +122,11 @@ calm_to_stream l stream flow s is same calm k new client there here streaming = 
 
     by_place : ◌⊎◌ (l ≡ k) (l ≢ k) → SendsNothing s.devices new client
     by_place (inl equal) = by_row (was_changed (with_stream_part (with_flow flow stream.part)) (s.streams k) new
-        (sym (ap (λ b. cond b (option_and_then (with_stream_part (with_flow flow stream.part)) (s.streams k)) (s.streams k)) (eq-eqb l k equal)) ∙ there)) equal
+        (sym (ap (λ b. cond b (option_and_then (with_stream_part (with_flow flow stream.part)) (s.streams k))
+        (s.streams k)) (eq-eqb l k equal)) ∙ there)) equal
     by_place (inr other) = calm k new client
-        (sym (ap (λ b. cond b (option_and_then (with_stream_part (with_flow flow stream.part)) (s.streams k)) (s.streams k)) (ne_eqb l k other)) ∙ there)
+        (sym (ap (λ b. cond b (option_and_then (with_stream_part (with_flow flow stream.part)) (s.streams k))
+        (s.streams k)) (ne_eqb l k other)) ∙ there)
         here streaming
 
 -- what the device is told changes its link alone
@@ -136,7 +145,8 @@ calm_hands left l stream s is calm = by_test (eqb left (to_hand stream.part.flow
     by_test : (same : Bool) → IsCalm (cond same (quietly s) (tells_handed stream.part.flow left l stream
         (to_stream l (with_stream_part (with_flow (handed_to left stream.part.flow) stream.part)) s))).state
     by_test true = calm
-    by_test false = calm_tells stream.part.flow left l stream (to_stream l (with_stream_part (with_flow (handed_to left stream.part.flow) stream.part)) s)
+    by_test false = calm_tells stream.part.flow left l stream
+        (to_stream l (with_stream_part (with_flow (handed_to left stream.part.flow) stream.part)) s)
         (calm_to_stream l stream (handed_to left stream.part.flow) s is (lets_same left stream.part.flow) calm)
 
 calm_left : (due l : ℕ) (o : Option Stream) (s : State) → s.streams l ≡ o → IsCalm s → IsCalm (stream_left due l o s).state
@@ -148,10 +158,13 @@ calm_client_left (Streaming l) due s calm = calm_left due l (s.streams l) s refl
 calm_client_left _ due s calm = calm
 
 -- a client that is handed some of what is due sends what it did, or is closing
-closing_sends : (l : ℕ) (due : List ℕ) (old new : Client) → closing_with due old ≡ Some new → is_streaming l new.about.phase ≡ true → SendsSame l old new
+closing_sends : (l : ℕ) (due : List ℕ) (old new : Client) → closing_with due old ≡ Some new
+    → is_streaming l new.about.phase ≡ true → SendsSame l old new
 closing_sends l [] old new is streaming = absurd (let clash : None ≡ Some new = is in cc)
 closing_sends l (b ∷ due) old new is streaming =
-    let made : record old { about = record old.about { phase = Closing; mark = false; want = None }; held = []; due = b ∷ due } ≡ new = cc in
+    let made : record old
+    { about = record old.about { phase = Closing; mark = false; want = None }; held = []; due = b ∷ due } ≡ new =
+    cc in
     absurd (let clash : false ≡ true = ap (λ (x : Client). is_streaming l x.about.phase) made ∙ streaming in cc)
 
 left_sends : (l n : ℕ) (phase : Phase) (old new : Client) → old.about.phase ≡ phase → left_in phase (drop n old.due) old ≡ Some new
@@ -178,7 +191,8 @@ calm_takes c n None s calm = calm
 calm_takes c n (Some client) s calm = calm_client_left client.about.phase (length (drop n client.due)) (to_client c (hands n) s)
     (calm_to_client c (hands n) s (λ l old new made streaming. left_sends l n old.about.phase old new refl made streaming) calm)
 
-due_sends : (l : ℕ) (bytes : List ℕ) (old new : Client) → with_due bytes old ≡ Some new → is_streaming l new.about.phase ≡ true → SendsSame l old new
+due_sends : (l : ℕ) (bytes : List ℕ) (old new : Client) → with_due bytes old ≡ Some new
+    → is_streaming l new.about.phase ≡ true → SendsSame l old new
 due_sends l bytes old new made streaming =
     let row : record old { due = old.due ++ bytes } ≡ new = cc in
     record {
@@ -199,7 +213,8 @@ unmarked_sends l old new made streaming =
 calm_lists : (c : ℕ) (due : List ℕ) (client : Client) (s : State) → IsCalm s → IsCalm (lists_first c due client s).state
 calm_lists c (b ∷ due) client s calm = calm
 calm_lists c [] client s calm =
-    calm_to_client c (with_due (offered s.devices client)) (to_client c unmarked s) (λ l old new. due_sends l (offered s.devices client) old new)
+    calm_to_client c (with_due (offered s.devices client)) (to_client c unmarked s)
+    (λ l old new. due_sends l (offered s.devices client) old new)
     (calm_to_client c unmarked s unmarked_sends calm)
 
 pub calm_puts : (c n : ℕ) (s : State) → IsCalm s → IsCalm (puts c n s).state

@@ -9,7 +9,8 @@ use Rattle.adb_registry.specs.declared.row.Row.{Row}
 use Rattle.adb_forward.specs.declared.row.ForwardRow.{ForwardRow}
 use Rattle.adb_history.specs.Rows.{Client, Link, State}
 use Rattle.adb_history.specs.Events.{Made, quietly, then_also, owed_to, spelled_to}
-use Rattle.adb_history.proofs.Growing.{RowStep, Chain, row_then, row_same, row_weaker, ClientStays, client_same, LinkStays, link_same, client_stays, link_stays}
+use Rattle.adb_history.proofs.Growing.{RowStep, Chain, row_then, row_same, row_weaker, ClientStays, client_same, LinkStays, link_same}
+use Rattle.adb_history.proofs.Growing.{client_stays, link_stays}
 use Rattle.adb_history.proofs.Growing.{owed_append, spelled_append, IsToldWithin, told_then, AreWithin, Keeps}
 
 -- ---- the devices
@@ -20,7 +21,8 @@ pub record HasRowsWithin (plugged : ℕ) (devices : DeviceTable) : Type 0 where
 
 within_set : (plugged t drawn : ℕ) (row : Option Row) (devices : DeviceTable) → (plugged < t → row ≡ None) → HasRowsWithin plugged devices
     → HasRowsWithin plugged (record { drawn = drawn; rows = set_at t row devices.rows })
-within_set plugged t drawn row devices none h = record { rises = set_at_rises t row devices.rows h.rises; above = λ q lt. go q lt (cases_eq q t) }
+within_set plugged t drawn row devices none h =
+    record { rises = set_at_rises t row devices.rows h.rises; above = λ q lt. go q lt (cases_eq q t) }
   where
     puts : Puts t row devices.rows (set_at t row devices.rows)
     puts = puts_set_at t row devices.rows h.rises
@@ -29,7 +31,8 @@ within_set plugged t drawn row devices none h = record { rises = set_at_rises t 
     go q lt (inl same) = ap (λ (k : ℕ). at k (set_at t row devices.rows)) same ∙ (puts.here ∙ none (omega (arith, lt, same)))
     go q lt (inr apart) = puts.others q apart ∙ h.above q lt
 
-pub within_changed : (plugged t : ℕ) (f : Row → Row) (devices : DeviceTable) → HasRowsWithin plugged devices → HasRowsWithin plugged (changed t f devices)
+pub within_changed : (plugged t : ℕ) (f : Row → Row) (devices : DeviceTable) → HasRowsWithin plugged devices
+    → HasRowsWithin plugged (changed t f devices)
 within_changed plugged t f devices h = within_set plugged t devices.drawn (option_map f (at t devices.rows)) devices
     (λ lt. ap (option_map f) (h.above t lt)) h
 
@@ -68,7 +71,8 @@ module _ (came plugged : ℕ) where
 
   -- a rule after another
   pub changes_then : (clients : ℕ → Chain Client) (links : ℕ → Chain Link) (s : State) (m : Made) (rule : State → Made)
-      → Changes (λ c. (clients c).first) (λ t. (links t).first) s m → Changes (λ c. (clients c).next) (λ t. (links t).next) m.state (rule m.state)
+      → Changes (λ c. (clients c).first) (λ t. (links t).first) s m
+      → Changes (λ c. (clients c).next) (λ t. (links t).next) m.state (rule m.state)
       → Changes (λ c. (clients c).both) (λ t. (links t).both) s (then_also m rule)
   changes_then clients links s m rule h i = record {
     clients = λ c. subst (λ (x : List ℕ). RowStep (clients c).both (s.clients c) ((rule m.state).state.clients c) x)
@@ -86,7 +90,8 @@ module _ (came plugged : ℕ) where
     drawn = i.drawn ∙ h.drawn;
   }
 
-  pub changes_weaker : (B C : Fate Client) (K L : Fate Link) → Weaker B C → Weaker K L → (s : State) (m : Made) → Changes B K s m → Changes C L s m
+  pub changes_weaker : (B C : Fate Client) (K L : Fate Link) → Weaker B C → Weaker K L → (s : State) (m : Made)
+      → Changes B K s m → Changes C L s m
   changes_weaker B C K L weaker links_weaker s m h = record {
     clients = λ c. row_weaker (B c) (C c) (weaker c) (s.clients c) (m.state.clients c) (owed_to c m.told) (h.clients c);
     links = λ t. row_weaker (K t) (L t) (links_weaker t) (s.links t) (m.state.links t) (spelled_to t m.told) (h.links t);
@@ -115,7 +120,8 @@ module _ (came plugged : ℕ) where
   stays_then s m rule h i = changes_then stay_on link_stay_on s m rule h i
 
   -- the tables are others
-  pub changes_tables : (devices : DeviceTable) (forwards : List (ℕ × ForwardRow)) (stopped : Bool) (s : State) → devices.drawn ≡ s.devices.drawn
+  pub changes_tables : (devices : DeviceTable) (forwards : List (ℕ × ForwardRow)) (stopped : Bool) (s : State)
+      → devices.drawn ≡ s.devices.drawn
       → (HasRowsWithin plugged s.devices → HasRowsWithin plugged devices)
       → Changes Stay LinkStay s (quietly (record s { devices = devices; forwards = forwards; stopped = stopped }))
   changes_tables devices forwards stopped s drawn rows = record {

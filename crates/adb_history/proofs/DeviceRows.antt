@@ -1,5 +1,6 @@
 -- What the packets of a link make of its device, one after another, is what they say of it all together.
-use Rattle.std.proofs.Common.{ℕ, ◌≡◌, Bool, true, false, cond, List, [], ◌∷◌, ◌++◌, Option, Some, None, is_some, refl, sym, ◌∙◌, ap, subst, append_assoc}
+use Rattle.std.proofs.Common.{ℕ, ◌≡◌, Bool, true, false, cond, List, [], ◌∷◌, ◌++◌, Option, Some, None, is_some, refl, sym, ◌∙◌, ap, subst}
+use Rattle.std.proofs.Common.{append_assoc}
 use Rattle.std.proofs.lemmas.List.{append-nil, reverse-append}
 use Rattle.std.proofs.lemmas.List.Folds.{list_any-append}
 use Rattle.std.specs.Prelude.{nat_lt, ◌||◌, ◌&&◌, min, is_none, find, bytes_eq, codes}
@@ -73,7 +74,8 @@ last_more ps p = ap (find (λ (p : Packet). is_cnxn p.command)) (reverse-append 
 
 -- a system never means that a device is offline
 never_offline : (system : List ℕ) → (row : Row) → row.state ≡ state_of_system system → row_waiting row.state row ≡ row
-never_offline system row is = go (bytes_eq system (codes "device")) (bytes_eq system (codes "bootloader")) (bytes_eq system (codes "recovery"))
+never_offline system row is = go (bytes_eq system (codes "device")) (bytes_eq system (codes "bootloader"))
+    (bytes_eq system (codes "recovery"))
     (bytes_eq system (codes "sideload")) (bytes_eq system (codes "rescue")) is
   where
     other : (s : DeviceState) → row.state ≡ s → row_waiting s row ≡ row → row_waiting row.state row ≡ row
@@ -117,7 +119,8 @@ module _ (row : Row) (offline : row.state ≡ device.Offline) (ps : List Packet)
 
   -- a CNXN
   more_cnxn : (bad : Bool) (o : Option Identity)
-      → cond bad None (row_connected o p.arg0 p.arg1 (row_by (last_cnxn ps) ps row)) ≡ cond (bad || is_none o) None (Some (row_with o p row))
+      → cond bad None (row_connected o p.arg0 p.arg1 (row_by (last_cnxn ps) ps row))
+      ≡ cond (bad || is_none o) None (Some (row_with o p row))
   more_cnxn true o = refl
   more_cnxn false None = refl
   more_cnxn false (Some identity) =
@@ -129,7 +132,8 @@ module _ (row : Row) (offline : row.state ≡ device.Offline) (ps : List Packet)
   more_login None login who = go (list_any (λ (p : Packet). is_login p.command) ps) (is_login p.command) login
       ∙ sym (ap (λ (b : Bool). cond b (unauthorized_row row) row) (any_more (λ (p : Packet). is_login p.command) ps p))
     where
-      go : (before here : Bool) → here ≡ true → row_waiting (cond before (unauthorized_row row) row).state (cond before (unauthorized_row row) row)
+      go : (before here : Bool) → here ≡ true → row_waiting (cond before (unauthorized_row row) row).state
+          (cond before (unauthorized_row row) row)
           ≡ cond (before || here) (unauthorized_row row) row
       go true here e = refl
       go false true e = ap (λ (s : DeviceState). row_waiting s row) offline
@@ -191,7 +195,8 @@ module _ (row : Row) (offline : row.state ≡ device.Offline) (ps : List Packet)
         ∙ (one_more (list_any is_refused ps) known.who
         ∙ (sym (ap (λ (b : Bool). cond b None (Some (row_by (cond (is_cnxn p.command) (Some p) (last_cnxn ps)) (ps ++ p ∷ []) row)))
         (any_more is_refused ps p))
-        ∙ sym (ap (λ (o : Option Packet). cond (list_any is_refused (ps ++ p ∷ [])) None (Some (row_by o (ps ++ p ∷ []) row))) (last_more ps p)))));
+        ∙ sym (ap (λ (o : Option Packet). cond (list_any is_refused (ps ++ p ∷ [])) None
+        (Some (row_by o (ps ++ p ∷ []) row))) (last_more ps p)))));
     who = λ e.
         let none = either_false (list_any is_refused ps) (is_refused p) (sym (any_more is_refused ps p) ∙ e) in
         subst (λ (o : Option Packet). SaysWho o) (sym (last_more ps p))

@@ -1,5 +1,6 @@
 -- What the packets of a link make of the devices: the row of its device changes as they say, and all others stay.
-use Rattle.std.proofs.Common.{ℕ, ◌≡◌, ◌≢◌, ◌≤◌, Bool, true, false, cond, List, [], ◌∷◌, Option, Some, None, is_some, refl, sym, ◌∙◌, ap, subst, eqb}
+use Rattle.std.proofs.Common.{ℕ, ◌≡◌, ◌≢◌, ◌≤◌, Bool, true, false, cond, List, [], ◌∷◌, Option, Some, None, is_some, refl, sym, ◌∙◌, ap}
+use Rattle.std.proofs.Common.{subst, eqb}
 use Rattle.std.proofs.Common.{inl, inr, ◌⊎◌}
 use Rattle.std.proofs.lemmas.Bool.{eqb-false, eq-eqb, ne_eqb, cases_eq}
 use Rattle.std.specs.Prelude.{nat_lt, ◌||◌, option_and_then, option_map, min}
@@ -29,7 +30,8 @@ use Rattle.adb_history.specs.Links.{is_connected}
 use Rattle.adb_history.specs.Streams.{all_end}
 use Rattle.adb_history.specs.Tracking.{mark_all}
 use Rattle.adb_history.specs.Losing.{forgets, link_ends}
-use Rattle.adb_history.specs.Packets.{least_version, least_maxdata, with_sums, goes_online, streams_end_first, connects, cnxn, unauthorized_from, unauthorized}
+use Rattle.adb_history.specs.Packets.{least_version, least_maxdata, with_sums, goes_online, streams_end_first, connects, cnxn}
+use Rattle.adb_history.specs.Packets.{unauthorized_from, unauthorized}
 use Rattle.adb_history.specs.Packets.{treat_open, treat_any, treat_on, treat, treat_all, faulty_on, with_rest, receives_cut}
 use Rattle.adb_history.proofs.Growing.{AreWithin, Keeps, keeps_all}
 use Rattle.adb_history.proofs.GrowingRules.{keeps_all_end}
@@ -49,7 +51,8 @@ pub record Turns (t : ℕ) (row : Option Row) (s : State) (m : Made) : Type 0 wh
   pub linked : AreLinked m.state
   pub stopped : m.state.stopped ≡ s.stopped
 
-pub turns_then : (t : ℕ) (row next : Option Row) (s : State) (m : Made) (rule : State → Made) → Turns t row s m → Turns t next m.state (rule m.state)
+pub turns_then : (t : ℕ) (row next : Option Row) (s : State) (m : Made) (rule : State → Made) → Turns t row s m
+    → Turns t next m.state (rule m.state)
     → Turns t next s (then_also m rule)
 turns_then t row next s m rule h i = record {
   here = i.here;
@@ -77,7 +80,8 @@ module _ (came plugged t : ℕ) where
   -- the row of one is set, and its link stays or goes with it
   turns_set : (row : Option Row) (links : ℕ → Option Link) (s next : State) → IsGood came plugged s
       → next.devices.rows ≡ set_at t row s.devices.rows → next.stopped ≡ s.stopped
-      → is_some (next.links t) ≡ is_some row → ((k : ℕ) → k ≢ t → is_some (next.links k) ≡ is_some (s.links k)) → Turns t row s (quietly next)
+      → is_some (next.links t) ≡ is_some row → ((k : ℕ) → k ≢ t → is_some (next.links k) ≡ is_some (s.links k))
+      → Turns t row s (quietly next)
   turns_set row links s next good is stopped here others = record {
     here = ap (at t) is ∙ puts.here;
     others = λ k apart. ap (at k) is ∙ puts.others k apart;
@@ -125,14 +129,17 @@ module _ (came plugged t : ℕ) where
       }
 
   -- ---- CNXN
-  turns_online : (version maxdata : ℕ) (identity : Identity) (row : Row) (s : State) → IsGood came plugged s → at t s.devices.rows ≡ Some row
+  turns_online : (version maxdata : ℕ) (identity : Identity) (row : Row) (s : State) → IsGood came plugged s
+      → at t s.devices.rows ≡ Some row
       → Turns t (row_connected (Some identity) version maxdata row) s (quietly (goes_online t version maxdata identity s))
   turns_online version maxdata identity row s good is =
       turns_set (Some (turn row)) s.links s (goes_online t version maxdata identity s) good
       (ap (λ (o : Option Row). set_at t (option_map turn o) s.devices.rows) is) refl
       (ap (λ (b : Bool). is_some (cond b (option_and_then (with_sums (has_sums version)) (s.links t)) (s.links t))) (eq-eqb t t refl)
       ∙ (there (s.links t) ∙ (good.linked t ∙ ap is_some is)))
-      (λ k apart. ap (λ (b : Bool). is_some (cond b (option_and_then (with_sums (has_sums version)) (s.links k)) (s.links k))) (apart_from k apart))
+      (λ k apart. ap
+      (λ (b : Bool). is_some (cond b (option_and_then (with_sums (has_sums version)) (s.links k)) (s.links k)))
+      (apart_from k apart))
     where
       turn : Row → Row
       turn = online_row identity (min version VERSION) (min maxdata MAX_PAYLOAD)
@@ -141,13 +148,15 @@ module _ (came plugged t : ℕ) where
       there None = refl
       there (Some link) = refl
 
-  turns_connects : (version maxdata : ℕ) (o : Option Identity) (row : Row) (s : State) → IsGood came plugged s → at t s.devices.rows ≡ Some row
+  turns_connects : (version maxdata : ℕ) (o : Option Identity) (row : Row) (s : State) → IsGood came plugged s
+      → at t s.devices.rows ≡ Some row
       → Turns t (row_connected o version maxdata row) s (connects t version maxdata o s)
   turns_connects version maxdata None row s good is = turns_link_ends Broken s good
   turns_connects version maxdata (Some identity) row s good is = go (is_connected t s.devices)
     where
       after : (m : Made) → Keeps came plugged s m
-          → Turns t (row_connected (Some identity) version maxdata row) s (then_also m (λ s. quietly (goes_online t version maxdata identity s)))
+          → Turns t (row_connected (Some identity) version maxdata row) s
+          (then_also m (λ s. quietly (goes_online t version maxdata identity s)))
       after m keeps =
           let first = turns_keeps s m good.linked keeps in
           turns_then t (at t s.devices.rows) (row_connected (Some identity) version maxdata row) s m
@@ -173,7 +182,8 @@ module _ (came plugged t : ℕ) where
       go false = turns_connects version maxdata (identity_of banner) row s good is
 
   -- ---- AUTH and STLS
-  turns_still : (row : Row) (s : State) (m : Made) → AreLinked s → at t s.devices.rows ≡ Some row → Keeps came plugged s m → Turns t (Some row) s m
+  turns_still : (row : Row) (s : State) (m : Made) → AreLinked s → at t s.devices.rows ≡ Some row
+      → Keeps came plugged s m → Turns t (Some row) s m
   turns_still row s m linked is keeps =
       let same = turns_keeps s m linked keeps in
       record { here = same.here ∙ is; others = same.others; linked = same.linked; stopped = same.stopped }
@@ -182,7 +192,8 @@ module _ (came plugged t : ℕ) where
       → Turns t (Some (row_waiting state row)) s (quietly (unauthorized_from t state s))
   turns_waiting device.Offline row s good is =
       turns_set (Some (unauthorized_row row)) s.links s (unauthorized_from t device.Offline s) good
-      (ap (λ (o : Option Row). set_at t (option_map unauthorized_row o) s.devices.rows) is) refl (good.linked t ∙ ap is_some is) (λ k apart. refl)
+      (ap (λ (o : Option Row). set_at t (option_map unauthorized_row o) s.devices.rows) is) refl
+      (good.linked t ∙ ap is_some is) (λ k apart. refl)
   turns_waiting _ row s good is = turns_still row s (quietly s) good.linked is (keeps_all came plugged s)
 
   turns_unauthorized : (o : Option Row) (row : Row) (s : State) → IsGood came plugged s → at t s.devices.rows ≡ Some row → o ≡ Some row
@@ -194,7 +205,8 @@ module _ (came plugged t : ℕ) where
       (turns_waiting other.state other s good (is ∙ sym e))
 
   -- ---- a packet
-  turns_open : (command : Command) (p : Packet) (row : Row) (s : State) → IsGood came plugged s → t ≤ plugged → at t s.devices.rows ≡ Some row
+  turns_open : (command : Command) (p : Packet) (row : Row) (s : State) → IsGood came plugged s → t ≤ plugged
+      → at t s.devices.rows ≡ Some row
       → Turns t (Some row) s (cond (is_connected t s.devices) (treat_open t command p s) (quietly s))
   turns_open command p row s good le is = go (is_connected t s.devices)
     where
@@ -202,7 +214,8 @@ module _ (came plugged t : ℕ) where
       go true = turns_still row s (treat_open t command p s) good.linked is (keeps_treat_open came plugged t command p s le good.streams)
       go false = turns_still row s (quietly s) good.linked is (keeps_all came plugged s)
 
-  turns_any : (command : Command) (p : Packet) (row : Row) (s : State) → IsGood came plugged s → t ≤ plugged → at t s.devices.rows ≡ Some row
+  turns_any : (command : Command) (p : Packet) (row : Row) (s : State) → IsGood came plugged s → t ≤ plugged
+      → at t s.devices.rows ≡ Some row
       → Turns t (row_hears command p row) s (treat_any t command p s)
   turns_any Cnxn p row s good le is = turns_cnxn p.arg0 p.arg1 p.payload row s good is
   turns_any Auth p row s good le is = turns_unauthorized (at t s.devices.rows) row s good is is
@@ -217,7 +230,8 @@ module _ (came plugged t : ℕ) where
   both_there None (Some y) e f = let clash : false ≡ true = e in cc
   both_there {X} (Some x) b e f = let clash : Some x ≡ None = f in cc
 
-  turns_on : (o : Option Link) (row : Option Row) (p : Packet) (s : State) → s.links t ≡ o → at t s.devices.rows ≡ row → IsGood came plugged s → t ≤ plugged
+  turns_on : (o : Option Link) (row : Option Row) (p : Packet) (s : State) → s.links t ≡ o → at t s.devices.rows ≡ row
+      → IsGood came plugged s → t ≤ plugged
       → Turns t (row_after p row) s (treat_on o t p s)
   turns_on None None p s is e good le =
       let same = turns_keeps s (quietly s) good.linked (keeps_all came plugged s) in
@@ -237,7 +251,9 @@ module _ (came plugged t : ℕ) where
       let row = row_after p (at t s.devices.rows) in
       let first = turns_on (s.links t) (at t s.devices.rows) p s refl refl good le in
       let changes = hears_on came plugged (s.links t) t p s refl le good.streams in
-      let second = turns_all packets m.state (record { streams = changes.streams good.streams; rows = changes.rows good.rows; linked = first.linked }) le in
+      let second = turns_all packets m.state
+      (record { streams = changes.streams good.streams; rows = changes.rows good.rows; linked = first.linked }) le
+      in
       turns_then t row (rows_after packets row) s m (treat_all t packets) first
       (subst (λ (o : Option Row). Turns t (rows_after packets o) m.state (treat_all t packets m.state)) first.here second)
 
@@ -247,7 +263,13 @@ module _ (came plugged t : ℕ) where
   turns_faulty None fault s is good =
       let same = turns_keeps s (quietly s) good.linked (keeps_all came plugged s) in
       let gone : at t s.devices.rows ≡ None = both_there (s.links t) (at t s.devices.rows) (good.linked t) is in
-      record { here = gone ∙ sym (go (is_some fault) (at t s.devices.rows) gone); others = same.others; linked = same.linked; stopped = same.stopped }
+      record {
+        here = gone ∙ sym (go (is_some fault) (at t s.devices.rows) gone);
+        others = same.others;
+        linked =
+            same.linked;
+        stopped = same.stopped;
+      }
     where
       go : (b : Bool) (o : Option Row) → o ≡ None → cond b None o ≡ None
       go true o e = refl

@@ -1,5 +1,6 @@
 -- The devices that the server knows are those that the bytes of the links tell.
-use Rattle.std.proofs.Common.{ℕ, ◌+◌, ◌≡◌, ◌≤◌, Bool, true, false, cond, List, [], ◌∷◌, ◌++◌, length, Option, Some, None, is_some, refl, sym, ◌∙◌, ap}
+use Rattle.std.proofs.Common.{ℕ, ◌+◌, ◌≡◌, ◌≤◌, Bool, true, false, cond, List, [], ◌∷◌, ◌++◌, length, Option, Some, None, is_some, refl}
+use Rattle.std.proofs.Common.{sym, ◌∙◌, ap}
 use Rattle.std.proofs.Common.{subst, arith, eqb, inl, inr, ◌⊎◌}
 use Rattle.std.proofs.lemmas.Bool.{eqb-true, eqb-false, eq-eqb, ne_eqb, cases_eq}
 use Rattle.std.proofs.lemmas.List.Folds.{list_any-append}
@@ -43,7 +44,8 @@ use Rattle.adb_history.proofs.OutputEntries.{IsTied, tied_rule, tied, row_below}
 use Rattle.adb_history.proofs.Received.{ReadsAs, ReadTie, framed_piece, IsReceived, received}
 use Rattle.adb_history.proofs.DeviceRows.{rows_after, rows_append, device_by, device_rows}
 use Rattle.adb_history.proofs.DeviceTurns.{AreLinked, Turns, IsGood, turns_link_ends, turns_cut}
-use Rattle.adb_history.proofs.TableStays.{StaysTables, IsStopped, tables_keep, tables_same, AskTables, asks_kill, reads_in_tables, bound_tables}
+use Rattle.adb_history.proofs.TableStays.{StaysTables, IsStopped, tables_keep, tables_same, AskTables, asks_kill, reads_in_tables}
+use Rattle.adb_history.proofs.TableStays.{bound_tables}
 use Rattle.adb_history.proofs.TableStays.{puts_tables, sends_tables, enters_tables}
 
 abbrev Cutting : Type 0
@@ -51,7 +53,8 @@ Cutting = Cut PacketFormat Packet PacketFault
 
 -- the device of a link that brought bytes that are cut so, and was plugged in so
 abbrev device_from : Bool → Cutting → Option Row → Option Row
-device_from gone c o = cond (gone || (is_some c.fault || list_any is_refused c.given)) None (option_map (row_by (last_cnxn c.given) c.given) o)
+device_from gone c o = cond (gone || (is_some c.fault || list_any is_refused c.given)) None
+    (option_map (row_by (last_cnxn c.given) c.given) o)
 
 -- ---- more bytes
 no_row : (b : Bool) (f : Row → Row) → cond b None (option_map f None) ≡ None
@@ -61,7 +64,8 @@ no_row false f = refl
 -- a link that is broken, or was not plugged in, stays so
 broken_stays : (received bytes : List ℕ) (o : Option Row) → device_from false (framed received) o ≡ None
     → device_from false (framed (received ++ bytes)) o ≡ None
-broken_stays received bytes None e = no_row (is_some (framed (received ++ bytes)).fault || list_any is_refused (framed (received ++ bytes)).given)
+broken_stays received bytes None e =
+    no_row (is_some (framed (received ++ bytes)).fault || list_any is_refused (framed (received ++ bytes)).given)
     (row_by (last_cnxn (framed (received ++ bytes)).given) (framed (received ++ bytes)).given)
 broken_stays received bytes (Some row) e = go (framed received).fault refl e
   where
@@ -73,7 +77,8 @@ broken_stays received bytes (Some row) e = go (framed received).fault refl e
         (Some (row_by (last_cnxn c.given) c.given row))) is
 
     by_packets : (refused : Bool) (c : Cutting) (more : Cutting) → list_any is_refused c.given ≡ refused → c.fault ≡ None
-        → cond refused None (Some (row_by (last_cnxn c.given) c.given row)) ≡ None → device_from false (joined c.given more) (Some row) ≡ None
+        → cond refused None (Some (row_by (last_cnxn c.given) c.given row)) ≡ None
+        → device_from false (joined c.given more) (Some row) ≡ None
     by_packets true c more is sound e =
         let all : list_any is_refused (c.given ++ more.given) ≡ true =
         list_any-append is_refused c.given more.given ∙ ap (λ (b : Bool). b || list_any is_refused more.given) is in
@@ -89,7 +94,8 @@ broken_stays received bytes (Some row) e = go (framed received).fault refl e
     go : (fault : Option PacketFault) → (framed received).fault ≡ fault → device_from false (framed received) (Some row) ≡ None
         → device_from false (framed (received ++ bytes)) (Some row) ≡ None
     go (Some fault) is e =
-        let stays = fault_stays front_of (λ _ frame. packet_of frame) (λ format frame. format_after format (packet_of frame)) packets_are_framed
+        let stays = fault_stays front_of (λ _ frame. packet_of frame)
+        (λ format frame. format_after format (packet_of frame)) packets_are_framed
         (length received) (record { sums = false }) received bytes fault (omega arith) is in
         at_fault (framed (received ++ bytes)) fault stays.1
     go None is e =
@@ -107,7 +113,8 @@ sound_more : (received bytes : List ℕ) (link : Link) (row : Row) → ReadsAs r
     (rows_after (cut_packets (record { sums = link.sums }) (link.rest ++ bytes)).given (device_from false (framed received) (Some row)))
     ≡ device_from false (framed (received ++ bytes)) (Some row)
 sound_more received bytes link row t offline =
-    ap (λ (o : Option Row). cond (is_some c.fault) None (rows_after c.given o)) (before ∙ sym (device_rows row offline (framed received).given))
+    ap (λ (o : Option Row). cond (is_some c.fault) None (rows_after c.given o))
+    (before ∙ sym (device_rows row offline (framed received).given))
     ∙ (ap (cond (is_some c.fault) None) (sym (rows_append (framed received).given c.given (Some row)) ∙ device_rows row offline
     ((framed received).given ++ c.given))
     ∙ (both (is_some c.fault) ∙ ap (λ (x : Cutting). device_from false x (Some row)) (sym (framed_piece received bytes link t))))
@@ -130,7 +137,8 @@ plugged_offline : (t : ℕ) (h : History) (row : Row) → plugged t h ≡ Some r
 plugged_offline t [] row e = let clash : None ≡ Some row = e in cc
 plugged_offline t (Attach n kind serial ∷ older) row e = go (eqb n t) e (λ f. plugged_offline t older row f)
   where
-    go : (here : Bool) → cond here (Some (new_row t kind serial)) (plugged t older) ≡ Some row → (plugged t older ≡ Some row → row.state ≡ device.Offline)
+    go : (here : Bool) → cond here (Some (new_row t kind serial)) (plugged t older) ≡ Some row
+        → (plugged t older ≡ Some row → row.state ≡ device.Offline)
         → row.state ≡ device.Offline
     go true f rest = let same : new_row t kind serial ≡ row = let both : Some (new_row t kind serial) ≡ Some row = f in cc in
         sym (ap (λ (r : Row). r.state) same)
@@ -176,7 +184,8 @@ module _ (older : History) (tie : IsTied older) (got : IsReceived older) (shows 
   -- ---- attach
   attach_shows : (n : ℕ) (kind : Kind) (serial : List ℕ) → May s (Attach n kind serial)
       → ShowsDevices (plugs_in n kind serial s).state (Attach n kind serial ∷ older)
-  attach_shows n kind serial may = shows_stays next (plugs_in n kind serial s) (Attach n kind serial ∷ older) (Attach n kind serial ∷ older) (λ t. refl) first
+  attach_shows n kind serial may = shows_stays next (plugs_in n kind serial s) (Attach n kind serial ∷ older)
+      (Attach n kind serial ∷ older) (λ t. refl) first
       (tables_keep (came_count older) (plugged_count older + 1) next (plugs_in n kind serial s) keeps)
     where
       next : State
@@ -238,14 +247,19 @@ module _ (older : History) (tie : IsTied older) (got : IsReceived older) (shows 
 
   -- a device that is there was plugged in
   plugged_row : (gone : Bool) (c : Cutting) (o : Option Row) → is_some (device_from gone c o) ≡ true → is_some o ≡ true
-  plugged_row gone c None e = ap is_some (sym (no_row (gone || (is_some c.fault || list_any is_refused c.given)) (row_by (last_cnxn c.given) c.given))) ∙ e
+  plugged_row gone c None e =
+      ap is_some (sym
+      (no_row (gone || (is_some c.fault || list_any is_refused c.given)) (row_by (last_cnxn c.given) c.given))) ∙ e
   plugged_row gone c (Some row) e = refl
 
   -- ---- receive
   recv_here : (n : ℕ) (bytes : List ℕ) → device_of n (Recv n bytes ∷ older)
-      ≡ device_from (is_lost n older) (framed (cond (not (is_lost n older)) (bytes_received n older ++ bytes) (bytes_received n older))) (plugged n older)
+      ≡ device_from (is_lost n older)
+      (framed (cond (not (is_lost n older)) (bytes_received n older ++ bytes) (bytes_received n older)))
+      (plugged n older)
   recv_here n bytes = ap (λ (b : Bool). device_from (is_lost n older)
-      (framed (cond (b && not (is_lost n older)) (bytes_received n older ++ bytes) (bytes_received n older))) (plugged n older)) (eq-eqb n n refl)
+      (framed (cond (b && not (is_lost n older)) (bytes_received n older ++ bytes) (bytes_received n older)))
+      (plugged n older)) (eq-eqb n n refl)
 
   recv_apart : (n t : ℕ) (bytes : List ℕ) → eqb n t ≡ false → device_of t (Recv n bytes ∷ older) ≡ device_of t older
   recv_apart n t bytes e = ap (λ (b : Bool). device_from (is_lost t older)
@@ -259,7 +273,8 @@ module _ (older : History) (tie : IsTied older) (got : IsReceived older) (shows 
   recv_live : (n : ℕ) (bytes : List ℕ) (link : Link) (gone : Bool) (o : Option Row) → plugged n older ≡ o → gone ≡ false
       → ReadsAs (bytes_received n older) link → is_some o ≡ true
       → cond (is_some (cut_packets (record { sums = link.sums }) (link.rest ++ bytes)).fault) None
-      (rows_after (cut_packets (record { sums = link.sums }) (link.rest ++ bytes)).given (device_from gone (framed (bytes_received n older)) o))
+      (rows_after (cut_packets (record { sums = link.sums }) (link.rest ++ bytes)).given
+      (device_from gone (framed (bytes_received n older)) o))
       ≡ device_from gone (framed (cond (not gone) (bytes_received n older ++ bytes) (bytes_received n older))) o
   recv_live n bytes link gone None is on reads some = let clash : false ≡ true = some in cc
   recv_live n bytes link true (Some row) is on reads some = let clash : true ≡ false = on in cc
@@ -285,7 +300,8 @@ module _ (older : History) (tie : IsTied older) (got : IsReceived older) (shows 
       turned n (cond (is_some c.fault) None (rows_after c.given (at n s.devices.rows))) (receives_cut n c s) (Recv n bytes ∷ older)
       (turns_cut (came_count older) (plugged_count older) n c s good (omega (arith, may.1.1, tie.drawn))) may.0
       (ap (λ (o : Option Row). cond (is_some c.fault) None (rows_after c.given o)) (shows.rows may.0 n)
-      ∙ (recv_live n bytes link (is_lost n older) (plugged n older) refl read.1 read.0 some ∙ sym (recv_here n bytes))) (λ t e. recv_apart n t bytes e)
+      ∙ (recv_live n bytes link (is_lost n older) (plugged n older) refl read.1 read.0 some
+      ∙ sym (recv_here n bytes))) (λ t e. recv_apart n t bytes e)
 
   -- ---- detach
   detach_shows : (n : ℕ) (cause : Cause) (o : Option Link) → s.links n ≡ o → May s (Detach n cause)
@@ -293,7 +309,9 @@ module _ (older : History) (tie : IsTied older) (got : IsReceived older) (shows 
   detach_shows n cause o is may = go o is
     where
       gone : None ≡ device_of n (Detach n cause ∷ older)
-      gone = sym (ap (λ (b : Bool). device_from (b || is_lost n older) (framed (bytes_received n older)) (plugged n older)) (eq-eqb n n refl))
+      gone = sym (ap
+          (λ (b : Bool). device_from (b || is_lost n older) (framed (bytes_received n older)) (plugged n older))
+          (eq-eqb n n refl))
 
       apart : (t : ℕ) → eqb n t ≡ false → device_of t (Detach n cause ∷ older) ≡ device_of t older
       apart t e = ap (λ (b : Bool). device_from (b || is_lost t older) (framed (bytes_received t older)) (plugged t older)) e
@@ -304,29 +322,39 @@ module _ (older : History) (tie : IsTied older) (got : IsReceived older) (shows 
 
       go : (o : Option Link) → s.links n ≡ o → ShowsDevices (unplugs_on o n s).state (Detach n cause ∷ older)
       go None is = turned n None (quietly s) (Detach n cause ∷ older)
-          (record { here = none (at n s.devices.rows) (sym (shows.linked n) ∙ ap is_some is); others = λ k apart. refl; linked = shows.linked; stopped = refl })
+          (record {
+            here = none (at n s.devices.rows) (sym (shows.linked n) ∙ ap is_some is);
+            others =
+                λ k apart. refl;
+            linked = shows.linked;
+            stopped = refl;
+          })
           may.0 gone apart
       go (Some link) is = turned n None (link_ends n ending.Lost s) (Detach n cause ∷ older)
           (turns_link_ends (came_count older) (plugged_count older) n ending.Lost s good) may.0 gone apart
 
   -- ---- the other entries
-  ask_shows : (stop : Bool) (m : Made) (next : History) → ((t : ℕ) → device_of t next ≡ device_of t older) → AskTables stop s m → ShowsDevices m.state next
+  ask_shows : (stop : Bool) (m : Made) (next : History) → ((t : ℕ) → device_of t next ≡ device_of t older)
+      → AskTables stop s m → ShowsDevices m.state next
   ask_shows false m next same h = shows_stays s m older next same shows h
   ask_shows true m next same h = shows_stopped s m next h
 
-  read_shows : (c : ℕ) (bytes : List ℕ) (o : Option Client) → May s (Read c bytes) → ShowsDevices (reads_from o c bytes s).state (Read c bytes ∷ older)
+  read_shows : (c : ℕ) (bytes : List ℕ) (o : Option Client) → May s (Read c bytes)
+      → ShowsDevices (reads_from o c bytes s).state (Read c bytes ∷ older)
   read_shows c bytes None may = shows_stays s (quietly s) older (Read c bytes ∷ older) (λ t. refl) shows (tables_same s s refl refl refl)
   read_shows c bytes (Some client) may =
       ask_shows (asks_kill (came_count older) (plugged_count older) c client.about.phase bytes client s)
       (reads_from (Some client) c bytes s) (Read c bytes ∷ older) (λ t. refl)
-      (reads_in_tables (came_count older) (plugged_count older) c client.about.phase bytes client s (omega (arith, may.1.1, tie.joined)) tie.rows)
+      (reads_in_tables (came_count older) (plugged_count older) c client.about.phase bytes client s
+      (omega (arith, may.1.1, tie.joined)) tie.rows)
 
   put_below : (c : ℕ) (o : Option Client) (bytes : List ℕ) → s.clients c ≡ o → MayPut s o bytes → c ≤ came_count older
   put_below c None bytes is may = absurd may
   put_below c (Some client) bytes is may = row_below (came_count older) c (s.clients c) client (tie.unborn c) is
 
   pub shows_rule : (e : Entry) → May s e → ShowsDevices (rule e s).state (e ∷ older)
-  shows_rule (Join c) may = shows_stays s (quietly (comes false c s)) older (Join c ∷ older) (λ t. refl) shows (tables_same s (comes false c s) refl refl refl)
+  shows_rule (Join c) may = shows_stays s (quietly (comes false c s)) older (Join c ∷ older) (λ t. refl) shows
+      (tables_same s (comes false c s) refl refl refl)
   shows_rule (Enter c port) may = shows_stays s (enters c port s) older (Enter c port ∷ older) (λ t. refl) shows
       (enters_tables (came_count older + 1) (plugged_count older) c (at port s.forwards) s (omega (arith, may.1, tie.joined)) tie.rows)
   shows_rule (Read c bytes) may = read_shows c bytes (s.clients c) may
@@ -339,7 +367,8 @@ module _ (older : History) (tie : IsTied older) (got : IsReceived older) (shows 
   shows_rule (Recv n bytes) may = recv_shows n bytes (s.links n) refl may
   shows_rule (Detach n cause) may = detach_shows n cause (s.links n) refl may
   shows_rule (Put c bytes) may = shows_stays s (puts c (length bytes) s) older (Put c bytes ∷ older) (λ t. refl) shows
-      (puts_tables (came_count older) (plugged_count older) c (length bytes) (s.clients c) s (put_below c (s.clients c) bytes refl may) tie.streams)
+      (puts_tables (came_count older) (plugged_count older) c (length bytes) (s.clients c) s
+      (put_below c (s.clients c) bytes refl may) tie.streams)
   shows_rule (Send n bytes) may = shows_stays s (quietly (sends n (length bytes) s)) older (Send n bytes ∷ older) (λ t. refl) shows
       (sends_tables n (length bytes) s)
 
@@ -369,7 +398,8 @@ all_devices h l = go (state h).stopped refl
     shows : ShowsDevices (state h) h
     shows = shows_devices h l
 
-    table : (d : DeviceTable) (drawn : ℕ) (rows : List (ℕ × Row)) → d.drawn ≡ drawn → d.rows ≡ rows → d ≡ record { drawn = drawn; rows = rows }
+    table : (d : DeviceTable) (drawn : ℕ) (rows : List (ℕ × Row)) → d.drawn ≡ drawn → d.rows ≡ rows
+        → d ≡ record { drawn = drawn; rows = rows }
     table d drawn rows e f = λ i. record { drawn = e i; rows = f i }
 
     go : (stopped : Bool) → (state h).stopped ≡ stopped → (state h).devices ≡ devices_if stopped h

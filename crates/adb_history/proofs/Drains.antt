@@ -23,9 +23,11 @@ calm_rule s e is calm = by_send (first_send s.links 1 s.devices.drawn) refl is
     sent r = subst (λ (x : Entry). IsCalm (rule x s).state) (sym r.entry) (calm_sends r.link (length (take MAX_HAND_OUT r.row.due)) s calm)
 
     put : IsPut s e 1 s.joined → IsCalm (rule e s).state
-    put r = subst (λ (x : Entry). IsCalm (rule x s).state) (sym r.entry) (calm_puts r.client (length (take MAX_HAND_OUT (offered s.devices r.row))) s calm)
+    put r = subst (λ (x : Entry). IsCalm (rule x s).state) (sym r.entry)
+        (calm_puts r.client (length (take MAX_HAND_OUT (offered s.devices r.row))) s calm)
 
-    by_send : (o : Option Entry) → first_send s.links 1 s.devices.drawn ≡ o → option_or o (first_put s.devices s.clients 1 s.joined) ≡ Some e
+    by_send : (o : Option Entry) → first_send s.links 1 s.devices.drawn ≡ o
+        → option_or o (first_put s.devices s.clients 1 s.joined) ≡ Some e
         → IsCalm (rule e s).state
     by_send None none found = put (puts_first s e 1 s.joined found)
     by_send (Some x) first found = sent (sends_first s e 1 s.devices.drawn (first ∙ found))
@@ -41,7 +43,8 @@ hands_out s e is calm =
     }
 
 -- draining as often as bytes are owed ends with nothing due, and no stream may send then
-pub drained_rests : (k : ℕ) (h : History) → IsCalm (state h) → owed (state h) ≤ k → (next_out (state (drain k h)) ≡ None) × IsCalm (state (drain k h))
+pub drained_rests : (k : ℕ) (h : History) → IsCalm (state h) → owed (state h) ≤ k
+    → (next_out (state (drain k h)) ≡ None) × IsCalm (state (drain k h))
 drained_rests zero h calm le = (go (next_out (state h)) refl, calm)
   where
     go : (o : Option Entry) → next_out (state h) ≡ o → next_out (state h) ≡ None

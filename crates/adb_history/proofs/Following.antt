@@ -32,5 +32,6 @@ pub changed_none : {A : Type 0} (n : ℕ) (f : A → Option A) (rows : Rows (Opt
     → change_row n (option_and_then f) rows n ≡ None
 changed_none n f rows is = rw (eq-eqb n n refl) (ap (option_and_then f) is)
 
-pub changed_other : {A : Type 0} (n k : ℕ) (f : A → Option A) (rows : Rows (Option A)) → n ≢ k → change_row n (option_and_then f) rows k ≡ rows k
+pub changed_other : {A : Type 0} (n k : ℕ) (f : A → Option A) (rows : Rows (Option A)) → n ≢ k
+    → change_row n (option_and_then f) rows k ≡ rows k
 changed_other n k f rows apart = rw (ne_eqb n k apart) refl

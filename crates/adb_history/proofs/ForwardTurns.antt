@@ -1,5 +1,6 @@
 -- What the packets of a link make of the forwards: they stay, or those that led to the link go with it.
-use Rattle.std.proofs.Common.{ℕ, ◌≡◌, ◌≢◌, ◌≤◌, Bool, true, false, cond, List, [], ◌∷◌, All, Option, Some, None, is_some, refl, sym, ◌∙◌, ap, eqb}
+use Rattle.std.proofs.Common.{ℕ, ◌≡◌, ◌≢◌, ◌≤◌, Bool, true, false, cond, List, [], ◌∷◌, All, Option, Some, None, is_some, refl, sym, ◌∙◌}
+use Rattle.std.proofs.Common.{ap, eqb}
 use Rattle.std.proofs.Common.{inl, inr, ◌⊎◌}
 use Rattle.std.proofs.lemmas.Bool.{eq-eqb, ne_eqb, cases_eq}
 use Rattle.std.proofs.lemmas.List.Elements.{All-head, All-tail, All-weaker, filter_passes}
@@ -27,7 +28,8 @@ use Rattle.adb_history.specs.Links.{is_connected}
 use Rattle.adb_history.specs.Streams.{all_end}
 use Rattle.adb_history.specs.Forwarding.{forwards_without}
 use Rattle.adb_history.specs.Losing.{forgets, link_ends}
-use Rattle.adb_history.specs.Packets.{least_version, least_maxdata, with_sums, goes_online, streams_end_first, connects, cnxn, unauthorized_from, unauthorized}
+use Rattle.adb_history.specs.Packets.{least_version, least_maxdata, with_sums, goes_online, streams_end_first, connects, cnxn}
+use Rattle.adb_history.specs.Packets.{unauthorized_from, unauthorized}
 use Rattle.adb_history.specs.Packets.{treat_open, treat_any, treat_on, treat, treat_all, faulty_on, faulty, with_rest, receives_cut}
 use Rattle.adb_history.specs.Book.{led_by}
 use Rattle.adb_history.proofs.Growing.{AreWithin, Keeps}
@@ -98,7 +100,8 @@ module _ (came plugged t : ℕ) where
       first true = leads_keeps s (all_end t Lost s) (keeps_all_end came plugged t Lost s all)
       first false = inl (refl, refl)
 
-  leads_cnxn : (version maxdata : ℕ) (banner : List ℕ) (s : State) → AreWithin came plugged s.streams → Leads t s (cnxn t version maxdata banner s)
+  leads_cnxn : (version maxdata : ℕ) (banner : List ℕ) (s : State) → AreWithin came plugged s.streams
+      → Leads t s (cnxn t version maxdata banner s)
   leads_cnxn version maxdata banner s all = go (nat_lt version least_version || nat_lt maxdata least_maxdata)
     where
       go : (refused : Bool) → Leads t s (cond refused (link_ends t Broken s) (connects t version maxdata (identity_of banner) s))
@@ -121,7 +124,8 @@ module _ (came plugged t : ℕ) where
       go true = leads_keeps s (treat_open t command p s) (keeps_treat_open came plugged t command p s le all)
       go false = inl (refl, refl)
 
-  leads_any : (command : Command) (p : Packet) (s : State) → t ≤ plugged → AreWithin came plugged s.streams → Leads t s (treat_any t command p s)
+  leads_any : (command : Command) (p : Packet) (s : State) → t ≤ plugged → AreWithin came plugged s.streams
+      → Leads t s (treat_any t command p s)
   leads_any Cnxn p s le all = leads_cnxn p.arg0 p.arg1 p.payload s all
   leads_any Auth p s le all = leads_unauthorized (at t s.devices.rows) s
   leads_any Stls p s le all = leads_unauthorized (at t s.devices.rows) s
@@ -141,12 +145,14 @@ module _ (came plugged t : ℕ) where
       leads_then s m (treat_all t packets) (leads_on (s.links t) p s le all)
       (leads_all packets m.state le ((hears_on came plugged (s.links t) t p s refl le all).streams all))
 
-  leads_faulty : (o : Option Link) (fault : Option PacketFault) (s : State) → AreWithin came plugged s.streams → Leads t s (faulty_on o t fault s)
+  leads_faulty : (o : Option Link) (fault : Option PacketFault) (s : State) → AreWithin came plugged s.streams
+      → Leads t s (faulty_on o t fault s)
   leads_faulty None fault s all = inl (refl, refl)
   leads_faulty (Some link) None s all = inl (refl, refl)
   leads_faulty (Some link) (Some fault) s all = leads_link_ends Broken s all
 
-  pub leads_cut : (c : Cut PacketFormat Packet PacketFault) (s : State) → t ≤ plugged → AreWithin came plugged s.streams → Leads t s (receives_cut t c s)
+  pub leads_cut : (c : Cut PacketFormat Packet PacketFault) (s : State) → t ≤ plugged
+      → AreWithin came plugged s.streams → Leads t s (receives_cut t c s)
   leads_cut c s le all =
       let rested = to_link t (with_rest c.rest) s in
       let m = treat_all t c.given rested in
@@ -166,7 +172,8 @@ abbrev pub AreLed : DeviceTable → List (ℕ × ForwardRow) → Type 0
 AreLed devices forwards = All (λ (entry : ℕ × ForwardRow). is_some (at entry.1.transport devices.rows) ≡ true) forwards
 
 -- those that stay are those that lead to a device
-pub led_after : (t : ℕ) (s : State) (m : Made) → AreLinked s → AreLinked m.state → ((k : ℕ) → k ≢ t → at k m.state.devices.rows ≡ at k s.devices.rows)
+pub led_after : (t : ℕ) (s : State) (m : Made) → AreLinked s → AreLinked m.state
+    → ((k : ℕ) → k ≢ t → at k m.state.devices.rows ≡ at k s.devices.rows)
     → AreLed s.devices s.forwards → Leads t s m → m.state.forwards ≡ led_by m.state.devices s.forwards
 led_after t s m linked after others led (inl h) =
     h.0 ∙ sym (filter_all (λ (entry : ℕ × ForwardRow). is_some (at entry.1.transport m.state.devices.rows)) s.forwards

@@ -1,5 +1,7 @@
--- What a rule does to the rows of clients and links, and what it tells: a row may go, but none comes, and what is due grows by what is told.
-use Rattle.std.proofs.Common.{ℕ, ◌≡◌, ◌≤◌, ◌<◌, Bool, true, false, cond, List, [], ◌∷◌, ◌++◌, Option, Some, None, is_some, refl, sym, ◌∙◌, ap, subst}
+-- What a rule does to the rows of clients and links, and what it tells: a row may go, but none comes, and what is due
+-- grows by what is told.
+use Rattle.std.proofs.Common.{ℕ, ◌≡◌, ◌≤◌, ◌<◌, Bool, true, false, cond, List, [], ◌∷◌, ◌++◌, Option, Some, None, is_some, refl, sym, ◌∙◌}
+use Rattle.std.proofs.Common.{ap, subst}
 use Rattle.std.proofs.Common.{arith, append_assoc, eqb}
 use Rattle.std.proofs.lemmas.Bool.{eqb-true, ne_eqb}
 use Rattle.std.proofs.lemmas.List.{append-nil}
@@ -112,7 +114,8 @@ pub link_owes_then : (a b c : Link) (t u : List ℕ) → LinkOwes a b t → Link
 link_owes_then a b c t u h i = joins_due a.due b.due c.due t u h i
 
 asking_then : (a b c : Client) → StaysAsking b c → (b.about.phase ≡ Asking → StaysAsking a b) → StaysAsking a c
-asking_then a b c h before = let g = before h.phase in record { phase = g.phase; held = h.held ∙ g.held; selected = h.selected ∙ g.selected }
+asking_then a b c h before = let g =
+    before h.phase in record { phase = g.phase; held = h.held ∙ g.held; selected = h.selected ∙ g.selected }
 
 binding_then : (a b c : Client) → StaysBinding b c → (b.about.phase ≡ Binding → StaysBinding a b) → StaysBinding a c
 binding_then a b c h before = let g = before h.phase in record { phase = g.phase; want = h.want ∙ g.want }
@@ -137,7 +140,8 @@ link_stays = record { first = LinkStays; next = LinkStays; both = LinkStays; fol
 -- ---- what is told
 pub owed_append : (c : ℕ) (es fs : List Event) → owed_to c (es ++ fs) ≡ owed_to c es ++ owed_to c fs
 owed_append c [] fs = refl
-owed_append c (e ∷ es) fs = ap (λ x. bytes_for c e ++ x) (owed_append c es fs) ∙ sym (append_assoc (bytes_for c e) (owed_to c es) (owed_to c fs))
+owed_append c (e ∷ es) fs = ap (λ x. bytes_for c e ++ x) (owed_append c es fs)
+    ∙ sym (append_assoc (bytes_for c e) (owed_to c es) (owed_to c fs))
 
 pub spelled_append : (t : ℕ) (es fs : List Event) → spelled_to t (es ++ fs) ≡ spelled_to t es ++ spelled_to t fs
 spelled_append t [] fs = refl
@@ -162,8 +166,10 @@ both_none x y z e f g = e ∙ (ap (λ w. w ++ y) f ∙ g)
 pub told_then : (came plugged : ℕ) (es fs : List Event) → IsToldWithin came plugged es → IsToldWithin came plugged fs
     → IsToldWithin came plugged (es ++ fs)
 told_then came plugged es fs h i = record {
-  clients = λ c above. both_none (owed_to c es) (owed_to c fs) (owed_to c (es ++ fs)) (owed_append c es fs) (h.clients c above) (i.clients c above);
-  links = λ t above. both_none (spelled_to t es) (spelled_to t fs) (spelled_to t (es ++ fs)) (spelled_append t es fs) (h.links t above) (i.links t above);
+  clients = λ c above. both_none (owed_to c es) (owed_to c fs) (owed_to c (es ++ fs)) (owed_append c es fs)
+      (h.clients c above) (i.clients c above);
+  links = λ t above. both_none (spelled_to t es) (spelled_to t fs) (spelled_to t (es ++ fs)) (spelled_append t es fs)
+      (h.links t above) (i.links t above);
 }
 
 -- ---- streams
@@ -273,9 +279,16 @@ module _ (came plugged : ℕ) where
 
   pub keeps_owe_client : (c : ℕ) (bytes : List ℕ) (s : State) → c ≤ came → Keeps s (owe_client c bytes s)
   keeps_owe_client c bytes s le = record {
-    clients = λ k. subst (λ (x : List ℕ). RowStep ClientStays (s.clients k) ((to_client c (with_due bytes) s).clients k) x) (at_told (eqb c k) bytes)
+    clients = λ k. subst
+        (λ (x : List ℕ). RowStep ClientStays (s.clients k) ((to_client c (with_due bytes) s).clients k) x)
+        (at_told (eqb c k) bytes)
         (row_at ClientStays client_same s.clients (record { number = c; row = with_due bytes; told = bytes })
-        (λ a e. record { due = refl; asks = λ e. record { phase = e; held = refl; selected = refl }; binds = λ e. record { phase = e; want = refl } }) k);
+        (λ a e. record {
+          due = refl;
+          asks = λ e. record { phase = e; held = refl; selected = refl };
+          binds =
+              λ e. record { phase = e; want = refl };
+        }) k);
     links = λ t. row_same LinkStays link_same (s.links t);
     told = record { clients = λ k lt. sym (at_told (eqb c k) bytes) ∙ above_only c k came bytes le lt; links = λ t lt. refl };
     streams = λ h. h;

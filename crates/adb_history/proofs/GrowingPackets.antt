@@ -1,5 +1,7 @@
--- What the packets of a connected device make, and what is told of bytes that were handed out, brings no client or link, and leaves the tables.
-use Rattle.std.proofs.Common.{ℕ, ◌≡◌, ◌≤◌, Bool, true, false, List, [], ◌∷◌, length, min, Option, Some, None, refl, sym, ◌∙◌, zero, suc, eqb, codes}
+-- What the packets of a connected device make, and what is told of bytes that were handed out, brings no client or
+-- link, and leaves the tables.
+use Rattle.std.proofs.Common.{ℕ, ◌≡◌, ◌≤◌, Bool, true, false, List, [], ◌∷◌, length, min, Option, Some, None, refl, sym, ◌∙◌, zero, suc}
+use Rattle.std.proofs.Common.{eqb, codes}
 use Rattle.std.proofs.lemmas.List.{append-nil}
 use Rattle.std.specs.Prelude.{option_map, ◌==◌, ◌||◌, not}
 use Rattle.adb_wire.specs.declared.command.Command.{Command}
@@ -25,7 +27,8 @@ use Rattle.adb_history.specs.Packets.{accepts_none, accepts, takes_write, takes_
 use Rattle.adb_history.specs.Handing.{unmarked, lists_first, tells_credit, tells_handed, stream_hands, stream_left}
 use Rattle.adb_history.specs.Handing.{client_left}
 use Rattle.adb_history.proofs.Growing.{RowStep, row_same, ClientStays, client_same, LinkStays, link_same, IsWithin, AreWithin}
-use Rattle.adb_history.proofs.Growing.{Keeps, keeps_all, keeps_then, keeps_over, keeps_to_client, keeps_owe_client, keeps_owe_link, keeps_part, keeps_no_stream}
+use Rattle.adb_history.proofs.Growing.{Keeps, keeps_all, keeps_then, keeps_over, keeps_to_client, keeps_owe_client, keeps_owe_link}
+use Rattle.adb_history.proofs.Growing.{keeps_part, keeps_no_stream}
 use Rattle.adb_history.proofs.GrowingRules.{keeps_phase, keeps_ends_row, keeps_ends_telling}
 
 module _ (came plugged : ℕ) where
@@ -35,7 +38,8 @@ module _ (came plugged : ℕ) where
       by_test (Keeps came plugged s) (id == 0) (λ e. keeps_all came plugged s) (λ e. keeps_owe_link came plugged t (close_packet 0 id) s le)
 
   keeps_at_stream : (t : ℕ) (o : Option Stream) (rule : Stream → State → Made) (s : State) → IsWithin came plugged o
-      → ((stream : Stream) → IsWithin came plugged (Some stream) → Keeps came plugged s (rule stream s)) → Keeps came plugged s (at_stream t o rule s)
+      → ((stream : Stream) → IsWithin came plugged (Some stream) → Keeps came plugged s (rule stream s))
+      → Keeps came plugged s (at_stream t o rule s)
   keeps_at_stream t None rule s within keeps = keeps_all came plugged s
   keeps_at_stream t (Some stream) rule s within keeps =
       by_test (Keeps came plugged s) (eqb stream.link t) (λ e. keeps stream within) (λ e. keeps_all came plugged s)
@@ -44,7 +48,8 @@ module _ (came plugged : ℕ) where
   keeps_hears_okay : (o : Option Client) (c : ℕ) (s : State) → c ≤ came → Keeps came plugged s (hears_okay o c s)
   keeps_hears_okay None c s le = keeps_all came plugged s
   keeps_hears_okay (Some client) c s le =
-      by_test (Keeps came plugged s) client.about.forwarded (λ e. keeps_all came plugged s) (λ e. keeps_owe_client came plugged c (codes "OKAY") s le)
+      by_test (Keeps came plugged s) client.about.forwarded (λ e. keeps_all came plugged s)
+      (λ e. keeps_owe_client came plugged c (codes "OKAY") s le)
 
   keeps_opened : (l remote : ℕ) (word : Option ℕ) (stream : Stream) (s : State) → stream.client ≤ came
       → Keeps came plugged s (opened l remote word stream s)
@@ -55,7 +60,8 @@ module _ (came plugged : ℕ) where
       keeps_then came plugged s heard
       (λ s. quietly (to_client stream.client (in_phase (Streaming l)) (to_stream l (with_stream_part part) s)))
       (keeps_hears_okay (s.clients stream.client) stream.client s le)
-      (keeps_over came plugged heard.state next (quietly (to_client stream.client (in_phase (Streaming l)) next)) (keeps_part came plugged l part heard.state)
+      (keeps_over came plugged heard.state next (quietly (to_client stream.client (in_phase (Streaming l)) next))
+      (keeps_part came plugged l part heard.state)
       (keeps_phase came plugged (Streaming l) stream.client next (λ e. cc) (λ e. cc)))
 
   keeps_orphan_opened : (l remote : ℕ) (stream : Stream) (s : State) → stream.link ≤ plugged
@@ -74,7 +80,8 @@ module _ (came plugged : ℕ) where
       → Keeps came plugged s (takes_okay l remote word stream s)
   keeps_takes_okay l remote word stream s within =
       by_test (Keeps came plugged s) (remote == 0) (λ e. keeps_all came plugged s)
-      (λ e. by_test (Keeps came plugged s) (stream.part.remote == 0) (λ f. keeps_okay_first stream.part.orphan l remote word stream s within)
+      (λ e. by_test (Keeps came plugged s) (stream.part.remote == 0)
+      (λ f. keeps_okay_first stream.part.orphan l remote word stream s within)
       (λ f. by_test (Keeps came plugged s) (remote == stream.part.remote)
       (λ g. keeps_part came plugged l (with_flow (acknowledged word stream.part.flow) stream.part) s) (λ g. keeps_all came plugged s)))
 
@@ -110,7 +117,8 @@ module _ (came plugged : ℕ) where
   pub keeps_treat_open : (t : ℕ) (command : Command) (p : Packet) (s : State) → t ≤ plugged → AreWithin came plugged s.streams
       → Keeps came plugged s (treat_open t command p s)
   keeps_treat_open t Open p s le all = keeps_refuses_open t p.arg0 s le
-  keeps_treat_open t Okay p s le all = keeps_at_stream t (s.streams p.arg1) (takes_okay p.arg1 p.arg0 (credit_word p.payload)) s (all p.arg1)
+  keeps_treat_open t Okay p s le all = keeps_at_stream t (s.streams p.arg1)
+      (takes_okay p.arg1 p.arg0 (credit_word p.payload)) s (all p.arg1)
       (λ stream within. keeps_takes_okay p.arg1 p.arg0 (credit_word p.payload) stream s within)
   keeps_treat_open t Wrte p s le all = keeps_at_stream t (s.streams p.arg1) (takes_write p.arg1 p.arg0 p.payload) s (all p.arg1)
       (λ stream within. keeps_takes_write p.arg1 p.arg0 p.payload stream s within)
@@ -145,7 +153,8 @@ module _ (came plugged : ℕ) where
       go (Some a) = stays_marked a.about.phase a refl
 
   -- ---- hand-outs
-  pub keeps_lists_first : (c : ℕ) (due : List ℕ) (client : Client) (s : State) → c ≤ came → Keeps came plugged s (lists_first c due client s)
+  pub keeps_lists_first : (c : ℕ) (due : List ℕ) (client : Client) (s : State) → c ≤ came
+      → Keeps came plugged s (lists_first c due client s)
   keeps_lists_first c [] client s le =
       let next = to_client c unmarked s in
       keeps_over came plugged s next (owe_client c (offered s.devices client) next)
@@ -168,17 +177,20 @@ module _ (came plugged : ℕ) where
   keeps_tells_handed (One window) (suc left) l stream s le = keeps_all came plugged s
   keeps_tells_handed (Credit credit) left l stream s le = keeps_tells_credit (credit_back left credit) l stream s le
 
-  keeps_stream_hands : (left l : ℕ) (stream : Stream) (s : State) → stream.link ≤ plugged → Keeps came plugged s (stream_hands left l stream s)
+  keeps_stream_hands : (left l : ℕ) (stream : Stream) (s : State) → stream.link ≤ plugged
+      → Keeps came plugged s (stream_hands left l stream s)
   keeps_stream_hands left l stream s le =
       let next = to_stream l (with_stream_part (with_flow (handed_to left stream.part.flow) stream.part)) s in
       by_test (Keeps came plugged s) (eqb left (to_hand stream.part.flow)) (λ e. keeps_all came plugged s)
       (λ e. keeps_over came plugged s next (tells_handed stream.part.flow left l stream next)
-      (keeps_part came plugged l (with_flow (handed_to left stream.part.flow) stream.part) s) (keeps_tells_handed stream.part.flow left l stream next le))
+      (keeps_part came plugged l (with_flow (handed_to left stream.part.flow) stream.part) s)
+      (keeps_tells_handed stream.part.flow left l stream next le))
 
   keeps_stream_left : (due l : ℕ) (o : Option Stream) (s : State) → IsWithin came plugged o → Keeps came plugged s (stream_left due l o s)
   keeps_stream_left due l None s within = keeps_all came plugged s
   keeps_stream_left due l (Some stream) s within = keeps_stream_hands (min (to_hand stream.part.flow) due) l stream s within.1
 
-  pub keeps_client_left : (phase : Phase) (due : ℕ) (s : State) → AreWithin came plugged s.streams → Keeps came plugged s (client_left phase due s)
+  pub keeps_client_left : (phase : Phase) (due : ℕ) (s : State) → AreWithin came plugged s.streams
+      → Keeps came plugged s (client_left phase due s)
   keeps_client_left (Streaming l) due s all = keeps_stream_left due l (s.streams l) s (all l)
   keeps_client_left _ due s all = keeps_all came plugged s

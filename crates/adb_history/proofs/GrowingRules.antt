@@ -1,5 +1,6 @@
 -- The rules that bring no client or link, and leave the tables: how clients close, streams begin and end, and what they hold goes up.
-use Rattle.std.proofs.Common.{ℕ, ◌+◌, ◌≡◌, ◌≢◌, ◌≤◌, Bool, true, false, cond, List, [], ◌∷◌, drop, Option, Some, None, refl, sym, ◌∙◌, subst, zero}
+use Rattle.std.proofs.Common.{ℕ, ◌+◌, ◌≡◌, ◌≢◌, ◌≤◌, Bool, true, false, cond, List, [], ◌∷◌, drop, Option, Some, None, refl, sym, ◌∙◌}
+use Rattle.std.proofs.Common.{subst, zero}
 use Rattle.std.proofs.Common.{suc, eqb, codes}
 use Rattle.std.proofs.lemmas.List.{append-nil}
 use Rattle.std.specs.Prelude.{◌==◌}
@@ -17,13 +18,16 @@ use Rattle.adb_history.specs.declared.ending.Ending.{Ending}
 use Rattle.adb_history.specs.declared.ending.Ending.TheVariants.{ClientClosed, ClientFailed}
 use Rattle.adb_history.specs.Links.{open_packet, close_packet, write_packet, owe_link, is_credit, maxdata_of}
 use Rattle.adb_history.specs.Clients.{owe_client, closing_with, closing, closes, closes_with}
-use Rattle.adb_history.specs.Streams.{stream_ids, draw, asks_for, no_ids_left, opens, loses, client_loses, tells_end, ends_row, ends_telling}
+use Rattle.adb_history.specs.Streams.{stream_ids, draw, asks_for, no_ids_left, opens, loses, client_loses, tells_end, ends_row}
+use Rattle.adb_history.specs.Streams.{ends_telling}
 use Rattle.adb_history.specs.Streams.{ends_if_of, ends_of, all_end}
-use Rattle.adb_history.specs.Flow.{payloads, total, with_flow, goes_up, all_go_up, flow_after, noted, is_over, closes_if, sends_up, is_streaming}
+use Rattle.adb_history.specs.Flow.{payloads, total, with_flow, goes_up, all_go_up, flow_after, noted, is_over, closes_if, sends_up}
+use Rattle.adb_history.specs.Flow.{is_streaming}
 use Rattle.adb_history.specs.Flow.{up_client, up_stream, up, up_all}
 use Rattle.adb_history.specs.Losing.{orphaned, stream_fails, stream_of, client_fails, input_ended, input_ends, client_ends}
 use Rattle.adb_history.proofs.Growing.{RowStep, row_same, ClientStays, client_same, LinkStays, link_same, IsWithin, AreWithin}
-use Rattle.adb_history.proofs.Growing.{Keeps, keeps_all, keeps_then, keeps_over, keeps_to_client, keeps_owe_client, keeps_owe_link, keeps_part}
+use Rattle.adb_history.proofs.Growing.{Keeps, keeps_all, keeps_then, keeps_over, keeps_to_client, keeps_owe_client, keeps_owe_link}
+use Rattle.adb_history.proofs.Growing.{keeps_part}
 use Rattle.adb_history.proofs.Growing.{keeps_no_stream, keeps_told_end}
 
 -- a client that neither asks nor waits for a listener afterwards
@@ -34,7 +38,9 @@ stays_other a b due asks binds =
 pub stays_closing : (due : List ℕ) (a : Client) → a.due ≡ due → RowStep ClientStays (Some a) (closing_with due a) []
 stays_closing [] a e = tt
 stays_closing (b ∷ due) a e =
-    stays_other a (record { about = record a.about { phase = Closing; mark = false; want = None }; held = []; due = b ∷ due }) (sym e) (λ e. cc) (λ e. cc)
+    stays_other a
+    (record { about = record a.about { phase = Closing; mark = false; want = None }; held = []; due = b ∷ due })
+    (sym e) (λ e. cc) (λ e. cc)
 
 module _ (came plugged : ℕ) where
   -- ---- clients
@@ -50,9 +56,11 @@ module _ (came plugged : ℕ) where
   keeps_gone c s = keeps_to_client came plugged c none_kept s (λ a e. tt)
 
   -- a client that goes on to a phase of its stream
-  pub keeps_phase : (phase : Phase) (c : ℕ) (s : State) → phase ≢ Asking → phase ≢ Binding → Keeps came plugged s (quietly (to_client c (in_phase phase) s))
+  pub keeps_phase : (phase : Phase) (c : ℕ) (s : State) → phase ≢ Asking → phase ≢ Binding
+      → Keeps came plugged s (quietly (to_client c (in_phase phase) s))
   keeps_phase phase c s asks binds =
-      keeps_to_client came plugged c (in_phase phase) s (λ a e. stays_other a (record a { about = record a.about { phase = phase } }) refl asks binds)
+      keeps_to_client came plugged c (in_phase phase) s
+      (λ a e. stays_other a (record a { about = record a.about { phase = phase } }) refl asks binds)
 
   -- what a client holds changes that does not ask
   pub keeps_held : (held : List ℕ) (c : ℕ) (s : State)
@@ -87,7 +95,8 @@ module _ (came plugged : ℕ) where
       let drawn = draw credit c t s in
       let waiting = to_client c (in_phase (Opening l)) drawn in
       keeps_over came plugged s drawn (owe_link t (open_packet credit l service) waiting) (keeps_draw credit c t s below_c below_t)
-      (keeps_over came plugged drawn waiting (owe_link t (open_packet credit l service) waiting) (keeps_phase (Opening l) c drawn (λ e. cc) (λ e. cc))
+      (keeps_over came plugged drawn waiting (owe_link t (open_packet credit l service) waiting)
+      (keeps_phase (Opening l) c drawn (λ e. cc) (λ e. cc))
       (keeps_owe_link came plugged t (open_packet credit l service) waiting below_t))
 
   keeps_no_ids_left : (forwarded : Bool) (c : ℕ) (s : State) → c ≤ came → Keeps came plugged s (no_ids_left forwarded c s)
@@ -117,7 +126,8 @@ module _ (came plugged : ℕ) where
   keeps_tells_end true l ending s = keeps_all came plugged s
   keeps_tells_end false l ending s = keeps_told_end came plugged l ending s
 
-  pub keeps_ends_row : (l : ℕ) (ending : Ending) (stream : Stream) (s : State) → stream.client ≤ came → Keeps came plugged s (ends_row l ending stream s)
+  pub keeps_ends_row : (l : ℕ) (ending : Ending) (stream : Stream) (s : State) → stream.client ≤ came
+      → Keeps came plugged s (ends_row l ending stream s)
   keeps_ends_row l ending stream s le =
       let gone = to_stream l none_kept s in
       let tells = tells_end stream.part.orphan l ending gone in
@@ -129,10 +139,12 @@ module _ (came plugged : ℕ) where
       → Keeps came plugged s (ends_telling l ending stream s)
   keeps_ends_telling l ending stream s within =
       let told = owe_link stream.link (close_packet l stream.part.remote) s in
-      keeps_then came plugged s told (ends_row l ending stream) (keeps_owe_link came plugged stream.link (close_packet l stream.part.remote) s within.1)
+      keeps_then came plugged s told (ends_row l ending stream)
+      (keeps_owe_link came plugged stream.link (close_packet l stream.part.remote) s within.1)
       (keeps_ends_row l ending stream told.state within.0)
 
-  keeps_ends_if_of : (t l : ℕ) (ending : Ending) (o : Option Stream) (s : State) → IsWithin came plugged o → Keeps came plugged s (ends_if_of t l ending o s)
+  keeps_ends_if_of : (t l : ℕ) (ending : Ending) (o : Option Stream) (s : State) → IsWithin came plugged o
+      → Keeps came plugged s (ends_if_of t l ending o s)
   keeps_ends_if_of t l ending None s within = keeps_all came plugged s
   keeps_ends_if_of t l ending (Some stream) s within = go (eqb stream.link t)
     where
@@ -140,7 +152,8 @@ module _ (came plugged : ℕ) where
       go true = keeps_ends_row l ending stream s within.0
       go false = keeps_all came plugged s
 
-  pub keeps_ends_of : (t k : ℕ) (ending : Ending) (s : State) → AreWithin came plugged s.streams → Keeps came plugged s (ends_of t k ending s)
+  pub keeps_ends_of : (t k : ℕ) (ending : Ending) (s : State) → AreWithin came plugged s.streams
+      → Keeps came plugged s (ends_of t k ending s)
   keeps_ends_of t zero ending s within = keeps_all came plugged s
   keeps_ends_of t (suc k) ending s within =
       let before = keeps_ends_of t k ending s within in
@@ -165,10 +178,12 @@ module _ (came plugged : ℕ) where
       → Keeps came plugged s (quietly (noted l stream held payloads s))
   keeps_noted l stream held payloads s at =
       let part = with_flow (flow_after payloads stream.part.flow) stream.part in
-      keeps_over came plugged s (to_stream l (with_stream_part part) s) (quietly (noted l stream held payloads s)) (keeps_part came plugged l part s)
+      keeps_over came plugged s (to_stream l (with_stream_part part) s) (quietly (noted l stream held payloads s))
+      (keeps_part came plugged l part s)
       (keeps_held (drop (total payloads) held) stream.client (to_stream l (with_stream_part part) s) at)
 
-  keeps_closes_if : (over : Bool) (l : ℕ) (o : Option Stream) (s : State) → IsWithin came plugged o → Keeps came plugged s (closes_if over l o s)
+  keeps_closes_if : (over : Bool) (l : ℕ) (o : Option Stream) (s : State) → IsWithin came plugged o
+      → Keeps came plugged s (closes_if over l o s)
   keeps_closes_if over l None s within = keeps_all came plugged s
   keeps_closes_if false l (Some stream) s within = keeps_all came plugged s
   keeps_closes_if true l (Some stream) s within = keeps_ends_telling l ClientClosed stream s within
@@ -182,7 +197,8 @@ module _ (came plugged : ℕ) where
       let over = is_over client.about.ended (drop (total payloads) client.held) (flow_after payloads stream.part.flow) in
       let first : Keeps came plugged s m = keeps_over came plugged s next m (keeps_noted l stream client.held payloads s at)
       (keeps_all_go_up l stream payloads next within.1) in
-      keeps_then came plugged s m (λ s. closes_if over l (s.streams l) s) first (keeps_closes_if over l (m.state.streams l) m.state (first.streams all l))
+      keeps_then came plugged s m (λ s. closes_if over l (s.streams l) s) first
+      (keeps_closes_if over l (m.state.streams l) m.state (first.streams all l))
 
   streaming_only : (l : ℕ) (phase : Phase) → is_streaming l phase ≡ true → (phase ≢ Asking) × (phase ≢ Binding)
   streaming_only l (Streaming k) e = (λ e. cc, λ e. cc)
@@ -191,7 +207,8 @@ module _ (came plugged : ℕ) where
   pub same_client : (o : Option Client) (a b : Client) → o ≡ Some a → o ≡ Some b → a ≡ b
   same_client o a b e f = let same : Some a ≡ Some b = sym e ∙ f in cc
 
-  keeps_up_client : (l : ℕ) (stream : Stream) (o : Option Client) (s : State) → s.clients stream.client ≡ o → IsWithin came plugged (Some stream)
+  keeps_up_client : (l : ℕ) (stream : Stream) (o : Option Client) (s : State) → s.clients stream.client ≡ o
+      → IsWithin came plugged (Some stream)
       → AreWithin came plugged s.streams → Keeps came plugged s (up_client l stream o s)
   keeps_up_client l stream None s is within all = keeps_all came plugged s
   keeps_up_client l stream (Some client) s is within all = go (is_streaming l client.about.phase) refl
@@ -202,7 +219,8 @@ module _ (came plugged : ℕ) where
       go : (here : Bool) → is_streaming l client.about.phase ≡ here
           → Keeps came plugged s (cond here (sends_up l stream client sending s) (quietly s))
       go true e = keeps_sends_up l stream client sending s within
-          (λ a f. subst (λ (x : Client). (x.about.phase ≢ Asking) × (x.about.phase ≢ Binding)) (same_client (s.clients stream.client) client a is f)
+          (λ a f. subst (λ (x : Client). (x.about.phase ≢ Asking) × (x.about.phase ≢ Binding))
+          (same_client (s.clients stream.client) client a is f)
           (streaming_only l client.about.phase e)) all
       go false e = keeps_all came plugged s
 
@@ -235,7 +253,8 @@ module _ (came plugged : ℕ) where
       (keeps_part came plugged l (orphaned stream.part) s) (keeps_told_end came plugged l (ClientFailed cause) left)
   keeps_stream_fails _ cause _ s within = keeps_all came plugged s
 
-  within_stream_of : (phase : Phase) (streams : ℕ → Option Stream) → AreWithin came plugged streams → IsWithin came plugged (stream_of phase streams)
+  within_stream_of : (phase : Phase) (streams : ℕ → Option Stream) → AreWithin came plugged streams
+      → IsWithin came plugged (stream_of phase streams)
   within_stream_of (Streaming l) streams all = all l
   within_stream_of (Opening l) streams all = all l
   within_stream_of _ streams all = tt

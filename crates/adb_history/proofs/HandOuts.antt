@@ -1,5 +1,6 @@
 -- A hand-out takes more of what is due than it makes due.
-use Rattle.std.proofs.Common.{ℕ, ◌+◌, ◌≡◌, ◌≢◌, ◌≤◌, ◌<◌, Bool, true, false, cond, List, [], ◌∷◌, ◌++◌, length, take, drop, min, Option, Some, None, refl, sym}
+use Rattle.std.proofs.Common.{ℕ, ◌+◌, ◌≡◌, ◌≢◌, ◌≤◌, ◌<◌, Bool, true, false, cond, List, [], ◌∷◌, ◌++◌, length, take, drop, min, Option}
+use Rattle.std.proofs.Common.{Some, None, refl, sym}
 use Rattle.std.proofs.Common.{◌∙◌, ap, subst, arith, zero, suc, eqb, ◌⊎◌, inl, inr}
 use Rattle.std.specs.Option.{option_or}
 use Rattle.std.specs.Prelude.{option_and_then}
@@ -26,16 +27,19 @@ use Rattle.adb_history.specs.Clients.{closing_with}
 use Rattle.adb_history.specs.Events.{quietly}
 use Rattle.adb_history.specs.Links.{okay_packet, credit_packet, owe_link, check_on, wants_sums}
 use Rattle.adb_history.specs.Tracking.{offered, list_if_stale, due_or}
-use Rattle.adb_history.specs.Handing.{tells_credit, tells_handed, stream_hands, stream_left, client_left, takes_of, puts_to, puts, hands, lists_first, link_hands, left_in, unmarked}
+use Rattle.adb_history.specs.Handing.{tells_credit, tells_handed, stream_hands, stream_left, client_left, takes_of, puts_to, puts, hands}
+use Rattle.adb_history.specs.Handing.{lists_first, link_hands, left_in, unmarked}
 use Rattle.adb_history.specs.Machine.{rule}
-use Rattle.adb_history.specs.Drained.{owed_link, owed_list, owed_client, owed_by, owed_links, owed_clients, owed, answer_len, send_of, send_on, first_send, put_of, put_to, first_put, next_out}
+use Rattle.adb_history.specs.Drained.{owed_link, owed_list, owed_client, owed_by, owed_links, owed_clients, owed, answer_len, send_of}
+use Rattle.adb_history.specs.Drained.{send_on, first_send, put_of, put_to, first_put, next_out}
 
 length_header : (head : Head) → length (header_bytes head) ≡ 24
 length_header head = refl
 
 -- the bytes of a packet
 length_spelling : (p : Packet) (check : ℕ) → length (spelling p check) ≡ 24 + length p.payload
-length_spelling p check = length-append (header_bytes (head_for p check)) p.payload ∙ ap (λ n. n + length p.payload) (length_header (head_for p check))
+length_spelling p check = length-append (header_bytes (head_for p check)) p.payload
+    ∙ ap (λ n. n + length p.payload) (length_header (head_for p check))
 
 -- ---- rows of which one owes more, or fewer
 module _ {A : Type 0} (owed_row : Option A → ℕ) where
@@ -47,7 +51,8 @@ module _ {A : Type 0} (owed_row : Option A → ℕ) where
       omega (arith, same_above rows later t (suc first) k others (omega (arith, below)), row)
 
   -- so many more at one place at most
-  pub owed_more : (rows later : Rows (Option A)) (t first k n : ℕ) → ((q : ℕ) → q ≢ t → later q ≡ rows q) → owed_row (later t) ≤ owed_row (rows t) + n
+  pub owed_more : (rows later : Rows (Option A)) (t first k n : ℕ) → ((q : ℕ) → q ≢ t → later q ≡ rows q)
+      → owed_row (later t) ≤ owed_row (rows t) + n
       → owed_by owed_row later first k ≤ owed_by owed_row rows first k + n
   owed_more rows later t first zero n others more = omega arith
   owed_more rows later t first (suc k) n others more = by_place (cases_eq t first) (owed_more rows later t (suc first) k n others more)
@@ -64,10 +69,12 @@ module _ {A : Type 0} (owed_row : Option A → ℕ) where
           omega (arith, row, behind)
 
   -- so many fewer at one place at least
-  pub owed_less : (rows later : Rows (Option A)) (t first k n : ℕ) → ((q : ℕ) → q ≢ t → later q ≡ rows q) → owed_row (later t) + n ≤ owed_row (rows t)
+  pub owed_less : (rows later : Rows (Option A)) (t first k n : ℕ) → ((q : ℕ) → q ≢ t → later q ≡ rows q)
+      → owed_row (later t) + n ≤ owed_row (rows t)
       → first ≤ t → t < first + k → owed_by owed_row later first k + n ≤ owed_by owed_row rows first k
   owed_less rows later t first zero n others less from to = absurd (omega (arith, from, to))
-  owed_less rows later t first (suc k) n others less from to = by_place (cases_eq t first) (owed_less rows later t (suc first) k n others less)
+  owed_less rows later t first (suc k) n others less from to =
+      by_place (cases_eq t first) (owed_less rows later t (suc first) k n others less)
     where
       by_place : ◌⊎◌ (t ≡ first) (t ≢ first)
           → (suc first ≤ t → t < suc first + k → owed_by owed_row later (suc first) k + n ≤ owed_by owed_row rows (suc first) k)
@@ -134,7 +141,8 @@ adds_hands left l stream s = by_test (eqb left (to_hand stream.part.flow))
         (to_stream l (with_stream_part (with_flow (handed_to left stream.part.flow) stream.part)) s))).state
     by_test true = adds_nothing s
     by_test false =
-        let adds = adds_handed stream.part.flow left l stream (to_stream l (with_stream_part (with_flow (handed_to left stream.part.flow) stream.part)) s) in
+        let adds = adds_handed stream.part.flow left l stream
+        (to_stream l (with_stream_part (with_flow (handed_to left stream.part.flow) stream.part)) s) in
         record { clients = adds.clients; devices = adds.devices; joined = adds.joined; links = adds.links }
 
 adds_left : (due l : ℕ) (stream : Option Stream) (s : State) → AddsAnswer s (stream_left due l stream s).state
@@ -165,7 +173,8 @@ pub record TakesSome (c n : ℕ) (old new : State) : Type 0 where
   pub here : owed_client old.devices (new.clients c) + n ≤ owed_client old.devices (old.clients c)
   pub links : owed_links new ≤ owed_links old + answer_len
 
-takes_some : (c n : ℕ) (s : State) (client : Client) → s.clients c ≡ Some client → n ≤ length client.due → TakesSome c n s (takes_of c n (s.clients c) s).state
+takes_some : (c n : ℕ) (s : State) (client : Client) → s.clients c ≡ Some client → n ≤ length client.due
+    → TakesSome c n s (takes_of c n (s.clients c) s).state
 takes_some c n s client is some =
     subst (λ (row : Option Client). TakesSome c n s (takes_of c n row s).state) (sym is) (
     let handed : State = to_client c (hands n) s in
@@ -178,7 +187,8 @@ takes_some c n s client is some =
       others = λ q other. ap (λ rows. rows q) adds.clients ∙ changed_elsewhere s.clients c q (option_and_then (hands n)) other;
       here = subst (λ (row : Option Client). owed_client s.devices row + n ≤ owed_client s.devices (s.clients c))
           (sym (ap (λ rows. rows c) adds.clients ∙ at_row))
-          (subst (λ (row : Option Client). owed_client s.devices (left_in client.about.phase (drop n client.due) client) + n ≤ owed_client s.devices row)
+          (subst (λ (row : Option Client). owed_client s.devices
+          (left_in client.about.phase (drop n client.due) client) + n ≤ owed_client s.devices row)
           (sym is)
           (hands_less s.devices client.about.phase n client some));
       links = adds.links;
@@ -200,7 +210,8 @@ list_owed devices true long = refl
 list_owed devices false long = refl
 
 lists_by : (c n : ℕ) (s : State) (client : Client) → s.clients c ≡ Some client → (due : List ℕ) → client.due ≡ due
-    → n ≤ length (due_or due (list_if_stale s.devices client.about.mark client.about.long)) → ListsFirst c n s (lists_first c due client s).state
+    → n ≤ length (due_or due (list_if_stale s.devices client.about.mark client.about.long))
+    → ListsFirst c n s (lists_first c due client s).state
 lists_by c n s client is (b ∷ due) has some = record {
   client = client;
   is = is;
@@ -231,7 +242,14 @@ lists_by c n s client is [] has some =
           ∙ changed_elsewhere s.clients c q (option_and_then unmarked) other;
       here = subst (λ (row : Option Client). owed_client s.devices row ≤ owed_client s.devices (s.clients c)) (sym at_row)
           (subst (λ (row : Option Client). owed_client s.devices (Some open_row) ≤ owed_client s.devices row) (sym is)
-          (omega (arith, size, ap (length {A = ℕ}) same, list_owed s.devices client.about.mark client.about.long, ap (length {A = ℕ}) has)));
+          (omega (
+            arith,
+            size,
+            ap (length {A = ℕ}) same,
+            list_owed s.devices client.about.mark client.about.long,
+            ap
+                (length {A = ℕ}) has,
+          )));
     }
 
 -- a put of so many bytes that may be handed out
@@ -241,7 +259,8 @@ puts_less c n s client is some =
     subst (λ (row : Option Client). TakesSome c n s (puts_to row c n s).state) (sym is) (
     let listed = lists_by c n s client is client.due refl some in
     let taken = takes_some c n (lists_first c client.due client s).state listed.client listed.is listed.enough in
-    let owes : owed_client s.devices ((lists_first c client.due client s).state.clients c) ≤ owed_client s.devices (s.clients c) = listed.here in
+    let owes : owed_client s.devices ((lists_first c client.due client s).state.clients c)
+    ≤ owed_client s.devices (s.clients c) = listed.here in
     let less : owed_client s.devices ((puts_to (Some client) c n s).state.clients c) + n
     ≤ owed_client s.devices ((lists_first c client.due client s).state.clients c) =
     subst (λ (d : DeviceTable). owed_client d ((puts_to (Some client) c n s).state.clients c) + n
@@ -287,10 +306,20 @@ sends_first s e t (suc k) is = by_row (λ found. later (sends_first s e (suc t) 
   where
     later : IsSend s e (suc t) k → IsSend s e t (suc k)
     later r =
-        record { link = r.link; row = r.row; is = r.is; some = r.some; entry = r.entry; from = omega (arith, r.from); to = omega (arith, r.to) }
+        record {
+          link = r.link;
+          row = r.row;
+          is = r.is;
+          some = r.some;
+          entry = r.entry;
+          from =
+              omega (arith, r.from);
+          to = omega (arith, r.to);
+        }
 
     by_due : (first_send s.links (suc t) k ≡ Some e → IsSend s e t (suc k))
-        → (link : Link) → s.links t ≡ Some link → (due : List ℕ) → link.due ≡ due → option_or (send_of t due) (first_send s.links (suc t) k) ≡ Some e
+        → (link : Link) → s.links t ≡ Some link → (due : List ℕ) → link.due ≡ due
+        → option_or (send_of t due) (first_send s.links (suc t) k) ≡ Some e
         → IsSend s e t (suc k)
     by_due others link here [] has found = others found
     by_due others link here (b ∷ due) has found = record {
@@ -314,7 +343,16 @@ puts_first s e c (suc k) is = by_row (λ found. later (puts_first s e (suc c) k 
   where
     later : IsPut s e (suc c) k → IsPut s e c (suc k)
     later r =
-        record { client = r.client; row = r.row; is = r.is; some = r.some; entry = r.entry; from = omega (arith, r.from); to = omega (arith, r.to) }
+        record {
+          client = r.client;
+          row = r.row;
+          is = r.is;
+          some = r.some;
+          entry = r.entry;
+          from =
+              omega (arith, r.from);
+          to = omega (arith, r.to);
+        }
 
     by_offer : (first_put s.devices s.clients (suc c) k ≡ Some e → IsPut s e c (suc k))
         → (client : Client) → s.clients c ≡ Some client → (offer : List ℕ) → offered s.devices client ≡ offer
@@ -373,7 +411,8 @@ put_less s e r = subst (λ (x : Entry). owed (rule x s).state < owed s) (sym r.e
 pub hand_out_less : (s : State) (e : Entry) → next_out s ≡ Some e → owed (rule e s).state < owed s
 hand_out_less s e is = by_send (first_send s.links 1 s.devices.drawn) refl is
   where
-    by_send : (o : Option Entry) → first_send s.links 1 s.devices.drawn ≡ o → option_or o (first_put s.devices s.clients 1 s.joined) ≡ Some e
+    by_send : (o : Option Entry) → first_send s.links 1 s.devices.drawn ≡ o
+        → option_or o (first_put s.devices s.clients 1 s.joined) ≡ Some e
         → owed (rule e s).state < owed s
     by_send None none found = put_less s e (puts_first s e 1 s.joined found)
     by_send (Some x) first found = send_less s e (sends_first s e 1 s.devices.drawn (first ∙ found))

@@ -27,9 +27,11 @@ use Rattle.adb_history.specs.Streams.{all_end}
 use Rattle.adb_history.specs.Tracking.{mark_all}
 use Rattle.adb_history.specs.Forwarding.{forwards_without}
 use Rattle.adb_history.specs.Losing.{forgets, link_ends}
-use Rattle.adb_history.specs.Packets.{least_version, least_maxdata, with_sums, goes_online, streams_end_first, connects, cnxn, unauthorized_from, unauthorized}
+use Rattle.adb_history.specs.Packets.{least_version, least_maxdata, with_sums, goes_online, streams_end_first, connects, cnxn}
+use Rattle.adb_history.specs.Packets.{unauthorized_from, unauthorized}
 use Rattle.adb_history.specs.Packets.{treat_open, treat_any, treat_on, treat, treat_all, faulty_on}
-use Rattle.adb_history.proofs.Growing.{RowStep, row_same, row_goes, row_none, row_weaker, ClientStays, client_same, LinkStays, link_same, AreWithin}
+use Rattle.adb_history.proofs.Growing.{RowStep, row_same, row_goes, row_none, row_weaker, ClientStays, client_same, LinkStays, link_same}
+use Rattle.adb_history.proofs.Growing.{AreWithin}
 use Rattle.adb_history.proofs.Growing.{Chain, joins_due, keeps_all}
 use Rattle.adb_history.proofs.GrowingRules.{keeps_all_end}
 use Rattle.adb_history.proofs.GrowingPackets.{keeps_treat_open, keeps_mark_all}
@@ -109,7 +111,8 @@ module _ (came plugged : ℕ) where
   changes_forgets t s =
       let tables = record s { devices = detached t s.devices; forwards = forwards_without t s.forwards } in
       stays_then came plugged s (quietly tables) (λ s. quietly (to_link t none_kept s))
-      (changes_tables came plugged (detached t s.devices) (forwards_without t s.forwards) s.stopped s refl (within_detached plugged t s.devices))
+      (changes_tables came plugged (detached t s.devices) (forwards_without t s.forwards) s.stopped s refl
+      (within_detached plugged t s.devices))
       (no_link t tables)
 
   pub changes_link_ends : (t : ℕ) (ending : Ending) (s : State) → AreWithin came plugged s.streams
@@ -129,16 +132,19 @@ module _ (came plugged : ℕ) where
   gone_after : (t : ℕ) (s : State) (m : Made) → s.links t ≡ None → Changes came plugged Stay LinkStay s m → m.state.links t ≡ None
   gone_after t s m e h = row_none LinkStays (s.links t) (m.state.links t) (spelled_to t m.told) e (h.links t)
 
-  pub link_ends_gone : (t : ℕ) (ending : Ending) (s : State) → AreWithin came plugged s.streams → (link_ends t ending s).state.links t ≡ None
+  pub link_ends_gone : (t : ℕ) (ending : Ending) (s : State) → AreWithin came plugged s.streams
+      → (link_ends t ending s).state.links t ≡ None
   link_ends_gone t ending s all =
       let gone = forgets t s in
       let m = all_end t ending gone in
-      let here : gone.links t ≡ None = ap (λ (b : Bool). cond b (option_and_then none_kept (s.links t)) (s.links t)) (eq-eqb t t refl) ∙ no_row (s.links t) in
+      let here : gone.links t ≡ None = ap (λ (b : Bool). cond b (option_and_then none_kept (s.links t)) (s.links t))
+      (eq-eqb t t refl) ∙ no_row (s.links t) in
       gone_after t gone m here (changes_keeps came plugged gone m (keeps_all_end came plugged t ending gone all))
 
   -- ---- a packet
   -- a link that is gone afterwards hears nothing
-  hears_gone : (t : ℕ) (command : Command) (version : ℕ) (s : State) (m : Made) → m.state.links t ≡ None → Changes came plugged Stay LinkStay s m
+  hears_gone : (t : ℕ) (command : Command) (version : ℕ) (s : State) (m : Made) → m.state.links t ≡ None
+      → Changes came plugged Stay LinkStay s m
       → Changes came plugged Stay (HearsOn t command version) s m
   hears_gone t command version s m none h = record {
     clients = h.clients;
@@ -160,7 +166,8 @@ module _ (came plugged : ℕ) where
           (λ a b u j. record { due = j.due; rest = j.rest; sums = j.sums }) (s.links k) (m.state.links k) (spelled_to k m.told) i
 
   -- a packet that is no CNXN changes no link
-  hears_other : (t : ℕ) (command : Command) (version : ℕ) → is_cnxn command ≡ false → (s : State) (m : Made) → Changes came plugged Stay LinkStay s m
+  hears_other : (t : ℕ) (command : Command) (version : ℕ) → is_cnxn command ≡ false → (s : State) (m : Made)
+      → Changes came plugged Stay LinkStay s m
       → Changes came plugged Stay (HearsOn t command version) s m
   hears_other t command version other s m h =
       changes_weaker came plugged Stay Stay LinkStay (HearsOn t command version) (λ n a b u i. i)
@@ -215,7 +222,8 @@ module _ (came plugged : ℕ) where
       hears_gone t Cnxn version s (link_ends t Broken s) (link_ends_gone t Broken s all) (changes_link_ends t Broken s all)
   hears_connects t version maxdata (Some identity) s all =
       changes_then came plugged stay_on (stays_and_hears t version) s ended
-      (λ x. quietly (goes_online t version maxdata identity x)) (first (is_connected t s.devices)) (hears_online t version maxdata identity ended.state)
+      (λ x. quietly (goes_online t version maxdata identity x)) (first (is_connected t s.devices))
+      (hears_online t version maxdata identity ended.state)
     where
       ended : Made
       ended = streams_end_first (is_connected t s.devices) t s
@@ -233,11 +241,13 @@ module _ (came plugged : ℕ) where
       go true = hears_gone t Cnxn version s (link_ends t Broken s) (link_ends_gone t Broken s all) (changes_link_ends t Broken s all)
       go false = hears_connects t version maxdata (identity_of banner) s all
 
-  changes_unauthorized_from : (t : ℕ) (state : DeviceState) (s : State) → Changes came plugged Stay LinkStay s (quietly (unauthorized_from t state s))
+  changes_unauthorized_from : (t : ℕ) (state : DeviceState) (s : State)
+      → Changes came plugged Stay LinkStay s (quietly (unauthorized_from t state s))
   changes_unauthorized_from t device.Offline s =
       let tables = record s { devices = changed t unauthorized_row s.devices } in
       stays_then came plugged s (quietly tables) (λ x. quietly (mark_all x))
-      (changes_tables came plugged (changed t unauthorized_row s.devices) s.forwards s.stopped s refl (within_changed plugged t unauthorized_row s.devices))
+      (changes_tables came plugged (changed t unauthorized_row s.devices) s.forwards s.stopped s refl
+      (within_changed plugged t unauthorized_row s.devices))
       (changes_keeps came plugged tables (quietly (mark_all tables)) (keeps_mark_all came plugged tables))
   changes_unauthorized_from t _ s = changes_keeps came plugged s (quietly s) (keeps_all came plugged s)
 
@@ -245,11 +255,13 @@ module _ (came plugged : ℕ) where
   changes_unauthorized t None s = changes_keeps came plugged s (quietly s) (keeps_all came plugged s)
   changes_unauthorized t (Some row) s = changes_unauthorized_from t row.state s
 
-  hears_open : (t : ℕ) (command : Command) (p : Packet) (s : State) → is_cnxn command ≡ false → t ≤ plugged → AreWithin came plugged s.streams
+  hears_open : (t : ℕ) (command : Command) (p : Packet) (s : State) → is_cnxn command ≡ false → t ≤ plugged
+      → AreWithin came plugged s.streams
       → Changes came plugged Stay (HearsOn t command p.arg0) s (cond (is_connected t s.devices) (treat_open t command p s) (quietly s))
   hears_open t command p s other le all = go (is_connected t s.devices)
     where
-      go : (connected : Bool) → Changes came plugged Stay (HearsOn t command p.arg0) s (cond connected (treat_open t command p s) (quietly s))
+      go : (connected : Bool) → Changes came plugged Stay (HearsOn t command p.arg0) s
+          (cond connected (treat_open t command p s) (quietly s))
       go true = hears_other t command p.arg0 other s (treat_open t command p s)
           (changes_keeps came plugged s (treat_open t command p s) (keeps_treat_open came plugged t command p s le all))
       go false = hears_other t command p.arg0 other s (quietly s) (changes_keeps came plugged s (quietly s) (keeps_all came plugged s))
@@ -257,8 +269,10 @@ module _ (came plugged : ℕ) where
   hears_any : (t : ℕ) (command : Command) (p : Packet) (s : State) → t ≤ plugged → AreWithin came plugged s.streams
       → Changes came plugged Stay (HearsOn t command p.arg0) s (treat_any t command p s)
   hears_any t Cnxn p s le all = hears_cnxn t p.arg0 p.arg1 p.payload s all
-  hears_any t Auth p s le all = hears_other t Auth p.arg0 refl s (unauthorized t (at t s.devices.rows) s) (changes_unauthorized t (at t s.devices.rows) s)
-  hears_any t Stls p s le all = hears_other t Stls p.arg0 refl s (unauthorized t (at t s.devices.rows) s) (changes_unauthorized t (at t s.devices.rows) s)
+  hears_any t Auth p s le all = hears_other t Auth p.arg0 refl s (unauthorized t (at t s.devices.rows) s)
+      (changes_unauthorized t (at t s.devices.rows) s)
+  hears_any t Stls p s le all = hears_other t Stls p.arg0 refl s (unauthorized t (at t s.devices.rows) s)
+      (changes_unauthorized t (at t s.devices.rows) s)
   hears_any t Open p s le all = hears_open t Open p s refl le all
   hears_any t Okay p s le all = hears_open t Okay p s refl le all
   hears_any t Wrte p s le all = hears_open t Wrte p s refl le all
@@ -266,7 +280,8 @@ module _ (came plugged : ℕ) where
 
   pub hears_on : (o : Option Link) (t : ℕ) (p : Packet) (s : State) → s.links t ≡ o → t ≤ plugged → AreWithin came plugged s.streams
       → Changes came plugged Stay (HearsOn t p.command p.arg0) s (treat_on o t p s)
-  hears_on None t p s e le all = hears_gone t p.command p.arg0 s (quietly s) e (changes_keeps came plugged s (quietly s) (keeps_all came plugged s))
+  hears_on None t p s e le all = hears_gone t p.command p.arg0 s (quietly s) e
+      (changes_keeps came plugged s (quietly s) (keeps_all came plugged s))
   hears_on (Some link) t p s e le all = hears_any t p.command p s le all
 
   hears_none : (t : ℕ) (s : State) → Changes came plugged Stay (HearsAllOn t []) s (quietly s)

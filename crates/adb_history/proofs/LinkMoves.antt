@@ -1,5 +1,6 @@
 -- In every state that a legal history leaves, the link of a stream is connected, and a link lives where its device has a row.
-use Rattle.std.proofs.Common.{◌≡◌, ◌≢◌, ℕ, ◌+◌, ◌<◌, ◌≤◌, zero, suc, Bool, true, false, cond, List, [], ◌∷◌, ◌++◌, length, min, Option, Some, None}
+use Rattle.std.proofs.Common.{◌≡◌, ◌≢◌, ℕ, ◌+◌, ◌<◌, ◌≤◌, zero, suc, Bool, true, false, cond, List, [], ◌∷◌, ◌++◌, length, min, Option}
+use Rattle.std.proofs.Common.{Some, None}
 use Rattle.std.proofs.Common.{refl, sym, ap, subst, ◌∙◌, arith, ◌⊎◌, inl, inr, eqb}
 use Rattle.std.specs.Prelude.{is_some, option_and_then, nat_eq}
 use Rattle.std.proofs.lemmas.Bool.{eqb-false, cases_eq}
@@ -39,7 +40,8 @@ use Rattle.adb_history.specs.Linked.{DeviceRows, OnLink, AllOn, IsLinked}
 use Rattle.adb_history.proofs.RuleMoves.{Begins, step_kept}
 use Rattle.adb_history.proofs.Numbers.{drawn_plain}
 use Rattle.adb_history.proofs.OwnedStep.{owned_moves, begins_owned, start_owned, ends_state, client_loses_frame}
-use Rattle.adb_history.proofs.Linking.{on_change, on_gone, on_same, on_other, credit_new, ready_connected, link_rows, forward_rows, changed_other_at}
+use Rattle.adb_history.proofs.Linking.{on_change, on_gone, on_same, on_other, credit_new, ready_connected, link_rows, forward_rows}
+use Rattle.adb_history.proofs.Linking.{changed_other_at}
 use Rattle.adb_history.proofs.Linking.{Silent, changed_rows, online_silent, unauthorized_silent, detached_on, detached_rows, attached_rows}
 use Rattle.adb_history.proofs.Linking.{attached_on, no_rows}
 
@@ -53,7 +55,8 @@ pub record IsLeft (t k : ℕ) (before after : State) : Type 0 where
   pub done : (m : ℕ) (x : Stream) → 0 < m → m ≤ k → after.streams m ≡ Some x → x.link ≢ t
 
 -- one stream more was looked at, and is none of the link
-looked_on : (t k : ℕ) (s now : State) → IsLeft t k s now → ((x : Stream) → now.streams (suc k) ≡ Some x → x.link ≢ t) → IsLeft t (suc k) s now
+looked_on : (t k : ℕ) (s now : State) → IsLeft t k s now → ((x : Stream) → now.streams (suc k) ≡ Some x → x.link ≢ t)
+    → IsLeft t (suc k) s now
 looked_on t k s now h other = record {
   devices = h.devices;
   links = h.links;
@@ -76,7 +79,8 @@ ends_left t ending s zero = record {
 }
 ends_left t ending s (suc k) = go (ends_of t k ending s).state (ends_left t ending s k) ((ends_of t k ending s).state.streams (suc k)) refl
   where
-    go : (now : State) → IsLeft t k s now → (o : Option Stream) → now.streams (suc k) ≡ o → IsLeft t (suc k) s (ends_if_of t (suc k) ending o now).state
+    go : (now : State) → IsLeft t k s now → (o : Option Stream) → now.streams (suc k) ≡ o
+        → IsLeft t (suc k) s (ends_if_of t (suc k) ending o now).state
     go now h None is = looked_on t k s now h (λ x e. absurd (let clash : None ≡ Some x = sym is ∙ e in cc))
     go now h (Some stream) is = test (nat_eq stream.link t) refl
       where
@@ -96,7 +100,9 @@ ends_left t ending s (suc k) = go (ends_of t k ending s).state (ends_left t endi
             one false f o g e = (eqb-false (suc k) m f, g ∙ e)
 
         ended : IsLeft t (suc k) s (ends_row (suc k) ending stream now).state
-        ended = subst (IsLeft t (suc k) s) (sym (ends_state (suc k) ending stream now ∙ client_loses_frame (now.clients stream.client) stream.client gone))
+        ended = subst (IsLeft t (suc k) s)
+            (sym (ends_state (suc k) ending stream now ∙ client_loses_frame (now.clients stream.client) stream.client
+            gone))
             (record {
               devices = h.devices;
               links = h.links;
@@ -158,7 +164,8 @@ module _ (s : State) (h : IsLinked s) where
     owned = owned_moves.link_ends t ending s [] h.owned;
     rows = subst (λ (l : Rows (Option Link)). DeviceRows now.devices l now.forwards) (sym left.links)
         (subst (λ (f : List (ℕ × ForwardRow)). DeviceRows now.devices forgot.links f) (sym left.forwards)
-        (subst (λ (d : DeviceTable). DeviceRows d forgot.links forgot.forwards) (sym left.devices) (detached_rows s.devices s.links s.forwards t h.rows)));
+        (subst (λ (d : DeviceTable). DeviceRows d forgot.links forgot.forwards) (sym left.devices)
+        (detached_rows s.devices s.links s.forwards t h.rows)));
     on = subst (λ (d : DeviceTable). AllOn d now.streams) (sym left.devices)
         (λ m x e. detached_on t s.devices x h.rows.rises (left.clear m x e) (h.on m x (left.same m x e)));
   }
@@ -185,11 +192,14 @@ module _ (s : State) (h : IsLinked s) where
   online_linked : (t version maxdata : ℕ) (identity : Identity) → IsLinked (connects_now t version maxdata identity s).state
   online_linked t version maxdata identity = record {
     owned = owned_moves.online t version maxdata identity s [] h.owned;
-    rows = subst (λ (d : DeviceTable). DeviceRows (changed t row d) (change_row t (option_and_then (with_sums (has_sums version))) now.links) now.forwards)
+    rows = subst (λ (d : DeviceTable). DeviceRows (changed t row d)
+        (change_row t (option_and_then (with_sums (has_sums version))) now.links) now.forwards)
         (sym left.devices)
-        (subst (λ (l : Rows (Option Link)). DeviceRows (changed t row s.devices) (change_row t (option_and_then (with_sums (has_sums version))) l) now.forwards)
+        (subst (λ (l : Rows (Option Link)). DeviceRows (changed t row s.devices)
+        (change_row t (option_and_then (with_sums (has_sums version))) l) now.forwards)
         (sym left.links)
-        (subst (λ (f : List (ℕ × ForwardRow)). DeviceRows (changed t row s.devices) (change_row t (option_and_then (with_sums (has_sums version))) s.links) f)
+        (subst (λ (f : List (ℕ × ForwardRow)). DeviceRows (changed t row s.devices)
+        (change_row t (option_and_then (with_sums (has_sums version))) s.links) f)
         (sym left.forwards) rows));
     on = subst (λ (d : DeviceTable). AllOn (changed t row d) now.streams) (sym left.devices)
         (λ m x e. on_other s.devices (changed t row s.devices) x (changed_other_at t row s.devices h.rows.rises x.link (left.clear m x e))
@@ -212,7 +222,8 @@ module _ (s : State) (h : IsLinked s) where
           (changed_rows s.devices s.links s.forwards t (online_row identity (min version VERSION) (min maxdata MAX_PAYLOAD))
           (λ r is. online_silent identity (min version VERSION) (min maxdata MAX_PAYLOAD) r) h.rows)
 
-  unauthorized_linked : (t : ℕ) (row : Row) (w : List Event) → at t s.devices.rows ≡ Some row → row.state ≡ Offline → IsLinked (unauthorized_from t Offline s)
+  unauthorized_linked : (t : ℕ) (row : Row) (w : List Event) → at t s.devices.rows ≡ Some row → row.state ≡ Offline
+      → IsLinked (unauthorized_from t Offline s)
   unauthorized_linked t row w is offline = record {
     owned = owned_moves.unauthorized t row s w is offline h.owned;
     rows = changed_rows s.devices s.links s.forwards t unauthorized_row silent h.rows;
@@ -228,7 +239,8 @@ module _ (s : State) (h : IsLinked s) where
 
 -- ---- streams change
 module _ (s : State) (part : Part) where
-  part_on : (x y : Stream) → with_stream_part part x ≡ Some y → has_credit part.flow ≡ has_credit x.part.flow → OnLink s.devices x → OnLink s.devices y
+  part_on : (x y : Stream) → with_stream_part part x ≡ Some y → has_credit part.flow ≡ has_credit x.part.flow
+      → OnLink s.devices x → OnLink s.devices y
   part_on x y e credit h =
       let z : Stream = record x { part = part } in
       let row : z ≡ y = cc in
@@ -260,13 +272,19 @@ module _ (s : State) (h : IsLinked s) where
   draws_on c t ready m y is = go (eqb (s.drawn + 1) m) is
     where
       drawn : OnLink s.devices (new_stream (s.drawn + 1) c t (new_flow (is_credit t s.devices)))
-      drawn = record { connected = ready_connected t s.devices s.links s.forwards h.rows ready; credit = credit_new (is_credit t s.devices) }
+      drawn = record {
+        connected = ready_connected t s.devices s.links s.forwards h.rows ready;
+        credit =
+            credit_new (is_credit t s.devices);
+      }
 
-      go : (b : Bool) → cond b (Some (new_stream (s.drawn + 1) c t (new_flow (is_credit t s.devices)))) (s.streams m) ≡ Some y → OnLink s.devices y
+      go : (b : Bool) → cond b (Some (new_stream (s.drawn + 1) c t (new_flow (is_credit t s.devices)))) (s.streams m)
+          ≡ Some y → OnLink s.devices y
       go true e = let row : new_stream (s.drawn + 1) c t (new_flow (is_credit t s.devices)) ≡ y = cc in subst (OnLink s.devices) row drawn
       go false e = h.on m y e
 
-  ends_linked : (l : ℕ) (ending : Ending) (stream : Stream) (w : List Event) → s.streams l ≡ Some stream → IsLinked (ends_row l ending stream s).state
+  ends_linked : (l : ℕ) (ending : Ending) (stream : Stream) (w : List Event) → s.streams l ≡ Some stream
+      → IsLinked (ends_row l ending stream s).state
   ends_linked l ending stream w is =
       let gone : State = to_stream l none_kept s in
       let frame = sym (ends_state l ending stream s ∙ client_loses_frame (s.clients stream.client) stream.client gone) in
@@ -293,7 +311,13 @@ linked_moves = record {
   unmarks = λ c s w h. record { owned = owned_moves.unmarks c s w h.owned; rows = h.rows; on = h.on };
   input_ended = λ c s w h. record { owned = owned_moves.input_ended c s w h.owned; rows = h.rows; on = h.on };
   hands = λ c n x s w is fits h. record { owned = owned_moves.hands c n x s w is fits h.owned; rows = h.rows; on = h.on };
-  draws = λ c t x s w is asking ready h. record { owned = owned_moves.draws c t x s w is asking ready h.owned; rows = h.rows; on = draws_on s h c t ready };
+  draws = λ c t x s w is asking ready h.
+      record {
+        owned = owned_moves.draws c t x s w is asking ready h.owned;
+        rows = h.rows;
+        on =
+            draws_on s h c t ready;
+      };
   flows = λ l stream flow s w is like h. record {
     owned = owned_moves.flows l stream flow s w is like h.owned;
     rows = h.rows;
@@ -302,14 +326,18 @@ linked_moves = record {
   accepts = λ l payload stream s w is known turn h. record {
     owned = owned_moves.accepts l payload stream s w is known turn h.owned;
     rows = h.rows;
-    on = stream_on s (with_flow (accepted (length payload) stream.part.flow) stream.part) l stream is (credit_accepted (length payload) stream.part.flow) h.on;
+    on = stream_on s (with_flow (accepted (length payload) stream.part.flow) stream.part) l stream is
+        (credit_accepted (length payload) stream.part.flow) h.on;
   };
   opens = λ l remote word stream s w is new h. record {
     owned = owned_moves.opens l remote word stream s w is new h.owned;
     rows = h.rows;
-    on = stream_on s (with_remote remote (with_flow (first_credit word stream.part.flow) stream.part)) l stream is (credit_first word stream.part.flow) h.on;
+    on = stream_on s (with_remote remote (with_flow (first_credit word stream.part.flow) stream.part)) l stream is
+        (credit_first word stream.part.flow) h.on;
   };
-  orphan_goes = λ l stream s w is orphan h. record { owned = owned_moves.orphan_goes l stream s w is orphan h.owned; rows = h.rows; on = gone_on s l h.on };
+  orphan_goes =
+      λ l stream s w is orphan h.
+      record { owned = owned_moves.orphan_goes l stream s w is orphan h.owned; rows = h.rows; on = gone_on s l h.on };
   ends = λ l ending stream s w is h. ends_linked s h l ending stream w is;
   fails_open = λ c l f s w at h. record { owned = owned_moves.fails_open c l f s w at h.owned; rows = h.rows; on = gone_on s l h.on };
   fails_asked = λ c l f s w at h. record {
@@ -317,7 +345,13 @@ linked_moves = record {
     rows = h.rows;
     on = stream_on s (orphaned f.stream.part) l f.stream at.2 refl h.on;
   };
-  links = λ t f s w h. record { owned = owned_moves.links t f s w h.owned; rows = link_rows s.devices s.links s.forwards t f h.rows; on = h.on };
+  links = λ t f s w h.
+      record {
+        owned = owned_moves.links t f s w h.owned;
+        rows =
+            link_rows s.devices s.links s.forwards t f h.rows;
+        on = h.on;
+      };
   link_ends = λ t ending s w h. link_ends_linked s h t ending;
   online = λ t version maxdata identity s w h. online_linked s h t version maxdata identity;
   unauthorized = λ t row s w is offline h. unauthorized_linked s h t row w is offline;
@@ -336,7 +370,8 @@ linked_moves = record {
 module _ (s : State) (h : IsLinked s) where
   -- ---- who comes
   plugged_linked : (t : ℕ) (kind : Kind) (serial : List ℕ) → t ≡ s.devices.drawn + 1
-      → DeviceRows (attached kind serial s.devices) (put_row t (Some new_link) s.links) s.forwards × AllOn (attached kind serial s.devices) s.streams
+      → DeviceRows (attached kind serial s.devices) (put_row t (Some new_link) s.links) s.forwards
+      × AllOn (attached kind serial s.devices) s.streams
   plugged_linked t kind serial next = (
     subst (λ (n : ℕ). DeviceRows (attached kind serial s.devices) (put_row n (Some new_link) s.links) s.forwards) (sym next)
         (attached_rows s.devices s.links s.forwards kind serial new_link h.rows),

@@ -84,7 +84,8 @@ counted (e ∷ older) = go (counted older)
   where
     go : IsCounted older → IsCounted (e ∷ older)
     go c =
-        let n = step_counted e (state older) (came_count older) (plugged_count older) (record { joined_is = c.joined; plugged_is = c.plugged }) in
+        let n = step_counted e (state older) (came_count older) (plugged_count older)
+        (record { joined_is = c.joined; plugged_is = c.plugged }) in
         record { joined = n.joined_is ∙ came_next e older; plugged = n.plugged_is ∙ plugged_next e older }
 
 -- Who comes has the next number, and a link too.
@@ -105,9 +106,11 @@ module _ {A : Type 0} where
       go m false none = none
 
   -- the next number is drawn
-  pub put_drawn : (drawn : ℕ) (row : Option A) (kept : Rows (Option A)) → IsDrawnOnly drawn kept → IsDrawnOnly (drawn + 1) (put_row (drawn + 1) row kept)
+  pub put_drawn : (drawn : ℕ) (row : Option A) (kept : Rows (Option A)) → IsDrawnOnly drawn kept
+      → IsDrawnOnly (drawn + 1) (put_row (drawn + 1) row kept)
   put_drawn drawn row kept h = record {
-    above = λ m above. ap (λ b. cond b row (kept m)) (ne_eqb (drawn + 1) m (λ e. omega (arith, above, e))) ∙ h.above m (omega (arith, above));
+    above = λ m above. ap (λ b. cond b row (kept m)) (ne_eqb (drawn + 1) m (λ e. omega (arith, above, e)))
+        ∙ h.above m (omega (arith, above));
     zero = ap (λ b. cond b row (kept 0)) (ne_eqb (drawn + 1) 0 (λ e. omega (arith, e))) ∙ h.zero;
   }
 
@@ -143,7 +146,13 @@ drawn_plain = record {
   marks = λ s w h. record { clients = map_drawn s.joined marked s.clients h.clients; links = h.links; streams = h.streams };
   devices = λ rows s w h. record { clients = h.clients; links = h.links; streams = h.streams };
   forwards = λ forwards s w h. record { clients = h.clients; links = h.links; streams = h.streams };
-  kills = λ c s w h. record { clients = only_drawn s.joined c s.clients h.clients; links = none_drawn s.devices.drawn; streams = none_drawn s.drawn };
+  kills = λ c s w h.
+      record {
+        clients = only_drawn s.joined c s.clients h.clients;
+        links = none_drawn s.devices.drawn;
+        streams =
+            none_drawn s.drawn;
+      };
 }
 
 -- a number is the next one

@@ -1,5 +1,6 @@
 -- Every state that a legal history leaves is orderly, and at rest.
-use Rattle.std.proofs.Common.{◌≡◌, ℕ, ◌<◌, ◌≤◌, zero, suc, Bool, true, false, cond, All, List, [], ◌∷◌, Some, None, refl, sym, ap, subst, ◌∙◌, arith}
+use Rattle.std.proofs.Common.{◌≡◌, ℕ, ◌<◌, ◌≤◌, zero, suc, Bool, true, false, cond, All, List, [], ◌∷◌, Some, None, refl, sym, ap, subst}
+use Rattle.std.proofs.Common.{◌∙◌, arith}
 use Rattle.std.proofs.Common.{◌⊎◌, inl, inr}
 use Rattle.std.specs.Prelude.{is_some}
 use Rattle.std.specs.Ordering.{nat_cmp, is_eq}
@@ -80,7 +81,8 @@ module _ (s : State) (h : AtRest s) where
   has_stream : (c l : ℕ) → StreamOf s.streams c l → HasStream s c l
   has_stream c l own = record { stream = own.stream; is = own.is; client = own.client; owned = own.owned }
 
-  streaming_quiet : (c l : ℕ) (x : IsClientIn s c (Streaming l)) → StreamOf s.streams c l → (y : Stream) → s.streams l ≡ Some y → IsQuiet s x.client y
+  streaming_quiet : (c l : ℕ) (x : IsClientIn s c (Streaming l)) → StreamOf s.streams c l → (y : Stream)
+      → s.streams l ≡ Some y → IsQuiet s x.client y
   streaming_quiet c l x own y there =
       let t = together_at s h.fits.owned c l x.client y own (x.here, there) in
       let streaming : is_streaming l x.client.about.phase ≡ true = ap (is_streaming l) x.in_phase ∙ eq-eqb l l refl in
@@ -109,7 +111,8 @@ module _ (s : State) (h : AtRest s) where
       }
 
 -- ---- forwards
-led_at : (devices : DeviceTable) (forwards : List (ℕ × ForwardRow)) → All (IsLed devices) forwards → (port : ℕ) (row : ForwardRow) → at port forwards ≡ Some row
+led_at : (devices : DeviceTable) (forwards : List (ℕ × ForwardRow)) → All (IsLed devices) forwards
+    → (port : ℕ) (row : ForwardRow) → at port forwards ≡ Some row
     → is_some (at row.transport devices.rows) ≡ true
 led_at devices [] all port row is = absurd (let clash : None ≡ Some row = is in cc)
 led_at devices (e ∷ es) all port row is = go (is_eq (nat_cmp port e.0)) (led_at devices es (All-tail (IsLed devices) e es all) port row) is
@@ -117,7 +120,8 @@ led_at devices (e ∷ es) all port row is = go (is_eq (nat_cmp port e.0)) (led_a
     go : (b : Bool) → (at port es ≡ Some row → is_some (at row.transport devices.rows) ≡ true) → cond b (Some e.1) (at port es) ≡ Some row
         → is_some (at row.transport devices.rows) ≡ true
     go true later here =
-        let same : e.1 ≡ row = cc in subst (λ (x : ForwardRow). is_some (at x.transport devices.rows) ≡ true) same (All-head (IsLed devices) e es all)
+        let same : e.1 ≡ row = cc in subst (λ (x : ForwardRow). is_some (at x.transport devices.rows) ≡ true) same
+        (All-head (IsLed devices) e es all)
     go false later here = later here
 
 -- Every state that a legal history leaves is orderly.

@@ -1,5 +1,6 @@
 -- Who comes and what is handed out: every legal history's state is tied to what it told and handed out.
-use Rattle.std.proofs.Common.{ℕ, ◌+◌, ◌≡◌, ◌≤◌, ◌<◌, Bool, true, false, cond, List, [], ◌∷◌, ◌++◌, length, drop, Option, Some, None, is_some, refl}
+use Rattle.std.proofs.Common.{ℕ, ◌+◌, ◌≡◌, ◌≤◌, ◌<◌, Bool, true, false, cond, List, [], ◌∷◌, ◌++◌, length, drop, Option, Some, None}
+use Rattle.std.proofs.Common.{is_some, refl}
 use Rattle.std.proofs.Common.{sym, ◌∙◌, ap, subst, arith, append_assoc, eqb, inl, inr, ◌⊎◌}
 use Rattle.std.proofs.lemmas.Bool.{eqb-true, ne_eqb, eq-eqb, cases_lt}
 use Rattle.std.proofs.lemmas.List.{append-nil}
@@ -39,12 +40,14 @@ use Rattle.adb_history.proofs.AnswersWithin.{row_within}
 use Rattle.adb_history.proofs.Outputs.{ClientTie, LinkTie, handed_off, Tie, IsInner, tie_keeps, tie_step, tie_inner}
 
 -- ---- a client comes
-keeps_above : (came plugged next next_drawn : ℕ) (events : List Event) → came ≤ next → plugged ≤ next_drawn → IsToldWithin came plugged events
+keeps_above : (came plugged next next_drawn : ℕ) (events : List Event) → came ≤ next → plugged ≤ next_drawn
+    → IsToldWithin came plugged events
     → IsToldWithin next next_drawn events
 keeps_above came plugged next next_drawn events le drawn_le h =
     record { clients = λ c lt. h.clients c (omega (arith, lt, le)); links = λ t lt. h.links t (omega (arith, lt, drawn_le)) }
 
-within_above : (came plugged next next_drawn : ℕ) (streams : ℕ → Option Stream) → came ≤ next → plugged ≤ next_drawn → AreWithin came plugged streams
+within_above : (came plugged next next_drawn : ℕ) (streams : ℕ → Option Stream) → came ≤ next → plugged ≤ next_drawn
+    → AreWithin came plugged streams
     → AreWithin next next_drawn streams
 within_above came plugged next next_drawn streams le drawn_le h l = go (streams l) (h l)
   where
@@ -90,7 +93,8 @@ module _ (came plugged : ℕ) (put sent : ℕ → List ℕ) (s : State) (events 
     clients = λ k. here k (eqb c k) refl;
     links = h.links;
     told = keeps_above came plugged (came + 1) plugged events (omega arith) (omega arith) h.told;
-    unborn = λ k lt. ap (λ (b : Bool). cond b (Some (new_client forwarded c)) (s.clients k)) (ne_eqb c k (λ e. omega (arith, lt, is, e, h.joined)))
+    unborn = λ k lt. ap (λ (b : Bool). cond b (Some (new_client forwarded c)) (s.clients k))
+        (ne_eqb c k (λ e. omega (arith, lt, is, e, h.joined)))
         ∙ h.unborn k (omega (arith, lt));
     unplugged = h.unplugged;
     unput = λ k lt. h.unput k (omega (arith, lt));
@@ -101,7 +105,8 @@ module _ (came plugged : ℕ) (put sent : ℕ → List ℕ) (s : State) (events 
     drawn = h.drawn;
   }
     where
-      here : (k : ℕ) (same : Bool) → eqb c k ≡ same → ClientTie (cond same (Some (new_client forwarded c)) (s.clients k)) (owed_to k events) (put k)
+      here : (k : ℕ) (same : Bool) → eqb c k ≡ same → ClientTie
+          (cond same (Some (new_client forwarded c)) (s.clients k)) (owed_to k events) (put k)
       here k true e = let above : came < k = omega (arith, eqb-true c k e, is, h.joined) in
           nothing_due (owed_to k events) (put k) (h.told.clients k above) (h.unput k above)
       here k false e = h.clients k
@@ -114,7 +119,9 @@ module _ (came plugged : ℕ) (put sent : ℕ → List ℕ) (s : State) (events 
       in_vain = subst (λ (x : List Event). Tie (came + 1) plugged (comes_in_vain s) x put sent) (sym (append-nil events)) tie_comes_in_vain
 
       by : (row : ForwardRow) (connected : Bool) → is_connected row.transport s.devices ≡ connected
-          → Tie (came + 1) plugged (cond connected (opens true c row.transport row.remote (comes true c s)) (quietly (comes_in_vain s))).state
+          → Tie (came + 1) plugged
+          (cond connected (opens true c row.transport row.remote (comes true c s))
+          (quietly (comes_in_vain s))).state
           (events ++ (cond connected (opens true c row.transport row.remote (comes true c s)) (quietly (comes_in_vain s))).told) put sent
       by row false e = in_vain
       by row true e = tie_keeps (came + 1) plugged put sent (comes true c s) events (opens true c row.transport row.remote (comes true c s))
@@ -130,14 +137,17 @@ module _ (came plugged : ℕ) (put sent : ℕ → List ℕ) (s : State) (events 
   within_attached : (kind : Kind) (serial : List ℕ) → HasRowsWithin (plugged + 1) (attached kind serial s.devices)
   within_attached kind serial = record {
     rises = put_at_rises (s.devices.drawn + 1) row s.devices.rows h.rows.rises;
-    above = λ t lt. (puts_put_at (s.devices.drawn + 1) row s.devices.rows).others t (λ e. omega (arith, lt, e, h.drawn)) ∙ h.rows.above t (omega (arith, lt));
+    above = λ t lt. (puts_put_at (s.devices.drawn + 1) row s.devices.rows).others t
+        (λ e. omega (arith, lt, e, h.drawn)) ∙ h.rows.above t (omega (arith, lt));
   }
     where
       row : Row
       row = new_row (s.devices.drawn + 1) kind serial
 
   tie_plugged : (t : ℕ) (kind : Kind) (serial : List ℕ) → t ≡ s.devices.drawn + 1
-      → Tie came (plugged + 1) (record s { devices = attached kind serial s.devices; links = put_row t (Some new_link) s.links }) events put sent
+      → Tie came (plugged + 1)
+      (record s { devices = attached kind serial s.devices; links = put_row t (Some new_link) s.links }) events
+      put sent
   tie_plugged t kind serial is = record {
     clients = h.clients;
     links = λ k. here k (eqb t k) refl;
@@ -173,11 +183,13 @@ module _ (came plugged : ℕ) (put sent : ℕ → List ℕ) (s : State) (events 
   sent_with : ℕ → List ℕ → ℕ → List ℕ
   sent_with n bytes t = cond (eqb n t) (sent t ++ bytes) (sent t)
 
-  tie_left_closing : (due : List ℕ) (c : Client) (output out : List ℕ) → output ≡ out ++ due → ClientTie (closing_with due (record c { due = due })) output out
+  tie_left_closing : (due : List ℕ) (c : Client) (output out : List ℕ) → output ≡ out ++ due
+      → ClientTie (closing_with due (record c { due = due })) output out
   tie_left_closing [] c output out e = tt
   tie_left_closing (b ∷ due) c output out e = e
 
-  tie_left : (phase : Phase) (due : List ℕ) (c : Client) (output out : List ℕ) → output ≡ out ++ due → ClientTie (left_in phase due c) output out
+  tie_left : (phase : Phase) (due : List ℕ) (c : Client) (output out : List ℕ) → output ≡ out ++ due
+      → ClientTie (left_in phase due c) output out
   tie_left Closing due c output out e = tie_left_closing due c output out e
   tie_left _ due c output out e = e
 
@@ -215,7 +227,8 @@ module _ (came plugged : ℕ) (put sent : ℕ → List ℕ) (s : State) (events 
           (handed_off output out a.due bytes i (subst (λ (x : Client). IsPrefixOf bytes x.due) same front))
 
       here : (c : ℕ) (same : Bool) → eqb n c ≡ same
-          → ClientTie (cond same (option_and_then (hands (length bytes)) (s.clients c)) (s.clients c)) (owed_to c events) (cond same (put c ++ bytes) (put c))
+          → ClientTie (cond same (option_and_then (hands (length bytes)) (s.clients c)) (s.clients c))
+          (owed_to c events) (cond same (put c ++ bytes) (put c))
       here c true e = at_client (s.clients c) (owed_to c events) (put c) (ap s.clients (sym (eqb-true n c e)) ∙ is) (h.clients c)
       here c false e = h.clients c
 
@@ -263,7 +276,8 @@ record HasDue (o : Option Client) (owed : List ℕ) : Type 0 where
   is : o ≡ Some client
   due : client.due ≡ owed
 
-row_here : {X : Type 0} (n : ℕ) (f : X → Option X) (rows : ℕ → Option X) → change_row n (option_and_then f) rows n ≡ option_and_then f (rows n)
+row_here : {X : Type 0} (n : ℕ) (f : X → Option X) (rows : ℕ → Option X)
+    → change_row n (option_and_then f) rows n ≡ option_and_then f (rows n)
 row_here n f rows = ap (λ (b : Bool). cond b (option_and_then f (rows n)) (rows n)) (eq-eqb n n refl)
 
 -- what may be handed out to a client is due to it then
@@ -297,7 +311,8 @@ module _ (came plugged : ℕ) (put sent : ℕ → List ℕ) where
       let handed = tie_hands came plugged put sent s events h c bytes client is fits in
       let next = to_client c (hands (length bytes)) s in
       let left = length (drop (length bytes) client.due) in
-      tie_keeps came plugged (λ k. cond (eqb c k) (put k ++ bytes) (put k)) sent next events (client_left client.about.phase left next) handed
+      tie_keeps came plugged (λ k. cond (eqb c k) (put k ++ bytes) (put k)) sent next events
+      (client_left client.about.phase left next) handed
       (keeps_client_left came plugged client.about.phase left next handed.streams)
 
   tie_puts_to : (c : ℕ) (bytes : List ℕ) (o : Option Client) (s : State) (events : List Event) → s.clients c ≡ o → MayPut s o bytes
@@ -310,7 +325,8 @@ module _ (came plugged : ℕ) (put sent : ℕ → List ℕ) where
       let m = lists_first c client.due client s in
       let listed = tie_keeps came plugged put sent s events m h (keeps_lists_first came plugged c client.due client s below) in
       let m2 = takes_of c (length bytes) (m.state.clients c) m.state in
-      subst (λ (x : List Event). Tie came plugged m2.state x (λ k. cond (eqb c k) (put k ++ bytes) (put k)) sent) (append_assoc events m.told m2.told)
+      subst (λ (x : List Event). Tie came plugged m2.state x (λ k. cond (eqb c k) (put k ++ bytes) (put k)) sent)
+      (append_assoc events m.told m2.told)
       (tie_takes c bytes (m.state.clients c) (offered s.devices client) m.state (events ++ m.told) refl
       (lists_row c client.due client s refl is) may.front listed)
 
@@ -320,7 +336,8 @@ module _ (came plugged : ℕ) (put sent : ℕ → List ℕ) where
   unfolding sent_with
   tie_sends_to t bytes None s events is may h = absurd may
   tie_sends_to t bytes (Some link) s events is may h =
-      subst (λ (x : List Event). Tie came plugged (sends t (length bytes) s) x put (λ k. cond (eqb t k) (sent k ++ bytes) (sent k))) (sym (append-nil events))
+      subst (λ (x : List Event). Tie came plugged (sends t (length bytes) s) x put
+      (λ k. cond (eqb t k) (sent k ++ bytes) (sent k))) (sym (append-nil events))
       (tie_sends came plugged put sent s events h t bytes link is may.front)
 
 -- ---- all histories
@@ -342,21 +359,27 @@ module _ (older : History) (t : IsTied older) where
   sent_before t = bytes_sent t older
 
   tied_inner : (e : Entry) → May (state older) e → IsInner e
-      → Tie (came_count older) (plugged_count older) (rule e (state older)).state (told older ++ (rule e (state older)).told) put_before sent_before
-  tied_inner e may inner = tie_inner (came_count older) (plugged_count older) put_before sent_before e (state older) (told older) may t inner
+      → Tie (came_count older) (plugged_count older) (rule e (state older)).state
+      (told older ++ (rule e (state older)).told) put_before sent_before
+  tied_inner e may inner = tie_inner (came_count older) (plugged_count older) put_before sent_before e (state older)
+      (told older) may t inner
 
   pub tied_rule : (e : Entry) → May (state older) e → IsTiedAfter e older
   tied_rule (Join c) may =
       subst (λ (x : List Event). Tie (came_count older + 1) (plugged_count older) (comes false c (state older)) x put_before sent_before)
-      (sym (append-nil (told older))) (tie_comes (came_count older) (plugged_count older) put_before sent_before (state older) (told older) t false c may.1)
+      (sym (append-nil (told older)))
+      (tie_comes (came_count older) (plugged_count older) put_before sent_before (state older) (told older) t
+      false c may.1)
   tied_rule (Enter c port) may =
       tie_enters (came_count older) (plugged_count older) put_before sent_before (state older) (told older) t c port may.1
   tied_rule (Attach n kind serial) may =
       tie_plugs_in (came_count older) (plugged_count older) put_before sent_before (state older) (told older) t n kind serial may.1
   tied_rule (Put c bytes) may =
-      tie_puts_to (came_count older) (plugged_count older) put_before sent_before c bytes ((state older).clients c) (state older) (told older) refl may t
+      tie_puts_to (came_count older) (plugged_count older) put_before sent_before c bytes ((state older).clients c)
+      (state older) (told older) refl may t
   tied_rule (Send n bytes) may =
-      tie_sends_to (came_count older) (plugged_count older) put_before sent_before n bytes ((state older).links n) (state older) (told older) refl may t
+      tie_sends_to (came_count older) (plugged_count older) put_before sent_before n bytes ((state older).links n)
+      (state older) (told older) refl may t
   tied_rule e may = tied_inner e may tt
 
 none_rise : IsRising (let rows : List (ℕ × Row) = [] in rows)
@@ -382,7 +405,8 @@ tied_start = record {
 pub tied : (h : History) → IsLegal h → IsTied h
 tied [] l = tied_start
 tied (e ∷ older) l =
-    tie_step (came_count (e ∷ older)) (plugged_count (e ∷ older)) (λ c. bytes_put c (e ∷ older)) (λ t. bytes_sent t (e ∷ older)) (state older) (told older) e
+    tie_step (came_count (e ∷ older)) (plugged_count (e ∷ older)) (λ c. bytes_put c (e ∷ older))
+    (λ t. bytes_sent t (e ∷ older)) (state older) (told older) e
     (tied_rule older (tied older l.0) e l.2)
 
 pub all_due_past_put : (h : History) → IsLegal h → DueIsPastPut h

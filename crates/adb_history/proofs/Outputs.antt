@@ -1,5 +1,6 @@
 -- What is due is what ever became due, past what was handed out.
-use Rattle.std.proofs.Common.{ℕ, ◌≡◌, ◌≤◌, ◌<◌, Bool, true, false, cond, List, [], ◌++◌, length, drop, Option, Some, None, refl, sym, ◌∙◌, ap, subst}
+use Rattle.std.proofs.Common.{ℕ, ◌≡◌, ◌≤◌, ◌<◌, Bool, true, false, cond, List, [], ◌++◌, length, drop, Option, Some, None, refl, sym, ◌∙◌}
+use Rattle.std.proofs.Common.{ap, subst}
 use Rattle.std.proofs.Common.{arith, append_assoc, eqb}
 use Rattle.std.proofs.Math.Seq.{drop-append_seam}
 use Rattle.std.proofs.lemmas.List.{append-nil}
@@ -19,7 +20,8 @@ use Rattle.adb_history.specs.Losing.{link_ends, client_ends}
 use Rattle.adb_history.specs.Packets.{treat_all, faulty, with_rest, receives_cut, receives_on, receives}
 use Rattle.adb_history.specs.Reading.{reads, bound}
 use Rattle.adb_history.specs.Machine.{unplugs_on, unplugs, rule, ups, step, told, May}
-use Rattle.adb_history.proofs.Growing.{RowStep, row_none, ClientOwes, LinkOwes, IsToldWithin, AreWithin, owed_append, spelled_append, told_then}
+use Rattle.adb_history.proofs.Growing.{RowStep, row_none, ClientOwes, LinkOwes, IsToldWithin, AreWithin, owed_append, spelled_append}
+use Rattle.adb_history.proofs.Growing.{told_then}
 use Rattle.adb_history.proofs.Growing.{client_owes_then, link_owes_then, Keeps, keeps_all}
 use Rattle.adb_history.proofs.GrowingRules.{keeps_up_all, keeps_client_ends}
 use Rattle.adb_history.proofs.Changes.{HasRowsWithin, Fate, Stay, LinkStay, Changes, changes_then, changes_weaker, changes_keeps}
@@ -39,20 +41,23 @@ LinkTie (Some link) output out = output ≡ out ++ link.due
 more_due : (output out due next told : List ℕ) → output ≡ out ++ due → next ≡ due ++ told → output ++ told ≡ out ++ next
 more_due output out due next told e f = ap (λ x. x ++ told) e ∙ (append_assoc out due told ∙ ap (λ x. out ++ x) (sym f))
 
-client_grows : (a b : Option Client) (output out told : List ℕ) → ClientTie a output out → RowStep ClientOwes a b told → ClientTie b (output ++ told) out
+client_grows : (a b : Option Client) (output out told : List ℕ) → ClientTie a output out → RowStep ClientOwes a b told
+    → ClientTie b (output ++ told) out
 client_grows None None output out told e h = tt
 client_grows None (Some b) output out told e h = absurd h
 client_grows (Some a) None output out told e h = tt
 client_grows (Some a) (Some b) output out told e h = more_due output out a.due b.due told e h
 
-link_grows : (a b : Option Link) (output out told : List ℕ) → LinkTie a output out → RowStep LinkOwes a b told → LinkTie b (output ++ told) out
+link_grows : (a b : Option Link) (output out told : List ℕ) → LinkTie a output out → RowStep LinkOwes a b told
+    → LinkTie b (output ++ told) out
 link_grows None None output out told e h = tt
 link_grows None (Some b) output out told e h = absurd h
 link_grows (Some a) None output out told e h = tt
 link_grows (Some a) (Some b) output out told e h = more_due output out a.due b.due told e h
 
 -- what is handed out comes off the front of what is due
-pub handed_off : (output out due bytes : List ℕ) → output ≡ out ++ due → IsPrefixOf bytes due → output ≡ (out ++ bytes) ++ drop (length bytes) due
+pub handed_off : (output out due bytes : List ℕ) → output ≡ out ++ due → IsPrefixOf bytes due
+    → output ≡ (out ++ bytes) ++ drop (length bytes) due
 handed_off output out due bytes e (rest, is) =
     let left : drop (length bytes) due ≡ rest = ap (drop (length bytes)) (sym is) ∙ drop-append_seam bytes rest in
     e ∙ (ap (λ x. out ++ x) (sym is) ∙ (sym (append_assoc out bytes rest) ∙ ap (λ x. (out ++ bytes) ++ x) (sym left)))
@@ -123,7 +128,8 @@ module _ (came plugged : ℕ) (put sent : ℕ → List ℕ) where
       (tie_keeps m.state (events ++ m.told) (ups m.state) h (keeps_up_all came plugged m.state.drawn m.state h.streams))
 
   -- ---- receive
-  owed_then : (s : State) (m : Made) (next : State → Made) → Changes came plugged Owed LinkOwed s m → Changes came plugged Owed LinkOwed m.state (next m.state)
+  owed_then : (s : State) (m : Made) (next : State → Made) → Changes came plugged Owed LinkOwed s m
+      → Changes came plugged Owed LinkOwed m.state (next m.state)
       → Changes came plugged Owed LinkOwed s (then_also m next)
   owed_then s m next h i = changes_then came plugged
       (λ n. record { first = ClientOwes; next = ClientOwes; both = ClientOwes; follows = client_owes_then })
@@ -158,7 +164,8 @@ module _ (came plugged : ℕ) (put sent : ℕ → List ℕ) where
       let hears = hears_all came plugged t c.given rested le all in
       owed_then s treated (faulty t c.fault)
       (owed_then s (quietly rested) (λ _. treated) (owes_rest t c.rest s)
-      (changes_weaker came plugged Stay Owed (HearsAllOn t c.given) LinkOwed (λ n a b t i. i.due) (λ n a b t i. i.due) rested treated hears))
+      (changes_weaker came plugged Stay Owed (HearsAllOn t c.given) LinkOwed (λ n a b t i. i.due) (λ n a b t i. i.due)
+      rested treated hears))
       (owed_stays treated.state (faulty t c.fault treated.state)
       (changes_faulty came plugged (treated.state.links t) t c.fault treated.state (hears.streams all)))
 
@@ -167,7 +174,8 @@ module _ (came plugged : ℕ) (put sent : ℕ → List ℕ) where
   owes_receives None t bytes s le all = owed_stays s (quietly s) (changes_keeps came plugged s (quietly s) (keeps_all came plugged s))
   owes_receives (Some link) t bytes s le all = owes_cut t (cut_packets (record { sums = link.sums }) (link.rest ++ bytes)) s le all
 
-  owes_unplugs : (o : Option Link) (t : ℕ) (s : State) → AreWithin came plugged s.streams → Changes came plugged Owed LinkOwed s (unplugs_on o t s)
+  owes_unplugs : (o : Option Link) (t : ℕ) (s : State) → AreWithin came plugged s.streams
+      → Changes came plugged Owed LinkOwed s (unplugs_on o t s)
   owes_unplugs None t s all = owed_stays s (quietly s) (changes_keeps came plugged s (quietly s) (keeps_all came plugged s))
   owes_unplugs (Some link) t s all = owed_stays s (link_ends t Lost s) (changes_link_ends came plugged t Lost s all)
 

@@ -1,5 +1,6 @@
 -- What the entries of one client make: they change its row alone, and a stream that they begin is its own.
-use Rattle.std.proofs.Common.{ℕ, ◌+◌, ◌≡◌, Bool, true, false, cond, List, [], ◌∷◌, ◌++◌, Option, Some, None, refl, sym, ◌∙◌, ap, subst, eqb, codes}
+use Rattle.std.proofs.Common.{ℕ, ◌+◌, ◌≡◌, Bool, true, false, cond, List, [], ◌∷◌, ◌++◌, Option, Some, None, refl, sym, ◌∙◌, ap, subst, eqb}
+use Rattle.std.proofs.Common.{codes}
 use Rattle.std.proofs.Common.{inl, inr, ◌⊎◌}
 use Rattle.std.proofs.lemmas.Bool.{eqb-true, eq-eqb}
 use Rattle.std.specs.Prelude.{option_and_then, ◌==◌}
@@ -48,7 +49,8 @@ owns_free c s m h free l stream is = go (h.streams l stream is)
     at_client k false e none = subst NoneWaits (sym (h.others k e)) none
 
     go : OwnStream c s m l stream → NoneWaits (m.state.clients stream.client)
-    go (inl (a, was, same)) = subst (λ (k : ℕ). NoneWaits (m.state.clients k)) (sym same) (at_client a.client (eqb c a.client) refl (free l a was))
+    go (inl (a, was, same)) = subst (λ (k : ℕ). NoneWaits (m.state.clients k)) (sym same)
+        (at_client a.client (eqb c a.client) refl (free l a was))
     go (inr (same, none)) = subst (λ (k : ℕ). NoneWaits (m.state.clients k)) (sym same) none
 
 module _ (c : ℕ) where
@@ -79,7 +81,8 @@ module _ (c : ℕ) where
   }
 
   -- the row of a client that is there
-  pub own_row : (f : Client → Option Client) (rows : ℕ → Option Client) → change_row c (option_and_then f) rows c ≡ option_and_then f (rows c)
+  pub own_row : (f : Client → Option Client) (rows : ℕ → Option Client)
+      → change_row c (option_and_then f) rows c ≡ option_and_then f (rows c)
   own_row f rows = ap (λ (b : Bool). cond b (option_and_then f (rows c)) (rows c)) (eq-eqb c c refl)
 
   pub none_none : NoneWaits None
@@ -90,11 +93,13 @@ module _ (c : ℕ) where
       let same : b ≡ a = let both : Some b ≡ Some a = sym is ∙ e in cc in
       subst (λ (x : Client). is_waiting x.about.phase ≡ false) same none
 
-  none_changed : (f : Client → Option Client) (o : Option Client) → ((a : Client) → o ≡ Some a → NoneWaits (f a)) → NoneWaits (option_and_then f o)
+  none_changed : (f : Client → Option Client) (o : Option Client) → ((a : Client) → o ≡ Some a → NoneWaits (f a))
+      → NoneWaits (option_and_then f o)
   none_changed f None at = none_none
   none_changed f (Some a) at = at a refl
 
-  pub owns_to_client : (f : Client → Option Client) (s : State) → (NoneWaits (s.clients c) → (a : Client) → s.clients c ≡ Some a → NoneWaits (f a))
+  pub owns_to_client : (f : Client → Option Client) (s : State)
+      → (NoneWaits (s.clients c) → (a : Client) → s.clients c ≡ Some a → NoneWaits (f a))
       → Owns c s (quietly (to_client c f s))
   owns_to_client f s at = record {
     others = λ k e. ap (λ (b : Bool). cond b (option_and_then f (s.clients k)) (s.clients k)) e;
@@ -118,7 +123,8 @@ module _ (c : ℕ) where
   closed_row s = subst NoneWaits (sym (own_row closing s.clients)) (none_changed closing (s.clients c) (λ a e. none_closing a.due a))
 
   pub owns_owe_client : (bytes : List ℕ) (s : State) → Owns c s (owe_client c bytes s)
-  owns_owe_client bytes s = owns_then s (quietly (to_client c (with_due bytes) s)) (λ x. record { state = x; told = (owe_client c bytes s).told })
+  owns_owe_client bytes s = owns_then s (quietly (to_client c (with_due bytes) s))
+      (λ x. record { state = x; told = (owe_client c bytes s).told })
       (owns_to_client (with_due bytes) s
       (λ none a e. none_of (with_due bytes a) (record a { due = a.due ++ bytes }) refl (none a e)))
       (owns_all (to_client c (with_due bytes) s) (owe_client c bytes s) refl refl)
@@ -204,7 +210,8 @@ module _ (c : ℕ) where
           → OwnStream c s (stream_fails (Opening l) cause (Some stream) s) n x
       go n true None x was e = let clash : None ≡ Some x = e in cc
       go n true (Some a) x was e =
-          let same : record a { part = orphaned stream.part } ≡ x = let both : Some (record a { part = orphaned stream.part }) ≡ Some x = e in cc in
+          let same : record a { part = orphaned stream.part } ≡ x =
+          let both : Some (record a { part = orphaned stream.part }) ≡ Some x = e in cc in
           inl (a, was, sym (ap (λ (y : Stream). y.client) same))
       go n false o x was e = inl (x, was ∙ e, refl)
   owns_stream_fails (Opening l) cause None s = owns_all s (quietly s) refl refl
@@ -265,7 +272,8 @@ module _ (c : ℕ) where
   owns_ends NoThread (Some client) s = owns_fails NoThread client s
 
   -- a client whose input ended waits no more
-  pub ended_waits : (cause : Cause) (o : Option Client) (s : State) → s.clients c ≡ o → NoneWaits ((client_ends c cause o s).state.clients c)
+  pub ended_waits : (cause : Cause) (o : Option Client) (s : State) → s.clients c ≡ o
+      → NoneWaits ((client_ends c cause o s).state.clients c)
   ended_waits cause None s is = subst NoneWaits (sym is) none_none
   ended_waits Eof (Some client) s is = input_row client.about.phase client s is refl
   ended_waits Fault (Some client) s is = failed_row Fault client s
@@ -281,13 +289,16 @@ module _ (c : ℕ) where
   -- A client that asked is left so: it goes on to ask, or it waits for the listener of a forward, or it waits no more.
   abbrev pub LeftRow : Option Next → Client → Option Client → Type 0
   LeftRow None a o = o ≡ Some a
-  LeftRow (Some (what.Bind transport local remote chosen)) a o = o ≡ awaits (record { transport = transport; local = local; remote = remote }) a
+  LeftRow (Some (what.Bind transport local remote chosen)) a o = o
+      ≡ awaits (record { transport = transport; local = local; remote = remote }) a
   LeftRow (Some _) a o = NoneWaits o
 
   waiting_clash : {X : Type 0} (s : State) (a : Client) → s.clients c ≡ Some a → a.about.phase ≡ Asking → NoneWaits (s.clients c) → X
-  waiting_clash s a is asking none = let clash : true ≡ false = sym (ap is_waiting asking) ∙ none a is in absurd (let no_way : ⊥ = cc in no_way)
+  waiting_clash s a is asking none = let clash : true ≡ false =
+      sym (ap is_waiting asking) ∙ none a is in absurd (let no_way : ⊥ = cc in no_way)
 
-  pub owns_goes_on : (next : Option Next) (a : Client) (s : State) → s.clients c ≡ Some a → a.about.phase ≡ Asking → EndsReading next → kills next ≡ false
+  pub owns_goes_on : (next : Option Next) (a : Client) (s : State) → s.clients c ≡ Some a → a.about.phase ≡ Asking
+      → EndsReading next → kills next ≡ false
       → Owns c s (goes_on next c s) × LeftRow next a ((goes_on next c s).state.clients c)
   owns_goes_on None a s is asking ends on = (owns_all s (quietly s) refl refl, is)
   owns_goes_on (Some what.Close) a s is asking ends on = (owns_closes s, closed_row s)
@@ -298,7 +309,8 @@ module _ (c : ℕ) where
   )
     where
       tracking : (b : Client) → NoneWaits (tracks long b)
-      tracking b = none_of (tracks long b) (record b { about = record b.about { phase = Tracking; long = long; mark = false }; held = [] }) refl refl
+      tracking b = none_of (tracks long b)
+          (record b { about = record b.about { phase = Tracking; long = long; mark = false }; held = [] }) refl refl
   owns_goes_on (Some (what.Open transport service)) a s is asking ends on =
       (owns_opens false transport service s, opened_row false transport service s)
   owns_goes_on (Some (what.Bind transport local remote chosen)) a s is asking ends on =

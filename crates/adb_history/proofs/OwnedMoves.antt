@@ -1,5 +1,6 @@
 -- Clients and streams keep each other through each move.
-use Rattle.std.proofs.Common.{◌≡◌, ◌≢◌, ℕ, ◌<◌, ◌≤◌, zero, suc, Bool, true, false, List, [], ◌∷◌, ◌++◌, length, Option, Some, None, refl, sym, ap}
+use Rattle.std.proofs.Common.{◌≡◌, ◌≢◌, ℕ, ◌<◌, ◌≤◌, zero, suc, Bool, true, false, List, [], ◌∷◌, ◌++◌, length, Option, Some, None, refl}
+use Rattle.std.proofs.Common.{sym, ap}
 use Rattle.std.proofs.Common.{subst, ◌∙◌, arith, ◌⊎◌, inl, inr, length-append}
 use Rattle.std.specs.Prelude.{is_some, option_and_then, option_map}
 use Rattle.adb_outside.specs.Tables.{Rows, change_row}
@@ -53,7 +54,8 @@ module _ (s : State) (h : IsOwned s) where
         clients = λ k apart. changed_other c k f s.clients apart;
         streams = λ m apart. refl;
         gone = λ within e. absurd (let clash : None ≡ Some x = sym e ∙ is.0 in cc);
-        only = λ z e. let same : x ≡ z = (let both : Some x ≡ Some z = sym is.0 ∙ e in cc) in subst (λ (k : Client). IsOnly 0 k.about.phase) same is.1;
+        only = λ z e. let same : x ≡ z = (let both : Some x ≡ Some z = sym is.0 ∙ e in cc)
+            in subst (λ (k : Client). IsOnly 0 k.about.phase) same is.1;
         own = λ z e. absurd (none z e);
         stream = λ y e. absurd (none y e);
         client = λ y e. keeps y (sym (changed_here c f s.clients x is.0) ∙ e);
@@ -74,7 +76,8 @@ closing_in streams c (b ∷ due) x y number e =
 
 module _ (s : State) (h : IsOwned s) where
   pub closes_owned : (c : ℕ) (x : Client) → s.clients c ≡ Some x → IsOnly 0 x.about.phase → Owned s.joined (closes c s).clients s.streams
-  closes_owned c x is only = owned_client s h c closing x (is, only) (λ y e. closing_in s.streams c x.due x y (h.owned.client c x is).number e)
+  closes_owned c x is only = owned_client s h c closing x (is, only)
+      (λ y e. closing_in s.streams c x.due x y (h.owned.client c x is).number e)
 
 -- a client that asked has no mark
 pub no_mark : (x : Client) → (x.about.mark ≡ true → x.about.phase ≡ Tracking) → x.about.phase ≡ Asking → x.about.mark ≡ true → ⊥
@@ -89,7 +92,8 @@ module _ (s : State) (h : IsOwned s) where
       keeps y e =
           let z : Client = record x { about = record x.about { phase = Tracking; long = long; mark = false }; held = [] } in
           let same : z ≡ y = cc in
-          subst (λ (k : Client). ClientIn s.streams c k) same (record { number = (h.owned.client c x is).number; mark = λ m. refl; holds = refl })
+          subst (λ (k : Client). ClientIn s.streams c k) same
+          (record { number = (h.owned.client c x is).number; mark = λ m. refl; holds = refl })
 
   pub awaits_owned : (c : ℕ) (x : Client) (want : Want) → s.clients c ≡ Some x → x.about.phase ≡ Asking
       → Owned s.joined (to_client c (awaits want) s).clients s.streams
@@ -103,7 +107,8 @@ module _ (s : State) (h : IsOwned s) where
           subst (λ (k : Client). ClientIn s.streams c k) same
           (record { number = was.number; mark = λ m. absurd (no_mark x was.mark asking m); holds = (refl, refl) })
 
-streamless : (streams : Rows (Option Stream)) (c : ℕ) (x : Client) (phase : Phase) → HoldsIn phase streams c x → stream_of phase streams ≡ None → IsOnly 0 phase
+streamless : (streams : Rows (Option Stream)) (c : ℕ) (x : Client) (phase : Phase) → HoldsIn phase streams c x
+    → stream_of phase streams ≡ None → IsOnly 0 phase
 streamless streams c x (Opening l) h e = absurd (let clash : None ≡ Some h.stream = sym e ∙ h.is in cc)
 streamless streams c x (Streaming l) h e = absurd (let clash : None ≡ Some h.stream = sym e ∙ h.is in cc)
 streamless streams c x _ h e = tt
@@ -137,7 +142,8 @@ module _ (s : State) (h : IsOwned s) where
         own = λ was. record { number = was.number; mark = was.mark; holds = holds_due s.streams c x bytes x.about.phase was.holds };
       }
 
-holds_held : (streams : Rows (Option Stream)) (c : ℕ) (x : Client) (bytes : List ℕ) (phase : Phase) → HasOne phase → HoldsIn phase streams c x
+holds_held : (streams : Rows (Option Stream)) (c : ℕ) (x : Client) (bytes : List ℕ) (phase : Phase) → HasOne phase
+    → HoldsIn phase streams c x
     → HoldsIn phase streams c (record x { held = bytes })
 holds_held streams c x bytes (Opening l) one h = h
 holds_held streams c x bytes (Streaming l) one h = h
@@ -156,11 +162,17 @@ module _ (s : State) (h : IsOwned s) where
           record {
             phase = refl;
             due = omega arith;
-            own = λ was. record { number = was.number; mark = was.mark; holds = holds_held s.streams c x bytes x.about.phase one was.holds };
+            own = λ was. record {
+              number = was.number;
+              mark = was.mark;
+              holds =
+                  holds_held s.streams c x bytes x.about.phase one was.holds;
+            };
           }
 
 -- a client of which only what is told of it changes
-holds_about : (streams : Rows (Option Stream)) (c : ℕ) (x y : Client) (phase : Phase) → (y.held ≡ x.held) × (y.due ≡ x.due) × (y.about.want ≡ x.about.want)
+holds_about : (streams : Rows (Option Stream)) (c : ℕ) (x y : Client) (phase : Phase)
+    → (y.held ≡ x.held) × (y.due ≡ x.due) × (y.about.want ≡ x.about.want)
     → HoldsIn phase streams c x → HoldsIn phase streams c y
 holds_about streams c x y Asking e h = tt
 holds_about streams c x y Binding e h = (e.0 ∙ h.0, ap is_some e.2 ∙ h.1)
@@ -180,7 +192,8 @@ module _ (s : State) (h : IsOwned s) where
         own = λ was. record {
           number = was.number;
           mark = λ m. absurd (let clash : false ≡ true = m in cc);
-          holds = holds_about s.streams c x (record x { about = record x.about { mark = false } }) x.about.phase (refl, refl, refl) was.holds;
+          holds = holds_about s.streams c x (record x { about = record x.about { mark = false } }) x.about.phase
+              (refl, refl, refl) was.holds;
         };
       }
 
@@ -195,7 +208,8 @@ module _ (s : State) (h : IsOwned s) where
         own = λ was. record {
           number = was.number;
           mark = was.mark;
-          holds = holds_about s.streams c x (record x { about = record x.about { ended = true } }) x.about.phase (refl, refl, refl) was.holds;
+          holds = holds_about s.streams c x (record x { about = record x.about { ended = true } }) x.about.phase
+              (refl, refl, refl) was.holds;
         };
       }
 
@@ -222,7 +236,8 @@ marked_alike streams c x = go x.about.phase refl
 
 pub marks_owned : (joined : ℕ) (clients : Rows (Option Client)) (streams : Rows (Option Stream)) → Owned joined clients streams
     → Owned joined (λ c. option_map marked (clients c)) streams
-marks_owned joined clients streams owned = owned_alike joined clients (λ c. option_map marked (clients c)) streams (λ c. go c (clients c)) owned
+marks_owned joined clients streams owned = owned_alike joined clients (λ c. option_map marked (clients c)) streams
+    (λ c. go c (clients c)) owned
   where
     go : (c : ℕ) (o : Option Client) → AlikeAt streams c o (option_map marked o)
     go c None = tt
@@ -232,7 +247,8 @@ module _ (s : State) (h : IsOwned s) where
   -- ---- streams
   pub flow_owned : (l : ℕ) (stream : Stream) (flow : Flow) → s.streams l ≡ Some stream → IsLike stream.part.flow flow
       → Owned s.joined s.clients (to_stream l (with_stream_part (with_flow flow stream.part)) s).streams
-  flow_owned l stream flow is like = owned_stream s.joined s.clients s.streams l (λ x. record x { part = with_flow flow stream.part }) alike h.owned
+  flow_owned l stream flow is like = owned_stream s.joined s.clients s.streams l
+      (λ x. record x { part = with_flow flow stream.part }) alike h.owned
     where
       alike : (x : Stream) → s.streams l ≡ Some x → AlikeStream x (record x { part = with_flow flow stream.part })
       alike x e =
@@ -249,7 +265,8 @@ pub record Together (s : State) (c l : ℕ) (client : Client) (stream : Stream) 
   pub phase : client.about.phase ≡ phase_for l stream.part.remote
   pub accepted : to_hand stream.part.flow ≤ length client.due
 
-owner_of : (clients : Rows (Option Client)) (l : ℕ) (stream : Stream) → stream.part.orphan ≡ false → OwnerIn stream.part.orphan clients l stream
+owner_of : (clients : Rows (Option Client)) (l : ℕ) (stream : Stream) → stream.part.orphan ≡ false
+    → OwnerIn stream.part.orphan clients l stream
     → ClientOf clients l stream
 owner_of clients l stream e h = subst (λ (b : Bool). OwnerIn b clients l stream) e h
 
@@ -258,7 +275,8 @@ pub owner_to : (clients : Rows (Option Client)) (l : ℕ) (stream : Stream) → 
 owner_to clients l stream e h = subst (λ (b : Bool). OwnerIn b clients l stream) (sym e) h
 
 -- of a stream that is no orphan
-pub client_of : (s : State) (l : ℕ) (stream : Stream) → s.streams l ≡ Some stream → stream.part.orphan ≡ false → IsOwned s → ClientOf s.clients l stream
+pub client_of : (s : State) (l : ℕ) (stream : Stream) → s.streams l ≡ Some stream → stream.part.orphan ≡ false
+    → IsOwned s → ClientOf s.clients l stream
 client_of s l stream is owned h = owner_of s.clients l stream owned (h.owned.stream l stream is).owner
 
 pub together : (s : State) (l : ℕ) (stream : Stream) (is : s.streams l ≡ Some stream) (owned : stream.part.orphan ≡ false) (h : IsOwned s)
@@ -269,7 +287,8 @@ together s l stream is owned h =
 
 module _ (s : State) (h : IsOwned s) where
   -- of a client that has a stream
-  pub together_own : (c l : ℕ) (client : Client) (own : StreamOf s.streams c l) → s.clients c ≡ Some client → Together s c l client own.stream
+  pub together_own : (c l : ℕ) (client : Client) (own : StreamOf s.streams c l) → s.clients c ≡ Some client
+      → Together s c l client own.stream
   together_own c l client own is =
       let of = client_of s l own.stream own.is own.owned h in
       let same : of.client ≡ client = (let both : Some of.client ≡ Some client = sym of.is ∙ (ap s.clients own.client ∙ is) in cc) in
@@ -282,7 +301,8 @@ module _ (s : State) (h : IsOwned s) where
         accepted = omega (arith, of.accepted, ap (λ (k : Client). length k.due) same);
       }
 
-  pub together_at : (c l : ℕ) (client : Client) (stream : Stream) → StreamOf s.streams c l → (s.clients c ≡ Some client) × (s.streams l ≡ Some stream)
+  pub together_at : (c l : ℕ) (client : Client) (stream : Stream) → StreamOf s.streams c l
+      → (s.clients c ≡ Some client) × (s.streams l ≡ Some stream)
       → Together s c l client stream
   together_at c l client stream own is =
       let same : own.stream ≡ stream = (let both : Some own.stream ≡ Some stream = sym own.is ∙ is.1 in cc) in

@@ -1,5 +1,6 @@
 -- Clients and streams keep each other through every rule.
-use Rattle.std.proofs.Common.{◌≡◌, ◌≢◌, ℕ, ◌+◌, ◌≤◌, zero, suc, Bool, true, false, List, ◌++◌, length, drop, Option, Some, None, refl, sym, ap, subst}
+use Rattle.std.proofs.Common.{◌≡◌, ◌≢◌, ℕ, ◌+◌, ◌≤◌, zero, suc, Bool, true, false, List, ◌++◌, length, drop, Option, Some, None, refl, sym}
+use Rattle.std.proofs.Common.{ap, subst}
 use Rattle.std.proofs.Common.{◌∙◌, arith, inl, length-append}
 use Rattle.std.specs.Prelude.{option_and_then}
 use Rattle.std.proofs.lemmas.Bool.{eq-eqb, ne_eqb}
@@ -25,7 +26,8 @@ use Rattle.adb_history.specs.Moves.{draws_now, open_now, accepts_now}
 use Rattle.adb_history.specs.Owned.{StreamOf, ClientOf, OwnerIn, StreamIn, HoldsIn, ClientIn, Owned, IsOwned}
 use Rattle.adb_history.proofs.Following.{changed_here, changed_other}
 use Rattle.adb_history.proofs.Owning.{IsOnly, Changes, owned_changes}
-use Rattle.adb_history.proofs.OwnedMoves.{joined_client, owned_client, closing_in, no_mark, owner_to, client_of, together, together_own, Together}
+use Rattle.adb_history.proofs.OwnedMoves.{joined_client, owned_client, closing_in, no_mark, owner_to, client_of, together, together_own}
+use Rattle.adb_history.proofs.OwnedMoves.{Together}
 use Rattle.adb_history.proofs.OwnedMoves.{owned_both, owned_kept}
 
 -- the phase of a client of a stream that is open, or is not
@@ -47,7 +49,8 @@ fresh_new true = refl
 fresh_new false = refl
 
 module _ (s : State) (h : IsOwned s) where
-  pub draws_owned : (c t : ℕ) (x : Client) → s.clients c ≡ Some x → x.about.phase ≡ Asking → Owned s.joined (draws_now c t s).clients (draws_now c t s).streams
+  pub draws_owned : (c t : ℕ) (x : Client) → s.clients c ≡ Some x → x.about.phase ≡ Asking
+      → Owned s.joined (draws_now c t s).clients (draws_now c t s).streams
   draws_owned c t x is asking = owned_changes s (draws_now c t s) c (s.drawn + 1) changes h.owned
     where
       l : ℕ
@@ -85,7 +88,13 @@ module _ (s : State) (h : IsOwned s) where
           record {
             number = was.number;
             mark = λ m. absurd (no_mark x was.mark asking m);
-            holds = record { stream = new_stream (s.drawn + 1) c t (new_flow (is_credit t s.devices)); is = there; client = refl; owned = refl };
+            holds = record {
+              stream = new_stream (s.drawn + 1) c t (new_flow (is_credit t s.devices));
+              is =
+                  there;
+              client = refl;
+              owned = refl;
+            };
           }
 
       changes : Changes s (draws_now c t s) c (s.drawn + 1)
@@ -119,7 +128,8 @@ module _ (s : State) (h : IsOwned s) where
       → (stream.part.remote ≡ 0) × (stream.part.orphan ≡ false) × (remote ≢ 0)
       → Owned s.joined (open_now l remote word stream s).clients (open_now l remote word stream s).streams
   opens_owned l remote word stream is new =
-      owned_both s stream.client l of.client stream (together s l stream is new.1 h) (in_phase (Streaming l)) (with_stream_part part) h.owned streams clients
+      owned_both s stream.client l of.client stream (together s l stream is new.1 h) (in_phase (Streaming l))
+      (with_stream_part part) h.owned streams clients
     where
       part : Part
       part = with_remote remote (with_flow (first_credit word stream.part.flow) stream.part)
@@ -148,7 +158,8 @@ module _ (s : State) (h : IsOwned s) where
           → StreamIn s.joined (change_row stream.client (option_and_then (in_phase (Streaming l))) s.clients) l y
       streams y e =
           let same : opened ≡ y = cc in
-          subst (λ (z : Stream). StreamIn s.joined (change_row stream.client (option_and_then (in_phase (Streaming l))) s.clients) l z) same (record {
+          subst (λ (z : Stream). StreamIn s.joined
+          (change_row stream.client (option_and_then (in_phase (Streaming l))) s.clients) l z) same (record {
             id = was.id;
             from = was.from;
             sound = sound_first word stream.part.flow was.sound;
@@ -165,7 +176,13 @@ module _ (s : State) (h : IsOwned s) where
           subst (λ (z : Client). ClientIn (change_row l (option_and_then (with_stream_part part)) s.streams) stream.client z) same (record {
             number = own.number;
             mark = λ m. absurd (let clash : Opening l ≡ Tracking = sym asked ∙ own.mark m in cc);
-            holds = record { stream = opened; is = changed_here l (with_stream_part part) s.streams stream is; client = refl; owned = new.1 };
+            holds = record {
+              stream = opened;
+              is = changed_here l (with_stream_part part) s.streams stream is;
+              client
+                  = refl;
+              owned = new.1;
+            };
           })
 
 -- ---- accepts
@@ -179,7 +196,8 @@ hand_accepted : (n : ℕ) (flow : Flow) → is_out_of_turn flow n ≡ false → 
 hand_accepted n (One window) turn = omega arith
 hand_accepted n (Credit credit) turn = omega arith
 
-no_orphan : (clients : Rows (Option Client)) (b : Bool) (l : ℕ) (stream : Stream) → stream.part.remote ≢ 0 → OwnerIn b clients l stream → b ≡ false
+no_orphan : (clients : Rows (Option Client)) (b : Bool) (l : ℕ) (stream : Stream) → stream.part.remote ≢ 0
+    → OwnerIn b clients l stream → b ≡ false
 no_orphan clients true l stream known owner = absurd (known owner.0)
 no_orphan clients false l stream known owner = refl
 
@@ -188,7 +206,8 @@ module _ (s : State) (h : IsOwned s) where
       → (stream.part.remote ≢ 0) × (is_out_of_turn stream.part.flow (length payload) ≡ false)
       → Owned s.joined (accepts_now l payload stream s).clients (accepts_now l payload stream s).streams
   accepts_owned l payload stream is may =
-      owned_both s stream.client l of.client stream (together s l stream is owned h) (with_due payload) (with_stream_part part) h.owned streams clients
+      owned_both s stream.client l of.client stream (together s l stream is owned h) (with_due payload)
+      (with_stream_part part) h.owned streams clients
     where
       part : Part
       part = with_flow (accepted (length payload) stream.part.flow) stream.part
@@ -212,7 +231,8 @@ module _ (s : State) (h : IsOwned s) where
           → StreamIn s.joined (change_row stream.client (option_and_then (with_due payload)) s.clients) l y
       streams y e =
           let same : taken ≡ y = cc in
-          subst (λ (z : Stream). StreamIn s.joined (change_row stream.client (option_and_then (with_due payload)) s.clients) l z) same (record {
+          subst (λ (z : Stream). StreamIn s.joined
+          (change_row stream.client (option_and_then (with_due payload)) s.clients) l z) same (record {
             id = was.id;
             from = was.from;
             sound = sound_accepted (length payload) stream.part.flow may.1 was.sound;
@@ -221,11 +241,18 @@ module _ (s : State) (h : IsOwned s) where
               client = client;
               is = changed_here stream.client (with_due payload) s.clients of.client of.is;
               phase = of.phase;
-              accepted = omega (arith, of.accepted, hand_accepted (length payload) stream.part.flow may.1, length-append of.client.due payload);
+              accepted = omega (
+                arith,
+                of.accepted,
+                hand_accepted (length payload) stream.part.flow may.1,
+                length-append
+                    of.client.due payload,
+              );
             });
           })
 
-      clients : (y : Client) → with_due payload of.client ≡ Some y → ClientIn (change_row l (option_and_then (with_stream_part part)) s.streams) stream.client y
+      clients : (y : Client) → with_due payload of.client ≡ Some y
+          → ClientIn (change_row l (option_and_then (with_stream_part part)) s.streams) stream.client y
       clients y e =
           let same : client ≡ y = cc in
           let own = h.owned.client stream.client of.client of.is in
@@ -233,7 +260,9 @@ module _ (s : State) (h : IsOwned s) where
           subst (λ (z : Client). ClientIn (change_row l (option_and_then (with_stream_part part)) s.streams) stream.client z) same (record {
             number = own.number;
             mark = own.mark;
-            holds = subst (λ (p : Phase). HoldsIn p (change_row l (option_and_then (with_stream_part part)) s.streams) stream.client client) (sym in_)
+            holds = subst
+                (λ (p : Phase). HoldsIn p (change_row l (option_and_then (with_stream_part part)) s.streams)
+                stream.client client) (sym in_)
                 (record { stream = taken; is = changed_here l (with_stream_part part) s.streams stream is; client = refl; owned = owned });
           })
 
@@ -244,7 +273,8 @@ module _ (s : State) (h : IsOwned s) where
   closed_owned l stream is owned =
       let of = client_of s l stream is owned h in
       owned_both s stream.client l of.client stream (together s l stream is owned h) closing none_kept h.owned (λ y e. absurd (none y e))
-      (λ y e. closing_in (to_stream l none_kept s).streams stream.client of.client.due of.client y (h.owned.client stream.client of.client of.is).number e)
+      (λ y e. closing_in (to_stream l none_kept s).streams stream.client of.client.due of.client y
+      (h.owned.client stream.client of.client of.is).number e)
     where
       none : (y : Stream) → None ≡ Some y → ⊥
       none y e = cc
@@ -258,7 +288,8 @@ module _ (s : State) (h : IsOwned s) where
     streams = λ m apart. changed_other l m none_kept s.streams apart;
     gone = λ within e. e;
     only = λ x e. absurd (let clash : None ≡ Some x = sym h.rows.clients.zero ∙ e in cc);
-    own = λ x e. (let same : stream ≡ x = (let both : Some stream ≡ Some x = sym is ∙ e in cc) in inl (ap (λ (y : Stream). y.part.orphan) (sym same) ∙ orphan));
+    own = λ x e. (let same : stream ≡ x = (let both : Some stream ≡ Some x = sym is ∙ e in cc)
+        in inl (ap (λ (y : Stream). y.part.orphan) (sym same) ∙ orphan));
     stream = λ y e. absurd (let clash : None ≡ Some y = sym (changed_here l none_kept s.streams stream is) ∙ e in cc);
     client = λ y e. absurd (let clash : None ≡ Some y = sym h.rows.clients.zero ∙ e in cc);
   }) h.owned
@@ -347,7 +378,8 @@ module _ (s : State) (h : IsOwned s) where
           subst (λ (z : Client). ClientIn s.streams c z) same (record { number = own.number; mark = own.mark; holds = holds })
 
   pub hands_owned : (c n : ℕ) (x : Client) → s.clients c ≡ Some x
-      → ((l : ℕ) (stream : Stream) → x.about.phase ≡ Streaming l → s.streams l ≡ Some stream → to_hand stream.part.flow ≤ length (drop n x.due))
+      → ((l : ℕ) (stream : Stream) → x.about.phase ≡ Streaming l → s.streams l ≡ Some stream
+      → to_hand stream.part.flow ≤ length (drop n x.due))
       → Owned s.joined (to_client c (hands n) s).clients s.streams
   hands_owned c n x is fits = go x.about.phase refl (h.owned.client c x is).holds
     where
@@ -360,12 +392,15 @@ module _ (s : State) (h : IsOwned s) where
       to_phase : (phase : Phase) → x.about.phase ≡ phase → HoldsIn phase s.streams c less → HoldsIn x.about.phase s.streams c less
       to_phase phase e holds = subst (λ (p : Phase). HoldsIn p s.streams c less) (sym e) holds
 
-      go : (phase : Phase) → x.about.phase ≡ phase → HoldsIn x.about.phase s.streams c x → Owned s.joined (to_client c (hands n) s).clients s.streams
+      go : (phase : Phase) → x.about.phase ≡ phase → HoldsIn x.about.phase s.streams c x
+          → Owned s.joined (to_client c (hands n) s).clients s.streams
       go Asking e holds = free_less c n x (is, subst (IsOnly 0) (sym e) tt) (at_phase Asking e) (to_phase Asking e tt)
       go Binding e holds =
-          free_less c n x (is, subst (IsOnly 0) (sym e) tt) (at_phase Binding e) (to_phase Binding e (subst (λ (p : Phase). HoldsIn p s.streams c x) e holds))
+          free_less c n x (is, subst (IsOnly 0) (sym e) tt) (at_phase Binding e)
+          (to_phase Binding e (subst (λ (p : Phase). HoldsIn p s.streams c x) e holds))
       go Tracking e holds =
-          free_less c n x (is, subst (IsOnly 0) (sym e) tt) (at_phase Tracking e) (to_phase Tracking e (subst (λ (p : Phase). HoldsIn p s.streams c x) e holds))
+          free_less c n x (is, subst (IsOnly 0) (sym e) tt) (at_phase Tracking e)
+          (to_phase Tracking e (subst (λ (p : Phase). HoldsIn p s.streams c x) e holds))
       go (Opening l) e holds =
           let own : StreamOf s.streams c l = subst (λ (p : Phase). HoldsIn p s.streams c x) e holds in
           let t = together_own s h c l x own is in
@@ -373,7 +408,8 @@ module _ (s : State) (h : IsOwned s) where
           less_owned c n l x own.stream t (at_phase (Opening l) e) (omega (arith, fresh), to_phase (Opening l) e own)
       go (Streaming l) e holds =
           let own : StreamOf s.streams c l = subst (λ (p : Phase). HoldsIn p s.streams c x) e holds in
-          less_owned c n l x own.stream (together_own s h c l x own is) (at_phase (Streaming l) e) (fits l own.stream e own.is, to_phase (Streaming l) e own)
+          less_owned c n l x own.stream (together_own s h c l x own is) (at_phase (Streaming l) e)
+          (fits l own.stream e own.is, to_phase (Streaming l) e own)
       go Closing e holds =
           owned_client s h c (hands n) x (is, subst (IsOnly 0) (sym e) tt)
           (λ y f. closing_in s.streams c (drop n x.due) less y (h.owned.client c x is).number (sym (at_phase Closing e) ∙ f))

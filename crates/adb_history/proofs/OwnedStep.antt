@@ -1,5 +1,6 @@
 -- In every state that a legal history leaves, clients and streams keep each other.
-use Rattle.std.proofs.Common.{◌≡◌, ℕ, ◌+◌, zero, suc, Bool, true, false, cond, List, [], ◌∷◌, Option, Some, None, refl, sym, ap, subst, ◌∙◌, arith, eqb}
+use Rattle.std.proofs.Common.{◌≡◌, ℕ, ◌+◌, zero, suc, Bool, true, false, cond, List, [], ◌∷◌, Option, Some, None, refl, sym, ap, subst, ◌∙◌}
+use Rattle.std.proofs.Common.{arith, eqb}
 use Rattle.std.specs.Prelude.{codes}
 use Rattle.std.proofs.lemmas.Bool.{eqb-true, eq-eqb, ne_eqb}
 use Rattle.adb_outside.specs.Tables.{Rows}
@@ -30,9 +31,11 @@ use Rattle.adb_history.proofs.PlainMoves.{plain_moves, stopped_state}
 use Rattle.adb_history.proofs.RuleMoves.{Begins, step_kept}
 use Rattle.adb_history.proofs.Numbers.{drawn_plain, begins_drawn, start_drawn}
 use Rattle.adb_history.proofs.Owning.{Alike, owned_alike, alike_change, IsOnly, owned_changes}
-use Rattle.adb_history.proofs.OwnedMoves.{free_only, closes_owned, tracks_owned, awaits_owned, drops_owned, due_owned, held_owned, unmark_owned}
+use Rattle.adb_history.proofs.OwnedMoves.{free_only, closes_owned, tracks_owned, awaits_owned, drops_owned, due_owned, held_owned}
+use Rattle.adb_history.proofs.OwnedMoves.{unmark_owned}
 use Rattle.adb_history.proofs.OwnedMoves.{ended_owned, marks_owned, flow_owned, client_of, together_at}
-use Rattle.adb_history.proofs.OwnedRules.{draws_owned, opens_owned, accepts_owned, closed_owned, orphan_owned, fails_owned, orphans_owned, hands_owned}
+use Rattle.adb_history.proofs.OwnedRules.{draws_owned, opens_owned, accepts_owned, closed_owned, orphan_owned, fails_owned, orphans_owned}
+use Rattle.adb_history.proofs.OwnedRules.{hands_owned}
 
 -- what the moves keep of the numbers
 rows : Moves (λ s w. AllDrawn s)
@@ -60,7 +63,11 @@ module _ (s : State) (h : IsOwned s) where
       let reply : List ℕ = (failed (codes "closed")).bytes in
       let told : State = to_client stream.client (with_due reply) s in
       closed_owned told
-      (record { rows = drawn_plain.client stream.client (with_due reply) s [] h.rows; owned = due_owned s h stream.client reply }) l stream is owned
+      (record {
+        rows = drawn_plain.client stream.client (with_due reply) s [] h.rows;
+        owned =
+            due_owned s h stream.client reply;
+      }) l stream is owned
   loses_owned true Asking l stream is owned e = absurd (no_other l stream.part.remote Asking tt e)
   loses_owned true Binding l stream is owned e = absurd (no_other l stream.part.remote Binding tt e)
   loses_owned true Tracking l stream is owned e = absurd (no_other l stream.part.remote Tracking tt e)
@@ -80,7 +87,8 @@ loses_frame false (Streaming l) c s = refl
 loses_frame true _ c s = refl
 loses_frame false _ c s = refl
 
-pub client_loses_frame : (o : Option Client) (c : ℕ) (s : State) → (client_loses o c s).state ≡ record s { clients = (client_loses o c s).state.clients }
+pub client_loses_frame : (o : Option Client) (c : ℕ) (s : State)
+    → (client_loses o c s).state ≡ record s { clients = (client_loses o c s).state.clients }
 client_loses_frame None c s = refl
 client_loses_frame (Some client) c s = loses_frame client.about.forwarded client.about.phase c s
 
@@ -92,7 +100,8 @@ tells_end_state false l ending s = refl
 pub ends_state : (l : ℕ) (ending : Ending) (stream : Stream) (s : State)
     → (ends_row l ending stream s).state ≡ (client_loses (s.clients stream.client) stream.client (to_stream l none_kept s)).state
 ends_state l ending stream s =
-    ap (λ (x : State). (client_loses (x.clients stream.client) stream.client x).state) (tells_end_state stream.part.orphan l ending (to_stream l none_kept s))
+    ap (λ (x : State). (client_loses (x.clients stream.client) stream.client x).state)
+    (tells_end_state stream.part.orphan l ending (to_stream l none_kept s))
 
 module _ (s : State) (h : IsOwned s) where
   ends_owned : (l : ℕ) (ending : Ending) (stream : Stream) → s.streams l ≡ Some stream → IsOwned (ends_row l ending stream s).state
@@ -107,14 +116,21 @@ module _ (s : State) (h : IsOwned s) where
       gone = to_stream l none_kept s
 
       go : (b : Bool) → stream.part.orphan ≡ b
-          → Owned s.joined (client_loses (s.clients stream.client) stream.client (to_stream l none_kept s)).state.clients (to_stream l none_kept s).streams
+          → Owned s.joined
+          (client_loses (s.clients stream.client) stream.client (to_stream l none_kept s)).state.clients
+          (to_stream l none_kept s).streams
       go true orphan =
-          let owner : OwnerIn true s.clients l stream = subst (λ (b : Bool). OwnerIn b s.clients l stream) orphan (h.owned.stream l stream is).owner in
-          subst (λ (o : Option Client). Owned s.joined (client_loses o stream.client (to_stream l none_kept s)).state.clients (to_stream l none_kept s).streams)
+          let owner : OwnerIn true s.clients l stream = subst (λ (b : Bool). OwnerIn b s.clients l stream) orphan
+          (h.owned.stream l stream is).owner in
+          subst (λ (o : Option Client). Owned s.joined
+          (client_loses o stream.client (to_stream l none_kept s)).state.clients
+          (to_stream l none_kept s).streams)
           (sym owner.1) (orphan_owned s h l stream is orphan)
       go false owned =
           let of = client_of s l stream is owned h in
-          subst (λ (o : Option Client). Owned s.joined (client_loses o stream.client (to_stream l none_kept s)).state.clients (to_stream l none_kept s).streams)
+          subst (λ (o : Option Client). Owned s.joined
+          (client_loses o stream.client (to_stream l none_kept s)).state.clients
+          (to_stream l none_kept s).streams)
           (sym of.is) (loses_owned s h of.client.about.forwarded of.client.about.phase l stream is owned of.phase)
 
   marked_owned : IsOwned (mark_all s)
@@ -150,7 +166,8 @@ module _ (s : State) (h : IsOwned s) where
   stops_owned : (c : ℕ) (x : Client) → s.clients c ≡ Some x → x.about.phase ≡ Asking → IsOwned (stops c s).state
   stops_owned c x is asking = record {
     rows = rows.stops c x s [] is asking h.rows;
-    owned = closes_owned (stopped_state c s) (record { rows = drawn_plain.kills c s [] h.rows; owned = stopped }) c x here (subst (IsOnly 0) (sym asking) tt);
+    owned = closes_owned (stopped_state c s) (record { rows = drawn_plain.kills c s [] h.rows; owned = stopped }) c x
+        here (subst (IsOnly 0) (sym asking) tt);
   }
     where
       here : (stopped_state c s).clients c ≡ Some x
@@ -176,16 +193,25 @@ pub owned_moves : Moves (λ s w. IsOwned s)
 owned_moves = record {
   owes = λ t p check s w of h. record { rows = rows.owes t p check s w of h.rows; owned = h.owned };
   due = λ c bytes s w h. record { rows = rows.due c bytes s w h.rows; owned = due_owned s h c bytes };
-  closes = λ c x s w is free h. record { rows = rows.closes c x s w is free h.rows; owned = closes_owned s h c x is (free_only 0 x.about.phase free) };
-  tracks = λ c x long s w is asking h. record { rows = rows.tracks c x long s w is asking h.rows; owned = tracks_owned s h c x long is asking };
-  awaits = λ c x want s w is asking h. record { rows = rows.awaits c x want s w is asking h.rows; owned = awaits_owned s h c x want is asking };
+  closes = λ c x s w is free h.
+      record {
+        rows = rows.closes c x s w is free h.rows;
+        owned =
+            closes_owned s h c x is (free_only 0 x.about.phase free);
+      };
+  tracks = λ c x long s w is asking h.
+      record { rows = rows.tracks c x long s w is asking h.rows; owned = tracks_owned s h c x long is asking };
+  awaits = λ c x want s w is asking h.
+      record { rows = rows.awaits c x want s w is asking h.rows; owned = awaits_owned s h c x want is asking };
   drops = λ c x s w is none h. record { rows = rows.drops c x s w is none h.rows; owned = drops_owned s h c x is none };
   holds = λ c x bytes s w is has h. record { rows = rows.holds c x bytes s w is has h.rows; owned = held_owned s h c bytes x is has };
   unmarks = λ c s w h. record { rows = rows.unmarks c s w h.rows; owned = unmark_owned s h c };
   input_ended = λ c s w h. record { rows = rows.input_ended c s w h.rows; owned = ended_owned s h c };
   hands = λ c n x s w is fits h. record { rows = rows.hands c n x s w is fits h.rows; owned = hands_owned s h c n x is fits };
-  draws = λ c t x s w is asking ready h. record { rows = rows.draws c t x s w is asking ready h.rows; owned = draws_owned s h c t x is asking };
-  flows = λ l stream flow s w is like h. record { rows = rows.flows l stream flow s w is like h.rows; owned = flow_owned s h l stream flow is like };
+  draws = λ c t x s w is asking ready h.
+      record { rows = rows.draws c t x s w is asking ready h.rows; owned = draws_owned s h c t x is asking };
+  flows = λ l stream flow s w is like h.
+      record { rows = rows.flows l stream flow s w is like h.rows; owned = flow_owned s h l stream flow is like };
   accepts = λ l payload stream s w is known turn h.
       record { rows = rows.accepts l payload stream s w is known turn h.rows; owned = accepts_owned s h l payload stream is (known, turn) };
   opens = λ l remote word stream s w is new h.
@@ -193,18 +219,23 @@ owned_moves = record {
         rows = rows.opens l remote word stream s w is new h.rows;
         owned = opens_owned s h l remote word stream is new;
       };
-  orphan_goes = λ l stream s w is orphan h. record { rows = rows.orphan_goes l stream s w is orphan h.rows; owned = orphan_owned s h l stream is orphan };
+  orphan_goes =
+      λ l stream s w is orphan h.
+      record { rows = rows.orphan_goes l stream s w is orphan h.rows; owned = orphan_owned s h l stream is orphan };
   ends = λ l ending stream s w is h. ends_owned s h l ending stream is;
   fails_open = λ c l f s w at h. record {
     rows = rows.fails_open c l f s w at h.rows;
     owned = fails_owned s h c l f.client f.stream
-        (together_at s h c l f.client f.stream (subst (λ (p : Phase). HoldsIn p s.streams c f.client) at.1 (h.owned.client c f.client at.0).holds)
+        (together_at s h c l f.client f.stream
+        (subst (λ (p : Phase). HoldsIn p s.streams c f.client) at.1 (h.owned.client c f.client at.0).holds)
         (at.0, at.2));
   };
   fails_asked = λ c l f s w at h. record {
     rows = rows.fails_asked c l f s w at h.rows;
     owned = orphans_owned s h c l f.client f.stream
-        (together_at s h c l f.client f.stream (subst (λ (p : Phase). HoldsIn p s.streams c f.client) at.1 (h.owned.client c f.client at.0).holds) (at.0, at.2))
+        (together_at s h c l f.client f.stream
+        (subst (λ (p : Phase). HoldsIn p s.streams c f.client) at.1 (h.owned.client c f.client at.0).holds)
+        (at.0, at.2))
         at.1;
   };
   links = λ t f s w h. record { rows = rows.links t f s w h.rows; owned = h.owned };
@@ -249,7 +280,8 @@ module _ (s : State) (h : IsOwned s) where
   asked_owned q c client is asking = owned_alike s.joined s.clients (to_client c (has_asked q) s).clients s.streams
       (alike_change s.streams s.clients c (λ x. record x { about = record x.about { selected = q.selected }; held = q.rest }) alike) h.owned
     where
-      alike : (x : Client) → s.clients c ≡ Some x → Alike s.streams c x (record x { about = record x.about { selected = q.selected }; held = q.rest })
+      alike : (x : Client) → s.clients c ≡ Some x → Alike s.streams c x
+          (record x { about = record x.about { selected = q.selected }; held = q.rest })
       alike x e =
           let same : client ≡ x = (let both : Some client ≡ Some x = sym is ∙ e in cc) in
           let asks : x.about.phase ≡ Asking = ap (λ (k : Client). k.about.phase) (sym same) ∙ asking in
@@ -259,7 +291,9 @@ module _ (s : State) (h : IsOwned s) where
             own = λ was. record {
               number = was.number;
               mark = was.mark;
-              holds = subst (λ (p : Phase). HoldsIn p s.streams c (record x { about = record x.about { selected = q.selected }; held = q.rest })) (sym asks) tt;
+              holds = subst
+                  (λ (p : Phase). HoldsIn p s.streams c
+                  (record x { about = record x.about { selected = q.selected }; held = q.rest })) (sym asks) tt;
             };
           }
 

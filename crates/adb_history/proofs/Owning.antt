@@ -1,5 +1,6 @@
 -- Clients and streams keep each other through a change of either, or of both.
-use Rattle.std.proofs.Common.{◌≡◌, ◌≢◌, ℕ, ◌≤◌, zero, suc, Bool, true, false, cond, length, Option, Some, None, refl, sym, ap, subst, ◌∙◌, arith, ◌⊎◌}
+use Rattle.std.proofs.Common.{◌≡◌, ◌≢◌, ℕ, ◌≤◌, zero, suc, Bool, true, false, cond, length, Option, Some, None, refl, sym, ap, subst, ◌∙◌}
+use Rattle.std.proofs.Common.{arith, ◌⊎◌}
 use Rattle.std.proofs.Common.{inl, inr, eqb}
 use Rattle.std.specs.Prelude.{option_and_then}
 use Rattle.std.proofs.lemmas.Bool.{eqb-true, cases_eq}
@@ -59,7 +60,14 @@ pub owned_alike : (joined : ℕ) (old new : Rows (Option Client)) (streams : Row
 owned_alike joined old new streams alike owned = record {
   stream = λ l x is.
       let was = owned.stream l x is in
-      record { id = was.id; from = was.from; sound = was.sound; fresh = was.fresh; owner = owner_alike old new streams alike x.part.orphan l x was.owner };
+      record {
+        id = was.id;
+        from = was.from;
+        sound = was.sound;
+        fresh = was.fresh;
+        owner =
+            owner_alike old new streams alike x.part.orphan l x was.owner;
+      };
   client = λ c y is. go c y (old c) (new c) refl is (alike c);
 }
   where
@@ -79,7 +87,8 @@ pub alike_change : (streams : Rows (Option Stream)) (clients : Rows (Option Clie
     → (k : ℕ) → AlikeAt streams k (clients k) (change_row c (option_and_then (λ x. Some (f x))) clients k)
 alike_change streams clients c f alike k = go (eqb c k) refl (clients k) refl
   where
-    go : (b : Bool) → eqb c k ≡ b → (o : Option Client) → clients k ≡ o → AlikeAt streams k o (cond b (option_and_then (λ x. Some (f x)) o) o)
+    go : (b : Bool) → eqb c k ≡ b → (o : Option Client) → clients k ≡ o
+        → AlikeAt streams k o (cond b (option_and_then (λ x. Some (f x)) o) o)
     go false e o is = alike_same streams k o
     go true e None is = tt
     go true e (Some x) is =
@@ -144,7 +153,13 @@ owned_stream joined clients streams l f alike owned = record {
         go false e = record { stream = h.stream; is = rw e h.is; client = h.client; owned = h.owned }
         go true e =
             let a = alike h.stream (ap streams (eqb-true l m e) ∙ h.is) in
-            record { stream = f h.stream; is = rw e (ap (option_and_then (λ x. Some (f x))) h.is); client = a.client ∙ h.client; owned = a.orphan ∙ h.owned }
+            record {
+              stream = f h.stream;
+              is = rw e (ap (option_and_then (λ x. Some (f x))) h.is);
+              client =
+                  a.client ∙ h.client;
+              owned = a.orphan ∙ h.owned;
+            }
 
 -- ---- a client and a stream
 -- a client has no stream but this
@@ -169,7 +184,8 @@ only_one l m zero e = e
 only_one l m (suc n) e = e
 
 module _ (old new : State) (c l : ℕ) (h : Changes old new c l) where
-  others_owner : (orphan : Bool) (m : ℕ) (y : Stream) → (l ≢ m) × (y.client ≤ old.joined) → OwnerIn orphan old.clients m y → OwnerIn orphan new.clients m y
+  others_owner : (orphan : Bool) (m : ℕ) (y : Stream) → (l ≢ m) × (y.client ≤ old.joined)
+      → OwnerIn orphan old.clients m y → OwnerIn orphan new.clients m y
   others_owner true m y apart owner = (owner.0, go (cases_eq c y.client))
     where
       go : (c ≡ y.client) ⊎ (c ≡ y.client → ⊥) → new.clients y.client ≡ None

@@ -1,5 +1,6 @@
 -- What each move keeps, the packets of a device keep.
-use Rattle.std.proofs.Common.{◌≡◌, ◌≢◌, ℕ, Bool, true, false, cond, not, ◌||◌, List, [], ◌∷◌, ◌++◌, length, Option, Some, None, refl, ap, subst, arith}
+use Rattle.std.proofs.Common.{◌≡◌, ◌≢◌, ℕ, Bool, true, false, cond, not, ◌||◌, List, [], ◌∷◌, ◌++◌, length, Option, Some, None, refl, ap}
+use Rattle.std.proofs.Common.{subst, arith}
 use Rattle.std.proofs.Common.{inl, inr, eqb}
 use Rattle.std.specs.Prelude.{codes, is_some, nat_eq, nat_lt}
 use Rattle.std.proofs.lemmas.Bool.{eqb-true, eqb-false}
@@ -28,9 +29,12 @@ use Rattle.adb_history.specs.Clients.{owe_client}
 use Rattle.adb_history.specs.Streams.{ends_row, ends_telling}
 use Rattle.adb_history.specs.Flow.{with_flow}
 use Rattle.adb_history.specs.Losing.{link_ends}
-use Rattle.adb_history.specs.Packets.{least_version, least_maxdata, connects, cnxn, unauthorized_from, unauthorized, refuses_open, at_stream, hears_okay}
-use Rattle.adb_history.specs.Packets.{orphan_opened, okay_open, okay_first, takes_okay, accepts_none, accepts, takes_write, takes_close, treat_open}
-use Rattle.adb_history.specs.Packets.{treat_any, treat_on, treat, treat_all, faulty_on, faulty, with_rest, receives_cut, receives_on, receives}
+use Rattle.adb_history.specs.Packets.{least_version, least_maxdata, connects, cnxn, unauthorized_from, unauthorized, refuses_open}
+use Rattle.adb_history.specs.Packets.{at_stream, hears_okay}
+use Rattle.adb_history.specs.Packets.{orphan_opened, okay_open, okay_first, takes_okay, accepts_none, accepts, takes_write, takes_close}
+use Rattle.adb_history.specs.Packets.{treat_open}
+use Rattle.adb_history.specs.Packets.{treat_any, treat_on, treat, treat_all, faulty_on, faulty, with_rest, receives_cut, receives_on}
+use Rattle.adb_history.specs.Packets.{receives}
 use Rattle.adb_history.specs.Moves.{After, Serves, IsLike}
 use Rattle.adb_history.proofs.Following.{after_quietly, after_then, after_if}
 use Rattle.adb_history.proofs.StreamMoves.{owes_kept, ends_telling_kept}
@@ -62,13 +66,15 @@ hears_streams (Some client) c s = go client.about.forwarded
 module _ {scope : Scope} {asker : ℕ} {P : State → List Event → Type 0} (k : Serving scope asker P) where
   module _ (s : State) (w : List Event) (h : P s w) where
     -- ---- CNXN, AUTH and STLS
-    connects_kept : (t version maxdata : ℕ) (who : Option Identity) → scope.renews t × scope.cuts t → After P w (connects t version maxdata who s)
+    connects_kept : (t version maxdata : ℕ) (who : Option Identity) → scope.renews t × scope.cuts t
+        → After P w (connects t version maxdata who s)
     connects_kept t version maxdata None may = k.link_ends t Broken s w (refl, may.1) h
     connects_kept t version maxdata (Some identity) may = k.online t version maxdata identity s w may.0 h
 
     cnxn_kept : (t version maxdata : ℕ) (banner : List ℕ) → scope.renews t × scope.cuts t → After P w (cnxn t version maxdata banner s)
     cnxn_kept t version maxdata banner may =
-        after_if P w (nat_lt version least_version || nat_lt maxdata least_maxdata) (link_ends t Broken s) (connects t version maxdata (identity_of banner) s)
+        after_if P w (nat_lt version least_version || nat_lt maxdata least_maxdata) (link_ends t Broken s)
+        (connects t version maxdata (identity_of banner) s)
         (λ e. k.link_ends t Broken s w (refl, may.1) h) (λ e. connects_kept t version maxdata (identity_of banner) may)
 
     unauthorized_kept : (t : ℕ) (o : Option Row) → at t s.devices.rows ≡ o → After P w (unauthorized t o s)
@@ -92,7 +98,8 @@ module _ {scope : Scope} {asker : ℕ} {P : State → List Event → Type 0} (k 
         after_if P w (nat_eq stream.link t) (rule stream s) (quietly s) (λ e. keeps stream is) (λ e. after_quietly P w s h)
 
     -- ---- OKAY
-    pub orphan_kept : (l remote : ℕ) (stream : Stream) → s.streams l ≡ Some stream → stream.part.orphan ≡ true → After P w (orphan_opened l remote stream s)
+    pub orphan_kept : (l remote : ℕ) (stream : Stream) → s.streams l ≡ Some stream → stream.part.orphan ≡ true
+        → After P w (orphan_opened l remote stream s)
     orphan_kept l remote stream is orphan =
         let p : Packet = close_packet l remote in
         let owed : Made = owe_link stream.link p s in
@@ -110,7 +117,8 @@ module _ {scope : Scope} {asker : ℕ} {P : State → List Event → Type 0} (k 
         after_quietly P w (to_stream l (with_stream_part (with_flow flow stream.part)) s)
         (k.flows l stream flow s w is (like_acknowledged word stream.part.flow) h)
 
-    okay_kept : (l remote : ℕ) (word : Option ℕ) (stream : Stream) → s.streams l ≡ Some stream → scope.reaches l → After P w (takes_okay l remote word stream s)
+    okay_kept : (l remote : ℕ) (word : Option ℕ) (stream : Stream) → s.streams l ≡ Some stream → scope.reaches l
+        → After P w (takes_okay l remote word stream s)
     okay_kept l remote word stream is may =
         let first : Made = okay_first stream.part.orphan l remote word stream s in
         let open_again : Made = okay_open l word stream s in
@@ -118,11 +126,13 @@ module _ {scope : Scope} {asker : ℕ} {P : State → List Event → Type 0} (k 
         after_if P w (eqb remote 0) (quietly s) (cond (eqb stream.part.remote 0) first later) (λ e. after_quietly P w s h)
         (λ some. after_if P w (eqb stream.part.remote 0) first later
         (λ e. first_kept stream.part.orphan l remote word stream is may (eqb-true stream.part.remote 0 e, refl, eqb-false remote 0 some))
-        (λ e. after_if P w (eqb remote stream.part.remote) open_again (quietly s) (λ e. okay_open_kept l word stream is) (λ e. after_quietly P w s h)))
+        (λ e. after_if P w (eqb remote stream.part.remote) open_again (quietly s)
+        (λ e. okay_open_kept l word stream is) (λ e. after_quietly P w s h)))
 
     -- ---- WRTE
     accepts_none_kept : (flow : Flow) (l : ℕ) (stream : Stream) → s.streams l ≡ Some stream → After P w (accepts_none flow l stream s)
-    accepts_none_kept (One window) l stream is = owes_kept k s w h stream.link (okay_packet l stream.part.remote) (inr (inl (ap is_some is)))
+    accepts_none_kept (One window) l stream is = owes_kept k s w h stream.link (okay_packet l stream.part.remote)
+        (inr (inl (ap is_some is)))
     accepts_none_kept (Credit credit) l stream is = after_quietly P w s h
 
     accepts_kept : (l : ℕ) (payload : List ℕ) (stream : Stream) → s.streams l ≡ Some stream → stream.part.remote ≢ 0
@@ -130,13 +140,16 @@ module _ {scope : Scope} {asker : ℕ} {P : State → List Event → Type 0} (k 
     accepts_kept l [] stream is known turn = accepts_none_kept stream.part.flow l stream is
     accepts_kept l (b ∷ payload) stream is known turn = k.accepts l (b ∷ payload) stream s w is known turn h
 
-    write_kept : (l remote : ℕ) (payload : List ℕ) (stream : Stream) → s.streams l ≡ Some stream → After P w (takes_write l remote payload stream s)
+    write_kept : (l remote : ℕ) (payload : List ℕ) (stream : Stream) → s.streams l ≡ Some stream
+        → After P w (takes_write l remote payload stream s)
     write_kept l remote payload stream is =
         let late : Made = ends_telling l OutOfTurn stream s in
         let taken : Made = accepts l payload stream s in
         let out : Bool = is_out_of_turn stream.part.flow (length payload) in
         after_if P w (eqb remote 0 || not (eqb remote stream.part.remote)) (quietly s) (cond out late taken) (λ e. after_quietly P w s h)
-        (λ known. after_if P w out late taken (λ e. ends_telling_kept k s w h l OutOfTurn stream is (inr (inl (written_to remote stream.part.remote known))))
+        (λ known. after_if P w out late taken
+        (λ e. ends_telling_kept k s w h l OutOfTurn stream is
+        (inr (inl (written_to remote stream.part.remote known))))
         (λ turn. accepts_kept l payload stream is (written_to remote stream.part.remote known) turn))
 
     -- ---- CLSE
@@ -147,21 +160,25 @@ module _ {scope : Scope} {asker : ℕ} {P : State → List Event → Type 0} (k 
         (λ e. after_quietly P w s h)
 
     -- ---- one packet
-    treat_open_kept : (t : ℕ) (command : Command) (p : Packet) → (names_stream command ≡ true → scope.reaches p.arg1) → After P w (treat_open t command p s)
+    treat_open_kept : (t : ℕ) (command : Command) (p : Packet) → (names_stream command ≡ true → scope.reaches p.arg1)
+        → After P w (treat_open t command p s)
     treat_open_kept t Open p may = refuses_kept t p.arg0
     treat_open_kept t Okay p may =
         at_stream_kept t p.arg1 (s.streams p.arg1) (takes_okay p.arg1 p.arg0 (credit_word p.payload)) refl
         (λ stream is. okay_kept p.arg1 p.arg0 (credit_word p.payload) stream is (may refl))
     treat_open_kept t Wrte p may =
-        at_stream_kept t p.arg1 (s.streams p.arg1) (takes_write p.arg1 p.arg0 p.payload) refl (λ stream is. write_kept p.arg1 p.arg0 p.payload stream is)
+        at_stream_kept t p.arg1 (s.streams p.arg1) (takes_write p.arg1 p.arg0 p.payload) refl
+        (λ stream is. write_kept p.arg1 p.arg0 p.payload stream is)
     treat_open_kept t Clse p may =
-        at_stream_kept t p.arg1 (s.streams p.arg1) (takes_close p.arg1 p.arg0) refl (λ stream is. close_kept p.arg1 p.arg0 stream is (may refl))
+        at_stream_kept t p.arg1 (s.streams p.arg1) (takes_close p.arg1 p.arg0) refl
+        (λ stream is. close_kept p.arg1 p.arg0 stream is (may refl))
     treat_open_kept t _ p may = after_quietly P w s h
 
     if_connected_kept : (t : ℕ) (command : Command) (p : Packet) → (names_stream command ≡ true → scope.reaches p.arg1)
         → After P w (cond (is_connected t s.devices) (treat_open t command p s) (quietly s))
     if_connected_kept t command p may =
-        after_if P w (is_connected t s.devices) (treat_open t command p s) (quietly s) (λ e. treat_open_kept t command p may) (λ e. after_quietly P w s h)
+        after_if P w (is_connected t s.devices) (treat_open t command p s) (quietly s)
+        (λ e. treat_open_kept t command p may) (λ e. after_quietly P w s h)
 
     treat_any_kept : (t : ℕ) (command : Command) (p : Packet) → Allows scope t command p → After P w (treat_any t command p s)
     treat_any_kept t Cnxn p may = cnxn_kept t p.arg0 p.arg1 p.payload (may.renews refl, may.cuts refl)
@@ -205,7 +222,8 @@ module _ {scope : Scope} {asker : ℕ} {P : State → List Event → Type 0} (k 
     receives_on_kept (Some link) t bytes may =
         receives_cut_kept t (cut_packets (record { sums = link.sums }) (link.rest ++ bytes)) may
 
-    pub receives_turns : (t : ℕ) (bytes : List ℕ) → ((p : Packet) → Allows scope t p.command p) × scope.cuts t → After P w (receives t bytes s)
+    pub receives_turns : (t : ℕ) (bytes : List ℕ) → ((p : Packet) → Allows scope t p.command p) × scope.cuts t
+        → After P w (receives t bytes s)
     receives_turns t bytes may = receives_on_kept (s.links t) t bytes may
 
 -- ---- whatever a packet touches

@@ -17,7 +17,8 @@ use Rattle.adb_history.specs.Pieces.{AreReadAtOnce}
 use Rattle.adb_history.proofs.Asked.{request_fits}
 
 -- ---- a whole request stays one, whatever follows
-whole_test : (m n k len : ℕ) → m ≤ n → cond (ltb m (suc k)) More (Whole (suc k)) ≡ Whole len → cond (ltb n (suc k)) More (Whole (suc k)) ≡ Whole len
+whole_test : (m n k len : ℕ) → m ≤ n → cond (ltb m (suc k)) More (Whole (suc k)) ≡ Whole len
+    → cond (ltb n (suc k)) More (Whole (suc k)) ≡ Whole len
 whole_test m n k len le e = grind (arith, nat_tests)
 
 after_whole : (h : Option ℕ) (m n len : ℕ) → m ≤ n → found_behind h m ≡ Whole len → found_behind h n ≡ Whole len
@@ -26,7 +27,8 @@ after_whole (Some zero) m n len le e = cc
 after_whole (Some (suc k)) m n len le e = whole_test m n k len le e
 
 whole_front : (x y : List ℕ) (len : ℕ) → request_at x ≡ Whole len → request_at (x ++ y) ≡ Whole len
-whole_front (a ∷ b ∷ c ∷ d ∷ r) y len e = after_whole (hex_value a b c d) (length r) (length (r ++ y)) len (omega (arith, length-append r y)) e
+whole_front (a ∷ b ∷ c ∷ d ∷ r) y len e = after_whole (hex_value a b c d) (length r) (length (r ++ y)) len
+    (omega (arith, length-append r y)) e
 whole_front _ y len e = cc
 
 -- what is asked, with more bytes that are not read yet
@@ -44,7 +46,8 @@ module _ (devices : DeviceTable) (forwards : List (ℕ × ForwardRow)) where
   next_same (Select id) reply size f g q same = same id
   next_same _ reply size f g q same = refl
 
-  none_there : (q : Asked) (rest : List ℕ) (f : Asked → Asked) → q.rest ≡ rest → length rest ≤ 0 → after_found devices forwards (request_at q.rest) f q ≡ q
+  none_there : (q : Asked) (rest : List ℕ) (f : Asked → Asked) → q.rest ≡ rest → length rest ≤ 0
+      → after_found devices forwards (request_at q.rest) f q ≡ q
   none_there q [] f is le = ap (λ (x : List ℕ). after_found devices forwards (request_at x) f q) is
   none_there q (b ∷ rest) f is le = absurd (omega (arith, le))
 
@@ -63,7 +66,8 @@ module _ (devices : DeviceTable) (forwards : List (ℕ × ForwardRow)) where
           let fits = request_fits q.rest len is in
           let shorter : length (drop (4 + len) q.rest) + (4 + len) ≡ length q.rest = omega (arith, fits, length-drop (4 + len) q.rest) in
           next_same a.next a.bytes (4 + len) (reads k) (reads m) q
-          (λ id. others (record (replied a.bytes (4 + len) q) { selected = Some id }) (omega (arith, shorter, h)) (omega (arith, shorter, i)))
+          (λ id. others (record (replied a.bytes (4 + len) q) { selected = Some id }) (omega (arith, shorter, h))
+          (omega (arith, shorter, i)))
 
   -- ---- a piece more
   abbrev all : Asked → Asked
@@ -76,13 +80,15 @@ module _ (devices : DeviceTable) (forwards : List (ℕ × ForwardRow)) where
       go zero is = sym (none_there q q.rest all refl (omega (arith, is)))
       go (suc k) is = by (request_at q.rest) refl
         where
-          by : (found : Found) → request_at q.rest ≡ found → after_found devices forwards found (reads k) q ≡ after_found devices forwards found all q
+          by : (found : Found) → request_at q.rest ≡ found → after_found devices forwards found (reads k) q
+              ≡ after_found devices forwards found all q
           by More e = refl
           by Malformed e = refl
           by (Whole len) e =
               let a = answer devices.rows forwards q.selected (meaning (take len (drop 4 q.rest))) in
               let fits = request_fits q.rest len e in
-              let shorter : length (drop (4 + len) q.rest) + (4 + len) ≡ length q.rest = omega (arith, fits, length-drop (4 + len) q.rest) in
+              let shorter : length (drop (4 + len) q.rest) + (4 + len) ≡ length q.rest =
+              omega (arith, fits, length-drop (4 + len) q.rest) in
               next_same a.next a.bytes (4 + len) (reads k) all q
               (λ id. enough k (length (drop (4 + len) q.rest)) (record (replied a.bytes (4 + len) q) { selected = Some id })
               (omega (arith, shorter, is)) (omega arith))
@@ -95,13 +101,15 @@ module _ (devices : DeviceTable) (forwards : List (ℕ × ForwardRow)) where
       → all (more bytes (after_next next reply size all q)) ≡ after_next next reply size all (more bytes q)
   next_more (Select id) reply size bytes q le rest on =
       rest id on
-      ∙ ap (λ (x : List ℕ). all (record (replied reply size q) { rest = x; selected = Some id })) (sym (drop-append-le size q.rest bytes le))
+      ∙ ap (λ (x : List ℕ). all (record (replied reply size q) { rest = x; selected = Some id }))
+      (sym (drop-append-le size q.rest bytes le))
   next_more Close reply size bytes q le rest on = let clash : Some Close ≡ None = on in cc
   next_more (Track long) reply size bytes q le rest on = let clash : Some (Track long) ≡ None = on in cc
   next_more (Open transport service) reply size bytes q le rest on = let clash : Some (Open transport service) ≡ None = on in cc
   next_more (Bind transport local remote chosen) reply size bytes q le rest on =
       let clash : Some (Bind transport local remote chosen) ≡ None = on in cc
-  next_more (Rebind transport local remote) reply size bytes q le rest on = let clash : Some (Rebind transport local remote) ≡ None = on in cc
+  next_more (Rebind transport local remote) reply size bytes q le rest on =
+      let clash : Some (Rebind transport local remote) ≡ None = on in cc
   next_more (Unbind local) reply size bytes q le rest on = let clash : Some (Unbind local) ≡ None = on in cc
   next_more UnbindAll reply size bytes q le rest on = let clash : Some UnbindAll ≡ None = on in cc
   next_more Stop reply size bytes q le rest on = let clash : Some Stop ≡ None = on in cc
@@ -123,7 +131,8 @@ module _ (devices : DeviceTable) (forwards : List (ℕ × ForwardRow)) where
           let a = answer devices.rows forwards q.selected (meaning request) in
           let fits = request_fits q.rest len is in
           let shorter : length (drop (4 + len) q.rest) + (4 + len) ≡ length q.rest = omega (arith, fits, length-drop (4 + len) q.rest) in
-          let one : all q ≡ after_next a.next a.bytes (4 + len) all q = all_first q ∙ ap (λ (f : Found). after_found devices forwards f all q) is in
+          let one : all q ≡ after_next a.next a.bytes (4 + len) all q =
+          all_first q ∙ ap (λ (f : Found). after_found devices forwards f all q) is in
           let text : take len (drop 4 (q.rest ++ bytes)) ≡ request =
           ap (take len) (drop-append-le 4 q.rest bytes (omega (arith, fits)))
           ∙ take-append-le len (drop 4 q.rest) bytes (omega (arith, fits, length-drop 4 q.rest)) in

@@ -12,7 +12,8 @@ use Rattle.adb_stream.specs.declared.row.Stream.{Stream}
 use Rattle.adb_client.specs.declared.phase.Phase.{Phase}
 use Rattle.adb_client.specs.declared.phase.Phase.TheVariants.{Opening, Streaming}
 use Rattle.adb_reply.specs.Strings.{failed}
-use Rattle.adb_history.specs.Rows.{Client, Link, State, to_client, to_link, to_stream, none_kept, with_due, with_held, with_link_due, with_stream_part}
+use Rattle.adb_history.specs.Rows.{Client, Link, State, to_client, to_link, to_stream, none_kept, with_due, with_held, with_link_due}
+use Rattle.adb_history.specs.Rows.{with_stream_part}
 use Rattle.adb_history.specs.Events.{Made, Event, quietly, due_to_client, due_to_link, ended}
 use Rattle.adb_history.specs.declared.ending.Ending.{Ending}
 use Rattle.adb_history.specs.declared.ending.Ending.TheVariants.{Lost, Stopped, ClientFailed}
@@ -43,7 +44,8 @@ stopped_state c s = record s {
 
 -- What each change of a row keeps, of a state and what was told until then.
 pub record Plain (P : State → List Event → Type 0) : Type 0 where
-  pub tells_link : (t : ℕ) (p : Packet) (check : ℕ) (s : State) (w : List Event) → IsOfStream s.streams p → P s w → P s (w ++ due_to_link t p check ∷ [])
+  pub tells_link : (t : ℕ) (p : Packet) (check : ℕ) (s : State) (w : List Event) → IsOfStream s.streams p → P s w
+      → P s (w ++ due_to_link t p check ∷ [])
   pub tells_client : (c : ℕ) (bytes : List ℕ) (s : State) (w : List Event) → P s w → P s (w ++ due_to_client c bytes ∷ [])
   pub tells_end : (l : ℕ) (ending : Ending) (s : State) (w : List Event) → P s w → P s (w ++ ended l ending ∷ [])
   pub client : (c : ℕ) (f : Client → Option Client) (s : State) (w : List Event) → P s w → P (to_client c f s) w
@@ -58,13 +60,16 @@ pub record Plain (P : State → List Event → Type 0) : Type 0 where
 module _ {P : State → List Event → Type 0} (k : Plain P) where
   owes_plain : (t : ℕ) (p : Packet) (check : ℕ) (s : State) (w : List Event) → IsOfStream s.streams p → P s w
       → P (to_link t (with_link_due (spelling p check)) s) (w ++ due_to_link t p check ∷ [])
-  owes_plain t p check s w of h = k.link t (with_link_due (spelling p check)) s (w ++ due_to_link t p check ∷ []) (k.tells_link t p check s w of h)
+  owes_plain t p check s w of h = k.link t (with_link_due (spelling p check)) s (w ++ due_to_link t p check ∷ [])
+      (k.tells_link t p check s w of h)
 
-  due_plain : (c : ℕ) (bytes : List ℕ) (s : State) (w : List Event) → P s w → P (to_client c (with_due bytes) s) (w ++ due_to_client c bytes ∷ [])
+  due_plain : (c : ℕ) (bytes : List ℕ) (s : State) (w : List Event) → P s w
+      → P (to_client c (with_due bytes) s) (w ++ due_to_client c bytes ∷ [])
   due_plain c bytes s w h = k.client c (with_due bytes) s (w ++ due_to_client c bytes ∷ []) (k.tells_client c bytes s w h)
 
   closes_with_plain : (c : ℕ) (bytes : List ℕ) (s : State) (w : List Event) → P s w → After P w (closes_with c bytes s)
-  closes_with_plain c bytes s w h = k.client c closing (to_client c (with_due bytes) s) (w ++ due_to_client c bytes ∷ []) (due_plain c bytes s w h)
+  closes_with_plain c bytes s w h = k.client c closing (to_client c (with_due bytes) s)
+      (w ++ due_to_client c bytes ∷ []) (due_plain c bytes s w h)
 
   loses_plain : (forwarded : Bool) (phase : Phase) (c : ℕ) (s : State) (w : List Event) → P s w → After P w (loses forwarded phase c s)
   loses_plain forwarded (Streaming l) c s w h = after_quietly P w (closes c s) (k.client c closing s w h)
@@ -94,7 +99,8 @@ module _ {P : State → List Event → Type 0} (k : Plain P) where
   link_ends_plain t ending s w h =
       let forgot : State = forgets t s in
       let kept : P forgot w = k.link t none_kept (record s { devices = detached t s.devices; forwards = forwards_without t s.forwards }) w
-      (k.forwards (forwards_without t s.forwards) (record s { devices = detached t s.devices }) w (k.devices (detached t s.devices).rows s w h)) in
+      (k.forwards (forwards_without t s.forwards) (record s { devices = detached t s.devices }) w
+      (k.devices (detached t s.devices).rows s w h)) in
       after_then P w (all_end t ending forgot) (λ s. quietly (mark_all s)) (all_end_kept ends_plain t ending forgot w kept)
       (λ v now. after_quietly P v (mark_all (all_end t ending forgot).state) (k.marks (all_end t ending forgot).state v now))
 
@@ -102,11 +108,13 @@ module _ {P : State → List Event → Type 0} (k : Plain P) where
   ends_first_plain true t s w h = all_end_kept ends_plain t Lost s w h
   ends_first_plain false t s w h = after_quietly P w s h
 
-  online_plain : (t version maxdata : ℕ) (identity : Identity) (s : State) (w : List Event) → P s w → After P w (connects_now t version maxdata identity s)
+  online_plain : (t version maxdata : ℕ) (identity : Identity) (s : State) (w : List Event) → P s w
+      → After P w (connects_now t version maxdata identity s)
   online_plain t version maxdata identity s w h =
       let first : Made = streams_end_first (is_connected t s.devices) t s in
       after_then P w first (λ s. quietly (goes_online t version maxdata identity s)) (ends_first_plain (is_connected t s.devices) t s w h)
-      (λ v now. after_quietly P v (goes_online t version maxdata identity first.state) (k.marks _ v (k.link t _ _ v (k.devices _ first.state v now))))
+      (λ v now. after_quietly P v (goes_online t version maxdata identity first.state)
+      (k.marks _ v (k.link t _ _ v (k.devices _ first.state v now))))
 
   all_stop_plain : (n : ℕ) (streams : ℕ → Option Stream) (s : State) (w : List Event) → P s w → P s (w ++ all_stop n streams)
   all_stop_plain zero streams s w h = subst (λ (v : List Event). P s v) (sym (append-nil w)) h
@@ -141,7 +149,8 @@ module _ {P : State → List Event → Type 0} (k : Plain P) where
     opens = λ l remote word stream s w is new h. k.client stream.client _ _ w (k.stream l _ s w h);
     orphan_goes = λ l stream s w is orphan h. k.stream l none_kept s w h;
     ends = ends_plain;
-    fails_open = λ c l failing s w at h. k.stream l none_kept _ _ (k.client c none_kept s _ (k.tells_end l (ClientFailed failing.cause) s w h));
+    fails_open = λ c l failing s w at h. k.stream l none_kept _ _
+        (k.client c none_kept s _ (k.tells_end l (ClientFailed failing.cause) s w h));
     fails_asked = λ c l failing s w at h. k.stream l _ _ _ (k.client c none_kept s _ (k.tells_end l (ClientFailed failing.cause) s w h));
     links = λ t f s w h. k.link t (λ link. Some (f link)) s w h;
     link_ends = link_ends_plain;

@@ -1,5 +1,6 @@
 -- At rest no stream may send, and the up rule changes nothing.
-use Rattle.std.proofs.Common.{◌≡◌, ◌≢◌, ℕ, ◌<◌, ◌≤◌, zero, suc, Bool, true, false, cond, List, [], ◌∷◌, ◌++◌, drop, Option, Some, None, refl, sym, ap}
+use Rattle.std.proofs.Common.{◌≡◌, ◌≢◌, ℕ, ◌<◌, ◌≤◌, zero, suc, Bool, true, false, cond, List, [], ◌∷◌, ◌++◌, drop, Option, Some, None}
+use Rattle.std.proofs.Common.{refl, sym, ap}
 use Rattle.std.proofs.Common.{subst, ◌∙◌, arith, ◌⊎◌, inl, inr, eqb}
 use Rattle.std.specs.Prelude.{option_and_then}
 use Rattle.std.proofs.lemmas.Bool.{eqb-true, cases_eq}
@@ -13,7 +14,8 @@ use Rattle.adb_history.specs.Rows.{Client, Link, State, to_stream, none_kept, wi
 use Rattle.adb_history.specs.Events.{Made, quietly, then_also}
 use Rattle.adb_history.specs.Links.{maxdata_of}
 use Rattle.adb_history.specs.Clients.{closing, closing_with, closes}
-use Rattle.adb_history.specs.Flow.{payloads, total, flow_after, with_flow, noted, is_over, closes_if, sends_up, is_streaming, up_client, up_stream, up, up_all}
+use Rattle.adb_history.specs.Flow.{payloads, total, flow_after, with_flow, noted, is_over, closes_if, sends_up, is_streaming, up_client}
+use Rattle.adb_history.specs.Flow.{up_stream, up, up_all}
 use Rattle.adb_history.proofs.Following.{changed_here, changed_other}
 use Rattle.adb_history.proofs.Writes.{payloads_done}
 use Rattle.adb_history.proofs.Sweep.{Sending, sent, left, over, up_to}
@@ -106,13 +108,15 @@ module _ (l m : ℕ) (s : State) (apart : l ≢ m) (h : IsCalmAt m s) where
       here : (left l s x).clients x.stream.client ≡ Some (record x.client { held = drop (total (sent l s x)) x.client.held })
       here = changed_here x.stream.client (with_held (drop (total (sent l s x)) x.client.held)) s.clients x.client x.here
 
-      go : (y : Sending m (record (left l s x) { links = links })) → (x.stream.client ≡ y.stream.client) ⊎ (x.stream.client ≡ y.stream.client → ⊥)
+      go : (y : Sending m (record (left l s x) { links = links }))
+          → (x.stream.client ≡ y.stream.client) ⊎ (x.stream.client ≡ y.stream.client → ⊥)
           → IsCalm s.devices y.client y.stream
       go y (inl same) =
           let row : record x.client { held = drop (total (sent l s x)) x.client.held } ≡ y.client =
           (let both : Some (record x.client { held = drop (total (sent l s x)) x.client.held }) ≡ Some y.client = sym here ∙
           (ap (left l s x).clients same ∙ y.here) in cc) in
-          absurd (other_phase l m x.client.about.phase apart x.streaming (ap (λ (k : Client). is_streaming m k.about.phase) row ∙ y.streaming))
+          absurd (other_phase l m x.client.about.phase apart x.streaming
+          (ap (λ (k : Client). is_streaming m k.about.phase) row ∙ y.streaming))
       go y (inr other) = h.calm (record {
         stream = y.stream;
         client = y.client;
@@ -148,7 +152,8 @@ module _ (l m : ℕ) (s : State) (apart : l ≢ m) (h : IsCalmAt m s) where
       go y (inr other) = h.calm (record {
         stream = y.stream;
         client = y.client;
-        there = sym (changed_other l m (with_stream_part part) s.streams apart) ∙ (sym (changed_other l m none_kept (left l s x).streams apart) ∙ y.there);
+        there = sym (changed_other l m (with_stream_part part) s.streams apart)
+            ∙ (sym (changed_other l m none_kept (left l s x).streams apart) ∙ y.there);
         here = sym (changed_other x.stream.client y.stream.client (with_held held) s.clients other)
             ∙ (sym (changed_other x.stream.client y.stream.client closing (left l s x).clients other) ∙ y.here);
         streaming = y.streaming;
@@ -199,7 +204,9 @@ module _ (l : ℕ) (s : State) (x : Sending l s) (calm : IsCalm s.devices x.clie
 
   sends_nothing : sends_up l x.stream x.client [] s ≡ quietly s
   sends_nothing =
-      ap (λ (m : State). then_also (quietly m) (λ s. closes_if (is_over x.client.about.ended x.client.held x.stream.part.flow) l (s.streams l) s)) same_noted
+      ap (λ (m : State). then_also (quietly m)
+      (λ s. closes_if (is_over x.client.about.ended x.client.held x.stream.part.flow) l (s.streams l) s))
+      same_noted
       ∙ (ap (λ b. then_also (quietly s) (λ s. closes_if b l (s.streams l) s)) calm.goes_on
       ∙ go (s.streams l))
     where
@@ -210,12 +217,15 @@ module _ (l : ℕ) (s : State) (x : Sending l s) (calm : IsCalm s.devices x.clie
 up_still : (l : ℕ) (s : State) → IsCalmAt l s → up l s ≡ quietly s
 up_still l s h = at_stream (s.streams l) refl
   where
-    at_client : (stream : Stream) → s.streams l ≡ Some stream → (o : Option Client) → s.clients stream.client ≡ o → up_client l stream o s ≡ quietly s
+    at_client : (stream : Stream) → s.streams l ≡ Some stream → (o : Option Client) → s.clients stream.client ≡ o
+        → up_client l stream o s ≡ quietly s
     at_client stream there None e = refl
     at_client stream there (Some client) e = test (is_streaming l client.about.phase) refl
       where
         test : (b : Bool) → is_streaming l client.about.phase ≡ b
-            → cond b (sends_up l stream client (payloads stream.part.flow (maxdata_of stream.link s.devices) client.held) s) (quietly s) ≡ quietly s
+            → cond b (sends_up l stream client
+            (payloads stream.part.flow (maxdata_of stream.link s.devices) client.held) s) (quietly s)
+            ≡ quietly s
         test false is = refl
         test true is =
             let x : Sending l s = record { stream = stream; client = client; there = there; here = e; streaming = is } in
@@ -229,5 +239,6 @@ up_still l s h = at_stream (s.streams l) refl
 -- Where each stream is calm, the up rule changes nothing.
 pub all_still : (k : ℕ) (s : State) → ((m : ℕ) → 0 < m → IsCalmAt m s) → up_all k s ≡ quietly s
 all_still zero s calm = refl
-all_still (suc k) s calm = ap (λ (m : Made). then_also m (up (suc k))) (all_still k s calm) ∙ ap (λ (m : Made). then_also (quietly s) (λ t. m))
+all_still (suc k) s calm = ap (λ (m : Made). then_also m (up (suc k))) (all_still k s calm)
+    ∙ ap (λ (m : Made). then_also (quietly s) (λ t. m))
     (up_still (suc k) s (calm (suc k) (omega arith)))

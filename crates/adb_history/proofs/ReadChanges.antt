@@ -21,7 +21,8 @@ use Rattle.adb_history.specs.Streams.{opens}
 use Rattle.adb_history.specs.Forwarding.{Binding as Bound, bound_by, put_forward}
 use Rattle.adb_history.specs.Asking.{Asked, asks_with}
 use Rattle.adb_history.specs.Losing.{tells_stop, all_stop, only_client, stops}
-use Rattle.adb_history.specs.Reading.{tracks, awaits, goes_on, asked_before, has_asked, asks, reads_in, reads_from, bound_to, bound_for, bound_in, bound_at}
+use Rattle.adb_history.specs.Reading.{tracks, awaits, goes_on, asked_before, has_asked, asks, reads_in, reads_from, bound_to, bound_for}
+use Rattle.adb_history.specs.Reading.{bound_in, bound_at}
 use Rattle.adb_history.proofs.Growing.{RowStep, row_same, row_goes, ClientStays, client_same, LinkStays, link_same, ClientOwes, client_then}
 use Rattle.adb_history.proofs.Growing.{Chain, joins_due, owed_append, spelled_append, both_none}
 use Rattle.adb_history.proofs.Growing.{Keeps, keeps_all, keeps_owe_client}
@@ -56,7 +57,8 @@ module _ (came plugged c : ℕ) where
       changes_then came plugged reads_on link_stay_on s m rule h i
 
   read_stays : (s : State) (m : Made) → Changes came plugged Stay LinkStay s m → Changes came plugged (ReadOn c) LinkStay s m
-  read_stays s m h = changes_weaker came plugged Stay (ReadOn c) LinkStay LinkStay (λ n a b t i. record { due = i.due; others = λ e. i }) (λ n a b t i. i) s m h
+  read_stays s m h = changes_weaker came plugged Stay (ReadOn c) LinkStay LinkStay
+      (λ n a b t i. record { due = i.due; others = λ e. i }) (λ n a b t i. i) s m h
 
   pub read_keeps : (s : State) (m : Made) → Keeps came plugged s m → Changes came plugged (ReadOn c) LinkStay s m
   read_keeps s m h = read_stays s m (changes_keeps came plugged s m h)
@@ -85,14 +87,17 @@ module _ (came plugged c : ℕ) where
       go false (Some a) = record { due = sym (append-nil a.due); others = λ e. client_same a }
 
   -- ---- kill
-  stops_told : (k : ℕ) (streams : Rows (Option Stream)) → ((n : ℕ) → owed_to n (all_stop k streams) ≡ []) × ((t : ℕ) → spelled_to t (all_stop k streams) ≡ [])
+  stops_told : (k : ℕ) (streams : Rows (Option Stream)) → ((n : ℕ) → owed_to n (all_stop k streams) ≡ [])
+      × ((t : ℕ) → spelled_to t (all_stop k streams) ≡ [])
   stops_told zero streams = (λ n. refl, λ t. refl)
   stops_told (suc k) streams =
       let before = stops_told k streams in
       let last = one (streams (suc k)) in (
-        λ n. both_none (owed_to n (all_stop k streams)) (owed_to n (tells_stop (suc k) (streams (suc k)))) (owed_to n (all_stop (suc k) streams))
+        λ n. both_none (owed_to n (all_stop k streams)) (owed_to n (tells_stop (suc k) (streams (suc k))))
+            (owed_to n (all_stop (suc k) streams))
             (owed_append n (all_stop k streams) (tells_stop (suc k) (streams (suc k)))) (before.0 n) (last.0 n),
-        λ t. both_none (spelled_to t (all_stop k streams)) (spelled_to t (tells_stop (suc k) (streams (suc k)))) (spelled_to t (all_stop (suc k) streams))
+        λ t. both_none (spelled_to t (all_stop k streams)) (spelled_to t (tells_stop (suc k) (streams (suc k))))
+            (spelled_to t (all_stop (suc k) streams))
             (spelled_append t (all_stop k streams) (tells_stop (suc k) (streams (suc k)))) (before.1 t) (last.1 t),
       )
     where
@@ -169,7 +174,8 @@ module _ (came plugged c : ℕ) where
       (read_stays s (quietly next) (changes_tables came plugged s.devices forwards s.stopped s refl (λ h. h)))
       (read_keeps next (quietly (closes c next)) (keeps_closes came plugged c next))
 
-  pub read_goes_on : (next : Option Next) (s : State) → c ≤ came → NextWithin plugged next → Changes came plugged (ReadOn c) LinkStay s (goes_on next c s)
+  pub read_goes_on : (next : Option Next) (s : State) → c ≤ came → NextWithin plugged next
+      → Changes came plugged (ReadOn c) LinkStay s (goes_on next c s)
   read_goes_on None s le within = read_keeps s (quietly s) (keeps_all came plugged s)
   read_goes_on (Some what.Close) s le within = read_keeps s (quietly (closes c s)) (keeps_closes came plugged c s)
   read_goes_on (Some (what.Select id)) s le within = read_keeps s (quietly s) (keeps_all came plugged s)
@@ -178,7 +184,8 @@ module _ (came plugged c : ℕ) where
       read_keeps s (opens false c transport service s) (keeps_opens came plugged false c transport service s le within)
   read_goes_on (Some (what.Bind transport local remote chosen)) s le within =
       read_to_client (awaits (record { transport = transport; local = local; remote = remote })) s (λ a. sym (append-nil a.due))
-  read_goes_on (Some (what.Rebind transport local remote)) s le within = read_forwards (put_forward local transport remote s.devices s.forwards) s
+  read_goes_on (Some (what.Rebind transport local remote)) s le within =
+      read_forwards (put_forward local transport remote s.devices s.forwards) s
   read_goes_on (Some (what.Unbind local)) s le within = read_forwards (without local s.forwards) s
   read_goes_on (Some what.UnbindAll) s le within = read_forwards [] s
   read_goes_on (Some what.Stop) s le within = read_stops s
@@ -220,7 +227,8 @@ module _ (came plugged : ℕ) where
       (changes_tables came plugged s.devices b.forwards s.stopped s refl (λ h. h))
       (changes_keeps came plugged next (closes_with c b.reply next) (keeps_closes_with came plugged c b.reply next le))
 
-  changes_bound_for : (want : Option Want) (c port : ℕ) (s : State) → c ≤ came → Changes came plugged Stay LinkStay s (bound_for want c port s)
+  changes_bound_for : (want : Option Want) (c port : ℕ) (s : State) → c ≤ came
+      → Changes came plugged Stay LinkStay s (bound_for want c port s)
   changes_bound_for None c port s le = changes_keeps came plugged s (quietly s) (keeps_all came plugged s)
   changes_bound_for (Some want) c port s le = changes_bound_to c (bound_by want port s.devices s.forwards) s le
 

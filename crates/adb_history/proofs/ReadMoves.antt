@@ -1,5 +1,6 @@
 -- What each move keeps, the requests of the client keep that alone is answered, the listeners that stand for it, and the ends of all.
-use Rattle.std.proofs.Common.{◌≡◌, ℕ, Bool, false, cond, All, List, [], ◌∷◌, ◌++◌, length, Option, Some, None, refl, sym, ap, subst, ◌∙◌, inl, inr, eqb}
+use Rattle.std.proofs.Common.{◌≡◌, ℕ, Bool, false, cond, All, List, [], ◌∷◌, ◌++◌, length, Option, Some, None, refl, sym, ap, subst, ◌∙◌}
+use Rattle.std.proofs.Common.{inl, inr, eqb}
 use Rattle.std.proofs.Common.{append_assoc}
 use Rattle.std.specs.Prelude.{codes, is_some, is_none}
 use Rattle.std.proofs.lemmas.List.Elements.{All-nil}
@@ -66,7 +67,8 @@ led_bound want port devices forwards all =
 module _ {scope : Scope} {asker : ℕ} {P : State → List Event → Type 0} (k : Turns scope asker P) where
   module _ (s : State) (w : List Event) (h : P s w) where
     -- ---- what follows a request
-    pub goes_on_turns : (next : Option Next) → IsClientIn s asker Asking → IsAskedReady s.devices next × scope.stops → After P w (goes_on next asker s)
+    pub goes_on_turns : (next : Option Next) → IsClientIn s asker Asking → IsAskedReady s.devices next × scope.stops
+        → After P w (goes_on next asker s)
     goes_on_turns None x ready = after_quietly P w s h
     goes_on_turns (Some Close) x ready =
         after_quietly P w (closes asker s) (k.closes asker x.client s w x.here (asks_free x.client.about.phase x.in_phase) h)
@@ -90,11 +92,13 @@ module _ {scope : Scope} {asker : ℕ} {P : State → List Event → Type 0} (k 
     goes_on_turns (Some UnbindAll) x ready =
         let now : State = record s { forwards = [] } in
         after_quietly P w (closes asker now)
-        (k.closes asker x.client now w x.here (asks_free x.client.about.phase x.in_phase) (k.forwards [] s w (λ all. All-nil (IsLed s.devices)) h))
+        (k.closes asker x.client now w x.here (asks_free x.client.about.phase x.in_phase)
+        (k.forwards [] s w (λ all. All-nil (IsLed s.devices)) h))
     goes_on_turns (Some Stop) x ready = k.stops x.client s w ready.1 x.here x.in_phase h
 
   module _ (s : State) (w : List Event) where
-    pub asks_kept : (q : Asked) → IsClientIn s asker Asking → IsAskedReady s.devices q.next × scope.stops → P (to_client asker (has_asked q) s) w
+    pub asks_kept : (q : Asked) → IsClientIn s asker Asking → IsAskedReady s.devices q.next × scope.stops
+        → P (to_client asker (has_asked q) s) w
         → After P w (asks q asker s)
     asks_kept q x ready h =
         let now : State = to_client asker (has_asked q) s in
@@ -109,7 +113,8 @@ module _ {scope : Scope} {asker : ℕ} {P : State → List Event → Type 0} (k 
   module _ (s : State) (w : List Event) (h : P s w) where
     -- ---- read
     pub reads_in_kept : (phase : Phase) (bytes : List ℕ) (x : IsClientIn s asker phase) → scope.stops
-        → (x.client.about.phase ≡ Asking → P (to_client asker (has_asked (asks_with s.devices s.forwards bytes (asked_before x.client))) s) w)
+        → (x.client.about.phase ≡ Asking
+        → P (to_client asker (has_asked (asks_with s.devices s.forwards bytes (asked_before x.client))) s) w)
         → After P w (reads_in phase asker bytes x.client s)
     reads_in_kept Asking bytes x may asked =
         let q : Asked = asks_with s.devices s.forwards bytes (asked_before x.client) in
@@ -131,13 +136,15 @@ module _ {scope : Scope} {asker : ℕ} {P : State → List Event → Type 0} (k 
         (k.forwards b.forwards s w (led_bound want port s.devices s.forwards) h) b.reply x.client x.here
         (subst IsFree (sym x.in_phase) tt)
 
-    bound_in_kept : (phase : Phase) (want : Option Want) (port : ℕ) → IsClientIn s asker phase → After P w (bound_in phase want asker port s)
+    bound_in_kept : (phase : Phase) (want : Option Want) (port : ℕ) → IsClientIn s asker phase
+        → After P w (bound_in phase want asker port s)
     bound_in_kept Binding want port x = bound_for_kept want port x
     bound_in_kept _ want port x = after_quietly P w s h
 
     pub bound_kept : (o : Option Client) (port : ℕ) → s.clients asker ≡ o → After P w (bound_at o asker port s)
     bound_kept None port is = after_quietly P w s h
-    bound_kept (Some client) port is = bound_in_kept client.about.phase client.about.want port (record { client = client; here = is; in_phase = refl })
+    bound_kept (Some client) port is = bound_in_kept client.about.phase client.about.want port
+        (record { client = client; here = is; in_phase = refl })
 
     -- ---- client end
     drops_kept : (c : ℕ) (client : Client) → s.clients c ≡ Some client → stream_of client.about.phase s.streams ≡ None
@@ -152,7 +159,8 @@ module _ {scope : Scope} {asker : ℕ} {P : State → List Event → Type 0} (k 
         let owed : Made = owe_link stream.link p s in
         let gone : Made = owe_link stream.link p (to_stream l none_kept (to_client c none_kept s)) in
         subst (λ (v : List Event). P gone.state v) (append_assoc w owed.told (ended l (ClientFailed cause) ∷ []))
-        (k.fails_open c l (record { cause = cause; client = x.client; stream = stream }) owed.state (w ++ owed.told) (x.here, x.in_phase, at_l)
+        (k.fails_open c l (record { cause = cause; client = x.client; stream = stream }) owed.state (w ++ owed.told)
+        (x.here, x.in_phase, at_l)
         (owes_kept (serving k) s w h stream.link p (inr (inl (ap is_some at_l)))))
 
     fails_asked_kept : (c l : ℕ) (cause : Cause) (o : Option Stream) → scope.fails c → IsClientIn s c (Opening l) → s.streams l ≡ o
@@ -178,8 +186,10 @@ module _ {scope : Scope} {asker : ℕ} {P : State → List Event → Type 0} (k 
         → After P w (client_ends c cause o s)
     client_ends_kept c cause None may is = after_quietly P w s h
     client_ends_kept c Eof (Some client) may is =
-        after_quietly P w (input_ends client.about.phase c s) (input_kept client.about.phase c (record { client = client; here = is; in_phase = refl }))
-    client_ends_kept c Fault (Some client) may is = fails_in_kept client.about.phase c Fault (may refl) (record { client = client; here = is; in_phase = refl })
+        after_quietly P w (input_ends client.about.phase c s)
+        (input_kept client.about.phase c (record { client = client; here = is; in_phase = refl }))
+    client_ends_kept c Fault (Some client) may is = fails_in_kept client.about.phase c Fault (may refl)
+        (record { client = client; here = is; in_phase = refl })
     client_ends_kept c Starved (Some client) may is = fails_in_kept client.about.phase c Starved (may refl)
         (record { client = client; here = is; in_phase = refl })
     client_ends_kept c NoThread (Some client) may is = fails_in_kept client.about.phase c NoThread (may refl)

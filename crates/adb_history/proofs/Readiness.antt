@@ -22,7 +22,8 @@ IsAskedReady devices (Some (Select id)) = ⊥
 IsAskedReady devices (Some next) = OpensReady devices.rows next
 
 module _ (devices : DeviceTable) where
-  module _ (reply : List ℕ) (size : ℕ) (others : Asked → Asked) (later : (q : Asked) → IsAskedReady devices q.next → IsAskedReady devices (others q).next) where
+  module _ (reply : List ℕ) (size : ℕ) (others : Asked → Asked)
+      (later : (q : Asked) → IsAskedReady devices q.next → IsAskedReady devices (others q).next) where
     next_ready : (next : Next) (q : Asked) → OpensReady devices.rows next → IsAskedReady devices q.next → IsAskedReady devices
         (after_next next reply size others q).next
     next_ready (Select id) q right h = later (record (replied reply size q) { selected = Some id }) h
@@ -38,9 +39,11 @@ module _ (devices : DeviceTable) where
       let a : Answer = answer devices.rows forwards q.selected request in
       next_ready a.bytes (4 + len) others later a.next q (answer_ready devices.rows forwards q.selected request) h
 
-  reads_ready : (forwards : List (ℕ × ForwardRow)) (n : ℕ) (q : Asked) → IsAskedReady devices q.next → IsAskedReady devices (reads_on devices forwards n q).next
+  reads_ready : (forwards : List (ℕ × ForwardRow)) (n : ℕ) (q : Asked) → IsAskedReady devices q.next
+      → IsAskedReady devices (reads_on devices forwards n q).next
   reads_ready forwards zero q h = h
-  reads_ready forwards (suc n) q h = found_ready forwards (request_at q.rest) (reads_on devices forwards n) q (λ r g. reads_ready forwards n r g) h
+  reads_ready forwards (suc n) q h = found_ready forwards (request_at q.rest) (reads_on devices forwards n) q
+      (λ r g. reads_ready forwards n r g) h
 
   pub asks_ready : (forwards : List (ℕ × ForwardRow)) (bytes : List ℕ) (q : Asked) → IsAskedReady devices q.next
       → IsAskedReady devices (asks_with devices forwards bytes q).next

@@ -1,5 +1,6 @@
 -- What a link that lives keeps of its input is what the cutting of all its bytes leaves.
-use Rattle.std.proofs.Common.{ℕ, ◌+◌, ◌≡◌, ◌≤◌, ◌<◌, Bool, true, false, cond, List, [], ◌∷◌, ◌++◌, length, take, drop, Option, Some, None, refl, sym}
+use Rattle.std.proofs.Common.{ℕ, ◌+◌, ◌≡◌, ◌≤◌, ◌<◌, Bool, true, false, cond, List, [], ◌∷◌, ◌++◌, length, take, drop, Option, Some, None}
+use Rattle.std.proofs.Common.{refl, sym}
 use Rattle.std.proofs.Common.{◌∙◌, ap, subst, arith, eqb, zero, suc}
 use Rattle.std.proofs.lemmas.Bool.{eqb-true, ne_eqb, eq-eqb}
 use Rattle.std.specs.Prelude.{option_and_then, ◌&&◌, ◌||◌, not}
@@ -44,7 +45,8 @@ use Rattle.adb_history.proofs.Changes.{HasRowsWithin, Stay, Changes}
 use Rattle.adb_history.proofs.AnswersWithin.{row_within}
 use Rattle.adb_history.proofs.ReadChanges.{read_from, changes_bound}
 use Rattle.adb_history.proofs.OutputEntries.{IsTied, tied_rule, tied, connected_is, row_below}
-use Rattle.adb_history.proofs.LinkChanges.{sums_by, sums_after, HearsAll, HearsAllOn, hears_all, changes_faulty, faulty_gone, changes_link_ends, link_ends_gone}
+use Rattle.adb_history.proofs.LinkChanges.{sums_by, sums_after, HearsAll, HearsAllOn, hears_all, changes_faulty, faulty_gone}
+use Rattle.adb_history.proofs.LinkChanges.{changes_link_ends, link_ends_gone}
 
 abbrev Cutting : Type 0
 Cutting = Cut PacketFormat Packet PacketFault
@@ -52,7 +54,8 @@ Cutting = Cut PacketFormat Packet PacketFault
 -- check words are wanted behind packets by the last CNXN of them
 reading_at : (k : ℕ) (format : PacketFormat) (bytes : List ℕ)
     → (cut_at front_of (λ _ frame. packet_of frame) (λ format frame. format_after format (packet_of frame)) k format bytes).reading.sums
-    ≡ sums_after (cut_at front_of (λ _ frame. packet_of frame) (λ format frame. format_after format (packet_of frame)) k format bytes).given format.sums
+    ≡ sums_after (cut_at front_of (λ _ frame. packet_of frame) (λ format frame. format_after format (packet_of frame))
+    k format bytes).given format.sums
 reading_at zero format bytes = refl
 reading_at (suc k) format bytes = go (front_of format bytes) (λ f b. reading_at k f b)
   where
@@ -67,7 +70,8 @@ reading_at (suc k) format bytes = go (front_of format bytes) (λ f b. reading_at
         by false = refl
 
     go : (front : Front PacketFault) → ((f : PacketFormat) (b : List ℕ) → (others f b).reading.sums ≡ sums_after (others f b).given f.sums)
-        → (cut_by front_of (λ _ frame. packet_of frame) (λ format frame. format_after format (packet_of frame)) format bytes front others).reading.sums
+        → (cut_by front_of (λ _ frame. packet_of frame) (λ format frame. format_after format (packet_of frame)) format
+        bytes front others).reading.sums
         ≡ sums_after (cut_by front_of (λ _ frame. packet_of frame)
         (λ format frame. format_after format (packet_of frame)) format bytes front others).given format.sums
     go More rest = refl
@@ -76,7 +80,8 @@ reading_at (suc k) format bytes = go (front_of format bytes) (λ f b. reading_at
         let p = packet_of (take n bytes) in
         rest (format_after format p) (drop n bytes) ∙ ap (sums_after (others (format_after format p) (drop n bytes)).given) (next p)
 
-reading_is : (format : PacketFormat) (bytes : List ℕ) → (cut_packets format bytes).reading.sums ≡ sums_after (cut_packets format bytes).given format.sums
+reading_is : (format : PacketFormat) (bytes : List ℕ) → (cut_packets format bytes).reading.sums
+    ≡ sums_after (cut_packets format bytes).given format.sums
 reading_is format bytes = reading_at (length bytes) format bytes
 
 -- ---- one link
@@ -112,7 +117,8 @@ holds None (Some b) t h = absurd h
 holds (Some a) None t h = tt
 holds (Some a) (Some b) t h = record { rest = h.rest; sums = h.sums }
 
-pub tie_holds : (lost : Bool) (o p : Option Link) (received : List ℕ) → ReadTie lost o received → RowStep Holds o p [] → ReadTie lost p received
+pub tie_holds : (lost : Bool) (o p : Option Link) (received : List ℕ) → ReadTie lost o received → RowStep Holds o p []
+    → ReadTie lost p received
 tie_holds lost None None received t h = tt
 tie_holds lost None (Some b) received t h = absurd h
 tie_holds lost (Some a) None received t h = tt
@@ -122,7 +128,8 @@ tie_holds lost (Some a) (Some b) received t h =
 -- ---- bytes are received
 module _ (came plugged t : ℕ) (received bytes : List ℕ) where
   -- the packets are treated
-  treated_tie : (link : Link) (c : Cutting) (o : Option Link) (told : List ℕ) → c ≡ cut_packets (record { sums = link.sums }) (link.rest ++ bytes)
+  treated_tie : (link : Link) (c : Cutting) (o : Option Link) (told : List ℕ)
+      → c ≡ cut_packets (record { sums = link.sums }) (link.rest ++ bytes)
       → ReadsAs received link → c.fault ≡ None → RowStep (HearsAll true c.given) (Some (record link { rest = c.rest })) o told
       → ReadTie false o (received ++ bytes)
   treated_tie link c None told is t sound h = tt
@@ -130,7 +137,8 @@ module _ (came plugged t : ℕ) (received bytes : List ℕ) where
       let whole : framed (received ++ bytes) ≡ joined (framed received).given c =
       framed_piece received bytes link t ∙ ap (joined (framed received).given) (sym is) in
       let read : c.reading.sums ≡ sums_after c.given link.sums =
-      subst (λ (x : Cutting). x.reading.sums ≡ sums_after x.given link.sums) (sym is) (reading_is (record { sums = link.sums }) (link.rest ++ bytes)) in (
+      subst (λ (x : Cutting). x.reading.sums ≡ sums_after x.given link.sums) (sym is)
+      (reading_is (record { sums = link.sums }) (link.rest ++ bytes)) in (
         record {
           rest = ap (λ (x : Cutting). x.rest) whole ∙ sym h.rest;
           sums = ap (λ (x : Cutting). x.reading.sums) whole ∙ (read ∙ sym h.sums);
@@ -140,7 +148,8 @@ module _ (came plugged t : ℕ) (received bytes : List ℕ) where
       )
 
   -- and then their fault
-  faulty_tie : (fault : Option PacketFault) (s : State) → AreWithin came plugged s.streams → (fault ≡ None → ReadTie false (s.links t) (received ++ bytes))
+  faulty_tie : (fault : Option PacketFault) (s : State) → AreWithin came plugged s.streams
+      → (fault ≡ None → ReadTie false (s.links t) (received ++ bytes))
       → ReadTie false ((faulty t fault s).state.links t) (received ++ bytes)
   faulty_tie None s all h = tie_holds false (s.links t) ((faulty t None s).state.links t) (received ++ bytes) (h refl)
       (holds (s.links t) ((faulty t None s).state.links t) (spelled_to t (faulty t None s).told)
@@ -149,7 +158,9 @@ module _ (came plugged t : ℕ) (received bytes : List ℕ) where
       subst (λ (o : Option Link). ReadTie false o (received ++ bytes)) (sym (faulty_gone came plugged (s.links t) t fault s refl all)) tt
 
   cut_tie : (link : Link) (s : State) → s.links t ≡ Some link → ReadsAs received link → t ≤ plugged → AreWithin came plugged s.streams
-      → ReadTie false ((receives_cut t (cut_packets (record { sums = link.sums }) (link.rest ++ bytes)) s).state.links t) (received ++ bytes)
+      → ReadTie false
+      ((receives_cut t (cut_packets (record { sums = link.sums }) (link.rest ++ bytes)) s).state.links t)
+      (received ++ bytes)
   cut_tie link s is tie le all =
       let c = cut_packets (record { sums = link.sums }) (link.rest ++ bytes) in
       let rested = to_link t (with_rest c.rest) s in
@@ -158,16 +169,20 @@ module _ (came plugged t : ℕ) (received bytes : List ℕ) where
       let row : rested.links t ≡ Some (record link { rest = c.rest }) =
       ap (λ (b : Bool). cond b (option_and_then (with_rest c.rest) (s.links t)) (s.links t)) (eq-eqb t t refl)
       ∙ ap (option_and_then (with_rest c.rest)) is in
-      let step : RowStep (HearsAll true c.given) (Some (record link { rest = c.rest })) (treated.state.links t) (spelled_to t treated.told) =
+      let step : RowStep (HearsAll true c.given) (Some (record link { rest = c.rest })) (treated.state.links t)
+      (spelled_to t treated.told) =
       subst (λ (o : Option Link). RowStep (HearsAll true c.given) o (treated.state.links t) (spelled_to t treated.told)) row
-      (subst (λ (b : Bool). RowStep (HearsAll b c.given) (rested.links t) (treated.state.links t) (spelled_to t treated.told)) (eq-eqb t t refl)
+      (subst (λ (b : Bool). RowStep (HearsAll b c.given) (rested.links t) (treated.state.links t)
+      (spelled_to t treated.told)) (eq-eqb t t refl)
       (hears.links t)) in
       faulty_tie c.fault treated.state (hears.streams all)
       (λ sound. treated_tie link c (treated.state.links t) (spelled_to t treated.told) refl tie sound step)
 
-  receives_tie : (lost : Bool) (o : Option Link) (s : State) → s.links t ≡ o → ReadTie lost o received → t ≤ plugged → AreWithin came plugged s.streams
+  receives_tie : (lost : Bool) (o : Option Link) (s : State) → s.links t ≡ o → ReadTie lost o received → t ≤ plugged
+      → AreWithin came plugged s.streams
       → ReadTie lost ((receives_on o t bytes s).state.links t) (cond (not lost) (received ++ bytes) received)
-  receives_tie lost None s is tie le all = subst (λ (o : Option Link). ReadTie lost o (cond (not lost) (received ++ bytes) received)) (sym is) tt
+  receives_tie lost None s is tie le all =
+      subst (λ (o : Option Link). ReadTie lost o (cond (not lost) (received ++ bytes) received)) (sym is) tt
   receives_tie lost (Some link) s is tie le all =
       subst (λ (b : Bool). ReadTie b ((receives_cut t (cut_packets (record { sums = link.sums }) (link.rest ++ bytes)) s).state.links t)
       (cond (not b) (received ++ bytes) received)) (sym tie.1) (cut_tie link s is tie.0 le all)
@@ -198,7 +213,8 @@ module _ (came plugged : ℕ) (s : State) (all : AreWithin came plugged s.stream
       holds_then (s.links t) (m.state.links t) ((takes_of c n (m.state.clients c) m.state).state.links t) (kept m first t)
       (takes (m.state.clients c) m.state (first.streams all))
     where
-      takes : (o : Option Client) (x : State) → AreWithin came plugged x.streams → RowStep Holds (x.links t) ((takes_of c n o x).state.links t) []
+      takes : (o : Option Client) (x : State) → AreWithin came plugged x.streams
+          → RowStep Holds (x.links t) ((takes_of c n o x).state.links t) []
       takes None x within = unheard (x.links t)
       takes (Some client) x within =
           let next = to_client c (hands n) x in
@@ -242,7 +258,8 @@ module _ (came plugged : ℕ) (s : State) (all : AreWithin came plugged s.stream
       first true e o = let clash : true ≡ false = e in cc
       first false e o = unheard o
 
-      second : (here : Bool) → here ≡ false → (o p : Option Link) (told : List ℕ) → RowStep (HearsAll here c.given) o p told → RowStep Holds o p []
+      second : (here : Bool) → here ≡ false → (o p : Option Link) (told : List ℕ)
+          → RowStep (HearsAll here c.given) o p told → RowStep Holds o p []
       second true e o p told h = let clash : true ≡ false = e in cc
       second false e None None told h = tt
       second false e None (Some b) told h = absurd h
@@ -266,10 +283,12 @@ module _ (older : History) (tie : IsTied older) (h : IsReceived older) where
       → ReadTie (is_lost t older) (m.state.links t) (bytes_received t older)
   same_tie m holds t = tie_holds (is_lost t older) (s.links t) (m.state.links t) (bytes_received t older) (h.links t) (holds t)
 
-  quiet_tie : (m : Made) → Keeps (came_count older) (plugged_count older) s m → (t : ℕ) → ReadTie (is_lost t older) (m.state.links t) (bytes_received t older)
+  quiet_tie : (m : Made) → Keeps (came_count older) (plugged_count older) s m → (t : ℕ)
+      → ReadTie (is_lost t older) (m.state.links t) (bytes_received t older)
   quiet_tie m keeps t = same_tie m (λ t. kept (came_count older) (plugged_count older) s tie.streams tie.rows m keeps t) t
 
-  enter_tie : (c port : ℕ) (o : Option ForwardRow) → May s (Enter c port) → (t : ℕ) → RowStep Holds (s.links t) ((enters_by c o s).state.links t) []
+  enter_tie : (c port : ℕ) (o : Option ForwardRow) → May s (Enter c port) → (t : ℕ)
+      → RowStep Holds (s.links t) ((enters_by c o s).state.links t) []
   enter_tie c port None may t = unheard (s.links t)
   enter_tie c port (Some row) may t = go (is_connected row.transport s.devices) refl
     where
@@ -277,7 +296,9 @@ module _ (older : History) (tie : IsTied older) (h : IsReceived older) where
       came = comes true c s
 
       go : (connected : Bool) → is_connected row.transport s.devices ≡ connected
-          → RowStep Holds (s.links t) ((cond connected (opens true c row.transport row.remote came) (quietly (comes_in_vain s))).state.links t) []
+          → RowStep Holds (s.links t)
+          ((cond connected (opens true c row.transport row.remote came) (quietly (comes_in_vain s))).state.links
+          t) []
       go false e = unheard (s.links t)
       go true e =
           let m = opens true c row.transport row.remote came in
@@ -285,7 +306,8 @@ module _ (older : History) (tie : IsTied older) (h : IsReceived older) where
           ((keeps_opens (came_count older + 1) (plugged_count older) true c row.transport row.remote came (omega (arith, may.1, tie.joined))
           (row_within (plugged_count older) row.transport s.devices tie.rows (connected_is (at row.transport s.devices.rows) e))).links t)
 
-  attach_tie : (n : ℕ) (kind : Kind) (serial : List ℕ) → May s (Attach n kind serial) → (t : ℕ) → ReceivedAfter (Attach n kind serial) older t
+  attach_tie : (n : ℕ) (kind : Kind) (serial : List ℕ) → May s (Attach n kind serial) → (t : ℕ)
+      → ReceivedAfter (Attach n kind serial) older t
   attach_tie n kind serial may t =
       let m = plugs_in n kind serial s in
       let next = record s { devices = attached kind serial s.devices; links = put_row n (Some new_link) s.links } in
@@ -326,7 +348,8 @@ module _ (older : History) (tie : IsTied older) (h : IsReceived older) where
       go false e (Some link) is = same_tie (link_ends n ending.Lost s)
           (λ t. holds (s.links t) ((link_ends n ending.Lost s).state.links t) (spelled_to t (link_ends n ending.Lost s).told)
           ((changes_link_ends (came_count older) (plugged_count older) n ending.Lost s tie.streams).links t)) t
-      go true e None is = subst (λ (o : Option Link). ReadTie true o (bytes_received t older)) (sym (ap s.links (sym (eqb-true n t e)) ∙ is)) tt
+      go true e None is = subst (λ (o : Option Link). ReadTie true o (bytes_received t older))
+          (sym (ap s.links (sym (eqb-true n t e)) ∙ is)) tt
       go true e (Some link) is =
           let gone : (link_ends n ending.Lost s).state.links t ≡ None =
           ap (link_ends n ending.Lost s).state.links (sym (eqb-true n t e))
@@ -342,7 +365,8 @@ module _ (older : History) (tie : IsTied older) (h : IsReceived older) where
   received_rule (Enter c port) may t = same_tie (enters c port s) (λ t. enter_tie c port (at port s.forwards) may t) t
   received_rule (Read c bytes) may t = same_tie (reads c bytes s)
       (λ t. holds (s.links t) ((reads c bytes s).state.links t) (spelled_to t (reads c bytes s).told)
-      ((read_from (came_count older) (plugged_count older) c (s.clients c) bytes s (omega (arith, may.1.1, tie.joined)) tie.rows).links t)) t
+      ((read_from (came_count older) (plugged_count older) c (s.clients c) bytes s
+      (omega (arith, may.1.1, tie.joined)) tie.rows).links t)) t
   received_rule (End c cause) may t = quiet_tie (client_ends c cause (s.clients c) s)
       (keeps_client_ends (came_count older) (plugged_count older) c cause (s.clients c) s tie.streams) t
   received_rule (Bound c port) may t = same_tie (bound c port s)
@@ -377,7 +401,8 @@ module _ (older : History) (tie : IsTied older) (h : IsReceived older) where
     links = λ t.
         let m = rule e s in
         let after = tied_rule older tie e may in
-        tie_holds (is_lost t (e ∷ older)) (m.state.links t) ((ups m.state).state.links t) (bytes_received t (e ∷ older)) (received_rule e may t)
+        tie_holds (is_lost t (e ∷ older)) (m.state.links t) ((ups m.state).state.links t)
+        (bytes_received t (e ∷ older)) (received_rule e may t)
         (holds (m.state.links t) ((ups m.state).state.links t) (spelled_to t (ups m.state).told)
         ((keeps_up_all (came_count (e ∷ older)) (plugged_count (e ∷ older)) m.state.drawn m.state after.streams).links t));
     fresh = fresh_rule e may;

@@ -1,5 +1,6 @@
 -- Each promise of the streams is broken by a history.
-use Rattle.std.specs.Prelude.{ℕ, ◌≡◌, ◌≤◌, ◌+◌, ◌&&◌, Bool, true, false, List, [], ◌∷◌, ◌++◌, Option, Some, None, codes, slice_index, length}
+use Rattle.std.specs.Prelude.{ℕ, ◌≡◌, ◌≤◌, ◌+◌, ◌&&◌, Bool, true, false, List, [], ◌∷◌, ◌++◌, Option, Some, None, codes, slice_index}
+use Rattle.std.specs.Prelude.{length}
 use Rattle.std.specs.Prelude.{eqb, nat_lt, is_some, ◌<◌}
 use Rattle.std.proofs.Common.{refl, sym, ◌∙◌, ap, arith, zero, suc, cond, get_or}
 use Rattle.std.proofs.lemmas.Bool.{eq-eqb, le-ltb}
@@ -11,10 +12,12 @@ use Rattle.adb_request.specs.Meaning.{meaning}
 use Rattle.adb_wire.specs.Header.{word_at}
 use Rattle.adb_banner.specs.Banner.{identity_of, last_value}
 use Rattle.adb_history.specs.Births.{Birth, is_clse, count_from}
-use Rattle.adb_history.specs.Fifo.{SendsPackets, HasBirths, CarriesRest, CarriesWholeRest, TellsClose, HandsTold, HandsWholeTold, KeepsUpWindow}
+use Rattle.adb_history.specs.Fifo.{SendsPackets, HasBirths, CarriesRest, CarriesWholeRest, TellsClose, HandsTold, HandsWholeTold}
+use Rattle.adb_history.specs.Fifo.{KeepsUpWindow}
 use Rattle.adb_history.specs.Fifo.{KeepsDownWindow, HasNoCrossing}
 use Rattle.adb_history.specs.Opened.{AsksAtOnce}
-use Rattle.adb_history.specs.Broken.{sends_no_packet, draws_a_number_twice, skips_a_byte, closes_with_a_byte_unsent, hands_a_byte_twice, drops_at_close}
+use Rattle.adb_history.specs.Broken.{sends_no_packet, draws_a_number_twice, skips_a_byte, closes_with_a_byte_unsent, hands_a_byte_twice}
+use Rattle.adb_history.specs.Broken.{drops_at_close}
 use Rattle.adb_history.specs.Broken.{forgets_the_device, writes_none_for_the_close}
 use Rattle.adb_history.specs.Broken.{second_write_before_okay, acks_on_arrival, writes_to_another_link}
 
@@ -68,7 +71,8 @@ close_counted : (l k : ℕ) (ps : List Packet) (p : Packet) → is_clse p.comman
 close_counted l k [] p closes own within is = absurd (omega (arith, within))
 close_counted l zero (q ∷ ps) p closes own within is =
     rw (ap (λ (r : Packet). is_clse r.command) is ∙ closes) (rw (eq-eqb q.arg0 l (ap (λ (r : Packet). r.arg0) is ∙ own)) (omega arith))
-close_counted l (suc k) (q ∷ ps) p closes own within is = go (is_clse q.command && eqb q.arg0 l) (close_counted l k ps p closes own (omega (arith, within)) is)
+close_counted l (suc k) (q ∷ ps) p closes own within is = go (is_clse q.command && eqb q.arg0 l)
+    (close_counted l k ps p closes own (omega (arith, within)) is)
   where
     go : (b : Bool) → 1 ≤ count_from is_clse l ps → 1 ≤ cond b (1 + count_from is_clse l ps) (count_from is_clse l ps)
     go true later = omega arith

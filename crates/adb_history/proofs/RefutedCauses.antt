@@ -9,10 +9,12 @@ use Rattle.adb_capture.specs.declared.entry.Entry.{Entry}
 use Rattle.adb_capture.specs.declared.entry.Entry.TheVariants.{Join}
 use Rattle.adb_history.specs.Machine.{History}
 use Rattle.adb_history.specs.Births.{Birth, born}
-use Rattle.adb_history.specs.Causes.{EndsByClient, EndsByPeer, EndsOutOfTurn, EndsByLoss, EndsByBreak, EndsByFailure, EndsByStop, HasNoOtherCause}
+use Rattle.adb_history.specs.Causes.{EndsByClient, EndsByPeer, EndsOutOfTurn, EndsByLoss, EndsByBreak, EndsByFailure, EndsByStop}
+use Rattle.adb_history.specs.Causes.{HasNoOtherCause}
 use Rattle.adb_history.specs.Causes.{peer_closes, writes_early, loses_link, breaks_link, IsDone}
 use Rattle.adb_history.specs.Broken.{ends_with_a_write_outstanding, ends_without_a_close, ends_in_turn}
-use Rattle.adb_history.specs.Broken.{ends_with_a_link_that_stays, ends_with_a_link_unbroken, ends_unborn_with_its_client, ends_unborn_with_the_server, outlives_its_client}
+use Rattle.adb_history.specs.Broken.{ends_with_a_link_that_stays, ends_with_a_link_unbroken, ends_unborn_with_its_client}
+use Rattle.adb_history.specs.Broken.{ends_unborn_with_the_server, outlives_its_client}
 use Rattle.adb_history.proofs.Refuted.{not_below}
 
 -- the stream of the open shell
@@ -53,7 +55,8 @@ pub by_peer_refuted : EndsByPeer ends_without_a_close → ⊥
 unfolding meaning word_at identity_of last_value
 by_peer_refuted promise =
     let ends = promise 1 (newest ends_without_a_close) (earlier ends_without_a_close) ([], refl) refl in
-    refuted_by (λ b. peer_closes 1 b (newest ends_without_a_close) (earlier ends_without_a_close)) ends.birth (ap birth_or ends.is) ends.cause refl
+    refuted_by (λ b. peer_closes 1 b (newest ends_without_a_close) (earlier ends_without_a_close)) ends.birth
+    (ap birth_or ends.is) ends.cause refl
 
 pub out_of_turn_refuted : EndsOutOfTurn ends_in_turn → ⊥
 unfolding meaning word_at identity_of last_value
@@ -65,13 +68,15 @@ pub lost_refuted : EndsByLoss ends_with_a_link_that_stays → ⊥
 unfolding meaning word_at identity_of last_value
 lost_refuted promise =
     let ends = promise 1 (newest ends_with_a_link_that_stays) (earlier ends_with_a_link_that_stays) ([], refl) refl in
-    refuted_by (λ b. loses_link b (newest ends_with_a_link_that_stays) (earlier ends_with_a_link_that_stays)) ends.birth (ap birth_or ends.is) ends.cause refl
+    refuted_by (λ b. loses_link b (newest ends_with_a_link_that_stays) (earlier ends_with_a_link_that_stays))
+    ends.birth (ap birth_or ends.is) ends.cause refl
 
 pub broken_refuted : EndsByBreak ends_with_a_link_unbroken → ⊥
 unfolding meaning word_at identity_of last_value
 broken_refuted promise =
     let ends = promise 1 (newest ends_with_a_link_unbroken) (earlier ends_with_a_link_unbroken) ([], refl) refl in
-    refuted_by (λ b. breaks_link b (newest ends_with_a_link_unbroken) (earlier ends_with_a_link_unbroken)) ends.birth (ap birth_or ends.is) ends.cause refl
+    refuted_by (λ b. breaks_link b (newest ends_with_a_link_unbroken) (earlier ends_with_a_link_unbroken)) ends.birth
+    (ap birth_or ends.is) ends.cause refl
 
 pub failed_refuted : EndsByFailure ends_unborn_with_its_client → ⊥
 unfolding meaning word_at identity_of last_value

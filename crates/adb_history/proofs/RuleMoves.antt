@@ -1,5 +1,6 @@
 -- What each move keeps, handing out keeps, and the rule of each entry, where one client alone is answered, or whatever it touches.
-use Rattle.std.proofs.Common.{◌≡◌, ℕ, ◌+◌, ◌-◌, ◌≤◌, ◌<◌, zero, suc, Bool, true, false, cond, ◌||◌, List, [], ◌∷◌, length, drop, min, Option, Some, None, refl}
+use Rattle.std.proofs.Common.{◌≡◌, ℕ, ◌+◌, ◌-◌, ◌≤◌, ◌<◌, zero, suc, Bool, true, false, cond, ◌||◌, List, [], ◌∷◌, length, drop, min}
+use Rattle.std.proofs.Common.{Option, Some, None, refl}
 use Rattle.std.proofs.Common.{sym, ap, subst, ◌∙◌, arith, inl, inr, eqb}
 use Rattle.std.specs.Prelude.{is_some, nat_eq, nat_le}
 use Rattle.std.proofs.lemmas.Bool.{eqb-true, eq-eqb}
@@ -23,7 +24,8 @@ use Rattle.adb_history.specs.Links.{okay_packet, credit_packet, server_cnxn, is_
 use Rattle.adb_history.specs.Streams.{opens}
 use Rattle.adb_history.specs.Flow.{with_flow}
 use Rattle.adb_history.specs.Tracking.{offered}
-use Rattle.adb_history.specs.Handing.{unmarked, lists_first, hands, tells_credit, tells_handed, stream_left, client_left, takes_of, puts_to, sends}
+use Rattle.adb_history.specs.Handing.{unmarked, lists_first, hands, tells_credit, tells_handed, stream_left, client_left, takes_of, puts_to}
+use Rattle.adb_history.specs.Handing.{sends}
 use Rattle.adb_history.specs.Asking.{asks_with}
 use Rattle.adb_history.specs.Reading.{asked_before, has_asked, reads_from, comes, comes_in_vain, enters_by}
 use Rattle.adb_history.specs.Machine.{unplugs_on, rule, ups, step}
@@ -89,20 +91,23 @@ module _ {scope : Scope} {asker : ℕ} {P : State → List Event → Type 0} (k 
     tells_credit_kept zero l stream alive = after_quietly P w s h
     tells_credit_kept (suc n) l stream alive = owes_kept k s w h stream.link (credit_packet l stream.part.remote (suc n)) (inr (inl alive))
 
-    tells_handed_kept : (flow : Flow) (left l : ℕ) (stream : Stream) → is_some (s.streams l) ≡ true → After P w (tells_handed flow left l stream s)
+    tells_handed_kept : (flow : Flow) (left l : ℕ) (stream : Stream) → is_some (s.streams l) ≡ true
+        → After P w (tells_handed flow left l stream s)
     tells_handed_kept (One window) zero l stream alive = owes_kept k s w h stream.link (okay_packet l stream.part.remote) (inr (inl alive))
     tells_handed_kept (One window) (suc left) l stream alive = after_quietly P w s h
     tells_handed_kept (Credit credit) left l stream alive = tells_credit_kept (credit_back left credit) l stream alive
 
     -- so many bytes are handed to a client, of whose stream so many are left
     hands_kept : (c n : ℕ) (client : Client) → s.clients c ≡ Some client
-        → ((l : ℕ) (stream : Stream) → client.about.phase ≡ Streaming l → s.streams l ≡ Some stream → to_hand stream.part.flow ≤ length (drop n client.due))
+        → ((l : ℕ) (stream : Stream) → client.about.phase ≡ Streaming l → s.streams l ≡ Some stream
+        → to_hand stream.part.flow ≤ length (drop n client.due))
         → After P w (quietly (to_client c (hands n) s))
     hands_kept c n client is fits = after_quietly P w (to_client c (hands n) s) (k.hands c n client s w is fits h)
 
   -- so many bytes are handed to the client of a stream
   module _ (s : State) (w : List Event) (h : P s w) (c n l : ℕ) (x : IsClientIn s c (Streaming l)) where
-    less_kept : (left : ℕ) (stream : Stream) → s.streams l ≡ Some stream → (left ≤ to_hand stream.part.flow) × (left ≤ length (drop n x.client.due))
+    less_kept : (left : ℕ) (stream : Stream) → s.streams l ≡ Some stream
+        → (left ≤ to_hand stream.part.flow) × (left ≤ length (drop n x.client.due))
         → After P w (tells_handed stream.part.flow left l stream
         (to_stream l (with_stream_part (with_flow (handed_to left stream.part.flow) stream.part)) (to_client c (hands n) s)))
     less_kept left stream at_l fits =
@@ -112,7 +117,8 @@ module _ {scope : Scope} {asker : ℕ} {P : State → List Event → Type 0} (k 
         let here : less.streams l ≡ with_stream_part part stream = changed_here l (with_stream_part part) s.streams stream at_l in
         let now : P less w = k.flows l stream flow s w at_l (like_handed left stream.part.flow fits.0) h in
         tells_handed_kept (to_client c (hands n) less) w
-        (k.hands c n x.client less w x.here (λ m other in_m at_m. within m other in_m at_m here) now) stream.part.flow left l stream (ap is_some here)
+        (k.hands c n x.client less w x.here (λ m other in_m at_m. within m other in_m at_m here) now) stream.part.flow
+        left l stream (ap is_some here)
       where
         within : (m : ℕ) (other : Stream) → x.client.about.phase ≡ Streaming m
             → (to_stream l (with_stream_part (with_flow (handed_to left stream.part.flow) stream.part)) s).streams m ≡ Some other
@@ -122,12 +128,14 @@ module _ {scope : Scope} {asker : ℕ} {P : State → List Event → Type 0} (k 
         within m other in_m at_m here =
             let rows = (to_stream l (with_stream_part (with_flow (handed_to left stream.part.flow) stream.part)) s).streams in
             let e : l ≡ m = same_stream x.client.about.phase l m x.in_phase in_m in
-            let same : with_stream_part (with_flow (handed_to left stream.part.flow) stream.part) stream ≡ Some other = sym here ∙ (ap rows e ∙ at_m) in
+            let same : with_stream_part (with_flow (handed_to left stream.part.flow) stream.part) stream
+            ≡ Some other = sym here ∙ (ap rows e ∙ at_m) in
             let row : record stream { part = with_flow (handed_to left stream.part.flow) stream.part } ≡ other = cc in
             let hand : to_hand (handed_to left stream.part.flow) ≡ to_hand other.part.flow = ap (λ (y : Stream). to_hand y.part.flow) row in
             omega (arith, hand, left_now left stream.part.flow, fits.1)
 
-    stream_left_kept : (o : Option Stream) → s.streams l ≡ o → After P w (stream_left (length (drop n x.client.due)) l o (to_client c (hands n) s))
+    stream_left_kept : (o : Option Stream) → s.streams l ≡ o
+        → After P w (stream_left (length (drop n x.client.due)) l o (to_client c (hands n) s))
     stream_left_kept None at_l =
         hands_kept s w h c n x.client x.here (λ m other in_m at_m. absurd (none m other in_m at_m))
       where
@@ -143,11 +151,13 @@ module _ {scope : Scope} {asker : ℕ} {P : State → List Event → Type 0} (k 
         let less : Made = tells_handed stream.part.flow left l stream
         (to_stream l (with_stream_part (with_flow (handed_to left stream.part.flow) stream.part)) handed) in
         after_if P w (nat_eq left (to_hand stream.part.flow)) (quietly handed) less
-        (λ e. hands_kept s w h c n x.client x.here (λ m other in_m at_m. same m other in_m at_m (eqb-true left (to_hand stream.part.flow) e)))
+        (λ e. hands_kept s w h c n x.client x.here
+        (λ m other in_m at_m. same m other in_m at_m (eqb-true left (to_hand stream.part.flow) e)))
         (λ e. less_kept left stream at_l (omega arith, omega arith))
       where
         same : (m : ℕ) (other : Stream) → x.client.about.phase ≡ Streaming m → s.streams m ≡ Some other
-            → min (to_hand stream.part.flow) (length (drop n x.client.due)) ≡ to_hand stream.part.flow → to_hand other.part.flow ≤ length (drop n x.client.due)
+            → min (to_hand stream.part.flow) (length (drop n x.client.due)) ≡ to_hand stream.part.flow
+            → to_hand other.part.flow ≤ length (drop n x.client.due)
         same m other in_m at_m is_all =
             let e : l ≡ m = same_stream x.client.about.phase l m x.in_phase in_m in
             let both : Some stream ≡ Some other = sym at_l ∙ (ap s.streams e ∙ at_m) in
@@ -251,7 +261,8 @@ module _ {scope : Scope} {asker : ℕ} {P : State → List Event → Type 0} (k 
 
   pub step_turns : (e : Entry) (s : State) (w : List Event) → IsBy e → BeginsWith P e s w → After P w (step s e)
   step_turns e s w by h =
-      after_then P w (rule e s) ups (rule_turns e s w by h) (λ v now. up_all_turns (serving k) (rule e s).state v now (rule e s).state.drawn)
+      after_then P w (rule e s) ups (rule_turns e s w by h)
+      (λ v now. up_all_turns (serving k) (rule e s).state v now (rule e s).state.drawn)
 
 -- ---- whatever they touch
 module _ {P : State → List Event → Type 0} (k : Serves P) (s : State) (w : List Event) (h : P s w) where

@@ -14,7 +14,8 @@ use Rattle.adb_history.proofs.Calm.{IsCalm, SendsNothing}
 use Rattle.adb_history.proofs.Drains.{drained_rests, drained_enough, drain_all_step, drain_all_over}
 
 -- a client that has a stream open sends nothing
-rests_calm : (s : State) (l c : ℕ) (stream : Stream) (client : Client) (phase : Phase) → IsResting phase s c client → is_streaming l phase ≡ true
+rests_calm : (s : State) (l c : ℕ) (stream : Stream) (client : Client) (phase : Phase) → IsResting phase s c client
+    → is_streaming l phase ≡ true
     → s.streams l ≡ Some stream → SendsNothing s.devices stream client
 rests_calm s l c stream client (Streaming k) rests open_now there =
     let same : k ≡ l = eqb-true k l open_now in

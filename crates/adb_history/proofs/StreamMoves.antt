@@ -1,5 +1,6 @@
 -- What each move keeps, the rules of streams keep: they are asked for, they send, and they end.
-use Rattle.std.proofs.Common.{◌≡◌, ℕ, ◌+◌, zero, suc, Bool, true, false, List, [], ◌∷◌, ◌++◌, length, drop, Option, Some, None, refl, sym, ap, subst, ◌∙◌}
+use Rattle.std.proofs.Common.{◌≡◌, ℕ, ◌+◌, zero, suc, Bool, true, false, List, [], ◌∷◌, ◌++◌, length, drop, Option, Some, None, refl, sym}
+use Rattle.std.proofs.Common.{ap, subst, ◌∙◌}
 use Rattle.std.proofs.Common.{arith, inl, inr, eqb}
 use Rattle.std.specs.Prelude.{codes, is_some, nat_eq}
 use Rattle.std.proofs.lemmas.Bool.{eq-eqb, eqb-true}
@@ -18,7 +19,8 @@ use Rattle.adb_history.specs.declared.ending.Ending.TheVariants.{ClientClosed}
 use Rattle.adb_history.specs.Links.{owe_link, open_packet, close_packet, write_packet, check_on, wants_sums, is_credit, maxdata_of}
 use Rattle.adb_history.specs.Clients.{closes_with}
 use Rattle.adb_history.specs.Streams.{stream_ids, asks_for, no_ids_left, opens, ends_row, ends_telling, ends_if_of, ends_of, all_end}
-use Rattle.adb_history.specs.Flow.{with_flow, flow_after, payloads, total, noted, goes_up, all_go_up, is_over, closes_if, sends_up, is_streaming, up_client}
+use Rattle.adb_history.specs.Flow.{with_flow, flow_after, payloads, total, noted, goes_up, all_go_up, is_over, closes_if, sends_up}
+use Rattle.adb_history.specs.Flow.{is_streaming, up_client}
 use Rattle.adb_history.specs.Flow.{up_stream, up, up_all}
 use Rattle.adb_history.specs.Losing.{stream_of}
 use Rattle.adb_history.specs.Moves.{IsClientIn, After, Serves, IsOfStream, IsFree, HasOne, IsLike, IsReady, draws_now}
@@ -42,7 +44,12 @@ like_then a b c h k = record { credit = k.credit ∙ h.credit; left = omega (ari
 
 like_wrote : (n : ℕ) (flow : Flow) → IsLike flow (wrote n flow)
 like_wrote n (One window) = record { credit = refl; left = omega arith; sound = λ h. h }
-like_wrote n (Credit credit) = record { credit = refl; left = omega arith; sound = λ h. record { window = h.window; few = h.few; none = h.none } }
+like_wrote n (Credit credit) =
+    record {
+      credit = refl;
+      left = omega arith;
+      sound = λ h. record { window = h.window; few = h.few; none = h.none };
+    }
 
 pub like_after : (payloads : List (List ℕ)) (flow : Flow) → IsLike flow (flow_after payloads flow)
 like_after [] flow = like_same flow
@@ -53,7 +60,8 @@ like_after (payload ∷ payloads) flow =
 -- what is to be shown of the end of one stream
 abbrev pub EndsKept : (State → List Event → Type 0) → Type 0
 EndsKept P =
-    (l : ℕ) (ending : Ending) (stream : Stream) (s : State) (w : List Event) → s.streams l ≡ Some stream → P s w → After P w (ends_row l ending stream s)
+    (l : ℕ) (ending : Ending) (stream : Stream) (s : State) (w : List Event) → s.streams l ≡ Some stream → P s w
+    → After P w (ends_row l ending stream s)
 
 -- What the end of a stream keeps, the end of all streams of a link keeps.
 module _ {P : State → List Event → Type 0} (ends : EndsKept P) where
@@ -94,7 +102,8 @@ module _ {scope : Scope} {asker : ℕ} {P : State → List Event → Type 0} (k 
 
   module _ (s : State) (w : List Event) (h : P s w) where
     -- ---- stream end
-    pub ends_telling_kept : (l : ℕ) (ending : Ending) (stream : Stream) → s.streams l ≡ Some stream → EndsSo scope.reaches s.clients l ending stream
+    pub ends_telling_kept : (l : ℕ) (ending : Ending) (stream : Stream) → s.streams l ≡ Some stream
+        → EndsSo scope.reaches s.clients l ending stream
         → After P w (ends_telling l ending stream s)
     ends_telling_kept l ending stream is so =
         let p : Packet = close_packet l stream.part.remote in
@@ -117,15 +126,18 @@ module _ {scope : Scope} {asker : ℕ} {P : State → List Event → Type 0} (k 
     closes_if_kept false l (Some stream) is open_for = after_quietly P w s h
     closes_if_kept true l (Some stream) is open_for = ends_telling_kept s w h l ClientClosed stream is (inr (inr (open_for stream is)))
 
-    noted_kept : (l : ℕ) (stream : Stream) (client : Client) (payloads : List (List ℕ)) → s.streams l ≡ Some stream → s.clients stream.client ≡ Some client
+    noted_kept : (l : ℕ) (stream : Stream) (client : Client) (payloads : List (List ℕ)) → s.streams l ≡ Some stream
+        → s.clients stream.client ≡ Some client
         → HasOne client.about.phase → P (noted l stream client.held payloads s) w
     noted_kept l stream client payloads is here has =
         let flow : Flow = flow_after payloads stream.part.flow in
-        k.holds stream.client client (drop (total payloads) client.held) (to_stream l (with_stream_part (with_flow flow stream.part)) s) w here has
+        k.holds stream.client client (drop (total payloads) client.held)
+        (to_stream l (with_stream_part (with_flow flow stream.part)) s) w here has
         (k.flows l stream flow s w is (like_after payloads stream.part.flow) h)
 
   module _ (s : State) (w : List Event) (h : P s w) where
-    sends_up_kept : (l : ℕ) (stream : Stream) (client : Client) (payloads : List (List ℕ)) → s.streams l ≡ Some stream → s.clients stream.client ≡ Some client
+    sends_up_kept : (l : ℕ) (stream : Stream) (client : Client) (payloads : List (List ℕ)) → s.streams l ≡ Some stream
+        → s.clients stream.client ≡ Some client
         → client.about.phase ≡ Streaming l → After P w (sends_up l stream client payloads s)
     sends_up_kept l stream client payloads is here streaming =
         let now : State = noted l stream client.held payloads s in
@@ -134,14 +146,16 @@ module _ {scope : Scope} {asker : ℕ} {P : State → List Event → Type 0} (k 
         let sent : Made = all_go_up l stream payloads now in
         let over : Bool = is_over client.about.ended (drop (total payloads) client.held) (flow_after payloads stream.part.flow) in
         after_then P w sent (λ s. closes_if over l (s.streams l) s)
-        (go_up_kept now w (noted_kept s w h l stream client payloads is here (subst HasOne (sym streaming) tt)) l stream payloads (ap is_some there))
+        (go_up_kept now w (noted_kept s w h l stream client payloads is here (subst HasOne (sym streaming) tt)) l
+        stream payloads (ap is_some there))
         (λ v kept. closes_if_kept sent.state v kept over l (sent.state.streams l) refl (λ other at_l. open_at other at_l there))
       where
         held : List ℕ
         held = drop (total payloads) client.held
 
         open_at : (other : Stream) → (all_go_up l stream payloads (noted l stream client.held payloads s)).state.streams l ≡ Some other
-            → (noted l stream client.held payloads s).streams l ≡ with_stream_part (with_flow (flow_after payloads stream.part.flow) stream.part) stream
+            → (noted l stream client.held payloads s).streams l
+            ≡ with_stream_part (with_flow (flow_after payloads stream.part.flow) stream.part) stream
             → HasOpen (all_go_up l stream payloads (noted l stream client.held payloads s)).state.clients other.client l
         open_at other at_l there =
             let now : State = noted l stream client.held payloads s in
@@ -173,7 +187,8 @@ module _ {scope : Scope} {asker : ℕ} {P : State → List Event → Type 0} (k 
   up_all_turns s w h zero = after_quietly P w s h
   up_all_turns s w h (suc n) =
       let before : Made = up_all n s in
-      after_then P w before (up (suc n)) (up_all_turns s w h n) (λ v now. up_kept before.state v now (suc n) (before.state.streams (suc n)) refl)
+      after_then P w before (up (suc n)) (up_all_turns s w h n)
+      (λ v now. up_kept before.state v now (suc n) (before.state.streams (suc n)) refl)
 
 -- ---- what a client asks for
 module _ {scope : Scope} {asker : ℕ} {P : State → List Event → Type 0} (k : Turns scope asker P) where
@@ -186,7 +201,8 @@ module _ {scope : Scope} {asker : ℕ} {P : State → List Event → Type 0} (k 
 
   module _ (s : State) (w : List Event) (h : P s w) where
     -- ---- service
-    asks_for_kept : (t : ℕ) (service : List ℕ) → IsClientIn s asker Asking → IsReady t s.devices → After P w (asks_for (s.drawn + 1) asker t service s)
+    asks_for_kept : (t : ℕ) (service : List ℕ) → IsClientIn s asker Asking → IsReady t s.devices
+        → After P w (asks_for (s.drawn + 1) asker t service s)
     asks_for_kept t service x ready =
         let drawn : State = draws_now asker t s in
         let alive : is_some (drawn.streams (s.drawn + 1)) ≡ true = rw (eq-eqb (s.drawn + 1) (s.drawn + 1) refl) refl in

@@ -11,7 +11,8 @@ use Rattle.adb_history.specs.declared.ending.Ending.TheVariants.{ClientClosed}
 use Rattle.adb_history.specs.Links.{maxdata_of, owe_link, close_packet}
 use Rattle.adb_history.specs.Clients.{closes}
 use Rattle.adb_history.specs.Streams.{loses, client_loses, ends_telling}
-use Rattle.adb_history.specs.Flow.{payloads, total, flow_after, with_flow, goes_up, all_go_up, noted, is_over, closes_if, sends_up, is_streaming}
+use Rattle.adb_history.specs.Flow.{payloads, total, flow_after, with_flow, goes_up, all_go_up, noted, is_over, closes_if, sends_up}
+use Rattle.adb_history.specs.Flow.{is_streaming}
 use Rattle.adb_history.specs.Flow.{up_client, up_stream, up}
 use Rattle.adb_history.proofs.Following.{changed_here}
 use Rattle.adb_history.proofs.OwnedStep.{ends_state}
@@ -47,7 +48,8 @@ go_up_frame l stream [] s = refl
 go_up_frame l stream (p ∷ ps) s = go_up_frame l stream ps (goes_up l stream p s).state
 
 -- the end of a stream that its client has open closes the client
-streaming_loses : (l : ℕ) (phase : Phase) (forwarded : Bool) (c : ℕ) (s : State) → is_streaming l phase ≡ true → (loses forwarded phase c s).state ≡ closes c s
+streaming_loses : (l : ℕ) (phase : Phase) (forwarded : Bool) (c : ℕ) (s : State) → is_streaming l phase ≡ true
+    → (loses forwarded phase c s).state ≡ closes c s
 streaming_loses l (Streaming k) true c s e = refl
 streaming_loses l (Streaming k) false c s e = refl
 streaming_loses l _ f c s e = absurd (let clash : false ≡ true = e in cc)
@@ -88,18 +90,22 @@ module _ (Q : State → Type 0) (l : ℕ) (s : State) (q : UpTo Q l s) where
   pub up_to : Q (up l s).state
   up_to = at_stream (s.streams l) refl
     where
-      at_client : (stream : Stream) → s.streams l ≡ Some stream → (o : Option Client) → s.clients stream.client ≡ o → Q (up_client l stream o s).state
+      at_client : (stream : Stream) → s.streams l ≡ Some stream → (o : Option Client) → s.clients stream.client ≡ o
+          → Q (up_client l stream o s).state
       at_client stream there None e = q.stays (λ x.
           let same : stream ≡ x.stream = (let both : Some stream ≡ Some x.stream = sym there ∙ x.there in cc) in
           let clash : None ≡ Some x.client = sym e ∙ (ap (λ (y : Stream). s.clients y.client) same ∙ x.here) in cc)
       at_client stream there (Some client) e = test (is_streaming l client.about.phase) refl
         where
           test : (b : Bool) → is_streaming l client.about.phase ≡ b
-              → Q (cond b (sends_up l stream client (payloads stream.part.flow (maxdata_of stream.link s.devices) client.held) s) (quietly s)).state
+              → Q (cond b (sends_up l stream client
+              (payloads stream.part.flow (maxdata_of stream.link s.devices) client.held) s) (quietly s)).state
           test true is = sends_case (record { stream = stream; client = client; there = there; here = e; streaming = is })
           test false is = q.stays (λ x.
               let same : stream ≡ x.stream = (let both : Some stream ≡ Some x.stream = sym there ∙ x.there in cc) in
-              let row : client ≡ x.client = (let both : Some client ≡ Some x.client = sym e ∙ (ap (λ (y : Stream). s.clients y.client) same ∙ x.here) in cc) in
+              let row : client ≡ x.client =
+              (let both : Some client ≡ Some x.client = sym e
+              ∙ (ap (λ (y : Stream). s.clients y.client) same ∙ x.here) in cc) in
               let clash : false ≡ true = sym is ∙ (ap (λ (y : Client). is_streaming l y.about.phase) row ∙ x.streaming) in cc)
 
       at_stream : (o : Option Stream) → s.streams l ≡ o → Q (up_stream l o s).state

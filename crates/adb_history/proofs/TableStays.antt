@@ -1,5 +1,6 @@
 -- Which rules leave the devices, the links and the stop as they are.
-use Rattle.std.proofs.Common.{ℕ, ◌≡◌, ◌≤◌, Bool, true, false, cond, List, [], ◌++◌, length, drop, Option, Some, None, is_some, refl, sym, ◌∙◌, ap, eqb}
+use Rattle.std.proofs.Common.{ℕ, ◌≡◌, ◌≤◌, Bool, true, false, cond, List, [], ◌++◌, length, drop, Option, Some, None, is_some, refl, sym}
+use Rattle.std.proofs.Common.{◌∙◌, ap, eqb}
 use Rattle.std.specs.Prelude.{option_and_then}
 use Rattle.adb_outside.specs.Tables.{at, without}
 use Rattle.adb_registry.specs.Registry.{DeviceTable}
@@ -16,7 +17,8 @@ use Rattle.adb_history.specs.Clients.{owe_client, closes, closes_with}
 use Rattle.adb_history.specs.Streams.{opens}
 use Rattle.adb_history.specs.Forwarding.{Binding as Bound, bound_by, put_forward}
 use Rattle.adb_history.specs.Asking.{Asked, asks_with}
-use Rattle.adb_history.specs.Reading.{comes, comes_in_vain, enters_by, tracks, awaits, goes_on, asked_before, has_asked, asks, reads_in, bound_to}
+use Rattle.adb_history.specs.Reading.{comes, comes_in_vain, enters_by, tracks, awaits, goes_on, asked_before, has_asked, asks, reads_in}
+use Rattle.adb_history.specs.Reading.{bound_to}
 use Rattle.adb_history.specs.Reading.{bound_for, bound_in, bound_at}
 use Rattle.adb_history.specs.Handing.{lists_first, hands, client_left, takes_of, puts_to, link_hands, sends}
 use Rattle.adb_history.specs.Book.{kills}
@@ -52,7 +54,8 @@ tables_then s next m h i = record {
 }
 
 -- a state with the same tables
-pub tables_same : (s next : State) → next.devices ≡ s.devices → next.stopped ≡ s.stopped → next.links ≡ s.links → StaysTables s (quietly next)
+pub tables_same : (s next : State) → next.devices ≡ s.devices → next.stopped ≡ s.stopped → next.links ≡ s.links
+    → StaysTables s (quietly next)
 tables_same s next devices stopped links =
     record { devices = devices; stopped = stopped; linked = λ t. ap (λ (l : ℕ → Option Link). is_some (l t)) links }
 
@@ -77,7 +80,8 @@ module _ (came plugged c : ℕ) where
       tables_keep came plugged s (opens false c transport service s) (keeps_opens came plugged false c transport service s le within)
   goes_on_tables (Some (what.Bind transport local remote chosen)) s le within =
       tables_same s (to_client c (awaits (record { transport = transport; local = local; remote = remote })) s) refl refl refl
-  goes_on_tables (Some (what.Rebind transport local remote)) s le within = forward_tables (put_forward local transport remote s.devices s.forwards) s
+  goes_on_tables (Some (what.Rebind transport local remote)) s le within =
+      forward_tables (put_forward local transport remote s.devices s.forwards) s
   goes_on_tables (Some (what.Unbind local)) s le within = forward_tables (without local s.forwards) s
   goes_on_tables (Some what.UnbindAll) s le within = forward_tables [] s
   goes_on_tables (Some what.Stop) s le within =
@@ -86,7 +90,14 @@ module _ (came plugged c : ℕ) where
   asks_after : (stop : Bool) (s next : State) (m : Made) → StaysTables s (quietly next) → AskTables stop next m → AskTables stop s m
   asks_after false s next m h i = tables_then s next m h i
   asks_after true s next m h i =
-      record { rows = i.rows; drawn = i.drawn ∙ ap (λ (d : DeviceTable). d.drawn) h.devices; links = i.links; forwards = i.forwards; stopped = i.stopped }
+      record {
+        rows = i.rows;
+        drawn = i.drawn ∙ ap (λ (d : DeviceTable). d.drawn) h.devices;
+        links =
+            i.links;
+        forwards = i.forwards;
+        stopped = i.stopped;
+      }
 
   only_state : (stop : Bool) (s : State) (m n : Made) → m.state ≡ n.state → AskTables stop s m → AskTables stop s n
   only_state false s m n e h = record {
@@ -172,7 +183,8 @@ sends_tables t n s = record { devices = refl; stopped = refl; linked = λ k. the
     there true (Some link) = refl
     there false o = refl
 
-pub enters_tables : (came plugged c : ℕ) (o : Option ForwardRow) (s : State) → c ≤ came → HasRowsWithin plugged s.devices → StaysTables s (enters_by c o s)
+pub enters_tables : (came plugged c : ℕ) (o : Option ForwardRow) (s : State) → c ≤ came
+    → HasRowsWithin plugged s.devices → StaysTables s (enters_by c o s)
 enters_tables came plugged c None s le within = tables_same s (comes_in_vain s) refl refl refl
 enters_tables came plugged c (Some row) s le within = go (is_connected row.transport s.devices) refl
   where

@@ -1,5 +1,6 @@
 -- A client that asks keeps no whole request unread.
-use Rattle.std.proofs.Common.{◌≡◌, ℕ, ◌+◌, ◌≤◌, zero, suc, Bool, true, false, cond, List, [], ◌∷◌, ◌++◌, length, take, drop, Option, Some, None, refl}
+use Rattle.std.proofs.Common.{◌≡◌, ℕ, ◌+◌, ◌≤◌, zero, suc, Bool, true, false, cond, List, [], ◌∷◌, ◌++◌, length, take, drop, Option, Some}
+use Rattle.std.proofs.Common.{None, refl}
 use Rattle.std.proofs.Common.{sym, ap, subst, ◌∙◌, arith, ◌⊎◌, inl, inr, eqb, length-drop}
 use Rattle.std.specs.Prelude.{option_and_then, option_map, codes}
 use Rattle.std.proofs.lemmas.Bool.{eqb-true, eq-eqb, cases_eq}
@@ -48,13 +49,16 @@ pub record UnreadBut (e : ℕ → Type 0) (clients : Rows (Option Client)) : Typ
 
 -- a change by which none comes to ask, and what one that asks holds stays
 abbrev Calm : Rows (Option Client) → ℕ → (Client → Option Client) → Type 0
-Calm clients c f = (x y : Client) → clients c ≡ Some x → f x ≡ Some y → y.about.phase ≡ Asking → (x.about.phase ≡ Asking) × (y.held ≡ x.held)
+Calm clients c f = (x y : Client) → clients c ≡ Some x → f x ≡ Some y → y.about.phase ≡ Asking
+    → (x.about.phase ≡ Asking) × (y.held ≡ x.held)
 
-unread_change : (e : ℕ → Type 0) (c : ℕ) (f : Client → Option Client) (clients : Rows (Option Client)) → Calm clients c f → UnreadBut e clients
+unread_change : (e : ℕ → Type 0) (c : ℕ) (f : Client → Option Client) (clients : Rows (Option Client))
+    → Calm clients c f → UnreadBut e clients
     → UnreadBut e (change_row c (option_and_then f) clients)
 unread_change e c f clients calm h = record { more = λ k y apart is asks. go k y apart (eqb c k) refl (clients k) refl is asks }
   where
-    go : (k : ℕ) (y : Client) → (e k → ⊥) → (b : Bool) → eqb c k ≡ b → (o : Option Client) → clients k ≡ o → cond b (option_and_then f o) o ≡ Some y
+    go : (k : ℕ) (y : Client) → (e k → ⊥) → (b : Bool) → eqb c k ≡ b → (o : Option Client) → clients k ≡ o
+        → cond b (option_and_then f o) o ≡ Some y
         → y.about.phase ≡ Asking → request_at y.held ≡ More
     go k y apart false same o is now asks = h.more k y apart (is ∙ now) asks
     go k y apart true same None is now asks = absurd (let clash : None ≡ Some y = now in cc)
@@ -81,7 +85,8 @@ calm_same x y z e same asks =
     (sym same.0 ∙ (ap (λ (k : Client). k.about.phase) row ∙ asks), ap (λ (k : Client). k.held) (sym row) ∙ same.1)
 
 -- a change to a phase that does not ask
-calm_other : (x y z : Client) → Some z ≡ Some y → (z.about.phase ≡ Asking → ⊥) → y.about.phase ≡ Asking → (x.about.phase ≡ Asking) × (y.held ≡ x.held)
+calm_other : (x y z : Client) → Some z ≡ Some y → (z.about.phase ≡ Asking → ⊥) → y.about.phase ≡ Asking
+    → (x.about.phase ≡ Asking) × (y.held ≡ x.held)
 calm_other x y z e not_asks asks = let row : z ≡ y = cc in absurd (not_asks (ap (λ (k : Client). k.about.phase) row ∙ asks))
 
 calm_due : (clients : Rows (Option Client)) (c : ℕ) (bytes : List ℕ) → Calm clients c (with_due bytes)
@@ -90,7 +95,8 @@ calm_due clients c bytes x y is e asks = calm_same x y (record x { due = x.due +
 calm_none : (clients : Rows (Option Client)) (c : ℕ) → Calm clients c none_kept
 calm_none clients c x y is e asks = absurd (let clash : None ≡ Some y = e in cc)
 
-calm_held : (clients : Rows (Option Client)) (c : ℕ) (bytes : List ℕ) (client : Client) → clients c ≡ Some client → HasOne client.about.phase
+calm_held : (clients : Rows (Option Client)) (c : ℕ) (bytes : List ℕ) (client : Client) → clients c ≡ Some client
+    → HasOne client.about.phase
     → Calm clients c (with_held bytes)
 calm_held clients c bytes client here has x y is e asks =
     let same : client ≡ x = (let both : Some client ≡ Some x = sym here ∙ is in cc) in
@@ -122,7 +128,8 @@ calm_hands clients c n x y is e asks = go x.about.phase refl e
     go Closing f g = absurd (closing_asks (drop n x.due) less y g asks)
     go _ f g = calm_same x y less g (refl, refl) asks
 
-unread_closes : (e : ℕ → Type 0) (c : ℕ) (clients : Rows (Option Client)) → UnreadBut e clients → UnreadBut e (change_row c (option_and_then closing) clients)
+unread_closes : (e : ℕ → Type 0) (c : ℕ) (clients : Rows (Option Client)) → UnreadBut e clients
+    → UnreadBut e (change_row c (option_and_then closing) clients)
 unread_closes e c clients h = unread_change e c closing clients (calm_closing clients c) h
 
 unread_due : (e : ℕ → Type 0) (c : ℕ) (bytes : List ℕ) (clients : Rows (Option Client)) → UnreadBut e clients
@@ -134,11 +141,13 @@ loses_unread : (e : ℕ → Type 0) (forwarded : Bool) (phase : Phase) (c : ℕ)
 loses_unread e forwarded (Streaming l) c s h = unread_closes e c s.clients h
 loses_unread e true (Opening l) c s h = unread_closes e c s.clients h
 loses_unread e false (Opening l) c s h =
-    unread_closes e c (to_client c (with_due (failed (codes "closed")).bytes) s).clients (unread_due e c (failed (codes "closed")).bytes s.clients h)
+    unread_closes e c (to_client c (with_due (failed (codes "closed")).bytes) s).clients
+    (unread_due e c (failed (codes "closed")).bytes s.clients h)
 loses_unread e true _ c s h = h
 loses_unread e false _ c s h = h
 
-client_loses_unread : (e : ℕ → Type 0) (o : Option Client) (c : ℕ) (s : State) → UnreadBut e s.clients → UnreadBut e (client_loses o c s).state.clients
+client_loses_unread : (e : ℕ → Type 0) (o : Option Client) (c : ℕ) (s : State) → UnreadBut e s.clients
+    → UnreadBut e (client_loses o c s).state.clients
 client_loses_unread e None c s h = h
 client_loses_unread e (Some client) c s h = loses_unread e client.about.forwarded client.about.phase c s h
 
@@ -162,7 +171,8 @@ marks_unread e clients h = record { more = λ k y apart is asks. go k y apart (c
         let was = calm_same x y (marked x) f (one x.about.phase x) asks in
         ap request_at was.1 ∙ h.more k x apart is was.0
 
-all_end_unread : (e : ℕ → Type 0) (t : ℕ) (ending : Ending) (s : State) → UnreadBut e s.clients → UnreadBut e (all_end t ending s).state.clients
+all_end_unread : (e : ℕ → Type 0) (t : ℕ) (ending : Ending) (s : State) → UnreadBut e s.clients
+    → UnreadBut e (all_end t ending s).state.clients
 all_end_unread e t ending s h =
     all_end_kept {P = λ s w. UnreadBut e s.clients} (λ l ending stream s w is now. ends_unread e l ending stream s now) t ending s [] h
 
@@ -173,7 +183,8 @@ first_unread e false t s h = h
 only_unread : (e : ℕ → Type 0) (c : ℕ) (clients : Rows (Option Client)) → UnreadBut e clients → UnreadBut e (only_client c clients)
 only_unread e c clients h = record { more = λ k y apart is asks. go k y apart (eqb c k) is asks }
   where
-    go : (k : ℕ) (y : Client) → (e k → ⊥) → (b : Bool) → cond b (clients k) None ≡ Some y → y.about.phase ≡ Asking → request_at y.held ≡ More
+    go : (k : ℕ) (y : Client) → (e k → ⊥) → (b : Bool) → cond b (clients k) None ≡ Some y → y.about.phase ≡ Asking
+        → request_at y.held ≡ More
     go k y apart true is asks = h.more k y apart is asks
     go k y apart false is asks = absurd (let clash : None ≡ Some y = is in cc)
 
@@ -184,9 +195,13 @@ unread_moves e = record {
   due = λ c bytes s w h. unread_due e c bytes s.clients h;
   closes = λ c x s w is free h. unread_closes e c s.clients h;
   tracks = λ c x long s w is asking h. unread_change e c (tracks long) s.clients
-      (λ x y is f asks. calm_other x y (record x { about = record x.about { phase = Tracking; long = long; mark = false }; held = [] }) f no_tracking asks) h;
+      (λ x y is f asks. calm_other x y
+      (record x { about = record x.about { phase = Tracking; long = long; mark = false }; held = [] }) f
+      no_tracking asks) h;
   awaits = λ c x want s w is asking h. unread_change e c (awaits want) s.clients
-      (λ x y is f asks. calm_other x y (record x { about = record x.about { phase = Binding; want = Some want }; held = [] }) f no_binding asks) h;
+      (λ x y is f asks. calm_other x y
+      (record x { about = record x.about { phase = Binding; want = Some want }; held = [] }) f no_binding asks)
+      h;
   drops = λ c x s w is none h. unread_change e c none_kept s.clients (calm_none s.clients c) h;
   holds = λ c x bytes s w is has h. unread_change e c (with_held bytes) s.clients (calm_held s.clients c bytes x is has) h;
   unmarks = λ c s w h. unread_change e c unmarked s.clients
@@ -199,7 +214,8 @@ unread_moves e = record {
   flows = λ l stream flow s w is like h. h;
   accepts = λ l payload stream s w is known turn h. unread_due e stream.client payload s.clients h;
   opens = λ l remote word stream s w is new h.
-      unread_change e stream.client (in_phase (Streaming l)) s.clients (calm_phase s.clients stream.client (Streaming l) (no_streaming l)) h;
+      unread_change e stream.client (in_phase (Streaming l)) s.clients
+      (calm_phase s.clients stream.client (Streaming l) (no_streaming l)) h;
   orphan_goes = λ l stream s w is orphan h. h;
   ends = λ l ending stream s w is h. ends_unread e l ending stream s h;
   fails_open = λ c l failing s w at h. unread_change e c none_kept s.clients (calm_none s.clients c) h;
@@ -223,7 +239,8 @@ module _ (devices : DeviceTable) (forwards : List (ℕ × ForwardRow)) where
   Finishes others n = (q : Asked) → length q.rest ≤ n → q.next ≡ None → (others q).next ≡ None → request_at (others q).rest ≡ More
 
   module _ (reply : List ℕ) (size n : ℕ) (others : Asked → Asked) (later : Finishes others n) where
-    next_finished : (next : Next) (q : Asked) → (length (drop size q.rest) ≤ n) × (q.next ≡ None) → (after_next next reply size others q).next ≡ None
+    next_finished : (next : Next) (q : Asked) → (length (drop size q.rest) ≤ n) × (q.next ≡ None)
+        → (after_next next reply size others q).next ≡ None
         → request_at (after_next next reply size others q).rest ≡ More
     next_finished (Select id) q h e = later (record (replied reply size q) { selected = Some id }) h.0 h.1 e
     next_finished Close q h e = absurd (let clash : Some Close ≡ None = e in cc)
@@ -264,7 +281,8 @@ module _ (c : ℕ) (clients : Rows (Option Client)) (x : Client) (is : clients c
   closes_not : NotAsking c (change_row c (option_and_then closing) clients)
   closes_not y e asks = closing_asks x.due x y (sym (changed_here c closing clients x is) ∙ e) asks
 
-  other_not : (f : Client → Option Client) (z : Client) → f x ≡ Some z → (z.about.phase ≡ Asking → ⊥) → NotAsking c (change_row c (option_and_then f) clients)
+  other_not : (f : Client → Option Client) (z : Client) → f x ≡ Some z → (z.about.phase ≡ Asking → ⊥)
+      → NotAsking c (change_row c (option_and_then f) clients)
   other_not f z now other y e asks =
       let same : z ≡ y = (let both : Some z ≡ Some y = sym now ∙ (sym (changed_here c f clients x is) ∙ e) in cc) in
       other (ap (λ (k : Client). k.about.phase) same ∙ asks)
@@ -277,17 +295,22 @@ module _ (c : ℕ) (s : State) (x : Client) (is : s.clients c ≡ Some x) where
       go true = closes_not c (to_client c (with_due (failed (codes "no stream ids left")).bytes) s).clients
           (record x { due = x.due ++ (failed (codes "no stream ids left")).bytes })
           (changed_here c (with_due (failed (codes "no stream ids left")).bytes) s.clients x is)
-      go false = other_not c s.clients x is (in_phase (Opening (s.drawn + 1))) (record x { about = record x.about { phase = Opening (s.drawn + 1) } }) refl
+      go false = other_not c s.clients x is (in_phase (Opening (s.drawn + 1)))
+          (record x { about = record x.about { phase = Opening (s.drawn + 1) } }) refl
           (no_opening (s.drawn + 1))
 
-  goes_on_not : (devices : DeviceTable) (next : Next) → IsAskedReady devices (Some next) → NotAsking c (goes_on (Some next) c s).state.clients
+  goes_on_not : (devices : DeviceTable) (next : Next) → IsAskedReady devices (Some next)
+      → NotAsking c (goes_on (Some next) c s).state.clients
   goes_on_not devices (Select id) ready = absurd ready
   goes_on_not devices (Track long) ready =
-      other_not c s.clients x is (tracks long) (record x { about = record x.about { phase = Tracking; long = long; mark = false }; held = [] }) refl no_tracking
+      other_not c s.clients x is (tracks long)
+      (record x { about = record x.about { phase = Tracking; long = long; mark = false }; held = [] }) refl
+      no_tracking
   goes_on_not devices (Open t service) ready = opens_not t service
   goes_on_not devices (Bind t local remote chosen) ready =
       let want : Want = record { transport = t; local = local; remote = remote } in
-      other_not c s.clients x is (awaits want) (record x { about = record x.about { phase = Binding; want = Some want }; held = [] }) refl no_binding
+      other_not c s.clients x is (awaits want)
+      (record x { about = record x.about { phase = Binding; want = Some want }; held = [] }) refl no_binding
   goes_on_not devices Stop ready = closes_not c (only_client c s.clients) x (rw (eq-eqb c c refl) is)
   goes_on_not devices _ ready = closes_not c s.clients x is
 
@@ -309,7 +332,8 @@ asks_unread q c client s is asked h = record { more = λ k y apart e asks. all k
         let taken : Client = record client { about = record client.about { selected = q.selected }; held = q.rest } in
         changed_here c (with_due q.replies) (to_client c (has_asked q) s).clients taken (changed_here c (has_asked q) s.clients client is.0)
 
-    other : (k : ℕ) (y : Client) → (c ≡ k → ⊥) → (b : Bool) → eqb c k ≡ b → cond b (option_and_then (has_asked q) (s.clients k)) (s.clients k) ≡ Some y
+    other : (k : ℕ) (y : Client) → (c ≡ k → ⊥) → (b : Bool) → eqb c k ≡ b
+        → cond b (option_and_then (has_asked q) (s.clients k)) (s.clients k) ≡ Some y
         → y.about.phase ≡ Asking → request_at y.held ≡ More
     other k y apart true f e asks = absurd (apart (eqb-true c k f))
     other k y apart false f e asks = h.more k y (λ b. b) e asks
@@ -319,7 +343,8 @@ asks_unread q c client s is asked h = record { more = λ k y apart e asks. all k
 
     others : UnreadBut (λ k. c ≡ k) (goes_on q.next c (to_client c (with_due q.replies) (to_client c (has_asked q) s))).state.clients
     others = goes_on_kept (unread_moves (λ k. c ≡ k)) (to_client c (with_due q.replies) (to_client c (has_asked q) s)) []
-        (unread_due (λ k. c ≡ k) c q.replies (to_client c (has_asked q) s).clients but) q.next c (record { client = now; here = here; in_phase = is.1 }) asked.0
+        (unread_due (λ k. c ≡ k) c q.replies (to_client c (has_asked q) s).clients but) q.next c
+        (record { client = now; here = here; in_phase = is.1 }) asked.0
 
     at_c : (o : Option Next) → q.next ≡ o → (y : Client)
         → (goes_on o c (to_client c (with_due q.replies) (to_client c (has_asked q) s))).state.clients c ≡ Some y
@@ -331,20 +356,27 @@ asks_unread q c client s is asked h = record { more = λ k y apart e asks. all k
         absurd (goes_on_not c (to_client c (with_due q.replies) (to_client c (has_asked q) s)) now here s.devices next
         (subst (IsAskedReady s.devices) f asked.0) y e asks)
 
-    all : (k : ℕ) (y : Client) → (goes_on q.next c (to_client c (with_due q.replies) (to_client c (has_asked q) s))).state.clients k ≡ Some y
+    all : (k : ℕ) (y : Client)
+        → (goes_on q.next c (to_client c (with_due q.replies) (to_client c (has_asked q) s))).state.clients k ≡ Some y
         → y.about.phase ≡ Asking → (c ≡ k) ⊎ (c ≡ k → ⊥) → request_at y.held ≡ More
     all k y e asks (inr apart) = others.more k y apart e asks
     all k y e asks (inl same) =
-        at_c q.next refl y (ap (goes_on q.next c (to_client c (with_due q.replies) (to_client c (has_asked q) s))).state.clients same ∙ e) asks
+        at_c q.next refl y
+        (ap (goes_on q.next c (to_client c (with_due q.replies) (to_client c (has_asked q) s))).state.clients same
+        ∙ e) asks
 
-reads_unread : (c : ℕ) (bytes : List ℕ) (s : State) → UnreadBut (λ _. ⊥) s.clients → UnreadBut (λ _. ⊥) (rule (Read c bytes) s).state.clients
+reads_unread : (c : ℕ) (bytes : List ℕ) (s : State) → UnreadBut (λ _. ⊥) s.clients
+    → UnreadBut (λ _. ⊥) (rule (Read c bytes) s).state.clients
 reads_unread c bytes s h = go (s.clients c) refl
   where
     in_phase_of : (client : Client) → s.clients c ≡ Some client → (phase : Phase) → client.about.phase ≡ phase
         → UnreadBut (λ _. ⊥) (reads_in phase c bytes client s).state.clients
     in_phase_of client is Asking asking =
-        asks_unread (asks_with s.devices s.forwards bytes (asked_before client)) c client s (is, asking)
-        (asks_ready s.devices s.forwards bytes (asked_before client) tt, asks_finished s.devices s.forwards bytes (asked_before client) refl) h
+        asks_unread (asks_with s.devices s.forwards bytes (asked_before client)) c client s (is, asking) (
+          asks_ready s.devices s.forwards bytes (asked_before client) tt,
+          asks_finished s.devices s.forwards bytes
+              (asked_before client) refl,
+        ) h
     in_phase_of client is (Opening l) e = unread_change (λ _. ⊥) c (with_held (client.held ++ bytes)) s.clients
         (calm_held s.clients c (client.held ++ bytes) client is (subst HasOne (sym e) tt)) h
     in_phase_of client is (Streaming l) e = unread_change (λ _. ⊥) c (with_held (client.held ++ bytes)) s.clients
@@ -359,7 +391,8 @@ reads_unread c bytes s h = go (s.clients c) refl
 comes_unread : (forwarded : Bool) (c : ℕ) (s : State) → UnreadBut (λ _. ⊥) s.clients → UnreadBut (λ _. ⊥) (comes forwarded c s).clients
 comes_unread forwarded c s h = record { more = λ k y apart is asks. go k y (eqb c k) is asks }
   where
-    go : (k : ℕ) (y : Client) (b : Bool) → cond b (Some (new_client forwarded c)) (s.clients k) ≡ Some y → y.about.phase ≡ Asking → request_at y.held ≡ More
+    go : (k : ℕ) (y : Client) (b : Bool) → cond b (Some (new_client forwarded c)) (s.clients k) ≡ Some y
+        → y.about.phase ≡ Asking → request_at y.held ≡ More
     go k y true is asks = let same : new_client forwarded c ≡ y = cc in ap (λ (x : Client). request_at x.held) (sym same)
     go k y false is asks = h.more k y (λ b. b) is asks
 

@@ -1,5 +1,6 @@
 -- What serving leaves of clients that wait, which ask or wait for a listener: a stream has none of them.
-use Rattle.std.proofs.Common.{ℕ, ◌≡◌, Bool, true, false, cond, List, [], ◌∷◌, drop, length, Option, Some, None, refl, sym, ◌∙◌, ap, subst, eqb, ◌⊎◌, inl, inr}
+use Rattle.std.proofs.Common.{ℕ, ◌≡◌, Bool, true, false, cond, List, [], ◌∷◌, drop, length, Option, Some, None, refl, sym, ◌∙◌, ap, subst}
+use Rattle.std.proofs.Common.{eqb, ◌⊎◌, inl, inr}
 use Rattle.std.specs.Prelude.{codes, option_map, option_and_then}
 use Rattle.std.proofs.lemmas.Bool.{eqb-true}
 use Rattle.adb_stream.specs.declared.row.Stream.{Stream}
@@ -94,7 +95,8 @@ pub record Leaves (s : State) (m : Made) : Type 0 where
 
 pub leaves_all : (s : State) (m : Made) → m.state.clients ≡ s.clients → m.state.streams ≡ s.streams → Leaves s m
 leaves_all s m clients streams = record {
-  clients = λ c. subst (λ (o : Option Client). WaitStep (s.clients c) o) (sym (ap (λ (rows : ℕ → Option Client). rows c) clients)) (wait_same (s.clients c));
+  clients = λ c. subst (λ (o : Option Client). WaitStep (s.clients c) o)
+      (sym (ap (λ (rows : ℕ → Option Client). rows c) clients)) (wait_same (s.clients c));
   streams = λ l. subst (λ (o : Option Stream). StreamStep (s.streams l) o) (sym (ap (λ (rows : ℕ → Option Stream). rows l) streams))
       (stream_same (s.streams l));
 }
@@ -151,7 +153,8 @@ leaves_to_client c f s at = record { clients = λ k. go k (eqb c k) refl (s.clie
     go k true e (Some a) is = at a (ap s.clients (eqb-true c k e) ∙ is)
     go k false e o is = wait_same o
 
-leaves_to_stream : (l : ℕ) (f : Stream → Option Stream) (s : State) → ((a : Stream) → StreamStep (Some a) (f a)) → Leaves s (quietly (to_stream l f s))
+leaves_to_stream : (l : ℕ) (f : Stream → Option Stream) (s : State) → ((a : Stream) → StreamStep (Some a) (f a))
+    → Leaves s (quietly (to_stream l f s))
 leaves_to_stream l f s at = record { clients = λ c. wait_same (s.clients c); streams = λ k. go (eqb l k) (s.streams k) }
   where
     go : (here : Bool) (o : Option Stream) → StreamStep o (cond here (option_and_then f o) o)
@@ -183,7 +186,8 @@ module _ (s0 : State) (free : AreFree s0) where
   abbrev L : State → List Event → Type 0
   L s w = Leaves s0 (quietly s)
 
-  client_steps : (c : ℕ) (f : Client → Option Client) (s : State) → Leaves s0 (quietly s) → ((a : Client) → s.clients c ≡ Some a → WaitStep (Some a) (f a))
+  client_steps : (c : ℕ) (f : Client → Option Client) (s : State) → Leaves s0 (quietly s)
+      → ((a : Client) → s.clients c ≡ Some a → WaitStep (Some a) (f a))
       → Leaves s0 (quietly (to_client c f s))
   client_steps c f s h at = leaves_over s0 s (quietly (to_client c f s)) h (leaves_to_client c f s at)
 
@@ -194,7 +198,8 @@ module _ (s0 : State) (free : AreFree s0) where
   closing_steps : (c : ℕ) (s : State) → NoneWaits (s.clients c) → Leaves s0 (quietly s) → Leaves s0 (quietly (to_client c closing s))
   closing_steps c s none h = client_steps c closing s h (λ a e. wait_closing a.due a (none a e))
 
-  loses_left : (forwarded : Bool) (phase : Phase) (c : ℕ) (s : State) → (is_waiting phase ≡ false → NoneWaits (s.clients c)) → Leaves s0 (quietly s)
+  loses_left : (forwarded : Bool) (phase : Phase) (c : ℕ) (s : State)
+      → (is_waiting phase ≡ false → NoneWaits (s.clients c)) → Leaves s0 (quietly s)
       → Leaves s0 (quietly (loses forwarded phase c s).state)
   loses_left forwarded (Streaming l) c s none h = closing_steps c s (none refl) h
   loses_left true (Opening l) c s none h = closing_steps c s (none refl) h
@@ -202,10 +207,12 @@ module _ (s0 : State) (free : AreFree s0) where
       let bytes : List ℕ = (failed (codes "closed")).bytes in
       let told : State = to_client c (with_due bytes) s in
       let owed : Leaves s (quietly told) = leaves_to_client c (with_due bytes) s (λ a e. inr refl) in
-      closing_steps c told (none_waits_after (s.clients c) (told.clients c) (owed.clients c) (none refl)) (leaves_over s0 s (quietly told) h owed)
+      closing_steps c told (none_waits_after (s.clients c) (told.clients c) (owed.clients c) (none refl))
+      (leaves_over s0 s (quietly told) h owed)
   loses_left forwarded _ c s none h = h
 
-  client_loses_left : (o : Option Client) (c : ℕ) (s : State) → s.clients c ≡ o → Leaves s0 (quietly s) → Leaves s0 (quietly (client_loses o c s).state)
+  client_loses_left : (o : Option Client) (c : ℕ) (s : State) → s.clients c ≡ o → Leaves s0 (quietly s)
+      → Leaves s0 (quietly (client_loses o c s).state)
   client_loses_left None c s is h = h
   client_loses_left (Some client) c s is h = loses_left client.about.forwarded client.about.phase c s
       (λ none a e. let same : client ≡ a = let both : Some client ≡ Some a = sym is ∙ e in cc in
@@ -235,11 +242,13 @@ module _ (s0 : State) (free : AreFree s0) where
     flows = λ l stream flow s w is like h. stream_steps l (with_stream_part (with_flow flow stream.part)) s h (λ a. refl);
     accepts = λ l payload stream s w is known turn h.
         let part = with_flow (accepted (length payload) stream.part.flow) stream.part in
-        client_steps stream.client (with_due payload) (to_stream l (with_stream_part part) s) (stream_steps l (with_stream_part part) s h (λ a. refl))
+        client_steps stream.client (with_due payload) (to_stream l (with_stream_part part) s)
+        (stream_steps l (with_stream_part part) s h (λ a. refl))
         (λ a e. inr refl);
     opens = λ l remote word stream s w is new h.
         let part = with_remote remote (with_flow (first_credit word stream.part.flow) stream.part) in
-        client_steps stream.client (in_phase (Streaming l)) (to_stream l (with_stream_part part) s) (stream_steps l (with_stream_part part) s h (λ a. refl))
+        client_steps stream.client (in_phase (Streaming l)) (to_stream l (with_stream_part part) s)
+        (stream_steps l (with_stream_part part) s h (λ a. refl))
         (λ a e. inl (free_after s0 (quietly s) h free l stream is a e, refl));
     orphan_goes = λ l stream s w is orphan h. stream_steps l none_kept s h (λ a. tt);
     ends = ends_left;
@@ -247,7 +256,8 @@ module _ (s0 : State) (free : AreFree s0) where
     link_ends = λ t ending s w h.
         let gone : Made = all_end t ending (forgets t s) in
         leaves_over s0 gone.state (quietly (mark_all gone.state))
-        (all_end_kept ends_left t ending (forgets t s) w (record { clients = h.clients; streams = h.streams })) (leaves_mark_all gone.state);
+        (all_end_kept ends_left t ending (forgets t s) w (record { clients = h.clients; streams = h.streams }))
+        (leaves_mark_all gone.state);
     online = λ t version maxdata identity s w h.
         let first : State = (streams_end_first (is_connected t s.devices) t s).state in
         let all = leaves_over s0 first (quietly (mark_all first)) (first_left (is_connected t s.devices) t s w h) (leaves_mark_all first) in

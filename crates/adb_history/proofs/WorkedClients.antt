@@ -43,7 +43,8 @@ unknown_serial_refused = refl
 
 -- any of two devices is refused, and a serial with colons finds its own
 any_of_two_refused :
-    drained (plugs (pixel 4096) ++ Attach 2 Local (codes "127.0.0.1:5555") ∷ Recv 2 (sends (pixel 4096 ∷ [])) ∷ asks 1 (codes "0012host:transport-any"))
+    drained (plugs (pixel 4096) ++ Attach 2 Local (codes "127.0.0.1:5555") ∷ Recv 2 (sends (pixel 4096 ∷ []))
+    ∷ asks 1 (codes "0012host:transport-any"))
     ≡ plugged (pixel 4096) ++ Attach 2 Local (codes "127.0.0.1:5555") ∷ Send 2 hello ∷ Recv 2 (sends (pixel 4096 ∷ []))
     ∷ asks 1 (codes "0012host:transport-any") ++ Put 1 (codes "FAIL001dmore than one device/emulator") ∷ []
 unfolding meaning word_at identity_of last_value
@@ -67,7 +68,8 @@ long_list_line = refl
 
 -- clients 1 and 2 are gone without a reply, client 3 still asks, and client 4 is told
 malformed_requests_close :
-    drained (asks 1 (codes "zzzz") ++ asks 2 (codes "0000") ++ asks 3 (codes "00") ++ asks 4 (codes "0009host:nope") ++ Read 1 (codes "000Chost:version") ∷ [])
+    drained (asks 1 (codes "zzzz") ++ asks 2 (codes "0000") ++ asks 3 (codes "00") ++ asks 4 (codes "0009host:nope")
+    ++ Read 1 (codes "000Chost:version") ∷ [])
     ≡ asks 1 (codes "zzzz") ++ asks 2 (codes "0000") ++ asks 3 (codes "00") ++ asks 4 (codes "0009host:nope")
     ++ Put 4 (codes "FAIL0014unknown host service") ∷ Read 1 (codes "000Chost:version") ∷ []
 unfolding meaning
@@ -83,7 +85,8 @@ abbrev login : Packet
 login = record { command = Auth; arg0 = 1; arg1 = 0; payload = take 20 (codes "aaaaaaaaaaaaaaaaaaaaaaaa") }
 
 unauthorized_device :
-    drained (Attach 1 Usb (codes "emu1") ∷ Recv 1 (sends (login ∷ [])) ∷ asks 1 (codes "000chost:devices") ++ asks 2 (codes "0012host:transport-any"))
+    drained (Attach 1 Usb (codes "emu1") ∷ Recv 1 (sends (login ∷ [])) ∷ asks 1 (codes "000chost:devices")
+    ++ asks 2 (codes "0012host:transport-any"))
     ≡ Attach 1 Usb (codes "emu1") ∷ Send 1 hello ∷ Recv 1 (sends (login ∷ [])) ∷ asks 1 (codes "000chost:devices")
     ++ Put 1 (codes "OKAY0012emu1" ++ 9 ∷ codes "unauthorized" ++ 10 ∷ []) ∷ asks 2 (codes "0012host:transport-any")
     ++ Put 2 (codes "FAIL0013device unauthorized") ∷ []
@@ -104,7 +107,8 @@ device_open_refused = refl
 abbrev wrong_magic : List ℕ
 wrong_magic = take 20 (spelling (close_packet 7 1) 0) ++ 189 ∷ 179 ∷ 172 ∷ 186 ∷ []
 
-broken_link_leaves_list : drained (plugs (pixel 4096) ++ asks 1 (codes "0012host:track-devices") ++ Recv 1 wrong_magic ∷ Recv 1 (codes "more") ∷ [])
+broken_link_leaves_list : drained
+    (plugs (pixel 4096) ++ asks 1 (codes "0012host:track-devices") ++ Recv 1 wrong_magic ∷ Recv 1 (codes "more") ∷ [])
     ≡ plugged (pixel 4096) ++ asks 1 (codes "0012host:track-devices") ++ Put 1 (codes "OKAY000cemu1" ++ 9 ∷ codes "device" ++ 10 ∷ [])
     ∷ Recv 1 wrong_magic ∷ Put 1 (codes "0000") ∷ Recv 1 (codes "more") ∷ []
 unfolding meaning word_at identity_of last_value

@@ -12,7 +12,8 @@ use Rattle.adb_capture.specs.declared.entry.Entry.{Entry}
 use Rattle.adb_capture.specs.declared.entry.Entry.TheVariants.{Read, End, Attach, Recv, Detach, Put, Send}
 use Rattle.adb_history.specs.Links.{open_packet, okay_packet, credit_packet, write_packet, close_packet}
 use Rattle.adb_history.specs.Drained.{drained}
-use Rattle.adb_history.specs.Examples.{sends, hears, connect, pixel, hello, plugs, plugged, asks, shell_requests, opens_shell, shell_comes, shell_open}
+use Rattle.adb_history.specs.Examples.{sends, hears, connect, pixel, hello, plugs, plugged, asks, shell_requests, opens_shell, shell_comes}
+use Rattle.adb_history.specs.Examples.{shell_open}
 use Rattle.adb_history.specs.Examples.{lent_comes, lent_open}
 
 -- ---- a window of one write
@@ -26,7 +27,8 @@ unfolding meaning word_at identity_of last_value
 shell_stream_up_to_close = refl
 
 open_refused_by_device : drained (plugs (pixel 4096) ++ asks 1 shell_requests ++ Recv 1 (sends (close_packet 0 1 ∷ [])) ∷ [])
-    ≡ plugged (pixel 4096) ++ asks 1 shell_requests ++ opens_shell ++ Recv 1 (sends (close_packet 0 1 ∷ [])) ∷ Put 1 (codes "FAIL0006closed") ∷ []
+    ≡ plugged (pixel 4096) ++ asks 1 shell_requests ++ opens_shell ++ Recv 1 (sends (close_packet 0 1 ∷ []))
+    ∷ Put 1 (codes "FAIL0006closed") ∷ []
 unfolding meaning word_at identity_of last_value
 open_refused_by_device = refl
 
@@ -43,9 +45,11 @@ one_write_outstanding = refl
 -- a write on another link to a stream's id is nothing
 same_remote_id_on_two_links :
     drained (plugs (pixel 4096) ++ Attach 2 Usb (codes "emu2") ∷ Recv 2 (sends (pixel 4096 ∷ [])) ∷ asks 1 shell_requests
-    ++ asks 2 (codes "0013host:transport:emu2000dshell:echo hi") ++ Recv 1 (sends (okay_packet 7 1 ∷ [])) ∷ Recv 2 (sends (okay_packet 7 2 ∷ []))
+    ++ asks 2 (codes "0013host:transport:emu2000dshell:echo hi") ++ Recv 1 (sends (okay_packet 7 1 ∷ []))
+    ∷ Recv 2 (sends (okay_packet 7 2 ∷ []))
     ∷ Recv 2 (sends (write_packet 7 1 (codes "x") ∷ [])) ∷ Recv 2 (sends (write_packet 7 2 (codes "x") ∷ [])) ∷ [])
-    ≡ plugged (pixel 4096) ++ Attach 2 Usb (codes "emu2") ∷ Send 2 hello ∷ Recv 2 (sends (pixel 4096 ∷ [])) ∷ asks 1 shell_requests ++ opens_shell
+    ≡ plugged (pixel 4096) ++ Attach 2 Usb (codes "emu2") ∷ Send 2 hello ∷ Recv 2 (sends (pixel 4096 ∷ []))
+    ∷ asks 1 shell_requests ++ opens_shell
     ++ asks 2 (codes "0013host:transport:emu2000dshell:echo hi")
     ++ Send 2 (hears (open_packet false 2 (codes "shell:echo hi") ∷ [])) ∷ Put 2 (codes "OKAY")
     ∷ Recv 1 (sends (okay_packet 7 1 ∷ [])) ∷ Put 1 (codes "OKAY") ∷ Recv 2 (sends (okay_packet 7 2 ∷ [])) ∷ Put 2 (codes "OKAY")
@@ -87,7 +91,8 @@ orphan_closed : drained (plugs (pixel 4096) ++ asks 1 shell_requests ++ End 1 Fa
 unfolding meaning word_at identity_of last_value
 orphan_closed = refl
 
-kill_stops_all : drained (shell_comes ++ asks 2 (codes "0009host:kill")) ≡ shell_open ++ asks 2 (codes "0009host:kill") ++ Put 2 (codes "OKAY") ∷ []
+kill_stops_all : drained (shell_comes ++ asks 2 (codes "0009host:kill"))
+    ≡ shell_open ++ asks 2 (codes "0009host:kill") ++ Put 2 (codes "OKAY") ∷ []
 unfolding meaning word_at identity_of last_value
 kill_stops_all = refl
 
@@ -108,7 +113,8 @@ sum_wanted_on_old_link = refl
 
 -- ---- credit
 credit_up :
-    drained (lent_comes (credit_packet 7 1 8000) ++ Read 1 (replicate 10000 99) ∷ Recv 1 (sends (credit_packet 7 1 2000 ∷ [])) ∷ End 1 Eof ∷ [])
+    drained (lent_comes (credit_packet 7 1 8000) ++ Read 1 (replicate 10000 99)
+    ∷ Recv 1 (sends (credit_packet 7 1 2000 ∷ [])) ∷ End 1 Eof ∷ [])
     ≡ lent_open (credit_packet 7 1 8000) ++ Read 1 (replicate 10000 99)
     ∷ Send 1 (hears (write_packet 1 7 (replicate 4096 99) ∷ write_packet 1 7 (replicate 3904 99) ∷ []))
     ∷ Recv 1 (sends (credit_packet 7 1 2000 ∷ [])) ∷ Send 1 (hears (write_packet 1 7 (replicate 2000 99) ∷ []))

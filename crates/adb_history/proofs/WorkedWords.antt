@@ -24,7 +24,9 @@ use Rattle.adb_history.specs.Examples.{sends, pixel, plugs, asks, shell_comes}
 
 -- a shell to which its client wrote, whose device wrote twice and closed
 abbrev shell : History
-shell = drained_from [] (shell_comes ++ Read 1 (codes "abc") ∷ Recv 1 (sends (write_packet 7 1 (codes "hi") ∷ [])) ∷ Recv 1 (sends (okay_packet 7 1 ∷ []))
+shell = drained_from []
+    (shell_comes ++ Read 1 (codes "abc") ∷ Recv 1 (sends (write_packet 7 1 (codes "hi") ∷ []))
+    ∷ Recv 1 (sends (okay_packet 7 1 ∷ []))
     ∷ Recv 1 (sends (write_packet 7 1 (codes "!") ∷ close_packet 7 1 ∷ [])) ∷ [])
 
 abbrev stream : Birth
@@ -108,7 +110,9 @@ unfolding meaning word_at identity_of last_value digits
 born_through_a_forward = refl
 
 -- ---- endings
-ends_out_of_turn : ending_of 1 (drained_from [] (shell_comes ++ Recv 1 (sends (write_packet 7 1 (codes "a") ∷ write_packet 7 1 (codes "b") ∷ [])) ∷ []))
+ends_out_of_turn : ending_of 1
+    (drained_from []
+    (shell_comes ++ Recv 1 (sends (write_packet 7 1 (codes "a") ∷ write_packet 7 1 (codes "b") ∷ [])) ∷ []))
     ≡ Some OutOfTurn
 unfolding meaning word_at identity_of last_value
 ends_out_of_turn = refl

@@ -1,5 +1,6 @@
 -- The writes of what is held leave nothing that may be written.
-use Rattle.std.proofs.Common.{◌≡◌, ℕ, ◌+◌, ◌-◌, ◌≤◌, zero, suc, true, cond, List, [], ◌∷◌, length, take, drop, refl, sym, ap, subst, ◌∙◌, arith, length-drop}
+use Rattle.std.proofs.Common.{◌≡◌, ℕ, ◌+◌, ◌-◌, ◌≤◌, zero, suc, true, cond, List, [], ◌∷◌, length, take, drop, refl, sym, ap, subst, ◌∙◌}
+use Rattle.std.proofs.Common.{arith, length-drop}
 use Rattle.std.proofs.lemmas.List.{length-take, drop-drop}
 use Rattle.adb_stream.specs.Window.{OneWrite}
 use Rattle.adb_stream.specs.Credit.{ByteCredit}
@@ -21,17 +22,24 @@ done_none k maxdata credit held e =
     let same : credit ≡ credit - 0 = omega arith in
     subst (λ (n : ℕ). writes k maxdata n held ≡ []) same (none_written k maxdata credit held e)
 
-writes_done : (fuel k maxdata credit : ℕ) (held : List ℕ) → length held ≤ fuel → IsDone k maxdata credit held (writes fuel maxdata credit held)
+writes_done : (fuel k maxdata credit : ℕ) (held : List ℕ) → length held ≤ fuel
+    → IsDone k maxdata credit held (writes fuel maxdata credit held)
 writes_done zero k maxdata credit held fits = done_none k maxdata credit held (omega (arith, fits))
-writes_done (suc fuel) k maxdata credit held fits = go (write_len maxdata credit held) refl (λ n h. writes_done fuel k maxdata (credit - n) (drop n held) h)
+writes_done (suc fuel) k maxdata credit held fits = go (write_len maxdata credit held) refl
+    (λ n h. writes_done fuel k maxdata (credit - n) (drop n held) h)
   where
     go : (n : ℕ) → write_len maxdata credit held ≡ n
-        → ((n : ℕ) → length (drop n held) ≤ fuel → IsDone k maxdata (credit - n) (drop n held) (writes fuel maxdata (credit - n) (drop n held)))
+        → ((n : ℕ) → length (drop n held) ≤ fuel → IsDone k maxdata (credit - n) (drop n held)
+        (writes fuel maxdata (credit - n) (drop n held)))
         → IsDone k maxdata credit held (write_before (write_len maxdata credit held) held
         (writes fuel maxdata (credit - write_len maxdata credit held) (drop (write_len maxdata credit held) held)))
-    go zero e ih = subst (λ (n : ℕ). IsDone k maxdata credit held (write_before n held (writes fuel maxdata (credit - n) (drop n held)))) (sym e)
+    go zero e ih =
+        subst (λ (n : ℕ). IsDone k maxdata credit held
+        (write_before n held (writes fuel maxdata (credit - n) (drop n held)))) (sym e)
         (done_none k maxdata credit held e)
-    go (suc n) e ih = subst (λ (n : ℕ). IsDone k maxdata credit held (write_before n held (writes fuel maxdata (credit - n) (drop n held)))) (sym e) more
+    go (suc n) e ih =
+        subst (λ (n : ℕ). IsDone k maxdata credit held
+        (write_before n held (writes fuel maxdata (credit - n) (drop n held)))) (sym e) more
       where
         later : List (List ℕ)
         later = writes fuel maxdata (credit - suc n) (drop (suc n) held)
@@ -58,7 +66,8 @@ writes_done (suc fuel) k maxdata credit held fits = go (write_len maxdata credit
             ∙ ih (suc n) shorter))
 
 -- ---- the flow after writes
-after_credit : (sent : List (List ℕ)) (credit : ByteCredit) → flow_after sent (Credit credit) ≡ Credit (record credit { to_send = credit.to_send - total sent })
+after_credit : (sent : List (List ℕ)) (credit : ByteCredit) → flow_after sent (Credit credit)
+    ≡ Credit (record credit { to_send = credit.to_send - total sent })
 after_credit [] credit = ap (λ n. Credit (record credit { to_send = n })) (omega arith)
 after_credit (payload ∷ sent) credit =
     after_credit sent (record credit { to_send = credit.to_send - length payload })
@@ -73,10 +82,12 @@ waits (payload ∷ sent) window maxdata held e = waits sent (record window { out
 one_done : (window : OneWrite) (maxdata : ℕ) (held : List ℕ) (sent : List (List ℕ)) → payloads (One window) maxdata held ≡ sent
     → payloads (flow_after sent (One window)) maxdata (drop (total sent) held) ≡ []
 one_done window maxdata held [] e = e
-one_done window maxdata held (payload ∷ sent) e = waits sent (record window { outstanding = true }) maxdata (drop (total (payload ∷ sent)) held) refl
+one_done window maxdata held (payload ∷ sent) e = waits sent (record window { outstanding = true }) maxdata
+    (drop (total (payload ∷ sent)) held) refl
 
 credit_done : (credit : ByteCredit) (maxdata : ℕ) (held : List ℕ)
-    → payloads (flow_after (payloads (Credit credit) maxdata held) (Credit credit)) maxdata (drop (total (payloads (Credit credit) maxdata held)) held) ≡ []
+    → payloads (flow_after (payloads (Credit credit) maxdata held) (Credit credit)) maxdata
+    (drop (total (payloads (Credit credit) maxdata held)) held) ≡ []
 credit_done credit maxdata held =
     let sent : List (List ℕ) = writes (length held) maxdata credit.to_send held in
     let left : List ℕ = drop (total sent) held in

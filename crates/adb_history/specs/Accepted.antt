@@ -1,5 +1,6 @@
 -- Which entries a capture gives a server, and why it ends before its end.
-use Rattle.std.specs.Prelude.{ℕ, ◌+◌, Bool, true, false, if◌then◌else◌, ◌&&◌, nat_eq, nat_lt, nat_le, List, [], ◌∷◌, ◌++◌, take, drop, Option, Some}
+use Rattle.std.specs.Prelude.{ℕ, ◌+◌, Bool, true, false, if◌then◌else◌, ◌&&◌, nat_eq, nat_lt, nat_le, List, [], ◌∷◌, ◌++◌, take, drop}
+use Rattle.std.specs.Prelude.{Option, Some}
 use Rattle.std.specs.Prelude.{None, bytes_eq}
 use Rattle.adb_outside.specs.Framing.{Cut, cut}
 use Rattle.adb_registry.specs.Registry.{attach_refusal}
@@ -77,7 +78,8 @@ abbrev pub unless_stopped : Bool → Accepted → Accepted
 unless_stopped true a = ends_with None
 unless_stopped false a = a
 
--- The records are taken in order, each over the state that the drained history of those before it leaves, up to the first that is refused, or to a kill.
+-- The records are taken in order, each over the state that the drained history of those before it leaves, up to the
+-- first that is refused, or to a kill.
 abbrev pub accept_from : List (ℕ × Entry) → Option Refusal → History → Accepted
 accept_from [] ending h = unless_stopped (state h).stopped (ends_with ending)
 accept_from (placed ∷ records) ending h = unless_stopped (state h).stopped

@@ -1,5 +1,6 @@
 -- The third promise: each whole request of a client is answered from what the server knew at its own entry, and nothing else is said.
-use Rattle.std.specs.Prelude.{ℕ, ◌≡◌, ◌⊎◌, Bool, true, false, if◌then◌else◌, ◌&&◌, ◌||◌, not, nat_eq, List, [], ◌∷◌, ◌++◌, length, Option, Some, None, codes}
+use Rattle.std.specs.Prelude.{ℕ, ◌≡◌, ◌⊎◌, Bool, true, false, if◌then◌else◌, ◌&&◌, ◌||◌, not, nat_eq, List, [], ◌∷◌, ◌++◌, length, Option}
+use Rattle.std.specs.Prelude.{Some, None, codes}
 use Rattle.std.specs.Prelude.{is_some}
 use Rattle.adb_outside.specs.Bytes.{IsPrefixOf}
 use Rattle.adb_client.specs.declared.phase.Phase.TheVariants.{Tracking}
@@ -22,7 +23,8 @@ abbrev pub list_if : Bool → List ℕ → List ℕ → List ℕ
 list_if true list lists = lists ++ list
 list_if false list lists = lists
 
--- The lists that a tracker is handed after its reply: whenever it is handed bytes though all before had been handed out, that is the list of that moment.
+-- The lists that a tracker is handed after its reply: whenever it is handed bytes though all before had been handed
+-- out, that is the list of that moment.
 abbrev pub lists_of : Bool → ℕ → History → List ℕ
 lists_of long c [] = []
 lists_of long c (Put n bytes ∷ older) =
@@ -63,7 +65,8 @@ is_heard l b [] = false
 is_heard l b (e ∷ older) =
     is_heard l b older || (is_some (opening_of l b (e ∷ older)) && not (is_some (opening_of l b older)) && not (has_failed b.client older))
 
--- what became due of all that a device wrote, by the end of its stream: all, while that lives; where the device's close ended it, all before the close; where
+-- what became due of all that a device wrote, by the end of its stream: all, while that lives; where the device's
+-- close ended it, all before the close; where
 -- another cause did, what it wrote while the stream lived, at least, and no more than all
 abbrev pub FollowsUpTo : Option Ending → (told before_close while_alive bytes : List ℕ) → Type 0
 FollowsUpTo None told before_close while_alive bytes = bytes ≡ told
@@ -75,7 +78,8 @@ abbrev pub FollowsTold : History → ℕ → Birth → List ℕ → Type 0
 FollowsTold h l b bytes =
     FollowsUpTo (ending_of l h) (joined (told_to l b h)) (joined (told_before_close l b h)) (joined (told_to l b (lived l h))) bytes
 
--- what follows the request for a stream: `OKAY` and what the device wrote, where the client heard that it is open; else why it was not opened
+-- what follows the request for a stream: `OKAY` and what the device wrote, where the client heard that it is open;
+-- else why it was not opened
 abbrev pub FollowsOpen : Bool → History → ℕ → Birth → List ℕ → Type 0
 FollowsOpen true h l b after = (bytes : List ℕ) × (after ≡ okay ++ bytes) × FollowsTold h l b bytes
 FollowsOpen false h l b after = after ≡ closed_reply (tells_closed (ending_of l h))
@@ -115,7 +119,8 @@ pub record RepliesFirst (h : History) (c : ℕ) : Type 0 where
 
 -- A forward whose port is to be bound is answered when its listener stands, or could not be made.
 abbrev pub RepliesWhenBound : History → ℕ → Type 0
-RepliesWhenBound h c = (transport local : ℕ) (remote : List ℕ) (chosen : Bool) → (asked c h).next ≡ Some (Bind transport local remote chosen)
+RepliesWhenBound h c = (transport local : ℕ) (remote : List ℕ) (chosen : Bool)
+    → (asked c h).next ≡ Some (Bind transport local remote chosen)
     → output_of c h ≡ (asked c h).replies ++ bound_reply c h
 
 -- what became due to a client behind its replies
@@ -126,7 +131,8 @@ pub record IsBehindReplies (h : History) (c : ℕ) (Behind : List ℕ → Type 0
 
 -- A service is answered by its device, and then come the bytes that the device wrote, all that came by the end of the stream.
 abbrev pub RepliesOfStream : History → ℕ → Type 0
-RepliesOfStream h c = (transport : ℕ) (service : List ℕ) → (asked c h).next ≡ Some (Open transport service) → IsBehindReplies h c (AnswersOpen h c)
+RepliesOfStream h c = (transport : ℕ) (service : List ℕ) → (asked c h).next ≡ Some (Open transport service)
+    → IsBehindReplies h c (AnswersOpen h c)
 
 -- A tracker is handed lists, each that of the moment when its first byte was handed out.
 abbrev pub ListsTracked : History → ℕ → Type 0

@@ -11,7 +11,8 @@ use Rattle.adb_reply.specs.declared.answer.Answer.{Answer}
 use Rattle.adb_reply.specs.declared.answer.Next.{Next}
 use Rattle.adb_reply.specs.declared.answer.Next.TheVariants.{Close, Select}
 
--- What a client asked. replies: those to its whole requests, in order; used: how many bytes these requests have; rest: the bytes past them; selected: the
+-- What a client asked. replies: those to its whole requests, in order; used: how many bytes these requests have;
+-- rest: the bytes past them; selected: the
 -- transport that its requests selected; next: what follows the last request, where no further one is read.
 pub record Asked : Type 0 where
   pub replies : List ℕ

@@ -1,5 +1,6 @@
 -- The streams of a history, from its entries alone: when each was born, and what of it was told, carried and handed (protocol.txt).
-use Rattle.std.specs.Prelude.{ℕ, ◌+◌, ◌==◌, Bool, true, false, if◌then◌else◌, ◌&&◌, ◌||◌, not, nat_eq, nat_lt, List, [], ◌∷◌, ◌++◌, length, drop, Option, Some, None}
+use Rattle.std.specs.Prelude.{ℕ, ◌+◌, ◌==◌, Bool, true, false, if◌then◌else◌, ◌&&◌, ◌||◌, not, nat_eq, nat_lt, List, [], ◌∷◌, ◌++◌, length}
+use Rattle.std.specs.Prelude.{drop, Option, Some, None}
 use Rattle.std.specs.Prelude.{zero, suc, slice_get, is_some}
 use Rattle.adb_outside.specs.Tables.{at}
 use Rattle.adb_forward.specs.declared.row.ForwardRow.{ForwardRow}
@@ -17,7 +18,8 @@ use Rattle.adb_history.specs.Bytes.{bytes_put, brought}
 use Rattle.adb_history.specs.Book.{asked, newly, devices, forwards}
 
 -- ---- births
--- A stream was asked for: by which client, on which link, whether with credit, whether through a forward; the service; how many bytes of the client come
+-- A stream was asked for: by which client, on which link, whether with credit, whether through a forward; the
+-- service; how many bytes of the client come
 -- before those of the stream; and how many packets the link had brought before.
 pub record Birth : Type 0 where
   pub client : ℕ
@@ -180,4 +182,5 @@ carried_in l (p ∷ packets) = if is_wrte p.command && nat_eq p.arg0 l then p.pa
 -- how many packets there are of such a command with a stream as their sender
 abbrev pub count_from : (Command → Bool) → ℕ → List Packet → ℕ
 count_from is_such l [] = 0
-count_from is_such l (p ∷ packets) = if is_such p.command && nat_eq p.arg0 l then 1 + count_from is_such l packets else count_from is_such l packets
+count_from is_such l (p ∷ packets) = if is_such p.command && nat_eq p.arg0 l then 1
+    + count_from is_such l packets else count_from is_such l packets

@@ -1,6 +1,8 @@
--- What a history says of devices, forwards and requests, from its entries alone: the devices that links brought, what each client asked of them, the
+-- What a history says of devices, forwards and requests, from its entries alone: the devices that links brought, what
+-- each client asked of them, the
 -- forwards, and whether a kill stands. Each entry is judged by what stood before it.
-use Rattle.std.specs.Prelude.{ℕ, ◌+◌, Bool, true, false, if◌then◌else◌, ◌&&◌, ◌||◌, not, nat_eq, nat_lt, is_some, is_none, List, [], ◌∷◌, filter, min, Option, Some, None}
+use Rattle.std.specs.Prelude.{ℕ, ◌+◌, Bool, true, false, if◌then◌else◌, ◌&&◌, ◌||◌, not, nat_eq, nat_lt, is_some, is_none, List, [], ◌∷◌}
+use Rattle.std.specs.Prelude.{filter, min, Option, Some, None}
 use Rattle.std.specs.Prelude.{option_map, reverse, find}
 use Rattle.std.specs.List.{list_any}
 use Rattle.adb_outside.specs.Tables.{Rows, put_row, listed, at, without}
@@ -80,7 +82,8 @@ devices_if true h = record { drawn = plugged_count h; rows = [] }
 devices_if false h = record { drawn = plugged_count h; rows = listed (λ t. device_of t h) 1 (plugged_count h) }
 
 -- ---- requests, forwards and kill
--- asked: what each client asked; waits: the forward that a client wants whose listener is still awaited; bound: what it was told of its listener.
+-- asked: what each client asked; waits: the forward that a client wants whose listener is still awaited; bound: what
+-- it was told of its listener.
 pub record Book : Type 0 where
   pub asked : Rows Asked
   pub waits : Rows (Option Want)

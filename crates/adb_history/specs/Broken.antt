@@ -1,4 +1,5 @@
--- Histories that break one promise each: what a wrong server would do, or a world in which numbers are not drawn once. None of them is legal.
+-- Histories that break one promise each: what a wrong server would do, or a world in which numbers are not drawn
+-- once. None of them is legal.
 use Rattle.std.specs.Prelude.{ℕ, List, [], ◌∷◌, ◌++◌, length, codes, reverse, replicate}
 use Rattle.adb_outside.specs.declared.kinds.Kind.TheVariants.{Usb}
 use Rattle.adb_outside.specs.declared.kinds.Cause.TheVariants.{Eof, Fault}
@@ -26,7 +27,8 @@ writes payload = Recv 1 (sends (write_packet 7 1 payload ∷ []))
 abbrev pub written : List ℕ → Entry
 written payload = Send 1 (hears (write_packet 1 7 payload ∷ []))
 
--- The header of a write of a million bytes comes, and then another device is plugged in under the number of the link: all that comes after is a part of that
+-- The header of a write of a million bytes comes, and then another device is plugged in under the number of the link:
+-- all that comes after is a part of that
 -- write, but the server begins anew.
 abbrev pub torn : List Entry
 torn =
@@ -53,7 +55,8 @@ skips_a_byte = in_shell (Read 1 (codes "abc") ∷ written (codes "ac") ∷ [])
 -- the end goes up though a byte did not
 abbrev pub closes_with_a_byte_unsent : History
 closes_with_a_byte_unsent =
-    in_shell (Read 1 (codes "abc") ∷ written (codes "ab") ∷ Recv 1 (sends (okay_packet 7 1 ∷ [])) ∷ End 1 Eof ∷ Send 1 (hears (close_packet 1 7 ∷ [])) ∷ [])
+    in_shell (Read 1 (codes "abc") ∷ written (codes "ab") ∷ Recv 1 (sends (okay_packet 7 1 ∷ [])) ∷ End 1 Eof
+    ∷ Send 1 (hears (close_packet 1 7 ∷ [])) ∷ [])
 
 -- the client closes, and an empty write goes up in the place of the end
 abbrev pub writes_none_for_the_close : History
@@ -66,7 +69,9 @@ hands_a_byte_twice = in_shell (writes (codes "hi") ∷ Put 1 (codes "hh") ∷ []
 -- the device closes, and bytes that it wrote before are not handed out
 abbrev pub drops_at_close : History
 drops_at_close =
-    in_shell (Recv 1 (header_bytes (record { command = Wrte; arg0 = 7; arg1 = 1; length = 5; check = 0 }) ++ codes "ab") ∷ Attach 1 Usb (codes "emu1")
+    in_shell (Recv 1
+    (header_bytes (record { command = Wrte; arg0 = 7; arg1 = 1; length = 5; check = 0 }) ++ codes "ab")
+    ∷ Attach 1 Usb (codes "emu1")
     ∷ Recv 1 (sends (close_packet 7 1 ∷ [])) ∷ [])
 
 -- a second write goes up before the first was acknowledged
@@ -143,8 +148,10 @@ lists_too_early =
 -- a tracker is not handed the list without the device that was lost
 abbrev pub misses_a_list : History
 misses_a_list =
-    so_far (plugged (pixel 4096) ++ asks 1 (codes "0012host:track-devices") ++ Put 1 (codes "OKAY000cemu1" ++ 9 ∷ codes "device" ++ 10 ∷ []) ∷ torn
-    ++ Recv 1 (sends (connect 1 4096 (codes "device::") ∷ [])) ∷ Put 1 (codes "000demu2" ++ 9 ∷ codes "offline" ++ 10 ∷ []) ∷ Detach 1 Eof ∷ [])
+    so_far (plugged (pixel 4096) ++ asks 1 (codes "0012host:track-devices")
+    ++ Put 1 (codes "OKAY000cemu1" ++ 9 ∷ codes "device" ++ 10 ∷ []) ∷ torn
+    ++ Recv 1 (sends (connect 1 4096 (codes "device::") ∷ []))
+    ∷ Put 1 (codes "000demu2" ++ 9 ∷ codes "offline" ++ 10 ∷ []) ∷ Detach 1 Eof ∷ [])
 
 -- a request is answered though its client was closed before
 abbrev pub answers_after_close : History
@@ -156,7 +163,8 @@ hands_what_was_not_written =
     so_far (plugged (pixel 4096) ++ asks 1 (codes "0019host:forward:tcp:0;tcp:80") ++ Bound 1 40000 ∷ Enter 2 40000
     ∷ Recv 1 (sends (okay_packet 7 1 ∷ [])) ∷ torn ++ writes (codes "x") ∷ [])
 
--- the header of a write of so many bytes comes, then another device is plugged in under the number of the link, and then the bytes: the device wrote them,
+-- the header of a write of so many bytes comes, then another device is plugged in under the number of the link, and
+-- then the bytes: the device wrote them,
 -- and the server knows of no write
 abbrev pub missed : List ℕ → List Entry
 missed payload =

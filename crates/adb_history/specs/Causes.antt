@@ -1,5 +1,6 @@
 -- The second promise: a stream ends only for a cause that the history has, at the very entry by which it ends.
-use Rattle.std.specs.Prelude.{ℕ, ◌+◌, ◌≡◌, ◌≤◌, Bool, true, false, if◌then◌else◌, ◌&&◌, ◌||◌, not, nat_eq, nat_lt, List, [], ◌∷◌, ◌++◌, length, drop, Option, Some, None}
+use Rattle.std.specs.Prelude.{ℕ, ◌+◌, ◌≡◌, ◌≤◌, Bool, true, false, if◌then◌else◌, ◌&&◌, ◌||◌, not, nat_eq, nat_lt, List, [], ◌∷◌, ◌++◌}
+use Rattle.std.specs.Prelude.{length, drop, Option, Some, None}
 use Rattle.std.specs.Prelude.{is_some}
 use Rattle.std.specs.List.{list_any}
 use Rattle.adb_outside.specs.declared.kinds.Cause.{Cause}
@@ -15,7 +16,8 @@ use Rattle.adb_history.specs.declared.ending.Ending.TheVariants.{ClientClosed, P
 use Rattle.adb_history.specs.Machine.{History, told_at}
 use Rattle.adb_history.specs.Bytes.{is_orderly, bytes_received, brought}
 use Rattle.adb_history.specs.Book.{is_refused, is_killed}
-use Rattle.adb_history.specs.Births.{Birth, born, Opening, opening_of, remote_of, is_between, is_okay, is_wrte, is_close_of, told_to, joined, handed_to, carried_in, count_from}
+use Rattle.adb_history.specs.Births.{Birth, born, Opening, opening_of, remote_of, is_between, is_okay, is_wrte, is_close_of, told_to}
+use Rattle.adb_history.specs.Births.{joined, handed_to, carried_in, count_from}
 use Rattle.adb_history.specs.Fifo.{okays_in, okays_of, credit_of}
 use Rattle.adb_history.specs.Lives.{packets_of, ending_of, rest_of}
 
@@ -36,7 +38,8 @@ closes_in remote l (p ∷ packets) = is_close_of remote l p || closes_in (remote
 abbrev pub peer_closes : ℕ → Birth → Entry → History → Bool
 peer_closes l b e older = closes_in (remote_of l b older) l (brings b.link e older)
 
--- whether a write behind so many written bytes is one too many: not all of them were handed out, or they are more than the credit that was given
+-- whether a write behind so many written bytes is one too many: not all of them were handed out, or they are more
+-- than the credit that was given
 abbrev pub is_early : Bool → (written handed given size : ℕ) → Bool
 is_early false written handed given size = nat_lt handed written
 is_early true written handed given size = nat_lt given (written + size)
@@ -46,7 +49,8 @@ abbrev pub writes_early_in : Birth → (remote l written handed given : ℕ) →
 writes_early_in b remote l written handed given [] = false
 writes_early_in b remote l written handed given (p ∷ packets) =
     if is_wrte p.command && not (nat_eq remote 0) && is_between remote l p
-    then is_early b.credit written handed given (length p.payload) || writes_early_in b remote l (written + length p.payload) handed given packets
+    then is_early b.credit written handed given (length p.payload)
+    || writes_early_in b remote l (written + length p.payload) handed given packets
     else writes_early_in b (remote_after remote l p) l written handed given packets
 
 -- the credit that a device was given for a stream: a window, and the credit words that became due

@@ -46,7 +46,8 @@ packets_to t (ended stream ending ∷ events) = packets_to t events
 abbrev pub spelled_to : ℕ → List Event → List ℕ
 spelled_to t [] = []
 spelled_to t (due_to_client client bytes ∷ events) = spelled_to t events
-spelled_to t (due_to_link link packet check ∷ events) = if nat_eq link t then spelling packet check ++ spelled_to t events else spelled_to t events
+spelled_to t (due_to_link link packet check ∷ events) = if nat_eq link t then spelling packet check
+    ++ spelled_to t events else spelled_to t events
 spelled_to t (ended stream ending ∷ events) = spelled_to t events
 
 -- the first ending of a stream

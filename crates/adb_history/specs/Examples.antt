@@ -57,7 +57,8 @@ abbrev pub shell_comes : List Entry
 shell_comes = plugs (pixel 4096) ++ asks 1 shell_requests ++ Recv 1 (sends (okay_packet 7 1 ∷ [])) ∷ []
 
 abbrev pub shell_open : List Entry
-shell_open = plugged (pixel 4096) ++ asks 1 shell_requests ++ opens_shell ++ Recv 1 (sends (okay_packet 7 1 ∷ [])) ∷ Put 1 (codes "OKAY") ∷ []
+shell_open = plugged (pixel 4096) ++ asks 1 shell_requests ++ opens_shell ++ Recv 1 (sends (okay_packet 7 1 ∷ []))
+    ∷ Put 1 (codes "OKAY") ∷ []
 
 -- the same of a shell on a credit link, opened with a credit word
 abbrev pub lent_comes : Packet → List Entry

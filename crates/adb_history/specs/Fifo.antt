@@ -1,5 +1,6 @@
 -- The first promise: what each stream handed to either end is what its other end wrote, in order and once.
-use Rattle.std.specs.Prelude.{ℕ, ◌+◌, ◌-◌, ◌≡◌, ◌≢◌, ◌≤◌, ◌⊎◌, Bool, true, false, if◌then◌else◌, ◌&&◌, nat_eq, nat_le, List, [], ◌∷◌, length, min, All, Contains, Option, Some, None}
+use Rattle.std.specs.Prelude.{ℕ, ◌+◌, ◌-◌, ◌≡◌, ◌≢◌, ◌≤◌, ◌⊎◌, Bool, true, false, if◌then◌else◌, ◌&&◌, nat_eq, nat_le, List, [], ◌∷◌}
+use Rattle.std.specs.Prelude.{length, min, All, Contains, Option, Some, None}
 use Rattle.std.specs.Prelude.{unwrap_or}
 use Rattle.adb_outside.specs.Bytes.{IsPrefixOf}
 use Rattle.adb_wire.specs.Cutting.{framed}
@@ -14,13 +15,15 @@ use Rattle.adb_history.specs.Streams.{stream_ids}
 use Rattle.adb_history.specs.Rows.{Link}
 use Rattle.adb_history.specs.Machine.{History, state}
 use Rattle.adb_history.specs.Bytes.{bytes_put, bytes_sent, brought, sent}
-use Rattle.adb_history.specs.Births.{Birth, births, born, Opening, opening_of, remote_of, is_between, told_to, told_before_close, joined, handed_to, count_from}
+use Rattle.adb_history.specs.Births.{Birth, births, born, Opening, opening_of, remote_of, is_between, told_to, told_before_close, joined}
+use Rattle.adb_history.specs.Births.{handed_to, count_from}
 use Rattle.adb_history.specs.Births.{is_okay, is_wrte, is_open}
 use Rattle.adb_history.specs.Lives.{output_of, ending_of, rest_of, carried_of}
 use Rattle.adb_history.specs.Opened.{AsksAtOnce}
 
 -- ---- birth
--- A stream that lives is kept as it was born: with its client, on its link, under the device's id as far as it was told, with credit or one write.
+-- A stream that lives is kept as it was born: with its client, on its link, under the device's id as far as it was
+-- told, with credit or one write.
 pub record IsKeptAs (h : History) (l : ℕ) (stream : Stream) : Type 0 where
   pub birth : Birth
   pub is : born l h ≡ Some birth
@@ -39,7 +42,8 @@ pub record HasBirths (h : History) : Type 0 where
 -- the OKAYs to a stream
 abbrev pub okays_in : (remote l : ℕ) → List Packet → ℕ
 okays_in remote l [] = 0
-okays_in remote l (p ∷ packets) = if is_okay p.command && is_between remote l p then 1 + okays_in remote l packets else okays_in remote l packets
+okays_in remote l (p ∷ packets) = if is_okay p.command && is_between remote l p then 1
+    + okays_in remote l packets else okays_in remote l packets
 
 -- the credit words to a stream, together
 abbrev pub credit_in : (remote l : ℕ) → List Packet → ℕ

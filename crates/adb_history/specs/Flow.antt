@@ -1,5 +1,6 @@
 -- What a stream may send up, by its window or its credit (protocol.txt, WRITE and READY).
-use Rattle.std.specs.Prelude.{ℕ, ◌+◌, ◌-◌, Bool, true, false, if◌then◌else◌, ◌&&◌, nat_eq, List, [], ◌∷◌, length, take, drop, min, Option, Some, None, zero, suc}
+use Rattle.std.specs.Prelude.{ℕ, ◌+◌, ◌-◌, Bool, true, false, if◌then◌else◌, ◌&&◌, nat_eq, List, [], ◌∷◌, length, take, drop, min, Option}
+use Rattle.std.specs.Prelude.{Some, None, zero, suc}
 use Rattle.adb_stream.specs.Flow.{wrote, is_idle}
 use Rattle.adb_stream.specs.declared.flow.Flow.{Flow}
 use Rattle.adb_stream.specs.declared.flow.Flow.TheVariants.{One, Credit}
@@ -76,7 +77,9 @@ closes_if true l (Some stream) s = ends_telling l ClientClosed stream s
 abbrev pub sends_up : ℕ → Stream → Client → List (List ℕ) → State → Made
 sends_up l stream client payloads s =
     then_also (all_go_up l stream payloads (noted l stream client.held payloads s))
-    (λ s. closes_if (is_over client.about.ended (drop (total payloads) client.held) (flow_after payloads stream.part.flow)) l (s.streams l) s)
+    (λ s. closes_if
+    (is_over client.about.ended (drop (total payloads) client.held) (flow_after payloads stream.part.flow)) l
+    (s.streams l) s)
 
 -- a stream that its client has open
 abbrev pub is_streaming : ℕ → Phase → Bool

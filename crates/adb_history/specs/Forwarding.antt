@@ -1,5 +1,6 @@
 -- Forwards of local ports, and the listeners that wait for theirs (SERVICES.TXT, `<host-prefix>:forward`).
-use Rattle.std.specs.Prelude.{ℕ, ◌==◌, Bool, if◌then◌else◌, ◌&&◌, ◌||◌, not, List, [], ◌++◌, length, Option, Some, None, codes, decimal, is_some, is_none, filter}
+use Rattle.std.specs.Prelude.{ℕ, ◌==◌, Bool, if◌then◌else◌, ◌&&◌, ◌||◌, not, List, [], ◌++◌, length, Option, Some, None, codes, decimal}
+use Rattle.std.specs.Prelude.{is_some, is_none, filter}
 use Rattle.adb_outside.specs.Tables.{at, put_at}
 use Rattle.adb_registry.specs.Registry.{DeviceTable}
 use Rattle.adb_registry.specs.declared.row.Row.{Row}

@@ -11,7 +11,8 @@ use Rattle.adb_history.specs.Links.{is_connected, is_connected_state, is_credit}
 use Rattle.adb_history.specs.Moves.{IsLed}
 use Rattle.adb_history.specs.Owned.{IsOwned}
 
--- A link lives exactly where its device has a row, a forward leads to a device that is there, and a device that has not said who it is takes no payload.
+-- A link lives exactly where its device has a row, a forward leads to a device that is there, and a device that has
+-- not said who it is takes no payload.
 pub record DeviceRows (devices : DeviceTable) (links : Rows (Option Link)) (forwards : List (ℕ × ForwardRow)) : Type 0 where
   pub rises : IsRising devices.rows
   pub linked : (t : ℕ) → is_some (links t) ≡ is_some (at t devices.rows)

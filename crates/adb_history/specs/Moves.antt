@@ -1,5 +1,6 @@
 -- The moves that the rules are made of. What each move keeps, each rule keeps.
-use Rattle.std.specs.Prelude.{ℕ, ◌+◌, ◌≡◌, ◌≢◌, ◌≤◌, ◌⊎◌, Bool, true, false, is_some, All, List, [], ◌∷◌, ◌++◌, length, drop, Option, Some, None}
+use Rattle.std.specs.Prelude.{ℕ, ◌+◌, ◌≡◌, ◌≢◌, ◌≤◌, ◌⊎◌, Bool, true, false, is_some, All, List, [], ◌∷◌, ◌++◌, length, drop, Option, Some}
+use Rattle.std.specs.Prelude.{None}
 use Rattle.adb_outside.specs.Tables.{at, put_row}
 use Rattle.adb_outside.specs.declared.kinds.Cause.{Cause}
 use Rattle.adb_outside.specs.declared.kinds.Kind.{Kind}
@@ -110,26 +111,35 @@ pub record Moves (P : State → List Event → Type 0) : Type 0 where
   -- something becomes due, or is told
   pub owes : (t : ℕ) (p : Packet) (check : ℕ) (s : State) (w : List Event) → IsOfStream s.streams p → P s w
       → P (to_link t (with_link_due (spelling p check)) s) (w ++ due_to_link t p check ∷ [])
-  pub due : (c : ℕ) (bytes : List ℕ) (s : State) (w : List Event) → P s w → P (to_client c (with_due bytes) s) (w ++ due_to_client c bytes ∷ [])
+  pub due : (c : ℕ) (bytes : List ℕ) (s : State) (w : List Event) → P s w
+      → P (to_client c (with_due bytes) s) (w ++ due_to_client c bytes ∷ [])
   -- clients
-  pub closes : (c : ℕ) (client : Client) (s : State) (w : List Event) → s.clients c ≡ Some client → IsFree client.about.phase → P s w → P (closes c s) w
-  pub tracks : (c : ℕ) (client : Client) (long : Bool) (s : State) (w : List Event) → s.clients c ≡ Some client → client.about.phase ≡ Asking
+  pub closes : (c : ℕ) (client : Client) (s : State) (w : List Event) → s.clients c ≡ Some client
+      → IsFree client.about.phase → P s w → P (closes c s) w
+  pub tracks : (c : ℕ) (client : Client) (long : Bool) (s : State) (w : List Event) → s.clients c ≡ Some client
+      → client.about.phase ≡ Asking
       → P s w → P (to_client c (tracks long) s) w
-  pub awaits : (c : ℕ) (client : Client) (want : Want) (s : State) (w : List Event) → s.clients c ≡ Some client → client.about.phase ≡ Asking
+  pub awaits : (c : ℕ) (client : Client) (want : Want) (s : State) (w : List Event) → s.clients c ≡ Some client
+      → client.about.phase ≡ Asking
       → P s w → P (to_client c (awaits want) s) w
-  pub drops : (c : ℕ) (client : Client) (s : State) (w : List Event) → s.clients c ≡ Some client → stream_of client.about.phase s.streams ≡ None
+  pub drops : (c : ℕ) (client : Client) (s : State) (w : List Event) → s.clients c ≡ Some client
+      → stream_of client.about.phase s.streams ≡ None
       → P s w → P (to_client c none_kept s) w
-  pub holds : (c : ℕ) (client : Client) (bytes : List ℕ) (s : State) (w : List Event) → s.clients c ≡ Some client → HasOne client.about.phase
+  pub holds : (c : ℕ) (client : Client) (bytes : List ℕ) (s : State) (w : List Event) → s.clients c ≡ Some client
+      → HasOne client.about.phase
       → P s w → P (to_client c (with_held bytes) s) w
   pub unmarks : (c : ℕ) (s : State) (w : List Event) → P s w → P (to_client c unmarked s) w
   pub input_ended : (c : ℕ) (s : State) (w : List Event) → P s w → P (to_client c input_ended s) w
   pub hands : (c n : ℕ) (client : Client) (s : State) (w : List Event) → s.clients c ≡ Some client
-      → ((l : ℕ) (stream : Stream) → client.about.phase ≡ Streaming l → s.streams l ≡ Some stream → to_hand stream.part.flow ≤ length (drop n client.due))
+      → ((l : ℕ) (stream : Stream) → client.about.phase ≡ Streaming l → s.streams l ≡ Some stream
+      → to_hand stream.part.flow ≤ length (drop n client.due))
       → P s w → P (to_client c (hands n) s) w
   -- streams
-  pub draws : (c t : ℕ) (client : Client) (s : State) (w : List Event) → s.clients c ≡ Some client → client.about.phase ≡ Asking → IsReady t s.devices
+  pub draws : (c t : ℕ) (client : Client) (s : State) (w : List Event) → s.clients c ≡ Some client
+      → client.about.phase ≡ Asking → IsReady t s.devices
       → P s w → P (draws_now c t s) w
-  pub flows : (l : ℕ) (stream : Stream) (flow : Flow) (s : State) (w : List Event) → s.streams l ≡ Some stream → IsLike stream.part.flow flow
+  pub flows : (l : ℕ) (stream : Stream) (flow : Flow) (s : State) (w : List Event) → s.streams l ≡ Some stream
+      → IsLike stream.part.flow flow
       → P s w → P (to_stream l (with_stream_part (with_flow flow stream.part)) s) w
   pub accepts : (l : ℕ) (payload : List ℕ) (stream : Stream) (s : State) (w : List Event) → s.streams l ≡ Some stream
       → stream.part.remote ≢ 0 → is_out_of_turn stream.part.flow (length payload) ≡ false
@@ -145,14 +155,17 @@ pub record Moves (P : State → List Event → Type 0) : Type 0 where
       → P s w → P (to_stream l none_kept (to_client c none_kept s)) (w ++ ended l (ClientFailed failing.cause) ∷ [])
   pub fails_asked : (c l : ℕ) (failing : Failing) (s : State) (w : List Event)
       → (s.clients c ≡ Some failing.client) × (failing.client.about.phase ≡ Opening l) × (s.streams l ≡ Some failing.stream)
-      → P s w → P (to_stream l (with_stream_part (orphaned failing.stream.part)) (to_client c none_kept s)) (w ++ ended l (ClientFailed failing.cause) ∷ [])
+      → P s w → P (to_stream l (with_stream_part (orphaned failing.stream.part)) (to_client c none_kept s))
+      (w ++ ended l (ClientFailed failing.cause) ∷ [])
   -- links, devices and forwards
   pub links : (t : ℕ) (f : Link → Link) (s : State) (w : List Event) → P s w → P (to_link t (λ link. Some (f link)) s) w
   pub link_ends : (t : ℕ) (ending : Ending) (s : State) (w : List Event) → P s w → After P w (link_ends t ending s)
-  pub online : (t version maxdata : ℕ) (identity : Identity) (s : State) (w : List Event) → P s w → After P w (connects_now t version maxdata identity s)
+  pub online : (t version maxdata : ℕ) (identity : Identity) (s : State) (w : List Event) → P s w
+      → After P w (connects_now t version maxdata identity s)
   pub unauthorized : (t : ℕ) (row : Row) (s : State) (w : List Event) → at t s.devices.rows ≡ Some row → row.state ≡ Offline
       → P s w → P (unauthorized_from t Offline s) w
-  pub forwards : (forwards : List (ℕ × ForwardRow)) (s : State) (w : List Event) → (All (IsLed s.devices) s.forwards → All (IsLed s.devices) forwards)
+  pub forwards : (forwards : List (ℕ × ForwardRow)) (s : State) (w : List Event)
+      → (All (IsLed s.devices) s.forwards → All (IsLed s.devices) forwards)
       → P s w → P (record s { forwards = forwards }) w
   -- kill
   pub stops : (c : ℕ) (client : Client) (s : State) (w : List Event) → s.clients c ≡ Some client → client.about.phase ≡ Asking
@@ -162,14 +175,18 @@ pub record Moves (P : State → List Event → Type 0) : Type 0 where
 pub record Serves (P : State → List Event → Type 0) : Type 0 where
   pub owes : (t : ℕ) (p : Packet) (check : ℕ) (s : State) (w : List Event) → IsOfStream s.streams p → P s w
       → P (to_link t (with_link_due (spelling p check)) s) (w ++ due_to_link t p check ∷ [])
-  pub due : (c : ℕ) (bytes : List ℕ) (s : State) (w : List Event) → P s w → P (to_client c (with_due bytes) s) (w ++ due_to_client c bytes ∷ [])
-  pub holds : (c : ℕ) (client : Client) (bytes : List ℕ) (s : State) (w : List Event) → s.clients c ≡ Some client → HasOne client.about.phase
+  pub due : (c : ℕ) (bytes : List ℕ) (s : State) (w : List Event) → P s w
+      → P (to_client c (with_due bytes) s) (w ++ due_to_client c bytes ∷ [])
+  pub holds : (c : ℕ) (client : Client) (bytes : List ℕ) (s : State) (w : List Event) → s.clients c ≡ Some client
+      → HasOne client.about.phase
       → P s w → P (to_client c (with_held bytes) s) w
   pub unmarks : (c : ℕ) (s : State) (w : List Event) → P s w → P (to_client c unmarked s) w
   pub hands : (c n : ℕ) (client : Client) (s : State) (w : List Event) → s.clients c ≡ Some client
-      → ((l : ℕ) (stream : Stream) → client.about.phase ≡ Streaming l → s.streams l ≡ Some stream → to_hand stream.part.flow ≤ length (drop n client.due))
+      → ((l : ℕ) (stream : Stream) → client.about.phase ≡ Streaming l → s.streams l ≡ Some stream
+      → to_hand stream.part.flow ≤ length (drop n client.due))
       → P s w → P (to_client c (hands n) s) w
-  pub flows : (l : ℕ) (stream : Stream) (flow : Flow) (s : State) (w : List Event) → s.streams l ≡ Some stream → IsLike stream.part.flow flow
+  pub flows : (l : ℕ) (stream : Stream) (flow : Flow) (s : State) (w : List Event) → s.streams l ≡ Some stream
+      → IsLike stream.part.flow flow
       → P s w → P (to_stream l (with_stream_part (with_flow flow stream.part)) s) w
   pub accepts : (l : ℕ) (payload : List ℕ) (stream : Stream) (s : State) (w : List Event) → s.streams l ≡ Some stream
       → stream.part.remote ≢ 0 → is_out_of_turn stream.part.flow (length payload) ≡ false
@@ -182,7 +199,8 @@ pub record Serves (P : State → List Event → Type 0) : Type 0 where
       → P s w → After P w (ends_row l ending stream s)
   pub links : (t : ℕ) (f : Link → Link) (s : State) (w : List Event) → P s w → P (to_link t (λ link. Some (f link)) s) w
   pub link_ends : (t : ℕ) (ending : Ending) (s : State) (w : List Event) → P s w → After P w (link_ends t ending s)
-  pub online : (t version maxdata : ℕ) (identity : Identity) (s : State) (w : List Event) → P s w → After P w (connects_now t version maxdata identity s)
+  pub online : (t version maxdata : ℕ) (identity : Identity) (s : State) (w : List Event) → P s w
+      → After P w (connects_now t version maxdata identity s)
   pub unauthorized : (t : ℕ) (row : Row) (s : State) (w : List Event) → at t s.devices.rows ≡ Some row → row.state ≡ Offline
       → P s w → P (unauthorized_from t Offline s) w
 

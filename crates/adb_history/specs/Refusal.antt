@@ -6,7 +6,8 @@ use Rattle.adb_capture.specs.declared.error.CaptureError.{CaptureError}
 use Rattle.adb_capture.specs.declared.error.CaptureError.TheVariants as capture
 use Rattle.adb_history.specs.declared.refusal.Refusal.{Refusal}
 use Rattle.adb_history.specs.declared.refusal.Reason.{Reason}
-use Rattle.adb_history.specs.declared.refusal.Reason.TheVariants.{BadMagic, Truncated, UnknownKind, RecordTooLong, CaptureTooLarge, BadForm, NotDrawn}
+use Rattle.adb_history.specs.declared.refusal.Reason.TheVariants.{BadMagic, Truncated, UnknownKind, RecordTooLong, CaptureTooLarge, BadForm}
+use Rattle.adb_history.specs.declared.refusal.Reason.TheVariants.{NotDrawn}
 use Rattle.adb_history.specs.declared.refusal.Reason.TheVariants.{TooManyDevices, BadSerial}
 
 abbrev pub reason_text : Reason → List ℕ

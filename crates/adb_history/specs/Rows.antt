@@ -10,14 +10,16 @@ use Rattle.adb_client.specs.declared.about.About.{About}
 use Rattle.adb_client.specs.declared.phase.Phase.{Phase}
 use Rattle.adb_client.specs.Client.{new_about}
 
--- A client. held: what came from it and is not used yet, which is unread while it asks, and is to be sent up from the moment that it asked for a
+-- A client. held: what came from it and is not used yet, which is unread while it asks, and is to be sent up from the
+-- moment that it asked for a
 -- service; due: what is still to be handed out to it.
 pub record Client : Type 0 where
   pub about : About
   pub held : List ℕ
   pub due : List ℕ
 
--- A link to a device. rest: what came and is no whole packet yet; sums: whether the version of its last CNXN wants check words, both ways; due: what is
+-- A link to a device. rest: what came and is no whole packet yet; sums: whether the version of its last CNXN wants
+-- check words, both ways; due: what is
 -- still to be handed out to it.
 pub record Link : Type 0 where
   pub rest : List ℕ

@@ -1,5 +1,6 @@
 -- Streams: how they are asked for, and how they end (protocol.txt, OPEN and CLOSE).
-use Rattle.std.specs.Prelude.{ℕ, ◌+◌, ◌-◌, ◌^◌, ◌==◌, Bool, true, false, if◌then◌else◌, List, [], ◌∷◌, Option, Some, None, codes, nat_eq, zero, suc}
+use Rattle.std.specs.Prelude.{ℕ, ◌+◌, ◌-◌, ◌^◌, ◌==◌, Bool, true, false, if◌then◌else◌, List, [], ◌∷◌, Option, Some, None, codes, nat_eq}
+use Rattle.std.specs.Prelude.{zero, suc}
 use Rattle.adb_outside.specs.Tables.{put_row}
 use Rattle.adb_stream.specs.Flow.{new_flow}
 use Rattle.adb_stream.specs.Stream.{new_stream}
@@ -60,7 +61,8 @@ tells_end false l ending s = record { state = s; told = ended l ending ∷ [] }
 -- stream end: the row of a stream is removed, and its client is closing
 abbrev pub ends_row : ℕ → Ending → Stream → State → Made
 ends_row l ending stream s =
-    then_also (tells_end stream.part.orphan l ending (to_stream l none_kept s)) (λ s. client_loses (s.clients stream.client) stream.client s)
+    then_also (tells_end stream.part.orphan l ending (to_stream l none_kept s))
+    (λ s. client_loses (s.clients stream.client) stream.client s)
 
 -- a stream ends of which the device is told
 abbrev pub ends_telling : ℕ → Ending → Stream → State → Made

@@ -47,7 +47,8 @@ UnreadIsPastUsed h = (c : ℕ) (client : Client) → (state h).clients c ≡ Som
 pub record IsBookOf (h : History) : Type 0 where
   pub devices : (state h).devices ≡ devices h
   pub forwards : (state h).forwards ≡ forwards h
-  pub waits : (c : ℕ) (client : Client) → (state h).clients c ≡ Some client → client.about.phase ≡ Binding → client.about.want ≡ (book h).waits c
+  pub waits : (c : ℕ) (client : Client) → (state h).clients c ≡ Some client → client.about.phase ≡ Binding
+      → client.about.want ≡ (book h).waits c
   pub killed : (state h).stopped ≡ is_killed h
 
 -- ---- numbers

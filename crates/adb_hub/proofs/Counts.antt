@@ -1,5 +1,6 @@
 -- How many rows a hub shows.
-use Rattle.std.proofs.Common.{ℕ, ◌≡◌, ◌≤◌, Bool, true, false, cond, List, [], ◌∷◌, length, Option, Some, None, refl, sym, ◌∙◌, ap, subst, arith, zero, suc}
+use Rattle.std.proofs.Common.{ℕ, ◌≡◌, ◌≤◌, Bool, true, false, cond, List, [], ◌∷◌, length, Option, Some, None, refl, sym, ◌∙◌, ap, subst}
+use Rattle.std.proofs.Common.{arith, zero, suc}
 use Rattle.std.specs.Prelude.{option_map}
 use Rattle.std.specs.Map.{keys_of}
 use Rattle.std.specs.Ordering.{nat_cmp, is_eq}
@@ -35,7 +36,8 @@ pub shown_count : {A B : Type 0} (f : A → B) (es : List (ℕ × A)) (k : ℕ) 
     → length es ≡ length (listed (λ n. option_map f (at n es)) 1 k)
 shown_count f es k rises drawn =
     sym (mapped_length f es)
-    ∙ ap length (same_table (mapped f es) (λ n. option_map f (at n es)) k (subst (IsStrictlySortedBy nat_cmp) (sym (mapped_keys f es)) rises)
+    ∙ ap length (same_table (mapped f es) (λ n. option_map f (at n es)) k
+    (subst (IsStrictlySortedBy nat_cmp) (sym (mapped_keys f es)) rises)
     drawn.zero drawn.above (λ n. mapped_at f n es))
 
 pub listed_count : {B : Type 0} (es : List (ℕ × B)) (k : ℕ) → IsRising es → IsDrawnOnly k (λ n. at n es)

@@ -66,7 +66,8 @@ pub record IsNamed (n : ℕ) (stopped : Bool) (drawn : ℕ) : Type 0 where
   pub open_to : IsOpenTo stopped drawn n
 
 module _ (t : Tables) (k : Kept) (view : kept (state_of t) ≡ k) (n : ℕ) (range : n < 2 ^ 32) where
-  pub open_client : Ok tt ≡ err_if (unless_stopped k.stopped (unless_drawn (is_drawn k.joined n) (NoClient n))) → IsNamed n t.stopped t.joined
+  pub open_client : Ok tt ≡ err_if (unless_stopped k.stopped (unless_drawn (is_drawn k.joined n) (NoClient n)))
+      → IsNamed n t.stopped t.joined
   open_client e = record {
     range = range;
     open_to = looked t.stopped t.joined n (NoClient n)
@@ -78,7 +79,9 @@ module _ (t : Tables) (k : Kept) (view : kept (state_of t) ≡ k) (n : ℕ) (ran
   open_link e = record {
     range = range;
     open_to = looked t.stopped t.devices.drawn n (NoLink n)
-        (subst (λ (x : Kept). Ok tt ≡ err_if (unless_stopped x.stopped (unless_drawn (is_drawn x.devices.drawn n) (NoLink n)))) (sym view) e);
+        (subst (λ (x : Kept). Ok tt
+        ≡ err_if (unless_stopped x.stopped (unless_drawn (is_drawn x.devices.drawn n) (NoLink n)))) (sym view)
+        e);
   }
 
 -- ---- a call that made its entry
@@ -103,7 +106,8 @@ life_shown : {A B : Type 0} (f : A → B) (row : Option A) → cond (is_some row
 life_shown f None = refl
 life_shown f (Some row) = refl
 
-pub life_if_there : {A B : Type 0} (f : A → B) (row : Option A) (there : Bool) (told : Life) → there ≡ is_some row → told ≡ cond there Live Gone
+pub life_if_there : {A B : Type 0} (f : A → B) (row : Option A) (there : Bool) (told : Life) → there ≡ is_some row
+    → told ≡ cond there Live Gone
     → told ≡ life_of (option_map f row)
 life_if_there f row there told is told_is = told_is ∙ (ap (λ b. cond b Live Gone) is ∙ life_shown f row)
 
@@ -144,20 +148,30 @@ module _ (n : ℕ) (old new : Tables) (sound : IsSound old) where
   pub end_called : (cause : Cause) → IsNamed n old.stopped old.joined → Makes (End n cause) old new → Called (End n cause) old new
   end_called cause named made = record {
     sound = sound;
-    given = record { range = record { owner = named.range; port = tt; bytes = a_cause cause }; may = (named.open_to.going, named.open_to.in_use) };
+    given = record {
+      range = record { owner = named.range; port = tt; bytes = a_cause cause };
+      may =
+          (named.open_to.going, named.open_to.in_use);
+    };
     allowed = allowed named;
     made = made;
   }
 
-  pub bound_called : (port : ℕ) → port < 2 ^ 16 → IsNamed n old.stopped old.joined → Makes (Bound n port) old new → Called (Bound n port) old new
+  pub bound_called : (port : ℕ) → port < 2 ^ 16 → IsNamed n old.stopped old.joined → Makes (Bound n port) old new
+      → Called (Bound n port) old new
   bound_called port short named made = record {
     sound = sound;
-    given = record { range = record { owner = named.range; port = short; bytes = two_bytes port }; may = (named.open_to.going, named.open_to.in_use) };
+    given = record {
+      range = record { owner = named.range; port = short; bytes = two_bytes port };
+      may =
+          (named.open_to.going, named.open_to.in_use);
+    };
     allowed = allowed named;
     made = made;
   }
 
-  link_allowed : IsNamed n old.stopped old.devices.drawn → unless_stopped old.stopped (unless_drawn (is_drawn old.devices.drawn n) (NoLink n)) ≡ None
+  link_allowed : IsNamed n old.stopped old.devices.drawn → unless_stopped old.stopped
+      (unless_drawn (is_drawn old.devices.drawn n) (NoLink n)) ≡ None
   link_allowed named = allowed_of old.stopped old.devices.drawn n (NoLink n) named.open_to
 
   pub recv_called : (bytes : List ℕ) → All (λ b. b < 256) bytes → IsNamed n old.stopped old.devices.drawn → Makes (Recv n bytes) old new
@@ -169,10 +183,15 @@ module _ (n : ℕ) (old new : Tables) (sound : IsSound old) where
     made = made;
   }
 
-  pub detach_called : (cause : Cause) → IsNamed n old.stopped old.devices.drawn → Makes (Detach n cause) old new → Called (Detach n cause) old new
+  pub detach_called : (cause : Cause) → IsNamed n old.stopped old.devices.drawn → Makes (Detach n cause) old new
+      → Called (Detach n cause) old new
   detach_called cause named made = record {
     sound = sound;
-    given = record { range = record { owner = named.range; port = tt; bytes = a_cause cause }; may = (named.open_to.going, named.open_to.in_use) };
+    given = record {
+      range = record { owner = named.range; port = tt; bytes = a_cause cause };
+      may =
+          (named.open_to.going, named.open_to.in_use);
+    };
     allowed = link_allowed named;
     made = made;
   }
@@ -191,7 +210,8 @@ next_of n false joined e = go (joined == 2 ^ 32 - 1) refl e
     go true is e = absurd (let clash : Ok n ≡ Err Numbers = e in cc)
     go false is e = record { going = refl; is = (let same : n ≡ joined + 1 = cc in same); left = ap (λ b. cond b (Some Numbers) None) is }
 
-next_allowed : (stopped : Bool) (joined : ℕ) → stopped ≡ false → unless_worn joined ≡ None → unless_stopped stopped (unless_worn joined) ≡ None
+next_allowed : (stopped : Bool) (joined : ℕ) → stopped ≡ false → unless_worn joined ≡ None
+    → unless_stopped stopped (unless_worn joined) ≡ None
 next_allowed stopped joined going left = ap (λ b. unless_stopped b (unless_worn joined)) going ∙ left
 
 module _ (n : ℕ) (old new : Tables) (sound : IsSound old) (range : n < 2 ^ 32) (next : IsNextOf n old.stopped old.joined) where
@@ -252,7 +272,8 @@ some_of max all bytes h = record {
 pub short_front : (max : ℕ) (all bytes : List ℕ) → IsFront max all (Some bytes) → length bytes ≤ max
 short_front max all bytes h = omega (arith, ap (λ (b : List ℕ). length b) h.0, length-take max all)
 
-pub may_put : (max : ℕ) (s : State) (row : Option Client) (bytes : List ℕ) → IsFront max (answers.offered_to s.devices row) (Some bytes) → MayPut s row bytes
+pub may_put : (max : ℕ) (s : State) (row : Option Client) (bytes : List ℕ)
+    → IsFront max (answers.offered_to s.devices row) (Some bytes) → MayPut s row bytes
 may_put max s None bytes h = absurd (h.1 (h.0 ∙ take-nil max))
 may_put max s (Some client) bytes h = some_of max (offered s.devices client) bytes h
 
@@ -262,7 +283,8 @@ may_send max (Some link) bytes h = some_of max link.due bytes h
 
 -- what was put, or why nothing was
 pub nothing_put : (max : ℕ) (s : State) (row : Option Client) (e : List ℕ → Entry) (h : History) (old new : Kept)
-    → IsFront max (answers.offered_to s.devices row) None → new ≡ old → HandsOut e max (hub.offered_to s.devices row) (handed_as None (life_of row)) h old new
+    → IsFront max (answers.offered_to s.devices row) None → new ≡ old
+    → HandsOut e max (hub.offered_to s.devices row) (handed_as None (life_of row)) h old new
 nothing_put max s None e h old new none same = same
 nothing_put max s (Some client) e h old new none same = (none, same)
 

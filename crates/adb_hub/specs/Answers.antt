@@ -1,6 +1,7 @@
 -- What the calls of a hub answer, over a history that it holds.
 use Rattle.std.specs.Prelude.{ℕ, ◌+◌, ◌-◌, ◌≤◌, ◌<◌, All, ◌^◌, ◌==◌, ◌≡◌, ◌≢◌, Bool, true, false}
-use Rattle.std.specs.Prelude.{if◌then◌else◌, nat_le, nat_lt, ◌*◌, List, [], ◌∷◌, length, take, Option, Some, None, Result, Ok, Err, option_map}
+use Rattle.std.specs.Prelude.{if◌then◌else◌, nat_le, nat_lt, ◌*◌, List, [], ◌∷◌, length, take, Option, Some, None, Result, Ok, Err}
+use Rattle.std.specs.Prelude.{option_map}
 use Rattle.adb_outside.specs.Tables.{at}
 use Rattle.adb_registry.specs.Registry.{DeviceTable}
 use Rattle.adb_registry.specs.declared.row.Row.{Row}

@@ -43,7 +43,8 @@ module _ (rows : List (ℕ × Row)) (forwards : List (ℕ × ForwardRow)) where
     unbinds = λ port. tt;
     unbinds_all = tt;
     opens = λ id text row right is e.
-        subst (λ (found : Option Row). length text + 1 ≤ unwrap_or (option_map (λ row. row.maxdata) found) 0) (sym is) (fits row.maxdata (length text) e);
+        subst (λ (found : Option Row). length text + 1 ≤ unwrap_or (option_map (λ row. row.maxdata) found) 0) (sym is)
+        (fits row.maxdata (length text) e);
   }
 
   answer_fits : (selected : Option ℕ) (request : Request) → FitsDevice rows (answer rows forwards selected request).next
@@ -60,7 +61,8 @@ module _ (devices : DeviceTable) (sized : (t : ℕ) → maxdata_of t devices ≤
   follows (Select id) reply size others q fit rest before = rest (record (replied reply size q) { selected = Some id }) before
   follows _ reply size others q fit rest before = fit
 
-  found_fits : (found : Found) (others : Asked → Asked) (q : Asked) → ((p : Asked) → FitsNext p.next → FitsNext (others p).next) → FitsNext q.next
+  found_fits : (found : Found) (others : Asked → Asked) (q : Asked)
+      → ((p : Asked) → FitsNext p.next → FitsNext (others p).next) → FitsNext q.next
       → FitsNext (after_found devices forwards found others q).next
   found_fits More others q rest before = before
   found_fits Malformed others q rest before = tt

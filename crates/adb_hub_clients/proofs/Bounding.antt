@@ -1,5 +1,6 @@
 -- A client hears of the listener that it waited for.
-use Rattle.std.proofs.Common.{ℕ, ◌≡◌, ◌≢◌, ◌&&◌, Bool, true, false, List, Option, Some, None, is_some, refl, sym, ◌∙◌, ap, subst, ◌⊎◌, inl, inr}
+use Rattle.std.proofs.Common.{ℕ, ◌≡◌, ◌≢◌, ◌&&◌, Bool, true, false, List, Option, Some, None, is_some, refl, sym, ◌∙◌, ap, subst, ◌⊎◌, inl}
+use Rattle.std.proofs.Common.{inr}
 use Rattle.std.proofs.lemmas.Bool.{cases_eq}
 use Rattle.adb_outside.specs.Tables.{at}
 use Rattle.adb_capture.specs.declared.entry.Entry.TheVariants.{Bound}
@@ -51,7 +52,8 @@ module _ (c port : ℕ) (s : State) where
     bound_is None there is = let clash : false ≡ true = there in cc
     bound_is (Some client) there is = bound_is_in client.about.phase client.about.want there is
 
-pub idle_bound : (old : Tables) → IsFit old → IsReached (state_of old) → (c port : ℕ) → waits ((state_of old).clients c) ≡ false → Makes (Bound c port) old old
+pub idle_bound : (old : Tables) → IsFit old → IsReached (state_of old) → (c port : ℕ)
+    → waits ((state_of old).clients c) ≡ false → Makes (Bound c port) old old
 idle_bound old fit reached c port idle = record {
   state = idle_at c port (state_of old) ((state_of old).clients c) idle ∙ sym ((sends_nothing (state_of old) reached).bound c port);
   fit = fit;
@@ -72,7 +74,8 @@ wanted (Some client) there = by_want (is_binding client.about.phase) client.abou
     by_want false None is there = let clash : false ≡ true = there in cc
 
 -- ---- the places that are left
-provided_slice : (mid new : Tables) (c : ℕ) → IsProvided mid → ClientRoom 1 (at c mid.clients.entries) → ((t : ℕ) → Uses t 0 c 1 mid new) → IsProvided new
+provided_slice : (mid new : Tables) (c : ℕ) → IsProvided mid → ClientRoom 1 (at c mid.clients.entries)
+    → ((t : ℕ) → Uses t 0 c 1 mid new) → IsProvided new
 provided_slice mid new c h room uses = record {
   links = λ k. (uses k).on_link 0 (h.links k);
   clients = λ k. go k (cases_eq k c);
@@ -125,9 +128,12 @@ module _ (old mid new : Tables) (fit : IsFit old) (reached : IsReached (state_of
       is_bound = h.bound w.want w.is
 
       put : state_of mid ≡ record (state_of old) { forwards = (bound_by w.want port old.devices old.forwards).forwards }
-      put = ap state_of h.others ∙ ap (λ (forwards : List (ℕ × ForwardRow)). record (state_of old) { forwards = forwards }) is_bound.forwards_are
+      put = ap state_of h.others
+          ∙ ap (λ (forwards : List (ℕ × ForwardRow)). record (state_of old) { forwards = forwards })
+          is_bound.forwards_are
 
-      closing : (closes_with c reply (state_of mid)).state ≡ (bound_to c (bound_by w.want port old.devices old.forwards) (state_of old)).state
+      closing : (closes_with c reply (state_of mid)).state ≡
+          (bound_to c (bound_by w.want port old.devices old.forwards) (state_of old)).state
       closing =
           ap (λ (bytes : List ℕ). (closes_with c bytes (state_of mid)).state) is_bound.reply_is
           ∙ ap (λ (t : State). (closes_with c (bound_by w.want port old.devices old.forwards).reply t).state) put

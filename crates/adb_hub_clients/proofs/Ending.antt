@@ -75,7 +75,8 @@ module _ (s : State) (reached : IsReached s) (c l : ℕ) (x : IsClientIn s c (St
       ap (λ (t : Stream). t.client) (sym same) ∙ own.client
 
   -- the stream can send nothing more
-  pub idle_then : (mid : Tables) → state_of mid ≡ (client_ends c Eof (s.clients c) s).state → (stream : Stream) → at l mid.streams.streams ≡ Some stream
+  pub idle_then : (mid : Tables) → state_of mid ≡ (client_ends c Eof (s.clients c) s).state → (stream : Stream)
+      → at l mid.streams.streams ≡ Some stream
       → all_unsent stream mid ≡ []
   idle_then mid ruled stream there =
       let noted_is : state_of mid ≡ to_client c input_ended s = ruled ∙ noted in

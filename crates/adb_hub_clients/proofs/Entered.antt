@@ -45,7 +45,9 @@ pub enters_with : {E : Type 0} (result : Result (Unit {0}) E) (way : Way) (row :
 enters_with result way None c s new leads opened = absurd leads
 enters_with (Err error) way (Some row) c s new leads opened = tt
 enters_with (Ok done) way (Some row) c s new leads opened =
-    subst (λ b. Leaves (cond b (opens true c row.transport row.remote (comes true c s)) (record { state = comes_in_vain s; told = [] })).state new)
+    subst (λ b. Leaves
+    (cond b (opens true c row.transport row.remote (comes true c s))
+    (record { state = comes_in_vain s; told = [] })).state new)
     (sym leads.connected)
     (subst (λ (link : ℕ). Leaves (opens true c link row.remote (comes true c s)).state new) leads.link (opened row.remote leads.payload))
 
@@ -59,7 +61,8 @@ comes_back c s old fresh next came =
     last : c - 1 ≡ s.joined
     last = omega (arith, next)
 
-    at_place : (k : ℕ) → change_row c (option_and_then (none_kept {A = Client})) (put_row c (Some (new_client true c)) s.clients) k ≡ s.clients k
+    at_place : (k : ℕ) → change_row c (option_and_then (none_kept {A = Client}))
+        (put_row c (Some (new_client true c)) s.clients) k ≡ s.clients k
     at_place k = by_place (cases_eq c k)
       where
         by_place : ◌⊎◌ (c ≡ k) (c ≢ k)

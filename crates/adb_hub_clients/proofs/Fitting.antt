@@ -20,7 +20,8 @@ use Rattle.adb_hub_clients.specs.declared.hearing.Heard.{Heard}
 
 -- another table of the clients, whose rows have their places
 pub clients_leave : (old new : Tables) (rows : Rows (Option Client)) → clients_of new.clients.entries ≡ rows
-    → ((c : ℕ) → IsPlaced c old.trackers.keys (at c old.clients.entries) → IsPlaced c old.trackers.keys (at c new.clients.entries)) → IsFit old
+    → ((c : ℕ) → IsPlaced c old.trackers.keys (at c old.clients.entries)
+    → IsPlaced c old.trackers.keys (at c new.clients.entries)) → IsFit old
     → Leaves (record (state_of old) { clients = rows }) (record old { clients = new.clients })
 clients_leave old new rows is stay fit = record {
   state = ap (λ (rows : Rows (Option Client)). record (state_of old) { clients = rows }) is;

@@ -29,7 +29,8 @@ joined c old new fit reached h = subst (Makes (Join c) old) (sym h.others) (reco
   fit = record {
     provided = record {
       links = fit.provided.links;
-      clients = holds_put (λ k row. ClientRoom 0 row) c (Some (fresh c)) old.clients.entries new.clients.entries (h.row, omega arith) fit.provided.clients;
+      clients = holds_put (λ k row. ClientRoom 0 row) c (Some (fresh c)) old.clients.entries new.clients.entries
+          (h.row, omega arith) fit.provided.clients;
       counted = fit.provided.counted;
       tracked = holds_put (λ k row. IsListedAt k old.trackers.keys row) c (Some (fresh c)) old.clients.entries new.clients.entries
           (h.row, tt) fit.provided.tracked;

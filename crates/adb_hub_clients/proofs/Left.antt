@@ -31,7 +31,8 @@ abbrev pub asked_by_all : DeviceTable → List (ℕ × ForwardRow) → List ℕ 
 asked_by_all devices forwards held selected = reads_on devices forwards (length held) (asking held selected)
 
 -- What was read so far asks, with what is left, all that is asked; so many requests are left at most.
-pub record IsLeft (devices : DeviceTable) (forwards : List (ℕ × ForwardRow)) (held : List ℕ) (selected : Option ℕ) (reading : Reading) : Type 0 where
+pub record IsLeft (devices : DeviceTable) (forwards : List (ℕ × ForwardRow)) (held : List ℕ) (selected : Option ℕ)
+    (reading : Reading) : Type 0 where
   pub most : ℕ
   pub asks : reads_on devices forwards most (asked_so_far reading held) ≡ asked_by_all devices forwards held selected
   pub enough : length held ≤ reading.used + most
@@ -83,7 +84,9 @@ module _ (devices : DeviceTable) (forwards : List (ℕ × ForwardRow)) where
     pub whole_again : ReadsOne devices forwards piece (first_reading selected) Again new → new.used ≡ length piece
         → asked_so_far new piece ≡ asked_by_all devices forwards piece selected
     whole_again reads used =
-        nothing_left piece selected new (less_left piece selected (first_reading selected) (all_left piece selected) new reads) (omega (arith, used))
+        nothing_left piece selected new
+        (less_left piece selected (first_reading selected) (all_left piece selected) new reads)
+        (omega (arith, used))
 
     -- what follows it is what follows all that was asked
     pub whole_end : (next : Option Next) → 0 < length piece → ReadsOne devices forwards piece (first_reading selected) (End next) new
@@ -91,7 +94,8 @@ module _ (devices : DeviceTable) (forwards : List (ℕ × ForwardRow)) where
     whole_end next some reads = ends_here piece selected (first_reading selected) (all_left piece selected) new next some reads
 
   -- it is read first
-  pub reads_whole : (old new : Reading) (selected : Option ℕ) (step : Step) (request : Request) (piece : List ℕ) → old ≡ first_reading selected
+  pub reads_whole : (old new : Reading) (selected : Option ℕ) (step : Step) (request : Request) (piece : List ℕ)
+      → old ≡ first_reading selected
       → IsAskedBehind 0 (asked_whole request (length piece)) piece
       → ((held : List ℕ) → IsAskedBehind old.used (asked_whole request (length piece)) held → ReadsOne devices forwards held old step new)
       → ReadsOne devices forwards piece (first_reading selected) step new

@@ -1,5 +1,6 @@
 -- Streams that are drawn.
-use Rattle.std.proofs.Common.{ℕ, ◌+◌, ◌≡◌, ◌≢◌, ◌≤◌, List, [], ◌∷◌, Bool, true, false, Option, Some, None, Ordering, refl, sym, ◌∙◌, ap, subst, cond}
+use Rattle.std.proofs.Common.{ℕ, ◌+◌, ◌≡◌, ◌≢◌, ◌≤◌, List, [], ◌∷◌, Bool, true, false, Option, Some, None, Ordering, refl, sym, ◌∙◌, ap}
+use Rattle.std.proofs.Common.{subst, cond}
 use Rattle.std.proofs.Common.{arith, ◌⊎◌, inl, inr}
 use Rattle.std.specs.Prelude.{option_map, nat_eq}
 use Rattle.std.specs.List.{sum_by}
@@ -32,12 +33,14 @@ use Rattle.adb_client.specs.declared.phase.Phase.TheVariants.{Opening}
 use Rattle.adb_history.specs.Links.{open_packet, owe_link, is_credit}
 
 -- ---- how many streams a link has then
-put_adds : {X : Type 0} (f : X → ℕ) (n : ℕ) (row : X) (es : List (ℕ × X)) → sum_by f (values_of (put_at n row es)) ≤ sum_by f (values_of es) + f row
+put_adds : {X : Type 0} (f : X → ℕ) (n : ℕ) (row : X) (es : List (ℕ × X))
+    → sum_by f (values_of (put_at n row es)) ≤ sum_by f (values_of es) + f row
 put_adds f n row [] = omega (arith, sum_by-cons f row [])
 put_adds {X} f n row (e ∷ es) = go (nat_cmp n e.0) (put_adds f n row es)
   where
     go : (o : Ordering) → sum_by f (values_of (put_at n row es)) ≤ sum_by f (values_of es) + f row
-        → sum_by f (values_of (match_ordering o ((n, row) ∷ e ∷ es) ((e.0, row) ∷ es) (e ∷ put_at n row es))) ≤ sum_by f (e.1 ∷ values_of es) + f row
+        → sum_by f (values_of (match_ordering o ((n, row) ∷ e ∷ es) ((e.0, row) ∷ es) (e ∷ put_at n row es)))
+        ≤ sum_by f (e.1 ∷ values_of es) + f row
     go Less later = omega (arith, sum_by-cons f row (e.1 ∷ values_of es))
     go Equal later = omega (arith, sum_by-cons f row (values_of es), sum_by-cons f e.1 (values_of es))
     go Greater later = omega (arith, later, sum_by-cons f e.1 (values_of (put_at n row es)), sum_by-cons f e.1 (values_of es))
@@ -81,7 +84,8 @@ counted_else k streams stream other (Some port) counted =
     let none : is_on k stream ≡ 0 = ap (λ b. cond b 1 0) (ne_eqb stream.link k (λ e. other (sym e))) in
     omega (arith, counted, put_adds (is_on k) stream.id stream streams, none)
 
-module _ {stream : Stream} {old new : Tables} (h : Draws stream old new) (fit : IsFit old) (has : HasPlaces 2 (at stream.link old.links.entries)) where
+module _ {stream : Stream} {old new : Tables} (h : Draws stream old new) (fit : IsFit old)
+    (has : HasPlaces 2 (at stream.link old.links.entries)) where
   -- what holds of each link, by whether it is that of the stream
   at_link : (P : ℕ → Option Port → Type 0) → P stream.link (option_map counting (at stream.link old.links.entries))
       → ((k : ℕ) → k ≢ stream.link → P k (at k old.links.entries)) → (k : ℕ) → P k (at k new.links.entries)
@@ -94,7 +98,8 @@ module _ {stream : Stream} {old new : Tables} (h : Draws stream old new) (fit : 
   pub drawn_fit : IsFit new
   drawn_fit = record {
     provided = record {
-      links = at_link (λ k. LinkRoom 0) (less_room _ (counted_room (at stream.link old.links.entries) has)) (λ k other. fit.provided.links k);
+      links = at_link (λ k. LinkRoom 0) (less_room _ (counted_room (at stream.link old.links.entries) has))
+          (λ k other. fit.provided.links k);
       clients = λ c. subst (λ (table : _). ClientRoom 0 (at c table.entries)) (sym h.clients) (fit.provided.clients c);
       counted = at_link (λ k port. IsCountedAt k new.streams.streams port)
           (subst (λ streams. IsCountedAt stream.link streams (option_map counting (at stream.link old.links.entries))) (sym h.streams)
@@ -104,12 +109,19 @@ module _ {stream : Stream} {old new : Tables} (h : Draws stream old new) (fit : 
       tracked = λ c. subst (λ (table : _). IsListedAt c table.keys (at c new.clients.entries)) (sym h.trackers)
           (subst (λ (table : _). IsListedAt c old.trackers.keys (at c table.entries)) (sym h.clients) (fit.provided.tracked c));
     };
-    read_out = at_link (λ k. IsReadOutAt) (counted_read (at stream.link old.links.entries) (fit.read_out stream.link)) (λ k other. fit.read_out k);
+    read_out = at_link (λ k. IsReadOutAt) (counted_read (at stream.link old.links.entries) (fit.read_out stream.link))
+        (λ k other. fit.read_out k);
   }
 
 -- ---- the state then
 pub drawn_state : (old : Tables) (id c t : ℕ) (credit : Bool) → id ≡ old.streams.drawn + 1
-    → state_of (record old { streams = record { drawn = id; streams = put_at id (new_stream id c t (new_flow credit)) old.streams.streams } })
+    → state_of (record old {
+      streams = record {
+        drawn = id;
+        streams = put_at id (new_stream id c t (new_flow credit))
+            old.streams.streams;
+      };
+    })
     ≡ draw credit c t (state_of old)
 drawn_state old id c t credit is =
     let s = state_of old in

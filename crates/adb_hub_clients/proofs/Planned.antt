@@ -1,5 +1,6 @@
 -- What a client asks is answered.
-use Rattle.std.proofs.Common.{ℕ, ◌≡◌, ◌≤◌, ◌++◌, arith, List, [], drop, length, Bool, true, false, Option, Some, None, refl, sym, ◌∙◌, ap, subst, cond}
+use Rattle.std.proofs.Common.{ℕ, ◌≡◌, ◌≤◌, ◌++◌, arith, List, [], drop, length, Bool, true, false, Option, Some, None, refl, sym, ◌∙◌, ap}
+use Rattle.std.proofs.Common.{subst, cond}
 use Rattle.std.proofs.Common.{eqb}
 use Rattle.std.specs.Prelude.{option_map, option_and_then}
 use Rattle.std.proofs.lemmas.Bool.{eqb-true, eq-eqb}
@@ -49,13 +50,15 @@ heard_is plan c row s here i = record s { clients = λ k. at_place k i }
 
     by_test : (k : ℕ) (b : Bool) → ((b ≡ true) → s.clients k ≡ Some row)
         → cond b (option_and_then (after_requests (heard_of plan)) (s.clients k)) (s.clients k)
-        ≡ cond b (option_and_then (with_due plan.replies) (cond b (option_and_then (has_asked (asked_by plan row.held)) (s.clients k)) (s.clients k)))
+        ≡ cond b (option_and_then (with_due plan.replies)
+        (cond b (option_and_then (has_asked (asked_by plan row.held)) (s.clients k)) (s.clients k)))
         (cond b (option_and_then (has_asked (asked_by plan row.held)) (s.clients k)) (s.clients k))
     by_test k true same = by_row (s.clients k) (same refl)
     by_test k false same = refl
 
     at_place : (k : ℕ) → change_row c (option_and_then (after_requests (heard_of plan))) s.clients k
-        ≡ change_row c (option_and_then (with_due plan.replies)) (change_row c (option_and_then (has_asked (asked_by plan row.held))) s.clients) k
+        ≡ change_row c (option_and_then (with_due plan.replies))
+        (change_row c (option_and_then (has_asked (asked_by plan row.held))) s.clients) k
     at_place k = by_test k (eqb c k) (λ same. ap s.clients (sym (eqb-true c k same)) ∙ here)
 
 -- a client that is there, as its table has it
@@ -65,21 +68,24 @@ seen_row : (c : ℕ) (t : Tables) (row : Client) (found : Option SeenClient) →
 seen_row c t row None is plan plans = absurd plans
 seen_row c t row (Some client) is plan plans =
     let same : client_row client ≡ row = ap or_row is in
-    subst (λ (row : Client). asked_by plan row.held ≡ reads_on t.devices t.forwards (length row.held) (asking row.held row.about.selected)) same plans.asked
+    subst (λ (row : Client). asked_by plan row.held ≡ reads_on t.devices t.forwards (length row.held)
+    (asking row.held row.about.selected)) same plans.asked
   where
     or_row : Option Client → Client
     or_row None = row
     or_row (Some row) = row
 
 -- what follows the requests of a plan is what follows all that is held
-pub planned : (plan : Plan) (c : ℕ) (row : Client) (t : Tables) → PlansAt t (at c t.clients.entries) (Some plan) → (state_of t).clients c ≡ Some row
+pub planned : (plan : Plan) (c : ℕ) (row : Client) (t : Tables) → PlansAt t (at c t.clients.entries) (Some plan)
+    → (state_of t).clients c ≡ Some row
     → (goes_on plan.next c (hears (heard_of plan) c (state_of t))).state ≡ answered c row (state_of t)
 planned plan c row t plans here =
     ap (λ (s : State). (goes_on plan.next c s).state) (heard_is plan c row (state_of t) here)
     ∙ ap (λ (q : Asked). (asks q c (state_of t)).state) (seen_row c t row (at c t.clients.entries) here plan plans)
 
 -- and tells the same ends
-pub planned_tells : (plan : Plan) (c : ℕ) (row : Client) (t : Tables) → PlansAt t (at c t.clients.entries) (Some plan) → (state_of t).clients c ≡ Some row
+pub planned_tells : (plan : Plan) (c : ℕ) (row : Client) (t : Tables) → PlansAt t (at c t.clients.entries) (Some plan)
+    → (state_of t).clients c ≡ Some row
     → TellsSame (goes_on plan.next c (hears (heard_of plan) c (state_of t))).told (answers c row (state_of t)).told
 planned_tells plan c row t plans here = λ rows log.
     ap (λ (s : State). logged rows (goes_on plan.next c s).told log) (heard_is plan c row (state_of t) here)
@@ -163,7 +169,8 @@ module _ (plan : Plan) (c : ℕ) (piece : List ℕ) (t : Tables) (plans : PlansW
           ∙ (ap (λ (row : Client). reads_on t.devices t.forwards (length piece) (asking piece row.about.selected)) (sym same)
           ∙ (sym plans.asked.asked ∙ ap (λ rest. asked_past rest plan.used) past)) in
           ap (λ (s : State). (goes_on plan.next c s).state) (heard_is (record plan { used = 0 }) c row (state_of t) here)
-          ∙ (ap (λ rest. (asks (asked_past rest 0) c (state_of t)).state) none ∙ sym (ap (λ (q : Asked). (asks q c (state_of t)).state) reads))
+          ∙ (ap (λ rest. (asks (asked_past rest 0) c (state_of t)).state) none
+          ∙ sym (ap (λ (q : Asked). (asks q c (state_of t)).state) reads))
 
   -- and tells the same ends
   pub whole_tells : (row : Client) → (state_of t).clients c ≡ Some row
@@ -175,7 +182,8 @@ module _ (plan : Plan) (c : ℕ) (piece : List ℕ) (t : Tables) (plans : PlansW
       or_row None = row
       or_row (Some row) = row
 
-      by_row : (rows : Rows (Option Stream)) (log : Log) (found : Option SeenClient) → option_map client_row found ≡ Some row → PlansWhole t found piece plan
+      by_row : (rows : Rows (Option Stream)) (log : Log) (found : Option SeenClient)
+          → option_map client_row found ≡ Some row → PlansWhole t found piece plan
           → logged rows (goes_on plan.next c (hears (heard_of (record plan { used = 0 })) c (state_of t))).told log
           ≡ logged rows (asks (asks_with t.devices t.forwards piece (asked_before row)) c (state_of t)).told log
       by_row rows log None is plans = absurd plans
@@ -195,14 +203,16 @@ module _ (plan : Plan) (c : ℕ) (piece : List ℕ) (t : Tables) (plans : PlansW
 -- what is asked replaces what was held
 pub asks_anew : (q : Asked) (c : ℕ) (piece : List ℕ) (s : State) → asks q c (takes_in c piece s) ≡ asks q c s
 asks_anew q c piece s =
-    ap (λ (then : State). then_also (owe_client c q.replies then) (goes_on q.next c)) (λ i. record s { clients = λ k. by_test (eqb c k) (s.clients k) i })
+    ap (λ (then : State). then_also (owe_client c q.replies then) (goes_on q.next c))
+    (λ i. record s { clients = λ k. by_test (eqb c k) (s.clients k) i })
   where
     by_row : (row : Option Client) → option_and_then (has_asked q) (option_and_then (holding piece) row) ≡ option_and_then (has_asked q) row
     by_row None = refl
     by_row (Some row) = refl
 
     by_test : (b : Bool) (row : Option Client)
-        → cond b (option_and_then (has_asked q) (cond b (option_and_then (holding piece) row) row)) (cond b (option_and_then (holding piece) row) row)
+        → cond b (option_and_then (has_asked q) (cond b (option_and_then (holding piece) row) row))
+        (cond b (option_and_then (holding piece) row) row)
         ≡ cond b (option_and_then (has_asked q) row) row
     by_test true row = by_row row
     by_test false row = refl
@@ -211,7 +221,8 @@ asks_anew q c piece s =
 pub holding_row : (c : ℕ) (piece : List ℕ) (s : State) (row : Client) → s.clients c ≡ Some row
     → (takes_in c piece s).clients c ≡ Some (record row { held = row.held ++ piece })
 holding_row c piece s row here =
-    ap (λ b. cond b (option_and_then (holding piece) (s.clients c)) (s.clients c)) (eq-eqb c c refl) ∙ ap (option_and_then (holding piece)) here
+    ap (λ b. cond b (option_and_then (holding piece) (s.clients c)) (s.clients c)) (eq-eqb c c refl)
+    ∙ ap (option_and_then (holding piece)) here
 
 -- what is held of a client is the same in a state that is the same
 abbrev holds_in : ℕ → Option Client → Type 0
@@ -221,7 +232,8 @@ holds_in n (Some row) = n ≤ length row.held
 pub holds_same : (n c : ℕ) (old new : Tables) → state_of new ≡ state_of old → HoldsAtLeast n (at c old.clients.entries)
     → HoldsAtLeast n (at c new.clients.entries)
 holds_same n c old new same holds =
-    back (at c new.clients.entries) (subst (holds_in n) (sym (ap (λ (s : State). s.clients c) same)) (forth (at c old.clients.entries) holds))
+    back (at c new.clients.entries)
+    (subst (holds_in n) (sym (ap (λ (s : State). s.clients c) same)) (forth (at c old.clients.entries) holds))
   where
     forth : (found : Option SeenClient) → HoldsAtLeast n found → holds_in n (option_map client_row found)
     forth None holds = tt

@@ -73,15 +73,18 @@ stays_read packets old new None uses k = (uses 0 0).read k
 stays_read packets old new (Some stream) uses k = (uses 0).read k
 
 pub raised_fit : (id : ℕ) (old new : Tables) → IsFit old → HasRoom (writes_up id old) (at id old.streams.streams) old
-    → ((c : ℕ) → UsesOf (at id old.streams.streams) (writes_up id old) c 0 old new) → state_of new ≡ (up id (state_of old)).state → IsFit new
+    → ((c : ℕ) → UsesOf (at id old.streams.streams) (writes_up id old) c 0 old new)
+    → state_of new ≡ (up id (state_of old)).state → IsFit new
 raised_fit id old new fit room uses is = record {
   provided = provided_of (writes_up id old) old new fit.provided (at id old.streams.streams) room uses;
-  read_out = λ k. read_out (at k old.links.entries) (at k new.links.entries) (stays_read (writes_up id old) old new (at id old.streams.streams) uses k)
+  read_out = λ k. read_out (at k old.links.entries) (at k new.links.entries)
+      (stays_read (writes_up id old) old new (at id old.streams.streams) uses k)
       (ap (sums_at k) is ∙ up_sums id (state_of old) k) (fit.read_out k);
 }
 
 -- a stream of which nothing can be sent
-pub idle_fit : (id : ℕ) (old new : Tables) → IsFit old → ((t c : ℕ) → Uses t 0 c 0 old new) → state_of new ≡ (up id (state_of old)).state → IsFit new
+pub idle_fit : (id : ℕ) (old new : Tables) → IsFit old → ((t c : ℕ) → Uses t 0 c 0 old new)
+    → state_of new ≡ (up id (state_of old)).state → IsFit new
 idle_fit id old new fit uses is = record {
   provided = provided_by old new uses fit.provided;
   read_out = λ k. read_out (at k old.links.entries) (at k new.links.entries) ((uses 0 0).read k)
@@ -108,7 +111,8 @@ none_of (Credit credit) maxdata held is =
 pub idle : (id : ℕ) (t : Tables) → can_send_at (at id t.streams.streams) ≡ false
     → (stream : Stream) → at id t.streams.streams ≡ Some stream → all_unsent stream t ≡ []
 idle id t is stream here =
-    none_of stream.part.flow (maxdata_of stream.link t.devices) (held_at (at stream.client t.clients.entries)) (ap can_send_at (sym here) ∙ is)
+    none_of stream.part.flow (maxdata_of stream.link t.devices) (held_at (at stream.client t.clients.entries))
+    (ap can_send_at (sym here) ∙ is)
 
 -- ---- what is ready
 few_writes : (id : ℕ) (flow : Flow) (maxdata writes : ℕ) (row : Option SeenClient) → IsPreparedAt writes flow maxdata row
@@ -120,7 +124,8 @@ few_writes id flow maxdata writes (Some client) is = by_test (is_for id client.a
     by_test true = is.within
     by_test false = omega arith
 
-cut_for : (id : ℕ) (flow : Flow) (maxdata writes : ℕ) (row : Option SeenClient) → IsPreparedAt writes flow maxdata row → IsCutFor id flow maxdata row
+cut_for : (id : ℕ) (flow : Flow) (maxdata writes : ℕ) (row : Option SeenClient) → IsPreparedAt writes flow maxdata row
+    → IsCutFor id flow maxdata row
 cut_for id flow maxdata writes None is = tt
 cut_for id flow maxdata writes (Some client) is = λ yes. is.cut
 

@@ -1,5 +1,6 @@
 -- All streams end by a kill: what a log records, stream after stream.
-use Rattle.std.proofs.Common.{ℕ, ◌+◌, ◌-◌, ◌≡◌, ◌≤◌, ◌<◌, List, [], ◌++◌, Bool, true, false, Option, Some, None, refl, sym, ◌∙◌, ap, subst, cond, arith, ◌∷◌, ◌⊎◌, inl, inr, zero, suc, length}
+use Rattle.std.proofs.Common.{ℕ, ◌+◌, ◌-◌, ◌≡◌, ◌≤◌, ◌<◌, List, [], ◌++◌, Bool, true, false, Option, Some, None, refl, sym, ◌∙◌, ap, subst}
+use Rattle.std.proofs.Common.{cond, arith, ◌∷◌, ◌⊎◌, inl, inr, zero, suc, length}
 use Rattle.std.proofs.lemmas.List.{append-nil}
 use Rattle.adb_outside.specs.Tables.{Rows, at}
 use Rattle.adb_stream.specs.declared.row.Stream.{Stream}
@@ -43,7 +44,8 @@ pub record Stopping (streams : StreamTable) (before : Log) (id left : ℕ) (now 
   pub log : (t : Tables) → t.streams ≡ streams → (rows : Rows (Option Stream)) → Watches rows before t
       → now ≡ logged rows (all_stop id (λ l. at l streams.streams)) before
 
-pub stopping_first : (streams : StreamTable) (before : Log) → at 0 streams.streams ≡ None → Stopping streams before 0 (length streams.streams) before
+pub stopping_first : (streams : StreamTable) (before : Log) → at 0 streams.streams ≡ None
+    → Stopping streams before 0 (length streams.streams) before
 stopping_first streams before none =
     let one : live 1 (λ l. at l streams.streams) ≡ 0 + one_if (at 0 streams.streams) = refl in
     let gone : one_if (at 0 streams.streams) ≡ 0 = ap one_if none in
@@ -54,11 +56,13 @@ stopping_first streams before none =
       log = λ t is rows watches. refl;
     }
 
-module _ {streams : StreamTable} {before : Log} {id left : ℕ} {now : Log} (h : Stopping streams before id left now) (some : 0 < now.spare) where
+module _ {streams : StreamTable} {before : Log} {id left : ℕ} {now : Log} (h : Stopping streams before id left now)
+    (some : 0 < now.spare) where
   abbrev pub rows_of : Rows (Option Stream)
   rows_of l = at l streams.streams
 
-  told_then : (t : Tables) → t.streams ≡ streams → (rows : Rows (Option Stream)) → Watches rows before t → (row : Option Stream) → rows_of (suc id) ≡ row
+  told_then : (t : Tables) → t.streams ≡ streams → (rows : Rows (Option Stream)) → Watches rows before t
+      → (row : Option Stream) → rows_of (suc id) ≡ row
       → recorded_at (suc id) row now ≡ logged rows (tells_stop (suc id) row) now
   told_then t is rows watches None here = refl
   told_then t is rows watches (Some stream) here = by_orphan stream.part.orphan
@@ -97,7 +101,8 @@ module _ {streams : StreamTable} {before : Log} {id left : ℕ} {now : Log} (h :
           ap (λ (log : Log). log.spare) (has_place (ended_of (suc id) Stopped stream) now some) in
           omega (arith, more)
 
-      spares : (row : Option Stream) → rows_of (suc id) ≡ row → before.spare ≤ (recorded_at (suc id) row now).spare + live (suc (suc id)) rows_of
+      spares : (row : Option Stream) → rows_of (suc id) ≡ row
+          → before.spare ≤ (recorded_at (suc id) row now).spare + live (suc (suc id)) rows_of
       spares None here = let none : one_if (rows_of (suc id)) ≡ 0 = ap one_if here in omega (arith, h.spare, none)
       spares (Some stream) here =
           let one : one_if (rows_of (suc id)) ≡ 1 = ap one_if here in
@@ -119,7 +124,8 @@ stopping_last {streams} {before} {id} {left} {now} h drawn ends t is = record {
     places : {rows : Rows (Option Stream)} → Watches rows before t → (n : ℕ) → live n rows_of ≤ before.spare
     places watches n = subst (λ (table : StreamTable). live n (λ l. at l table.streams) ≤ before.spare) is (watches.places n)
 
-    above : (left ≡ 0) ⊎ ((streams.drawn ≤ id) ⊎ (now.spare ≡ 0)) → ((n : ℕ) → live n rows_of ≤ before.spare) → (j : ℕ) → id < j → rows_of j ≡ None
+    above : (left ≡ 0) ⊎ ((streams.drawn ≤ id) ⊎ (now.spare ≡ 0)) → ((n : ℕ) → live n rows_of ≤ before.spare)
+        → (j : ℕ) → id < j → rows_of j ≡ None
     above (inl none) places = none_above id rows_of (λ n. omega (arith, live_listed n streams.streams, h.count, none))
     above (inr (inl past)) places = λ j more. drawn j (omega (arith, past, more))
     above (inr (inr none)) places = none_above id rows_of (λ n. omega (arith, places n, h.spare, none))

@@ -1,5 +1,6 @@
 -- The step of what comes from a client, and of a client that comes through a forward.
-use Rattle.std.proofs.Common.{ℕ, ◌+◌, ◌≡◌, ◌++◌, List, [], Bool, true, false, Option, Some, None, refl, sym, ◌∙◌, ap, subst, cond, eqb, arith, ◌⊎◌}
+use Rattle.std.proofs.Common.{ℕ, ◌+◌, ◌≡◌, ◌++◌, List, [], Bool, true, false, Option, Some, None, refl, sym, ◌∙◌, ap, subst, cond, eqb}
+use Rattle.std.proofs.Common.{arith, ◌⊎◌}
 use Rattle.std.proofs.Common.{inl, inr}
 use Rattle.std.specs.Prelude.{option_and_then, Result, Ok, Err, OnOk}
 use Rattle.std.proofs.lemmas.Bool.{eqb-true}
@@ -76,7 +77,8 @@ abbrev is_gone : Phase → Bool
 is_gone Gone = true
 is_gone _ = false
 
-has_phase : (s : State) (c : ℕ) (phase : Phase) (found : Option Client) → s.clients c ≡ found → phase_in found ≡ phase → is_gone phase ≡ false
+has_phase : (s : State) (c : ℕ) (phase : Phase) (found : Option Client) → s.clients c ≡ found → phase_in found ≡ phase
+    → is_gone phase ≡ false
     → HasPhase s c phase
 has_phase s c phase None here is there = let clash : true ≡ false = ap is_gone is ∙ there in cc
 has_phase s c phase (Some row) here is there = record { row = row; here = here; is = is }
@@ -98,7 +100,8 @@ deaf_of phase (inr (inr (inr is))) = ap is_deaf is
 module _ (s : State) (c : ℕ) (bytes : List ℕ) where
   -- what comes of a client in a phase
   reads_as : {phase : Phase} (h : HasPhase s c phase) → reads c bytes s ≡ reads_in phase c bytes h.row s
-  reads_as h = ap (λ (found : Option Client). reads_from found c bytes s) h.here ∙ ap (λ (phase : Phase). reads_in phase c bytes h.row s) h.is
+  reads_as h = ap (λ (found : Option Client). reads_from found c bytes s) h.here
+      ∙ ap (λ (phase : Phase). reads_in phase c bytes h.row s) h.is
 
   reads_by : {phase : Phase} (h : HasPhase s c phase) → (reads c bytes s).state ≡ (reads_in phase c bytes h.row s).state
   reads_by h = ap (λ (m : Made). m.state) (reads_as h)
@@ -124,13 +127,15 @@ module _ (s : State) (c : ℕ) (bytes : List ℕ) where
     rule_alone : {phase : Phase} (found : Option Client) → s.clients c ≡ found → phase_in found ≡ phase → is_open_phase phase ≡ false
         → (reads c bytes s).state ≡ (step s (Read c bytes)).state
     rule_alone None here is closed = sym ((sends_nothing s reached).read c bytes (ap has_open_stream here))
-    rule_alone (Some row) here is closed = sym ((sends_nothing s reached).read c bytes (ap has_open_stream here ∙ (ap is_open_phase is ∙ closed)))
+    rule_alone (Some row) here is closed =
+        sym ((sends_nothing s reached).read c bytes (ap has_open_stream here ∙ (ap is_open_phase is ∙ closed)))
 
     pub asking_step : phase_in (s.clients c) ≡ Asking → (row : Client) → s.clients c ≡ Some row
         → (asks (asks_with s.devices s.forwards bytes (asked_before row)) c s).state ≡ (step s (Read c bytes)).state
     asking_step is row here =
         let phase : row.about.phase ≡ Asking = ap phase_in (sym here) ∙ is in
-        sym (reads_by {phase = Asking} (record { row = row; here = here; is = phase })) ∙ rule_alone {phase = Asking} (s.clients c) refl is refl
+        sym (reads_by {phase = Asking} (record { row = row; here = here; is = phase }))
+        ∙ rule_alone {phase = Asking} (s.clients c) refl is refl
 
     -- and what it tells
     rests_alone : {phase : Phase} (found : Option Client) → s.clients c ≡ found → phase_in found ≡ phase → is_open_phase phase ≡ false
@@ -147,14 +152,17 @@ module _ (s : State) (c : ℕ) (bytes : List ℕ) where
     pub opening_tells : (l : ℕ) → phase_in (s.clients c) ≡ Opening l → TellsSame [] (step s (Read c bytes)).told
     opening_tells l is =
         let h = has_phase s c (Opening l) (s.clients c) refl is refl in
-        subst (λ (m : Made). TellsSame m.told (step s (Read c bytes)).told) (reads_as h) (rests_alone {phase = Opening l} (s.clients c) refl is refl)
+        subst (λ (m : Made). TellsSame m.told (step s (Read c bytes)).told) (reads_as h)
+        (rests_alone {phase = Opening l} (s.clients c) refl is refl)
 
-    pub streaming_tells : (l : ℕ) → phase_in (s.clients c) ≡ Streaming l → TellsSame (up l (takes_in c bytes s)).told (step s (Read c bytes)).told
+    pub streaming_tells : (l : ℕ) → phase_in (s.clients c) ≡ Streaming l
+        → TellsSame (up l (takes_in c bytes s)).told (step s (Read c bytes)).told
     streaming_tells l is =
         let h = has_phase s c (Streaming l) (s.clients c) refl is refl in
         let quiet : TellsSame [] (reads c bytes s).told = subst (λ (m : Made). TellsSame [] m.told) (sym (reads_as h)) (λ rows log. refl) in
         let goes = (goes_alone s reached).read_by c l bytes (record { client = h.row; here = h.here; in_phase = h.is }) in
-        let same : ups (reads c bytes s).state ≡ up l (takes_in c bytes s) = goes ∙ ap (up l) (reads_by h ∙ sym (holds_more h.row h.here)) in
+        let same : ups (reads c bytes s).state ≡ up l (takes_in c bytes s) =
+        goes ∙ ap (up l) (reads_by h ∙ sym (holds_more h.row h.here)) in
         subst (λ (m : Made). TellsSame m.told (step s (Read c bytes)).told) same (quiet_rule_tells (Read c bytes) s quiet)
 
     pub asking_row : phase_in (s.clients c) ≡ Asking → HasPhase s c Asking

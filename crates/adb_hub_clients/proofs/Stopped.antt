@@ -58,7 +58,8 @@ module _ {client : ℕ} {old new : Tables} (h : Forgets client old new) where
       by_test true row = refl
       by_test false row = refl
 
-      at_number : (n : ℕ) → option_map client_row (at n new.clients.entries) ≡ only_client client (λ c. option_map client_row (at c old.clients.entries)) n
+      at_number : (n : ℕ) → option_map client_row (at n new.clients.entries)
+          ≡ only_client client (λ c. option_map client_row (at c old.clients.entries)) n
       at_number n = ap (option_map client_row) (row_at n) ∙ by_test (nat_eq client n) (at n old.clients.entries)
 
   pub forgotten_fit : IsFit old → IsOnAny client (at client old.clients.entries) → IsFit new
@@ -89,14 +90,16 @@ phase_or None = Closing
 phase_or (Some row) = row.about.phase
 
 -- a client that closes is on any list
-closed_row : (c : ℕ) (row : Option SeenClient) (due : List ℕ) (was : Client) → option_map client_row row ≡ closing_with due was → IsOnAny c row
+closed_row : (c : ℕ) (row : Option SeenClient) (due : List ℕ) (was : Client)
+    → option_map client_row row ≡ closing_with due was → IsOnAny c row
 closed_row c None due was is trackers = tt
 closed_row c (Some client) [] was is trackers = let clash : Some (client_row client) ≡ None = is in cc
 closed_row c (Some client) (b ∷ due) was is trackers =
     let phase : client.about.phase ≡ Closing = ap phase_or is in
     subst (λ (phase : Phase). IsListedIn phase c trackers) (sym phase) tt
 
-pub closed_on_any : (c : ℕ) (row : Option SeenClient) (was : Option Client) → option_map client_row row ≡ option_and_then closing was → IsOnAny c row
+pub closed_on_any : (c : ℕ) (row : Option SeenClient) (was : Option Client)
+    → option_map client_row row ≡ option_and_then closing was → IsOnAny c row
 closed_on_any c None was is trackers = tt
 closed_on_any c (Some client) None is trackers = let clash : Some (client_row client) ≡ None = is in cc
 closed_on_any c (Some client) (Some was) is trackers = closed_row c (Some client) was.due was is trackers

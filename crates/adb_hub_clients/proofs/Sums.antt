@@ -11,7 +11,8 @@ use Rattle.adb_history.specs.declared.ending.Ending.{Ending}
 use Rattle.adb_history.specs.declared.ending.Ending.TheVariants.{ClientClosed}
 use Rattle.adb_history.specs.Links.{write_packet, close_packet, owe_link, check_on, wants_sums, maxdata_of}
 use Rattle.adb_history.specs.Streams.{loses, client_loses, tells_end, ends_telling}
-use Rattle.adb_history.specs.Flow.{payloads, noted, goes_up, all_go_up, closes_if, sends_up, is_over, flow_after, total, is_streaming, up_client, up_stream}
+use Rattle.adb_history.specs.Flow.{payloads, noted, goes_up, all_go_up, closes_if, sends_up, is_over, flow_after, total, is_streaming}
+use Rattle.adb_history.specs.Flow.{up_client, up_stream}
 use Rattle.adb_history.specs.Flow.{up}
 
 -- what a link's check words are, where it lives
@@ -25,13 +26,15 @@ SumsStay s then = (k : ℕ) → sums_at k then ≡ sums_at k s
 owed_sums : (t : ℕ) (p : Packet) (s : State) → SumsStay s (owe_link t p s).state
 owed_sums t p s k = by_test (eqb t k) (s.links k)
   where
-    by_row : (row : Option Link) → option_map (λ link. link.sums) (option_and_then (with_link_due (spelling p (check_on (wants_sums (s.links t)) p))) row)
+    by_row : (row : Option Link) → option_map (λ link. link.sums)
+        (option_and_then (with_link_due (spelling p (check_on (wants_sums (s.links t)) p))) row)
         ≡ option_map (λ link. link.sums) row
     by_row None = refl
     by_row (Some link) = refl
 
     by_test : (b : Bool) (row : Option Link)
-        → option_map (λ link. link.sums) (cond b (option_and_then (with_link_due (spelling p (check_on (wants_sums (s.links t)) p))) row) row)
+        → option_map (λ link. link.sums)
+        (cond b (option_and_then (with_link_due (spelling p (check_on (wants_sums (s.links t)) p))) row) row)
         ≡ option_map (λ link. link.sums) row
     by_test true row = by_row row
     by_test false row = refl
@@ -79,18 +82,22 @@ sent_sums l stream (payload ∷ payloads) s k =
     let one = (goes_up l stream payload s).state in
     sent_sums l stream payloads one k ∙ owed_sums stream.link (write_packet l stream.part.remote payload) s k
 
-up_sums_by : (l : ℕ) (stream : Stream) (client : Client) (payloads : List (List ℕ)) (s : State) → SumsStay s (sends_up l stream client payloads s).state
+up_sums_by : (l : ℕ) (stream : Stream) (client : Client) (payloads : List (List ℕ)) (s : State)
+    → SumsStay s (sends_up l stream client payloads s).state
 up_sums_by l stream client payloads s k =
     let noted = noted l stream client.held payloads s in
     let sent = (all_go_up l stream payloads noted).state in
-    closed_sums (is_over client.about.ended (drop (total payloads) client.held) (flow_after payloads stream.part.flow)) l (sent.streams l) sent k
+    closed_sums (is_over client.about.ended (drop (total payloads) client.held)
+    (flow_after payloads stream.part.flow)) l (sent.streams l) sent k
     ∙ sent_sums l stream payloads noted k
 
 up_sums_for : (l : ℕ) (stream : Stream) (row : Option Client) (s : State) → SumsStay s (up_client l stream row s).state
 up_sums_for l stream None s k = refl
 up_sums_for l stream (Some client) s k = by_test (is_streaming l client.about.phase)
   where
-    by_test : (b : Bool) → sums_at k (cond b (sends_up l stream client (payloads stream.part.flow (maxdata_of stream.link s.devices) client.held) s)
+    by_test : (b : Bool)
+        → sums_at k (cond b
+        (sends_up l stream client (payloads stream.part.flow (maxdata_of stream.link s.devices) client.held) s)
         (record { state = s; told = [] })).state ≡ sums_at k s
     by_test true = up_sums_by l stream client (payloads stream.part.flow (maxdata_of stream.link s.devices) client.held) s k
     by_test false = refl

@@ -13,7 +13,8 @@ front_back held piece n is =
     let k : length (held ++ piece) - n ≡ length held = let m = length-append held piece in omega (arith, m, is) in
     ap (λ (k : ℕ). take k (held ++ piece)) k ∙ take-append_seam held piece
 
-same_row : (piece : List ℕ) (n : ℕ) → length piece ≡ n → (row : Option Client) → option_and_then (without_last n) (option_and_then (holding piece) row) ≡ row
+same_row : (piece : List ℕ) (n : ℕ) → length piece ≡ n → (row : Option Client)
+    → option_and_then (without_last n) (option_and_then (holding piece) row) ≡ row
 same_row piece n is None = refl
 same_row piece n is (Some row) = ap (λ (held : List ℕ). Some (record row { held = held })) (front_back row.held piece n is)
 
@@ -25,6 +26,7 @@ held_no_more c n piece s old is held =
     ∙ (λ i. record s { clients = λ k. by_test (eqb c k) (s.clients k) i })
   where
     by_test : (b : Bool) (row : Option Client)
-        → cond b (option_and_then (without_last n) (cond b (option_and_then (holding piece) row) row)) (cond b (option_and_then (holding piece) row) row) ≡ row
+        → cond b (option_and_then (without_last n) (cond b (option_and_then (holding piece) row) row))
+        (cond b (option_and_then (holding piece) row) row) ≡ row
     by_test true row = same_row piece n is row
     by_test false row = refl

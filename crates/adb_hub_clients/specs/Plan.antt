@@ -11,9 +11,18 @@ asking held selected = record { replies = []; used = 0; rest = held; selected = 
 
 -- what a plan says that these bytes ask
 abbrev pub asked_by : Plan → List ℕ → Asked
-asked_by plan held = record { replies = plan.replies; used = plan.used; rest = drop plan.used held; selected = plan.selected; next = plan.next }
+asked_by plan held =
+    record {
+      replies = plan.replies;
+      used = plan.used;
+      rest = drop plan.used held;
+      selected = plan.selected;
+      next =
+          plan.next;
+    }
 
 -- A piece that comes behind nothing is whole requests, and asks this of a client that selected that transport.
-pub record IsWholePlan (devices : DeviceTable) (forwards : List (ℕ × ForwardRow)) (selected : Option ℕ) (piece : List ℕ) (plan : Plan) : Type 0 where
+pub record IsWholePlan (devices : DeviceTable) (forwards : List (ℕ × ForwardRow)) (selected : Option ℕ)
+    (piece : List ℕ) (plan : Plan) : Type 0 where
   pub asked : asked_by plan piece ≡ reads_on devices forwards (length piece) (asking piece selected)
   pub all : plan.used ≡ length piece

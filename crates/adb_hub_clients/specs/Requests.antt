@@ -44,7 +44,8 @@ TakesAnswer answer len old step new = (held : List ℕ) (others : Asked → Aske
     → after_answer answer len others (asked_so_far old held) ≡ stepped step others (asked_so_far new held)
 
 -- One more request is read, whatever others are read behind it.
-pub record ReadsOne (devices : DeviceTable) (forwards : List (ℕ × ForwardRow)) (held : List ℕ) (old : Reading) (step : Step) (new : Reading) : Type 0 where
+pub record ReadsOne (devices : DeviceTable) (forwards : List (ℕ × ForwardRow)) (held : List ℕ) (old : Reading)
+    (step : Step) (new : Reading) : Type 0 where
   pub asked : (others : Asked → Asked) → after_found devices forwards (request_at (drop old.used held)) others (asked_so_far old held)
       ≡ stepped step others (asked_so_far new held)
   pub within : new.used ≤ length held

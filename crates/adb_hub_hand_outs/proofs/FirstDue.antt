@@ -61,7 +61,8 @@ module _ (ports : Rows (Option Port)) where
 
 -- ---- clients
 module _ (devices : DeviceTable) (clients : Rows (Option SeenClient)) where
-  first_client_is : (c k : ℕ) → IsFirst Client (λ q. put_to devices q (option_map client_row (clients q))) (first_number owes_client (listed clients c k))
+  first_client_is : (c k : ℕ) → IsFirst Client (λ q. put_to devices q (option_map client_row (clients q)))
+      (first_number owes_client (listed clients c k))
       (first_put devices (λ q. option_map client_row (clients q)) c k)
   first_client_is c zero = record { whose = refl; is = refl }
   first_client_is c (suc k) = go (clients c) refl (first_client_is (suc c) k)
@@ -69,7 +70,8 @@ module _ (devices : DeviceTable) (clients : Rows (Option SeenClient)) where
       go : (o : Option SeenClient) → clients c ≡ o
           → IsFirst Client (λ q. put_to devices q (option_map client_row (clients q))) (first_number owes_client (listed clients (suc c) k))
           (first_put devices (λ q. option_map client_row (clients q)) (suc c) k)
-          → IsFirst Client (λ q. put_to devices q (option_map client_row (clients q))) (first_number owes_client (listed_at c o (listed clients (suc c) k)))
+          → IsFirst Client (λ q. put_to devices q (option_map client_row (clients q)))
+          (first_number owes_client (listed_at c o (listed clients (suc c) k)))
           (option_or (put_to devices c (option_map client_row o)) (first_put devices (λ q. option_map client_row (clients q)) (suc c) k))
       go None is others = others
       go (Some client) is others = owed client.due client.about.mark refl refl
@@ -97,7 +99,8 @@ nothing_in f None e = refl
 nothing_in f (Some x) e = absurd (let clash : Some (f x) ≡ None = e in cc)
 
 -- a table with nothing above the drawn numbers and at 0 is the table of its rows
-all_listed : {A B : Type 0} (f : A → B) (drawn : ℕ) (table : List (ℕ × A)) → IsRising table → IsDrawnOnly drawn (λ q. option_map f (at q table))
+all_listed : {A B : Type 0} (f : A → B) (drawn : ℕ) (table : List (ℕ × A)) → IsRising table
+    → IsDrawnOnly drawn (λ q. option_map f (at q table))
     → listed (λ q. at q table) 1 drawn ≡ table
 all_listed f drawn table rises known = sym (same_table table (λ q. at q table) drawn rises (nothing_in f (at 0 table) known.zero)
     (λ n above. nothing_in f (at n table) (known.above n above)) (λ q. refl))
@@ -114,12 +117,14 @@ module _ (owner : ℕ → Owner) (hand : ℕ → Option Entry) (entry other : Op
   goes_not first = ap (λ (e : Option Entry). option_or e other) first.is
 
 module _ (t : Tables) where
-  links_first : (first : Option ℕ) → first ≡ first_number owes_link t.links.entries → IsRising t.links.entries → IsDrawnOnly t.devices.drawn (state_of t).links
+  links_first : (first : Option ℕ) → first ≡ first_number owes_link t.links.entries → IsRising t.links.entries
+      → IsDrawnOnly t.devices.drawn (state_of t).links
       → IsFirst Link (λ q. send_on q ((state_of t).links q)) first (first_send (state_of t).links 1 t.devices.drawn)
   links_first first is rises known =
       let same : first_number owes_link (listed (λ q. at q t.links.entries) 1 t.devices.drawn) ≡ first =
       ap (first_number owes_link) (all_listed link_row t.devices.drawn t.links.entries rises known) ∙ sym is in
-      subst (λ (n : Option ℕ). IsFirst Link (λ q. send_on q ((state_of t).links q)) n (first_send (state_of t).links 1 t.devices.drawn)) same
+      subst (λ (n : Option ℕ). IsFirst Link (λ q. send_on q ((state_of t).links q)) n
+      (first_send (state_of t).links 1 t.devices.drawn)) same
       (first_link_is (λ q. at q t.links.entries) 1 t.devices.drawn)
 
   pub clients_first : (first : Option ℕ) → first ≡ first_number owes_client t.clients.entries → IsRising t.clients.entries
@@ -128,14 +133,16 @@ module _ (t : Tables) where
   clients_first first is rises known =
       let same : first_number owes_client (listed (λ q. at q t.clients.entries) 1 t.joined) ≡ first =
       ap (first_number owes_client) (all_listed client_row t.joined t.clients.entries rises known) ∙ sym is in
-      subst (λ (n : Option ℕ). IsFirst Client (λ q. put_to t.devices q ((state_of t).clients q)) n (first_put t.devices (state_of t).clients 1 t.joined)) same
+      subst (λ (n : Option ℕ). IsFirst Client (λ q. put_to t.devices q ((state_of t).clients q)) n
+      (first_put t.devices (state_of t).clients 1 t.joined)) same
       (first_client_is t.devices (λ q. at q t.clients.entries) 1 t.joined)
 
   -- whom the next hand-out is to, and what it is
   abbrev pub IsNext : Option Owner → Type 0
   IsNext owner = (owner ≡ option_and_then owner_of (next_out (state_of t))) × (next_out (state_of t) ≡ entry_of owner (state_of t))
 
-  pub link_next : (id : ℕ) → Some id ≡ first_number owes_link t.links.entries → IsRising t.links.entries → IsDrawnOnly t.devices.drawn (state_of t).links
+  pub link_next : (id : ℕ) → Some id ≡ first_number owes_link t.links.entries → IsRising t.links.entries
+      → IsDrawnOnly t.devices.drawn (state_of t).links
       → IsNext (Some (Link id))
   link_next id is rises known =
       let first = links_first (Some id) is rises known in
@@ -144,7 +151,8 @@ module _ (t : Tables) where
       let next : next_out (state_of t) ≡ send = goes_first Link (λ q. send_on q ((state_of t).links q)) send put id first in
       (sym (ap (option_and_then owner_of) next ∙ first.whose), next ∙ first.is)
 
-  pub client_next : (first : Option ℕ) → None ≡ first_number owes_link t.links.entries → IsFirst Client (λ q. put_to t.devices q ((state_of t).clients q)) first
+  pub client_next : (first : Option ℕ) → None ≡ first_number owes_link t.links.entries
+      → IsFirst Client (λ q. put_to t.devices q ((state_of t).clients q)) first
       (first_put t.devices (state_of t).clients 1 t.joined) → IsRising t.links.entries → IsDrawnOnly t.devices.drawn (state_of t).links
       → IsNext (option_map Client first)
   client_next first none clients rises known =
@@ -154,6 +162,7 @@ module _ (t : Tables) where
       goes_not Link (λ q. send_on q ((state_of t).links q)) send put (links_first None none rises known) in
       (sym (ap (option_and_then owner_of) next ∙ clients.whose), next ∙ (clients.is ∙ handed first))
     where
-      handed : (n : Option ℕ) → option_and_then (λ q. put_to t.devices q ((state_of t).clients q)) n ≡ entry_of (option_map Client n) (state_of t)
+      handed : (n : Option ℕ) → option_and_then (λ q. put_to t.devices q ((state_of t).clients q)) n
+          ≡ entry_of (option_map Client n) (state_of t)
       handed None = refl
       handed (Some n) = refl

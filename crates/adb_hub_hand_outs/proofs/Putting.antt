@@ -1,5 +1,6 @@
 -- Bytes are handed out to a client.
-use Rattle.std.proofs.Common.{ℕ, ◌≡◌, ◌≢◌, Bool, true, false, cond, eqb, List, [], ◌∷◌, length, Option, Some, None, refl, sym, ◌∙◌, ap, subst, ◌⊎◌, inl, inr}
+use Rattle.std.proofs.Common.{ℕ, ◌≡◌, ◌≢◌, Bool, true, false, cond, eqb, List, [], ◌∷◌, length, Option, Some, None, refl, sym, ◌∙◌, ap}
+use Rattle.std.proofs.Common.{subst, ◌⊎◌, inl, inr}
 use Rattle.std.specs.Prelude.{option_map, option_and_then}
 use Rattle.std.proofs.lemmas.Bool.{ne_eqb, eq-eqb, cases_eq}
 use Rattle.adb_outside.specs.Tables.{at, Rows}
@@ -70,7 +71,9 @@ sums_puts : (s : State) → IsWithin s → (c n : ℕ) (row : Option Client) (k 
 sums_puts s w c n None k = same_sums (s.links k)
 sums_puts s w c n (Some client) k = by_due client.due
   where
-    by_due : (due : List ℕ) → SumsStay (s.links k) ((then_also (lists_first c due client s) (λ (t : State). takes_of c n (t.clients c) t)).state.links k)
+    by_due : (due : List ℕ)
+        → SumsStay (s.links k)
+        ((then_also (lists_first c due client s) (λ (t : State). takes_of c n (t.clients c) t)).state.links k)
     by_due [] =
         let m = (lists_first c [] client s).state in
         sums_takes m (record { came = w.came; plugged = w.plugged; all = w.all; drawn = w.drawn }) c n (m.clients c) k
@@ -82,7 +85,8 @@ puts_due c n s None some = absurd (some refl)
 puts_due c n s (Some client) some = by_due client.due some
   where
     by_due : (due : List ℕ) → due ≢ []
-        → (takes_of c n (s.clients c) s).state ≡ (then_also (lists_first c due client s) (λ (t : State). takes_of c n (t.clients c) t)).state
+        → (takes_of c n (s.clients c) s).state
+        ≡ (then_also (lists_first c due client s) (λ (t : State). takes_of c n (t.clients c) t)).state
     by_due [] some = absurd (some refl)
     by_due (b ∷ due) some = refl
 
@@ -102,7 +106,8 @@ module _ (old new : Tables) (fit : IsFit old) (reached : IsReached (state_of old
     provided = provided_then old new c kept fit.provided h.room h.uses;
     read = read_then old new c kept h.uses;
     state = h.state ∙ (puts_due c (length bytes) s (s.clients c) h.some ∙ sym rests);
-    sums = λ k. subst (λ (t : State). SumsStay (s.links k) (t.links k)) (sym rests) (sums_puts s (within s reached) c (length bytes) (s.clients c) k);
+    sums = λ k. subst (λ (t : State). SumsStay (s.links k) (t.links k)) (sym rests)
+        (sums_puts s (within s reached) c (length bytes) (s.clients c) k);
   })
     where
       rests : StepIsRule (Put c bytes) s
@@ -115,7 +120,8 @@ record IsStaleRow (devices : DeviceTable) (client : Client) (list : List ℕ) : 
   mark : client.about.mark ≡ true
   list_is : list ≡ offered devices client
 
-stale_row : (devices : DeviceTable) (client : Client) (list : List ℕ) → list_to devices (Some client) ≡ Some list → IsStaleRow devices client list
+stale_row : (devices : DeviceTable) (client : Client) (list : List ℕ) → list_to devices (Some client) ≡ Some list
+    → IsStaleRow devices client list
 stale_row devices client list is = by_due client.due refl is
   where
     by_mark : (due : List ℕ) → client.due ≡ due → due ≡ [] → (mark : Bool) → client.about.mark ≡ mark
@@ -131,7 +137,8 @@ stale_row devices client list is = by_due client.due refl is
         }
     by_mark due is none false marked there = let clash : None ≡ Some list = there in cc
 
-    by_due : (due : List ℕ) → client.due ≡ due → list_behind due devices client.about.mark client.about.long ≡ Some list → IsStaleRow devices client list
+    by_due : (due : List ℕ) → client.due ≡ due → list_behind due devices client.about.mark client.about.long
+        ≡ Some list → IsStaleRow devices client list
     by_due [] is there = by_mark [] is refl client.about.mark refl there
     by_due (b ∷ due) is there = let clash : None ≡ Some list = there in cc
 
@@ -144,7 +151,8 @@ record IsStaleAt (old : Tables) (c : ℕ) (list : List ℕ) : Type 0 where
 stale_at : (old : Tables) (c : ℕ) (list : List ℕ) → list_to old.devices ((state_of old).clients c) ≡ Some list → IsStaleAt old c list
 stale_at old c list is = by_row (at c old.clients.entries) refl is
   where
-    by_row : (row : Option SeenClient) → at c old.clients.entries ≡ row → list_to old.devices (option_map client_row row) ≡ Some list → IsStaleAt old c list
+    by_row : (row : Option SeenClient) → at c old.clients.entries ≡ row
+        → list_to old.devices (option_map client_row row) ≡ Some list → IsStaleAt old c list
     by_row None here is = let clash : None ≡ Some list = is in cc
     by_row (Some seen) here is = record { seen = seen; here = here; stale = stale_row old.devices (client_row seen) list is }
 
@@ -152,7 +160,8 @@ listed_room : (list : List ℕ) (row : Option SeenClient) → ClientRoom 0 row �
 listed_room list None room = tt
 listed_room list (Some client) room = room
 
-listed_tracked : (c : ℕ) (keys list : List ℕ) (row : Option SeenClient) → IsListedAt c keys row → IsListedAt c keys (option_map (listed list) row)
+listed_tracked : (c : ℕ) (keys list : List ℕ) (row : Option SeenClient) → IsListedAt c keys row
+    → IsListedAt c keys (option_map (listed list) row)
 listed_tracked c keys list None is = tt
 listed_tracked c keys list (Some client) is = is
 
@@ -168,7 +177,8 @@ module _ (old mid : Tables) (fit : IsFit old) (reached : IsReached (state_of old
     row = stale_at old c list h.stale
 
     tracking : row.seen.about.phase ≡ Tracking
-    tracking = ((is_orderly (state_of old) reached).client c (client_row row.seen) (ap (option_map client_row) row.here)).mark row.stale.mark
+    tracking = ((is_orderly (state_of old) reached).client c (client_row row.seen)
+        (ap (option_map client_row) row.here)).mark row.stale.mark
 
     -- it has no stream open
     pub no_stream : open_stream (at c mid.clients.entries) mid ≡ None
@@ -179,11 +189,15 @@ module _ (old mid : Tables) (fit : IsFit old) (reached : IsReached (state_of old
     pub listed_provided : IsProvided mid
     listed_provided = subst IsProvided (sym h.others) (record {
       links = fit.provided.links;
-      clients = holds_put (λ k there. ClientRoom 0 there) c (option_map (listed list) (at c old.clients.entries)) old.clients.entries mid.clients.entries
+      clients = holds_put (λ k there. ClientRoom 0 there) c (option_map (listed list) (at c old.clients.entries))
+          old.clients.entries mid.clients.entries
           (h.lists, listed_room list (at c old.clients.entries) (fit.provided.clients c)) fit.provided.clients;
       counted = fit.provided.counted;
-      tracked = holds_put (λ k there. IsListedAt k old.trackers.keys there) c (option_map (listed list) (at c old.clients.entries)) old.clients.entries
-          mid.clients.entries (h.lists, listed_tracked c old.trackers.keys list (at c old.clients.entries) (fit.provided.tracked c)) fit.provided.tracked;
+      tracked = holds_put (λ k there. IsListedAt k old.trackers.keys there) c
+          (option_map (listed list) (at c old.clients.entries)) old.clients.entries
+          mid.clients.entries
+          (h.lists, listed_tracked c old.trackers.keys list (at c old.clients.entries) (fit.provided.tracked c))
+          fit.provided.tracked;
     })
 
     abbrev client : Client
@@ -198,7 +212,8 @@ module _ (old mid : Tables) (fit : IsFit old) (reached : IsReached (state_of old
 
     abbrev unmarked_at_test : ℕ → Bool → Option Client
     unmarked_at_test k b =
-        cond b (option_and_then unmarked (option_map client_row (at k old.clients.entries))) (option_map client_row (at k old.clients.entries))
+        cond b (option_and_then unmarked (option_map client_row (at k old.clients.entries)))
+        (option_map client_row (at k old.clients.entries))
 
     abbrev due_at_test : ℕ → Bool → Option Client
     due_at_test k b = cond b (option_and_then (with_due (offered old.devices client)) (unmarked_at_test k b)) (unmarked_at_test k b)
@@ -208,12 +223,15 @@ module _ (old mid : Tables) (fit : IsFit old) (reached : IsReached (state_of old
         let there : at k old.clients.entries ≡ Some row.seen = ap (λ (q : ℕ). at q old.clients.entries) (sym here) ∙ row.here in
         ap (λ (o : Option SeenClient). option_map client_row (option_map (listed list) o)) row.here
         ∙ (ap (λ (l : List ℕ). option_and_then (with_due l) (unmarked client)) row.stale.list_is
-        ∙ ap (λ (o : Option SeenClient). option_and_then (with_due (offered old.devices client)) (option_and_then unmarked (option_map client_row o)))
+        ∙ ap (λ (o : Option SeenClient). option_and_then (with_due (offered old.devices client))
+        (option_and_then unmarked (option_map client_row o)))
         (sym there))
 
     rows : (k : ℕ) → option_map client_row (at k mid.clients.entries) ≡ due_then k
     rows k =
-        ap (option_map client_row) (λ i. rows_put c (option_map (listed list) (at c old.clients.entries)) old.clients.entries mid.clients.entries h.lists i k)
+        ap (option_map client_row)
+        (λ i. rows_put c (option_map (listed list) (at c old.clients.entries)) old.clients.entries
+        mid.clients.entries h.lists i k)
         ∙ by_place (cases_eq c k)
       where
         by_place : (c ≡ k) ⊎ (c ≢ k) → put_at_test k (eqb c k) ≡ due_at_test k (eqb c k)
@@ -237,7 +255,8 @@ module _ (old mid : Tables) (fit : IsFit old) (reached : IsReached (state_of old
       read = subst (λ (t : Tables). (k : ℕ) → StaysRead (at k t.links.entries) (at k new.links.entries)) h.others
           (read_then mid new c (open_stream (at c mid.clients.entries) mid) uses);
       state = state ∙ (ap (λ (t : State). (takes_of c (length bytes) (t.clients c) t).state) shown
-          ∙ (ap (λ (there : Option Client). (puts_to there c (length bytes) (state_of old)).state) (sym (ap (option_map client_row) row.here)) ∙ sym rests));
+          ∙ (ap (λ (there : Option Client). (puts_to there c (length bytes) (state_of old)).state)
+          (sym (ap (option_map client_row) row.here)) ∙ sym rests));
       sums = λ k. subst (λ (t : State). SumsStay ((state_of old).links k) (t.links k)) (sym rests)
           (sums_puts (state_of old) (within (state_of old) reached) c (length bytes) ((state_of old).clients c) k);
     })

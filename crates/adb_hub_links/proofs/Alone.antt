@@ -48,5 +48,6 @@ module _ {link : ℕ} {bytes : List ℕ} {old : Tables} (h : ComesAlone link byt
   pub alone_made : (new : Tables) → HasSettled link (alone p) no_bytes old new → Makes (Recv link bytes) old new
   alone_made new settled = piece_made h.comes cut_here refl new settled
 
-  pub alone_told : {before after : Log} → Records (settles link (alone p) (state_of old)).told before old after → Tells (Recv link bytes) before old after
+  pub alone_told : {before after : Log} → Records (settles link (alone p) (state_of old)).told before old after
+      → Tells (Recv link bytes) before old after
   alone_told records = piece_told h.comes cut_here records

@@ -25,7 +25,8 @@ keeps_then h k = record { state = k.state ∙ h.state; fit = k.fit }
 pub makes_then : {e : Entry} {old middle new : Tables} → Keeps old middle → Makes e middle new → Makes e old new
 makes_then {e} h made = record { state = made.state ∙ ap (λ (s : State). (step s e).state) h.state; fit = made.fit }
 
-pub tells_then : (e : Entry) {old middle : Tables} {before after : Log} → Keeps old middle → Tells e before middle after → Tells e before old after
+pub tells_then : (e : Entry) {old middle : Tables} {before after : Log} → Keeps old middle
+    → Tells e before middle after → Tells e before old after
 tells_then e {old} {middle} {before} {after} h told =
     records_same {old = old} {new = middle} (λ l. ap (λ (s : State). s.streams l) h.state)
     (subst (λ (s : State). Records (step s e).told before middle after) h.state told)
@@ -44,7 +45,8 @@ read_reserved old None (Some new) h read = absurd read
 read_reserved None (Some middle) (Some new) h read = absurd h
 read_reserved (Some old) (Some middle) (Some new) h read = read ∙ ap (λ (link : Linked). link.incoming) h.link
 
-pub settled_reserved : {link : ℕ} {c incoming : Deframing} (old middle new : Tables) → Widens old middle → HasSettled link c incoming middle new
+pub settled_reserved : {link : ℕ} {c incoming : Deframing} (old middle new : Tables) → Widens old middle
+    → HasSettled link c incoming middle new
     → HasSettled link c incoming old new
 settled_reserved {link} {c} {incoming} old middle new h settled = record {
   state = settled.state ∙ ap (λ (s : State). (ups (behind link c s)).state) (widened_state old middle h);

@@ -24,7 +24,9 @@ use Rattle.adb_hub_links.specs.Settling.{behind, LeavesNamed}
 
 -- the up rule leaves the devices
 up_devices : (l : ℕ) (s : State) → (up l s).state.devices ≡ s.devices
-up_devices l s = up_to (λ t. t.devices ≡ s.devices) l s (record { stays = λ idle. refl; sends = λ x links e. refl; ends = λ x links e. refl })
+up_devices l s =
+    up_to (λ t. t.devices ≡ s.devices) l s
+    (record { stays = λ idle. refl; sends = λ x links e. refl; ends = λ x links e. refl })
 
 up_all_devices : (k : ℕ) (s : State) → (up_all k s).state.devices ≡ s.devices
 up_all_devices zero s = refl
@@ -55,7 +57,8 @@ module _ (h : History) (link : ℕ) (piece : List ℕ) (row : Link) (here : (sta
     before = subst (λ (o : Option Link). ReadTie (is_lost link h) o (bytes_received link h)) here ((received h legal).links link)
 
     more : bytes_received link (Recv link piece ∷ h) ≡ bytes_received link h ++ piece
-    more = ap (λ (b : Bool). cond (b && not (is_lost link h)) (bytes_received link h ++ piece) (bytes_received link h)) (eq-eqb link link refl)
+    more = ap (λ (b : Bool). cond (b && not (is_lost link h)) (bytes_received link h ++ piece)
+        (bytes_received link h)) (eq-eqb link link refl)
         ∙ ap (λ (b : Bool). cond (not b) (bytes_received link h ++ piece) (bytes_received link h)) before.1
 
     pub whole : framed (bytes_received link (Recv link piece ∷ h)) ≡ joined (framed (bytes_received link h)).given (cut_behind row piece)

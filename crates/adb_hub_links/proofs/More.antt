@@ -28,7 +28,8 @@ same_writes_at old new have more maxdata None = refl
 same_writes_at old new have more maxdata (Some stream) =
     same_writes stream.part.flow more maxdata (at stream.client old) (at stream.client new) (have stream.client)
 
-pub same_all_writes : (old new : List (ℕ × SeenClient)) → WidensClients old new → (more : ℕ → ℕ) (maxdata : ℕ) (ids : List ℕ) (streams : List (ℕ × Stream))
+pub same_all_writes : (old new : List (ℕ × SeenClient)) → WidensClients old new
+    → (more : ℕ → ℕ) (maxdata : ℕ) (ids : List ℕ) (streams : List (ℕ × Stream))
     → all_writes more maxdata ids streams new ≡ all_writes more maxdata ids streams old
 same_all_writes old new have more maxdata [] streams = refl
 same_all_writes old new have more maxdata (l ∷ ids) streams =

@@ -58,7 +58,8 @@ same_id k l e = cc
 
 pub names_one : (named : Option ℕ) (k : ℕ) (old new : List ℕ) → named ≡ Some k → new ≡ insert_key nat_cmp old k → NamesAlso named old new
 names_one named k old new is more =
-    subst (λ (ids : List ℕ). NamesAlso named old ids) (sym more) (subst (λ (n : Option ℕ). NamesAlso n old (insert_key nat_cmp old k)) (sym is) (record {
+    subst (λ (ids : List ℕ). NamesAlso named old ids) (sym more)
+    (subst (λ (n : Option ℕ). NamesAlso n old (insert_key nat_cmp old k)) (sym is) (record {
       kept = λ l. kept k l old;
       added = λ l e. subst (λ (q : ℕ). IsAmong q (insert_key nat_cmp old k)) (same_id k l e) (added k old);
       only = λ l. only k l old;
@@ -66,7 +67,8 @@ names_one named k old new is more =
 
 -- ---- the ids that packets name
 module _ (link : ℕ) (streams : List (ℕ × Stream)) where
-  lives_named : (command : Command) (q l : ℕ) → named_if command q (is_some (found link q streams)) ≡ Some l → is_some (found link l streams) ≡ true
+  lives_named : (command : Command) (q l : ℕ) → named_if command q (is_some (found link q streams)) ≡ Some l
+      → is_some (found link l streams) ≡ true
   lives_named Okay q l e = by_row (is_some (found link q streams)) refl e
     where
       by_row : (b : Bool) → is_some (found link q streams) ≡ b → named_if Okay q b ≡ Some l → is_some (found link l streams) ≡ true
@@ -79,7 +81,8 @@ module _ (link : ℕ) (streams : List (ℕ × Stream)) where
   lives_named Auth q l e = absurd cc
   lives_named Stls q l e = absurd cc
 
-  named_first : (command : Command) (q l : ℕ) (others : List ℕ) → is_some (found link l streams) ≡ true → IsAmong l (named_also command q others)
+  named_first : (command : Command) (q l : ℕ) (others : List ℕ) → is_some (found link l streams) ≡ true
+      → IsAmong l (named_also command q others)
       → (named_if command q (is_some (found link q streams)) ≡ Some l) ⊎ IsAmong l others
   named_first Okay q l others live (inl is) =
       inl (ap (named_if Okay q) (ap (λ (k : ℕ). is_some (found link k streams)) is ∙ live) ∙ ap Some is)

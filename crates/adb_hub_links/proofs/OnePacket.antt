@@ -1,5 +1,6 @@
 -- One packet, and the stream that it names, are what the packets of a cut are, and the streams that those name.
-use Rattle.std.proofs.Common.{ℕ, ◌+◌, ◌≡◌, ◌≢◌, Bool, true, false, List, [], ◌∷◌, Option, Some, None, ◌⊎◌, inl, inr, refl, sym, ◌∙◌, ap, subst, arith}
+use Rattle.std.proofs.Common.{ℕ, ◌+◌, ◌≡◌, ◌≢◌, Bool, true, false, List, [], ◌∷◌, Option, Some, None, ◌⊎◌, inl, inr, refl, sym, ◌∙◌, ap}
+use Rattle.std.proofs.Common.{subst, arith}
 use Rattle.std.proofs.lemmas.List.{append-nil}
 use Rattle.std.specs.Prelude.{option_map, option_to_list}
 use Rattle.std.proofs.lemmas.Bool.{cases_eq, eq-eqb, ne_eqb}
@@ -46,9 +47,11 @@ names_first (Some k) = record {
   ];
 }
 
-pub named_one : (link : ℕ) (p : Packet) (streams : List (ℕ × Stream)) → AreNamedOn link (p ∷ []) streams (option_to_list (named_on link p streams))
+pub named_one : (link : ℕ) (p : Packet) (streams : List (ℕ × Stream))
+    → AreNamedOn link (p ∷ []) streams (option_to_list (named_on link p streams))
 named_one link p streams =
-    let none : AreNamedBefore link (p ∷ []) (p ∷ []) streams [] = record { live = λ l none. absurd none; all = λ l there live. inr there } in
+    let none : AreNamedBefore link (p ∷ []) (p ∷ []) streams [] =
+    record { live = λ l none. absurd none; all = λ l there live. inr there } in
     let one = names_more link streams none (names_first (named_on link p streams)) in
     record {
       live = one.live;
@@ -77,7 +80,8 @@ served_fed client old new room more here c = by_place (cases_eq client c)
 
 -- ---- what the client of the stream holds is ready
 pub cut_named : (credit : ℕ → ℕ) (maxdata id : ℕ) (streams : List (ℕ × Stream)) (clients : List (ℕ × SeenClient))
-    → IsCutAt (credit id) maxdata (at id streams) clients → (l : ℕ) → IsAmong l (id ∷ []) → IsCutAt (credit l) maxdata (at l streams) clients
+    → IsCutAt (credit id) maxdata (at id streams) clients → (l : ℕ) → IsAmong l (id ∷ [])
+    → IsCutAt (credit l) maxdata (at l streams) clients
 cut_named credit maxdata id streams clients cut l (inl same) = subst (λ (q : ℕ). IsCutAt (credit q) maxdata (at q streams) clients) same cut
 cut_named credit maxdata id streams clients cut l (inr none) = absurd none
 
@@ -104,7 +108,8 @@ module _ {link : ℕ} {came : Came} {ids : List ℕ} {old : Tables} (can : CanSe
       let slices = slices_for (packet_of came) old.streams.streams c in
       more_places (slices + 0) slices (at c old.clients.entries) (omega arith) (can.reserved.clients c)
 
-  pub settling_one : {new : Tables} → IsFreshAt (at link old.links.entries) → Takes link 1 (slices_for (packet_of came) old.streams.streams) old new
+  pub settling_one : {new : Tables} → IsFreshAt (at link old.links.entries)
+      → Takes link 1 (slices_for (packet_of came) old.streams.streams) old new
       → state_of new ≡ (treat link (packet_of came) (state_of old)).state → Settling link (came ∷ []) no_bytes ids old old new
   settling_one {new} fresh takes state = record {
     can = can;

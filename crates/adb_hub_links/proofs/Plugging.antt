@@ -32,10 +32,18 @@ use Rattle.adb_hub_tables.proofs.PutRows.{shown_put, holds_put}
 none_on : (link : ℕ) (streams : List (ℕ × Stream)) → All (λ (e : ℕ × Stream). e.1.link ≢ link) streams → streams_on link streams ≡ 0
 none_on link [] all = refl
 none_on link (e ∷ es) all =
-    let off : is_on link e.1 ≡ 0 = ap (λ (b : Bool). cond b 1 0) (ne_eqb e.1.link link (All-head (λ (e : ℕ × Stream). e.1.link ≢ link) e es all)) in
-    omega (arith, off, sum_by-cons (is_on link) e.1 (values_of es), none_on link es (All-tail (λ (e : ℕ × Stream). e.1.link ≢ link) e es all))
+    let off : is_on link e.1 ≡ 0 = ap (λ (b : Bool). cond b 1 0)
+    (ne_eqb e.1.link link (All-head (λ (e : ℕ × Stream). e.1.link ≢ link) e es all)) in
+    omega (
+      arith,
+      off,
+      sum_by-cons (is_on link) e.1 (values_of es),
+      none_on link es
+          (All-tail (λ (e : ℕ × Stream). e.1.link ≢ link) e es all),
+    )
 
-module _ (old : Tables) (reached : IsReached (state_of old)) (rises : IsRising old.streams.streams) (id : ℕ) (next : id ≡ old.devices.drawn + 1) where
+module _ (old : Tables) (reached : IsReached (state_of old)) (rises : IsRising old.streams.streams) (id : ℕ)
+    (next : id ≡ old.devices.drawn + 1) where
   below : (e : ℕ × Stream) → at e.0 old.streams.streams ≡ Some e.1 → e.1.link ≢ id
   below e there is =
       let w = within (state_of old) reached in
@@ -60,7 +68,9 @@ module _ (old : Tables) (reached : IsReached (state_of old)) (rises : IsRising o
   taken_out put new first second k = by_place (cases_eq k id)
     where
       by_place : (k ≡ id) ⊎ (k ≢ id) → at k new ≡ at k old.links.entries
-      by_place (inl here) = ap (λ (q : ℕ). at q new) here ∙ (second.here ∙ (sym no_link ∙ ap (λ (q : ℕ). at q old.links.entries) (sym here)))
+      by_place (inl here) =
+          ap (λ (q : ℕ). at q new) here
+          ∙ (second.here ∙ (sym no_link ∙ ap (λ (q : ℕ). at q old.links.entries) (sym here)))
       by_place (inr other) = second.others k other ∙ first.others k other
 
   -- ---- the tables with it
@@ -74,7 +84,8 @@ module _ (old : Tables) (reached : IsReached (state_of old)) (rises : IsRising o
       pub plugged_fit : IsFit mid
       plugged_fit = subst IsFit (sym h.others) (record {
         provided = record {
-          links = holds_put (λ k row. LinkRoom 0 row) id (Some greeted) old.links.entries mid.links.entries (h.link, omega arith) fit.provided.links;
+          links = holds_put (λ k row. LinkRoom 0 row) id (Some greeted) old.links.entries mid.links.entries
+              (h.link, omega arith) fit.provided.links;
           clients = fit.provided.clients;
           counted = holds_put (λ k row. IsCountedAt k old.streams.streams row) id (Some greeted) old.links.entries mid.links.entries
               (h.link, omega (arith, none_of_next)) fit.provided.counted;
@@ -92,14 +103,16 @@ module _ (old : Tables) (reached : IsReached (state_of old)) (rises : IsRising o
       rows k = by_test (eqb id k)
         where
           by_test : (b : Bool) → cond b (Some (link_row greeted)) ((state_of old).links k)
-              ≡ cond b (option_and_then owed (cond b (Some new_link) ((state_of old).links k))) (cond b (Some new_link) ((state_of old).links k))
+              ≡ cond b (option_and_then owed (cond b (Some new_link) ((state_of old).links k)))
+              (cond b (Some new_link) ((state_of old).links k))
           by_test true = refl
           by_test false = refl
 
       plugged : mark_all (state_of mid) ≡ (plugs_in id kind serial (state_of old)).state
       plugged =
           ap (λ (t : Tables). mark_all (state_of t)) h.others
-          ∙ (ap (λ (links : Rows (Option Link)). mark_all (record (state_of old) { links = links; devices = attached kind serial old.devices }))
+          ∙ (ap (λ (links : Rows (Option Link)). mark_all
+          (record (state_of old) { links = links; devices = attached kind serial old.devices }))
           (shown_put link_row id greeted old.links.entries mid.links.entries h.link)
           ∙ (λ i. mark_all (record (state_of old) { links = λ k. rows k i; devices = attached kind serial old.devices })))
 

@@ -32,7 +32,8 @@ served_none counts old each room = record {
   room = λ c none. subst (λ (row : Option ℕ). ClientRoom (count_at row) (at c old)) (sym none) (room c);
 }
 
-pub served_one : {counts left : List (ℕ × ℕ)} {old now new : List (ℕ × SeenClient)} (k n : ℕ) → AreServed counts ((k, n) ∷ left) old now → WidensClients now new
+pub served_one : {counts left : List (ℕ × ℕ)} {old now new : List (ℕ × SeenClient)} (k n : ℕ)
+    → AreServed counts ((k, n) ∷ left) old now → WidensClients now new
     → ClientRoom n (at k new) → AreServed counts left old new
 served_one {counts} {left} {old} {now} {new} k n h more here = record {
   more = clients_then old now new h.more more;
@@ -43,7 +44,8 @@ served_one {counts} {left} {old} {now} {new} k n h more here = record {
     by_place : (c : ℕ) → at c left ≡ None → (c ≡ k) ⊎ (c ≢ k) → ClientRoom (count_at (at c counts)) (at c new)
     by_place c none (inl is) =
         subst (λ (q : ℕ). ClientRoom (count_at (at q counts)) (at q new)) (sym is)
-        (subst (λ (row : Option ℕ). ClientRoom (count_at row) (at k new)) (sym (All-head (λ (e : ℕ × ℕ). at e.0 counts ≡ Some e.1) (k, n) left h.each)) here)
+        (subst (λ (row : Option ℕ). ClientRoom (count_at row) (at k new))
+        (sym (All-head (λ (e : ℕ × ℕ). at e.0 counts ≡ Some e.1) (k, n) left h.each)) here)
     by_place c none (inr apart) =
         client_room (count_at (at c counts)) (at c now) (at c new) (more c) (h.room c (at_behind c k n left apart ∙ none))
 

@@ -1,5 +1,6 @@
 -- What was made ready before packets is ready behind them.
-use Rattle.std.proofs.Common.{ℕ, zero, suc, min, ◌+◌, ◌/◌, ◌≡◌, ◌≢◌, ◌≤◌, cond, Bool, true, false, List, [], ◌∷◌, length, Option, Some, None, eqb}
+use Rattle.std.proofs.Common.{ℕ, zero, suc, min, ◌+◌, ◌/◌, ◌≡◌, ◌≢◌, ◌≤◌, cond, Bool, true, false, List, [], ◌∷◌, length, Option, Some}
+use Rattle.std.proofs.Common.{None, eqb}
 use Rattle.std.proofs.Common.{◌⊎◌, inl, inr, refl, sym, ◌∙◌, ap, subst, arith}
 use Rattle.std.specs.Prelude.{option_map, is_some}
 use Rattle.std.proofs.lemmas.Bool.{cases_eq, ne_eqb}
@@ -34,7 +35,8 @@ record IsWithin (more : ℕ) (before flow : Flow) : Type 0 where
   kind : has_credit flow ≡ has_credit before
   most : credit_to_send flow ≤ credit_to_send before + more
 
-fewer_bytes : (more maxdata held : ℕ) (before flow : Flow) → IsWithin more before flow → up_bytes flow 0 maxdata held ≤ up_bytes before more maxdata held
+fewer_bytes : (more maxdata held : ℕ) (before flow : Flow) → IsWithin more before flow
+    → up_bytes flow 0 maxdata held ≤ up_bytes before more maxdata held
 fewer_bytes more maxdata held (One v) (One w) h = omega arith
 fewer_bytes more maxdata held (Credit v) (Credit w) h = omega (arith, h.most)
 fewer_bytes more maxdata held (Credit v) (One w) h = absurd (let clash : false ≡ true = h.kind in cc)
@@ -44,7 +46,8 @@ div_fewer : (m a b : ℕ) → a ≤ b → a / m ≤ b / m
 div_fewer zero a b le = omega (arith, div-zero a)
 div_fewer (suc k) a b le = le-div (a / suc k) b (suc k) (omega arith) (omega (arith, div-mul-le_self a (suc k), le))
 
-fewer_writes : (more maxdata held : ℕ) (before flow : Flow) → IsWithin more before flow → up_writes flow 0 maxdata held ≤ up_writes before more maxdata held
+fewer_writes : (more maxdata held : ℕ) (before flow : Flow) → IsWithin more before flow
+    → up_writes flow 0 maxdata held ≤ up_writes before more maxdata held
 fewer_writes more maxdata held (One v) (One w) h = omega arith
 fewer_writes more maxdata held (Credit v) (Credit w) h =
     let fewer = div_fewer maxdata (min (w.to_send + 0) held) (min (v.to_send + more) held) (omega (arith, h.most)) in
@@ -67,7 +70,8 @@ record WasHeld (l : ℕ) (before : Option SeenClient) (now : SeenClient) : Type 
   held : is_for l now.about.phase ≡ true → now.held ≡ old.held
   ready : HoldsAsReady old now
 
-was_held : (l : ℕ) (before : Option SeenClient) (now : SeenClient) → HoldsAs l (option_map client_row before) (client_row now) → StaysHeld before (Some now)
+was_held : (l : ℕ) (before : Option SeenClient) (now : SeenClient)
+    → HoldsAs l (option_map client_row before) (client_row now) → StaysHeld before (Some now)
     → WasHeld l before now
 was_held l None now h ready = absurd ready
 was_held l (Some old) now h ready = record {
@@ -97,7 +101,8 @@ module _ (flow before : Flow) (more maxdata : ℕ) (growth : IsWithin more befor
   fewer_for : writes_for l flow maxdata (Some now) ≤ writes_behind before more maxdata row
   fewer_for = by_case (is_for l now.about.phase) refl
     where
-      by_case : (b : Bool) → is_for l now.about.phase ≡ b → cond b (up_writes flow 0 maxdata (length now.held)) 0 ≤ writes_behind before more maxdata row
+      by_case : (b : Bool) → is_for l now.about.phase ≡ b → cond b (up_writes flow 0 maxdata (length now.held)) 0
+          ≤ writes_behind before more maxdata row
       by_case false e = omega arith
       by_case true e =
           let same : length now.held ≡ length was.old.held = ap length (was.held e) in
@@ -125,12 +130,15 @@ module _ {link : ℕ} {packets : List Came} {ids : List ℕ} {old new : Tables} 
     was = h.stays l now is
 
     on : now.link ≡ link
-    on = was.link ∙ on_link link was.old (ap (λ (row : Option Stream). is_some (of_link link row)) (sym was.is) ∙ reserved.named.live l there)
+    on = was.link
+        ∙ on_link link was.old
+        (ap (λ (row : Option Stream). is_some (of_link link row)) (sym was.is) ∙ reserved.named.live l there)
 
     maxdata_was : maxdata_of now.link new.devices ≡ maxdata_of link old.devices
     maxdata_was = was.maxdata ∙ ap (λ (k : ℕ). maxdata_of k old.devices) on
 
-    client_was : (client : SeenClient) → at now.client new.clients.entries ≡ Some client → WasHeld l (at now.client old.clients.entries) client
+    client_was : (client : SeenClient) → at now.client new.clients.entries ≡ Some client
+        → WasHeld l (at now.client old.clients.entries) client
     client_was client here =
         was_held l (at now.client old.clients.entries) client (was.owner (client_row client) (ap (option_map client_row) here))
         (subst (StaysHeld (at now.client old.clients.entries)) here (h.held now.client))
@@ -140,10 +148,13 @@ module _ {link : ℕ} {packets : List Came} {ids : List ℕ} {old new : Tables} 
 
     cut_was : IsCutBehind was.old.part.flow (credit l) (maxdata_of link old.devices) (at now.client old.clients.entries)
     cut_was =
-        subst (λ (c : ℕ). IsCutBehind was.old.part.flow (credit l) (maxdata_of link old.devices) (at c old.clients.entries)) (sym was.client)
-        (subst (λ (row : Option Stream). IsCutAt (credit l) (maxdata_of link old.devices) row old.clients.entries) was.is (reserved.cut l there))
+        subst (λ (c : ℕ). IsCutBehind was.old.part.flow (credit l) (maxdata_of link old.devices)
+        (at c old.clients.entries)) (sym was.client)
+        (subst (λ (row : Option Stream). IsCutAt (credit l) (maxdata_of link old.devices) row old.clients.entries)
+        was.is (reserved.cut l there))
 
-    cut_now : (row : Option SeenClient) → at now.client new.clients.entries ≡ row → IsCutIn l now.part.flow (maxdata_of now.link new.devices) row
+    cut_now : (row : Option SeenClient) → at now.client new.clients.entries ≡ row
+        → IsCutIn l now.part.flow (maxdata_of now.link new.devices) row
     cut_now None here = tt
     cut_now (Some client) here = λ has.
         subst (λ (n : ℕ). IsCut now.part.flow 0 n client) (sym maxdata_was)
@@ -212,7 +223,9 @@ module _ {link : ℕ} {packets : List Came} {ids : List ℕ} {old new : Tables} 
       omega (arith, first, others)
 
   -- what the up rule needs for the streams of these ids
-  pub ready_behind : LinkRoom (all_writes credit (maxdata_of link old.devices) ids old.streams.streams old.clients.entries) (at link new.links.entries)
+  pub ready_behind : LinkRoom
+      (all_writes credit (maxdata_of link old.devices) ids old.streams.streams old.clients.entries)
+      (at link new.links.entries)
       → ((k : ℕ) → LinkRoom 0 (at k new.links.entries)) → IsReadyEach ids new
   ready_behind room rooms = record { cut = cut_up; room = λ k. by_place k (cases_eq k link) }
     where

@@ -1,5 +1,6 @@
 -- A piece that came on a link makes the step of its entry.
-use Rattle.std.proofs.Common.{ℕ, ◌^◌, ◌<◌, ◌≡◌, ◌≢◌, ◌⊎◌, inl, inr, Bool, List, [], ◌∷◌, ◌++◌, get_or, Option, Some, None, refl, sym, ◌∙◌, ap, subst}
+use Rattle.std.proofs.Common.{ℕ, ◌^◌, ◌<◌, ◌≡◌, ◌≢◌, ◌⊎◌, inl, inr, Bool, List, [], ◌∷◌, ◌++◌, get_or, Option, Some, None, refl, sym, ◌∙◌}
+use Rattle.std.proofs.Common.{ap, subst}
 use Rattle.std.proofs.lemmas.List.Elements.{All-from_get_or}
 use Rattle.std.specs.Prelude.{option_map}
 use Rattle.std.proofs.lemmas.Bool.{cases_eq}
@@ -101,10 +102,12 @@ module _ {link : ℕ} {piece : List ℕ} {old : Tables} {port : Port} (h : Comes
         ∙ (ap (λ (m : Made). then_also m ups) (sym (receives_piece h.reached.history link piece (link_row port) shown_past))
         ∙ ap (λ (s : State). step s (Recv link piece)) (sym is_past)))
 
-    pub piece_told : {before after : Log} → Records (settles link c (state_of old)).told before old after → Tells (Recv link piece) before old after
+    pub piece_told : {before after : Log} → Records (settles link c (state_of old)).told before old after
+        → Tells (Recv link piece) before old after
     piece_told {before} {after} records = subst (λ (m : Made). Records m.told before old after) step_is records
 
-    module _ {incoming : Deframing} (rest : incoming ≡ record c { given = [] }) (new : Tables) (settled : HasSettled link c incoming old new) where
+    module _ {incoming : Deframing} (rest : incoming ≡ record c { given = [] }) (new : Tables)
+        (settled : HasSettled link c incoming old new) where
       step_made : state_of new ≡ (step (state_of old) (Recv link piece)).state
       step_made = settled.state ∙ ap (λ (m : Made). m.state) step_is
 

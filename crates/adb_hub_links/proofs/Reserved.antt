@@ -15,7 +15,8 @@ use Rattle.adb_hub_tables.proofs.Widening.{client_room}
 use Rattle.adb_hub_links.specs.Reserving.{IsCutAt, all_writes, IsReserved}
 use Rattle.adb_hub_links.proofs.More.{same_all_writes}
 
--- What was reserved, one after another: places of clients, by counts; then what they hold was made ready, in so many writes; then places of the link.
+-- What was reserved, one after another: places of clients, by counts; then what they hold was made ready, in so many
+-- writes; then places of the link.
 pub record Reserving (link : ℕ) (packets : List Came) (ids : List ℕ) (middle : List (ℕ × SeenClient)) (t : Tables) : Type 0 where
   pub named : AreNamedOn link (packets_of packets) t.streams.streams ids
   pub slices : ℕ → ℕ
@@ -31,7 +32,8 @@ pub record Reserving (link : ℕ) (packets : List Came) (ids : List ℕ) (middle
   pub written : writes ≡ all_writes credit maxdata ids t.streams.streams middle
   pub room : LinkRoom (writes + length packets) (at link t.links.entries)
 
-pub is_reserved : {link : ℕ} {packets : List Came} {ids : List ℕ} {middle : List (ℕ × SeenClient)} {t : Tables} → Reserving link packets ids middle t
+pub is_reserved : {link : ℕ} {packets : List Came} {ids : List ℕ} {middle : List (ℕ × SeenClient)} {t : Tables}
+    → Reserving link packets ids middle t
     → IsReserved link packets ids t
 is_reserved {link} {packets} {ids} {middle} {t} h = record {
   named = h.named;
@@ -43,7 +45,8 @@ is_reserved {link} {packets} {ids} {middle} {t} h = record {
       (subst (λ (n : ℕ). IsCutAt n h.maxdata (at l t.streams.streams) t.clients.entries) (h.given l) (h.cut l there));
   room =
       let given : h.credit ≡ granted (packets_of packets) = λ i. λ l. h.given l i in
-      let same = same_all_writes middle t.clients.entries h.more (granted (packets_of packets)) (maxdata_of link t.devices) ids t.streams.streams in
+      let same = same_all_writes middle t.clients.entries h.more (granted (packets_of packets))
+      (maxdata_of link t.devices) ids t.streams.streams in
       let writes =
       h.written
       ∙ (ap (λ (credit : ℕ → ℕ). all_writes credit h.maxdata ids t.streams.streams middle) given

@@ -123,7 +123,9 @@ module _ {link : ℕ} {came : List Came} {incoming : Deframing} {ids : List ℕ}
           (subst (λ (s : State). CoversUp ids s.drawn s) (sym behind_is) (h.can.leaves.covers ids (are_named h.can.reserved)))
           ∙ ap (λ (s : State). (ups s).state) behind_is;
       provided = record {
-        links = λ k. uses.links 0 k (more_room (writes_on k ids new) (0 + writes_on k ids new) (at k new.links.entries) (omega arith) (ready_each.room k));
+        links = λ k. uses.links 0 k
+            (more_room (writes_on k ids new) (0 + writes_on k ids new) (at k new.links.entries) (omega arith)
+            (ready_each.room k));
         clients = λ c. uses.clients 0 c (provided_behind.clients c);
         counted = uses.counted provided_behind.counted;
         tracked = uses.tracked provided_behind.tracked;
@@ -137,7 +139,8 @@ module _ {link : ℕ} {came : List Came} {incoming : Deframing} {ids : List ℕ}
 
     -- what the log records
     pub settled_told : {before middle_log after : Log}
-        → Reports (then_also (treat_all link (packets_of came) (state_of middle)) (faulty link incoming.fault)).told before middle middle_log new
+        → Reports (then_also (treat_all link (packets_of came) (state_of middle)) (faulty link incoming.fault)).told
+        before middle middle_log new
         → ((k : ℕ) → CoversUp ids k (state_of new) → Reports (up_all k (state_of new)).told middle_log new after last)
         → Records (settles link (cut_with incoming came) (state_of old)).told before old after
     settled_told {before} {middle_log} {after} treated all =
@@ -148,4 +151,5 @@ module _ {link : ℕ} {came : List Came} {incoming : Deframing} {ids : List ℕ}
         let goes_up = all new.streams.drawn
         (subst (λ (s : State). CoversUp ids s.drawn s) (sym behind_is) (h.can.leaves.covers ids (are_named h.can.reserved))) in
         let up = subst (λ (s : State). Reports (ups s).told middle_log new after last) behind_is goes_up in
-        records_same {old = old} {new = middle} (λ l. ap (λ (t : Tables). at l t.streams.streams) h.puts.others) (reports_then received up).log
+        records_same {old = old} {new = middle} (λ l. ap (λ (t : Tables). at l t.streams.streams) h.puts.others)
+        (reports_then received up).log

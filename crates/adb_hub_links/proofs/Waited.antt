@@ -34,7 +34,9 @@ pub gone_made : (link : ℕ) (piece : List ℕ) (old : Tables) → IsFit old →
     → Makes (Recv link piece) old old
 gone_made link piece old fit reached none =
     let gone : (state_of old).links link ≡ None = ap (option_map link_row) none in
-    let rests = subst (λ (s : State). s.links link ≡ None → (step s (Recv link piece)).state ≡ (receives_on (s.links link) link piece s).state) (sym reached.is)
+    let rests = subst
+    (λ (s : State). s.links link ≡ None → (step s (Recv link piece)).state
+    ≡ (receives_on (s.links link) link piece s).state) (sym reached.is)
     ((all_send_nothing reached.history reached.legal).gone link piece) in
     record {
       state = sym (rests gone ∙ ap (λ (o : Option Link). (receives_on o link piece (state_of old)).state) gone);
@@ -46,7 +48,9 @@ pub gone_told : (link : ℕ) (piece : List ℕ) (old : Tables) (log : Log) → I
 gone_told link piece old log reached none =
     let s = state_of old in
     let gone : s.links link ≡ None = ap (option_map link_row) none in
-    let rests = subst (λ (s : State). s.links link ≡ None → (step s (Recv link piece)).state ≡ (rule (Recv link piece) s).state) (sym reached.is)
+    let rests = subst
+    (λ (s : State). s.links link ≡ None → (step s (Recv link piece)).state ≡ (rule (Recv link piece) s).state)
+    (sym reached.is)
     ((all_send_nothing reached.history reached.legal).gone link piece) in
     let quiet : TellsSame [] (receives_on (s.links link) link piece s).told =
     subst (λ (o : Option Link). TellsSame [] (receives_on o link piece s).told) (sym gone) (λ rows log. refl) in
@@ -55,17 +59,20 @@ gone_told link piece old log reached none =
 -- ---- where nothing is completed
 nothing_told : (link : ℕ) (c : Deframing) (s : State) → c.given ≡ [] → c.fault ≡ None → TellsSame [] (receives_cut link c s).told
 nothing_told link c s given sound =
-    subst (λ (ps : List Packet). TellsSame [] (then_also (treat_all link ps (to_link link (with_rest c.rest) s)) (faulty link c.fault)).told) (sym given)
+    subst (λ (ps : List Packet). TellsSame []
+    (then_also (treat_all link ps (to_link link (with_rest c.rest) s)) (faulty link c.fault)).told) (sym given)
     (subst (λ (fault : Option PacketFault). TellsSame [] (faulty link fault (to_link link (with_rest c.rest) s)).told) (sym sound)
     (no_fault_told ((to_link link (with_rest c.rest) s).links link) link (to_link link (with_rest c.rest) s)))
 
-nothing_behind : (link : ℕ) (c : Deframing) (s : State) → c.given ≡ [] → c.fault ≡ None → behind link c s ≡ to_link link (with_rest c.rest) s
+nothing_behind : (link : ℕ) (c : Deframing) (s : State) → c.given ≡ [] → c.fault ≡ None
+    → behind link c s ≡ to_link link (with_rest c.rest) s
 nothing_behind link c s given sound =
     ap (λ (ps : List Packet). (then_also (treat_all link ps (to_link link (with_rest c.rest) s)) (faulty link c.fault)).state) given
     ∙ (ap (λ (fault : Option PacketFault). (faulty link fault (to_link link (with_rest c.rest) s)).state) sound
     ∙ no_fault ((to_link link (with_rest c.rest) s).links link) link (to_link link (with_rest c.rest) s))
 
-module _ {link : ℕ} {piece : List ℕ} {old : Tables} {port : Port} (h : Comes link piece old port) (waits : Waits port.link.incoming piece) where
+module _ {link : ℕ} {piece : List ℕ} {old : Tables} {port : Port} (h : Comes link piece old port)
+    (waits : Waits port.link.incoming piece) where
   given_none : (cut_behind (link_row port) piece).given ≡ []
   given_none =
       ap (λ (c : Deframing). c.given) (sym (cut_same h))
@@ -129,11 +136,13 @@ module _ {link : ℕ} {piece : List ℕ} {old : Tables} {port : Port} (h : Comes
     }
 
 -- ---- where there was no memory
-pub same_kept : (old new : Tables) → IsFit old → new ≡ record old { links = new.links } → ((k : ℕ) → at k new.links.entries ≡ at k old.links.entries)
+pub same_kept : (old new : Tables) → IsFit old → new ≡ record old { links = new.links }
+    → ((k : ℕ) → at k new.links.entries ≡ at k old.links.entries)
     → Keeps old new
 same_kept old new fit others same = widened old new fit (record {
   others = others ∙ sym (ap (λ (t : Tables). record old { clients = t.clients; links = new.links }) others);
   clients = λ c.
-      subst (λ (t : Tables). WidensRow WidensClient (at c old.clients.entries) (at c t.clients.entries)) (sym others) (same_client (at c old.clients.entries));
+      subst (λ (t : Tables). WidensRow WidensClient (at c old.clients.entries) (at c t.clients.entries)) (sym others)
+      (same_client (at c old.clients.entries));
   links = like_ports old.links.entries new.links.entries same;
 })

@@ -65,7 +65,8 @@ stands_alone head bytes are w plain =
     ∙ ap (λ (q : Packet). record no_bytes { given = q ∷ [] }) (whole_packet head bytes w))
 
 -- the packet of a piece that begins with that header
-pub piece_alone : (head : Head) (bytes : List ℕ) (p : Packet) → IsBytes bytes → IsPlain head bytes → p ≡ packet_under head (drop HEADER_LEN bytes)
+pub piece_alone : (head : Head) (bytes : List ℕ) (p : Packet) → IsBytes bytes → IsPlain head bytes
+    → p ≡ packet_under head (drop HEADER_LEN bytes)
     → IsAlone bytes p
 piece_alone head bytes p are plain is = record {
   stands = stands_alone head bytes are plain.whole plain.plain ∙ ap alone (sym (is ∙ whole_packet head bytes plain.whole));
@@ -73,7 +74,8 @@ piece_alone head bytes p are plain is = record {
 }
 
 -- its header is read of the first bytes alone
-pub head_whole : (head : Head) (bytes : List ℕ) → head_at (take HEADER_LEN bytes) ≡ Ok head → length bytes ≡ packet_len head → IsWhole head bytes
+pub head_whole : (head : Head) (bytes : List ℕ) → head_at (take HEADER_LEN bytes) ≡ Ok head
+    → length bytes ≡ packet_len head → IsWhole head bytes
 head_whole head bytes read long = record {
   read =
       ap head_at (sym (take-append-drop HEADER_LEN bytes))

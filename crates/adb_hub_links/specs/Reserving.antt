@@ -25,7 +25,8 @@ writes_at more maxdata (Some stream) clients = writes_behind stream.part.flow mo
 
 abbrev pub all_writes : (more : ℕ → ℕ) (maxdata : ℕ) → List ℕ → List (ℕ × Stream) → List (ℕ × SeenClient) → ℕ
 all_writes more maxdata [] streams clients = 0
-all_writes more maxdata (l ∷ ids) streams clients = writes_at (more l) maxdata (at l streams) clients + all_writes more maxdata ids streams clients
+all_writes more maxdata (l ∷ ids) streams clients = writes_at (more l) maxdata (at l streams) clients
+    + all_writes more maxdata ids streams clients
 
 -- Packets of a link can be treated, and the streams of these ids sent up, without memory.
 pub record IsReserved (link : ℕ) (packets : List Came) (ids : List ℕ) (t : Tables) : Type 0 where

@@ -35,7 +35,8 @@ behind link c s = (receives_cut link c s).state
 abbrev pub settles : ℕ → Deframing → State → Made
 settles link c s = then_also (receives_cut link c s) ups
 
--- Behind them no device takes more than the server, each stream that is still there is as it was but for its credit, and only those may send that they name.
+-- Behind them no device takes more than the server, each stream that is still there is as it was but for its credit,
+-- and only those may send that they name.
 pub record LeavesNamed (link : ℕ) (c : Deframing) (s : State) : Type 0 where
   pub stays : AllStay (granted c.given) s (behind link c s)
   pub sized : AllSized (behind link c s)

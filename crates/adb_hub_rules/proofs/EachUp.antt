@@ -1,5 +1,6 @@
 -- The up rule for several streams: what one leaves to those behind it.
-use Rattle.std.proofs.Common.{ℕ, ◌+◌, ◌≡◌, ◌≢◌, ◌≤◌, List, [], ◌∷◌, Bool, true, false, Option, Some, None, refl, sym, ◌∙◌, ap, subst, cond, arith, ◌⊎◌, inl, inr}
+use Rattle.std.proofs.Common.{ℕ, ◌+◌, ◌≡◌, ◌≢◌, ◌≤◌, List, [], ◌∷◌, Bool, true, false, Option, Some, None, refl, sym, ◌∙◌, ap, subst, cond}
+use Rattle.std.proofs.Common.{arith, ◌⊎◌, inl, inr}
 use Rattle.std.specs.Prelude.{nat_eq}
 use Rattle.std.proofs.lemmas.Bool.{ne_eqb, eq-eqb, cases_eq}
 use Rattle.std.specs.Ordering.{nat_cmp}
@@ -68,11 +69,13 @@ module _ (id : ℕ) (old new : Tables) (h : LeavesOne id old new) where
     where
       by_link : ◌⊎◌ (stream.link ≡ link) (stream.link ≢ link) → LinkRoom m (at link new.links.entries)
       by_link (inl is) =
-          let here = subst (λ b. LinkRoom (m + cond b (writes_up id old) 0) (at link old.links.entries)) (eq-eqb stream.link link is) room in
+          let here = subst (λ b. LinkRoom (m + cond b (writes_up id old) 0) (at link old.links.entries))
+          (eq-eqb stream.link link is) room in
           subst (λ (k : ℕ). LinkRoom m (at k new.links.entries)) is
           (uses.on_link m (subst (λ (k : ℕ). LinkRoom (m + writes_up id old) (at k old.links.entries)) (sym is) here))
       by_link (inr other) =
-          let here = subst (λ b. LinkRoom (m + cond b (writes_up id old) 0) (at link old.links.entries)) (ne_eqb stream.link link other) room in
+          let here = subst (λ b. LinkRoom (m + cond b (writes_up id old) 0) (at link old.links.entries))
+          (ne_eqb stream.link link other) room in
           uses.on_links m link (λ e. other (sym e)) (subst (λ (k : ℕ). LinkRoom k (at link old.links.entries)) (no_more m) here)
 
   rest : LeavesRest old new
@@ -84,7 +87,8 @@ module _ (id : ℕ) (old new : Tables) (h : LeavesOne id old new) where
   fewer_if link l was None owned fewer = omega arith
   fewer_if link l None (Some stream) owned fewer = absurd owned
   fewer_if link l (Some was) (Some stream) (client, same) fewer =
-      subst (λ (k : ℕ). writes_if_on link l (Some stream) new ≤ cond (nat_eq k link) (writes_up l old) 0) same (by_test (nat_eq stream.link link))
+      subst (λ (k : ℕ). writes_if_on link l (Some stream) new ≤ cond (nat_eq k link) (writes_up l old) 0) same
+      (by_test (nat_eq stream.link link))
     where
       by_test : (b : Bool) → cond b (writes_up l new) 0 ≤ cond b (writes_up l old) 0
       by_test true = fewer
@@ -93,7 +97,8 @@ module _ (id : ℕ) (old new : Tables) (h : LeavesOne id old new) where
   fewer_on : (link : ℕ) (ids : List ℕ) → ((l : ℕ) → IsAmong l ids → l ≢ id) → writes_on link ids new ≤ writes_on link ids old
   fewer_on link [] others = omega arith
   fewer_on link (l ∷ ids) others =
-      let first = fewer_if link l (at l old.streams.streams) (at l new.streams.streams) (rest.owned l) (h.others l (others l (inl refl))).writes in
+      let first = fewer_if link l (at l old.streams.streams) (at l new.streams.streams) (rest.owned l)
+      (h.others l (others l (inl refl))).writes in
       omega (arith, first, fewer_on link ids (λ q among. others q (inr among)))
 
   -- the places that are left to those behind it
@@ -109,7 +114,9 @@ module _ (id : ℕ) (old new : Tables) (h : LeavesOne id old new) where
   ready_rest ids rises ready = record {
     cut = λ l among. (h.others l (apart id l ids rises among)).cut (ready.cut l (inr among));
     room = λ link. more_room (0 + writes_on link ids new) _ (at link new.links.entries) (omega arith)
-        (rooms_left 0 link ids rises (more_room (writes_on link (id ∷ ids) old) _ (at link old.links.entries) (omega arith) (ready.room link)));
+        (rooms_left 0 link ids rises
+        (more_room (writes_on link (id ∷ ids) old) _ (at link old.links.entries) (omega arith)
+        (ready.room link)));
   }
 
   pub sized_still : IsSized old → IsSized new
@@ -119,13 +126,16 @@ module _ (id : ℕ) (old new : Tables) (h : LeavesOne id old new) where
 pub ready_first : (id : ℕ) (ids : List ℕ) (t : Tables) → IsReadyEach (id ∷ ids) t → IsReadyUp id t
 ready_first id ids t ready = record {
   cut = ready.cut id (inl refl);
-  room = at_row (at id t.streams.streams) (λ link. more_room (writes_on link (id ∷ ids) t) _ (at link t.links.entries) (omega arith) (ready.room link));
+  room = at_row (at id t.streams.streams)
+      (λ link. more_room (writes_on link (id ∷ ids) t) _ (at link t.links.entries) (omega arith) (ready.room link));
 }
   where
-    at_row : (row : Option Stream) → ((link : ℕ) → LinkRoom (writes_if_on link id row t) (at link t.links.entries)) → HasRoom (writes_up id t) row t
+    at_row : (row : Option Stream) → ((link : ℕ) → LinkRoom (writes_if_on link id row t) (at link t.links.entries))
+        → HasRoom (writes_up id t) row t
     at_row None room = tt
     at_row (Some stream) room =
-        subst (λ b. LinkRoom (cond b (writes_up id t) 0) (at stream.link t.links.entries)) (eq-eqb stream.link stream.link refl) (room stream.link)
+        subst (λ b. LinkRoom (cond b (writes_up id t) 0) (at stream.link t.links.entries))
+        (eq-eqb stream.link stream.link refl) (room stream.link)
 
 -- Of these streams some went up, and with the rest it is as it was with all.
 pub record Swept (ids rest : List ℕ) (old now : Tables) : Type 0 where
@@ -142,7 +152,8 @@ pub record Swept (ids rest : List ℕ) (old now : Tables) : Type 0 where
   pub owned : (l : ℕ) → StaysOwned (at l old.streams.streams) (at l now.streams.streams)
   pub read : (k : ℕ) → StaysRead (at k old.links.entries) (at k now.links.entries)
 
-pub swept_one : (ids behind : List ℕ) (id : ℕ) {old now new : Tables} → Swept ids (id ∷ behind) old now → LeavesOne id now new → Swept ids behind old new
+pub swept_one : (ids behind : List ℕ) (id : ℕ) {old now new : Tables} → Swept ids (id ∷ behind) old now
+    → LeavesOne id now new → Swept ids behind old new
 swept_one ids behind id {old} {now} {new} h one =
     let others = leaves_rest (at id now.streams.streams) (writes_up id now) now new one.uses in
     record {

@@ -1,5 +1,6 @@
 -- All streams of a link end, one after another.
-use Rattle.std.proofs.Common.{ℕ, ◌≡◌, ◌≢◌, ◌≤◌, ◌<◌, Bool, true, false, Option, Some, None, refl, sym, ◌∙◌, ap, cond, eqb, zero, suc, arith, ◌⊎◌, inl, inr, []}
+use Rattle.std.proofs.Common.{ℕ, ◌≡◌, ◌≢◌, ◌≤◌, ◌<◌, Bool, true, false, Option, Some, None, refl, sym, ◌∙◌, ap, cond, eqb, zero, suc, arith}
+use Rattle.std.proofs.Common.{◌⊎◌, inl, inr, []}
 use Rattle.std.proofs.lemmas.Bool.{ne_eqb, eq-eqb, cases_eq}
 use Rattle.std.specs.Prelude.{option_and_then, IsSome, is_some}
 use Rattle.adb_stream.specs.Stream.{of_link}
@@ -27,12 +28,14 @@ loses_streams forwarded Tracking c s = (refl, refl)
 loses_streams forwarded Closing c s = (refl, refl)
 loses_streams forwarded Gone c s = (refl, refl)
 
-client_streams : (row : Option Client) (c : ℕ) (s : State) → ((client_loses row c s).state.streams ≡ s.streams) × ((client_loses row c s).state.drawn ≡ s.drawn)
+client_streams : (row : Option Client) (c : ℕ) (s : State) → ((client_loses row c s).state.streams ≡ s.streams)
+    × ((client_loses row c s).state.drawn ≡ s.drawn)
 client_streams None c s = (refl, refl)
 client_streams (Some client) c s = loses_streams client.about.forwarded client.about.phase c s
 
 pub row_streams : (l : ℕ) (ending : Ending) (stream : Stream) (s : State)
-    → ((ends_row l ending stream s).state.streams ≡ (to_stream l none_kept s).streams) × ((ends_row l ending stream s).state.drawn ≡ s.drawn)
+    → ((ends_row l ending stream s).state.streams ≡ (to_stream l none_kept s).streams)
+    × ((ends_row l ending stream s).state.drawn ≡ s.drawn)
 row_streams l ending stream s =
     let told = (tells_end stream.part.orphan l ending (to_stream l none_kept s)).state in
     let kept = told_state stream.part.orphan l ending (to_stream l none_kept s) in
@@ -122,7 +125,8 @@ module _ (t id : ℕ) (ending : Ending) (s : State) (stream : Stream) (h : IsFir
           → then_also (ends_row id ending stream s) (ends_of t (suc m) ending) ≡ ends_of t (suc m) ending s
       by_place (inl here) before =
           let left : then_also (ends_row id ending stream s) (ends_of t (suc m) ending) ≡ then_also (ends_row id ending stream s) quietly =
-          ap (λ (rest : Made). then_also (ends_row id ending stream s) (λ _. rest)) (quiet_to t (suc m) ending after (λ j le. none_after j le)) in
+          ap (λ (rest : Made). then_also (ends_row id ending stream s) (λ _. rest))
+          (quiet_to t (suc m) ending after (λ j le. none_after j le)) in
           let quiet : ends_of t m ending s ≡ quietly s = quiet_to t m ending s (λ j le. h.least j (omega (arith, le, here))) in
           let there : s.streams (suc m) ≡ Some stream = ap s.streams (sym here) ∙ h.is in
           let right : ends_of t (suc m) ending s ≡ ends_row id ending stream s =
@@ -140,11 +144,13 @@ module _ (t id : ℕ) (ending : Ending) (s : State) (stream : Stream) (h : IsFir
               by_j (inr other) = ap (of_link t) (same_there j (omega (arith, le, here, other))) ∙ h.least j (omega (arith, le, here, other))
       by_place (inr other) before =
           sym (made_assoc (ends_row id ending stream s) (ends_of t m ending) (λ s. ends_if_of t (suc m) ending (s.streams (suc m)) s))
-          ∙ ap (λ (first : Made). then_also first (λ s. ends_if_of t (suc m) ending (s.streams (suc m)) s)) (before (omega (arith, le, other)))
+          ∙ ap (λ (first : Made). then_also first (λ s. ends_if_of t (suc m) ending (s.streams (suc m)) s))
+          (before (omega (arith, le, other)))
 
   pub first_of_all : id ≤ s.drawn → then_also (ends_row id ending stream s) (all_end t ending) ≡ all_end t ending s
   first_of_all le =
-      ap (λ n. then_also (ends_row id ending stream s) (λ _. ends_of t n ending after)) (row_streams id ending stream s).1 ∙ first_ends s.drawn le
+      ap (λ n. then_also (ends_row id ending stream s) (λ _. ends_of t n ending after))
+      (row_streams id ending stream s).1 ∙ first_ends s.drawn le
 
 -- where a link has no stream nothing ends
 pub none_ends : (t : ℕ) (ending : Ending) (s : State) → ((j : ℕ) → of_link t (s.streams j) ≡ None) → all_end t ending s ≡ quietly s

@@ -1,5 +1,6 @@
 -- What a client holds goes up: the writes, the rows after them, and the end.
-use Rattle.std.proofs.Common.{ℕ, ◌+◌, ◌-◌, ◌≡◌, ◌≢◌, List, [], ◌∷◌, Bool, true, false, Option, Some, None, refl, sym, ◌∙◌, ap, subst, cond, arith, ◌⊎◌, inl, inr, length, drop}
+use Rattle.std.proofs.Common.{ℕ, ◌+◌, ◌-◌, ◌≡◌, ◌≢◌, List, [], ◌∷◌, Bool, true, false, Option, Some, None, refl, sym, ◌∙◌, ap, subst, cond}
+use Rattle.std.proofs.Common.{arith, ◌⊎◌, inl, inr, length, drop}
 use Rattle.std.specs.Prelude.{option_map, option_and_then, unwrap_or}
 use Rattle.std.proofs.lemmas.Bool.{ne_eqb, eq-eqb, cases_eq}
 use Rattle.adb_outside.specs.Tables.{Rows, at, change_row}
@@ -10,7 +11,8 @@ use Rattle.adb_stream.specs.declared.row.Stream.{Stream}
 use Rattle.adb_history.specs.Rows.{Client, State, to_client, to_stream, with_held, with_stream_part}
 use Rattle.adb_history.specs.Events.{Made, quietly, then_also}
 use Rattle.adb_history.specs.Links.{maxdata_of}
-use Rattle.adb_history.specs.Flow.{payloads, total, with_flow, goes_up, all_go_up, flow_after, noted, is_over, closes_if, sends_up, is_streaming, up_client, up_stream, up}
+use Rattle.adb_history.specs.Flow.{payloads, total, with_flow, goes_up, all_go_up, flow_after, noted, is_over, closes_if, sends_up}
+use Rattle.adb_history.specs.Flow.{is_streaming, up_client, up_stream, up}
 use Rattle.adb_hub_tables.specs.declared.tables.Tables.{Tables}
 use Rattle.adb_hub_tables.specs.Tables.{client_row, state_of}
 use Rattle.adb_hub_tables.specs.Places.{Uses}
@@ -31,16 +33,19 @@ same_rows {A} n f rows same i k = at_place k i
         by_place (inr other) = ap (λ b. cond b (option_and_then f (rows k)) (rows k)) (ne_eqb n k other)
 
 -- what stands where a row is changed
-pub changed_here : {A : Type 0} (n : ℕ) (f : A → Option A) (rows : Rows (Option A)) → change_row n (option_and_then f) rows n ≡ option_and_then f (rows n)
+pub changed_here : {A : Type 0} (n : ℕ) (f : A → Option A) (rows : Rows (Option A))
+    → change_row n (option_and_then f) rows n ≡ option_and_then f (rows n)
 changed_here n f rows = ap (λ b. cond b (option_and_then f (rows n)) (rows n)) (eq-eqb n n refl)
 
 -- what was held is held
-held_again : (row : Option SeenClient) → option_and_then (with_held (drop 0 (held_at row))) (option_map client_row row) ≡ option_map client_row row
+held_again : (row : Option SeenClient) → option_and_then (with_held (drop 0 (held_at row)))
+    (option_map client_row row) ≡ option_map client_row row
 held_again None = refl
 held_again (Some row) = refl
 
 -- a rule that takes no place behind another
-pub then_spared : {link a c : ℕ} {old middle new : Tables} → Uses link a c 0 old middle → Uses link 0 c 0 middle new → Uses link a c 0 old new
+pub then_spared : {link a c : ℕ} {old middle new : Tables} → Uses link a c 0 old middle → Uses link 0 c 0 middle new
+    → Uses link a c 0 old new
 then_spared {link} {a} {c} {old} {middle} {new} h k = subst (λ (n : ℕ). Uses link n c 0 old new) (no_more a) (uses_then h k)
   where
     no_more : (n : ℕ) → n + 0 ≡ n
@@ -67,7 +72,8 @@ module _ (l : ℕ) (stream : Stream) where
 
   -- the flow is noted before the writes, or behind them
   pub noted_is : (ps : List (List ℕ)) (held : List ℕ) (s : State) (flow : Flow) → flow ≡ flow_after ps stream.part.flow
-      → to_stream l (with_stream_part (with_flow flow stream.part)) (all_written l stream ps held s) ≡ (all_go_up l stream ps (noted l stream held ps s)).state
+      → to_stream l (with_stream_part (with_flow flow stream.part)) (all_written l stream ps held s)
+      ≡ (all_go_up l stream ps (noted l stream held ps s)).state
   noted_is ps held s flow is =
       goes_behind (with_stream_part (with_flow flow stream.part)) ps (to_client stream.client (with_held (drop (total ps) held)) s)
       ∙ ap (λ (flow : Flow). (all_go_up l stream ps (to_client stream.client (with_held (drop (total ps) held))
@@ -99,7 +105,8 @@ module _ (l : ℕ) (stream : Stream) where
     abbrev sent : State
     sent = (all_go_up l stream ps (noted l stream held ps s)).state
 
-    pub stream_then : s.streams l ≡ Some stream → sent.streams l ≡ Some (with_part (with_flow (flow_after ps stream.part.flow) stream.part) stream)
+    pub stream_then : s.streams l ≡ Some stream → sent.streams l
+        ≡ Some (with_part (with_flow (flow_after ps stream.part.flow) stream.part) stream)
     stream_then here =
         ap (λ (rows : Rows (Option Stream)). rows l) (goes_streams ps (noted l stream held ps s))
         ∙ (changed_here l (with_stream_part (with_flow (flow_after ps stream.part.flow) stream.part)) s.streams
@@ -112,15 +119,19 @@ module _ (l : ℕ) (stream : Stream) where
 
   -- and the end
   pub close_then : (ps : List (List ℕ)) (client row : Client) (s middle : State) → s.streams l ≡ Some stream
-      → (middle ≡ (all_go_up l stream ps (noted l stream client.held ps s)).state) × (row ≡ record client { held = drop (total ps) client.held })
+      → (middle ≡ (all_go_up l stream ps (noted l stream client.held ps s)).state)
+      × (row ≡ record client { held = drop (total ps) client.held })
       → (let after = with_part (with_flow (flow_after ps stream.part.flow) stream.part) stream in
       then_also (all_go_up l stream ps (noted l stream client.held ps s))
       (λ _. closes_if (is_over row.about.ended row.held after.part.flow) l (Some after) middle))
       ≡ sends_up l stream client ps s
   close_then ps client row s middle here (is, same) =
       ap (λ (s : State). written_then (closes_if (is_over row.about.ended row.held after.part.flow) l (Some after) s)) is
-      ∙ (ap (λ (row : Client). written_then (closes_if (is_over row.about.ended row.held after.part.flow) l (Some after) written.state)) same
-      ∙ ap (λ (then : Option Stream). written_then (closes_if (is_over client.about.ended (drop (total ps) client.held) after.part.flow) l then written.state))
+      ∙ (ap (λ (row : Client). written_then
+      (closes_if (is_over row.about.ended row.held after.part.flow) l (Some after) written.state)) same
+      ∙ ap (λ (then : Option Stream). written_then
+      (closes_if (is_over client.about.ended (drop (total ps) client.held) after.part.flow) l then
+      written.state))
       (sym (stream_then ps client.held s here)))
     where
       after : Stream
@@ -133,7 +144,8 @@ module _ (l : ℕ) (stream : Stream) where
       written_then last = then_also written (λ _. last)
 
   -- the rule of an open stream
-  pub open_up : (client : Client) (s : State) → s.streams l ≡ Some stream → s.clients stream.client ≡ Some client → is_streaming l client.about.phase ≡ true
+  pub open_up : (client : Client) (s : State) → s.streams l ≡ Some stream → s.clients stream.client ≡ Some client
+      → is_streaming l client.about.phase ≡ true
       → sends_up l stream client (payloads stream.part.flow (maxdata_of stream.link s.devices) client.held) s ≡ up l s
   open_up client s here owner streaming =
       ap (λ b. cond b (sends_up l stream client (payloads stream.part.flow (maxdata_of stream.link s.devices) client.held) s) (quietly s))
@@ -204,7 +216,8 @@ module _ (l : ℕ) (stream : Stream) (old middle : Tables)
       ∙ (stream_then l stream (all_unsent stream old) held (state_of old) here ∙ ap (λ (flow : Flow). Some (then_flow flow)) (sym is))
 
   pub middle_client : option_map client_row (at stream.client middle.clients.entries)
-      ≡ option_and_then (with_held (drop (total (all_unsent stream old)) held)) (option_map client_row (at stream.client old.clients.entries))
+      ≡ option_and_then (with_held (drop (total (all_unsent stream old)) held))
+      (option_map client_row (at stream.client old.clients.entries))
   middle_client = ap (λ (s : State). s.clients stream.client) state ∙ client_then l stream (all_unsent stream old) held (state_of old)
 
   pub middle_open : has_open l (at stream.client old.clients.entries) ≡ true → has_open l (at stream.client middle.clients.entries) ≡ true
@@ -220,12 +233,15 @@ module _ (l : ℕ) (stream : Stream) (old middle : Tables)
       → P (then_also (all_go_up l stream (all_unsent stream old) (noted l stream seen.held (all_unsent stream old) (state_of old)))
       (λ _. closes_if (is_over row.about.ended row.held flow) l (Some (then_flow flow)) (state_of middle))))
       → P (sends_up l stream (client_row seen) (all_unsent stream old) (state_of old))
-  sent_up seen flow P here (owner, is) closes = at_row (shown (at stream.client middle.clients.entries) (left_of seen) (middle_client ∙ is_row))
+  sent_up seen flow P here (owner, is) closes =
+      at_row (shown (at stream.client middle.clients.entries) (left_of seen) (middle_client ∙ is_row))
     where
-      is_row : option_and_then (with_held (drop (total (all_unsent stream old)) held)) (option_map client_row (at stream.client old.clients.entries))
+      is_row : option_and_then (with_held (drop (total (all_unsent stream old)) held))
+          (option_map client_row (at stream.client old.clients.entries))
           ≡ Some (left_of seen)
       is_row =
-          ap (λ (row : Option SeenClient). option_and_then (with_held (drop (total (all_unsent stream old)) (held_at row))) (option_map client_row row))
+          ap (λ (row : Option SeenClient). option_and_then
+          (with_held (drop (total (all_unsent stream old)) (held_at row))) (option_map client_row row))
           owner
 
       written : Made
@@ -240,12 +256,16 @@ module _ (l : ℕ) (stream : Stream) (old middle : Tables)
       at_row shows =
           let row = shows.seen in
           subst P
-          (ap (λ (flow : Flow). then_also written (λ _. closes_if (is_over row.about.ended row.held flow) l (Some (then_flow flow)) (state_of middle))) is
-          ∙ close_then l stream (all_unsent stream old) (client_row seen) (client_row row) (state_of old) (state_of middle) here (state_is, shows.same))
+          (ap (λ (flow : Flow). then_also written
+          (λ _. closes_if (is_over row.about.ended row.held flow) l (Some (then_flow flow))
+          (state_of middle))) is
+          ∙ close_then l stream (all_unsent stream old) (client_row seen) (client_row row) (state_of old)
+          (state_of middle) here (state_is, shows.same))
           (closes row shows.is)
 
 -- the rule for a stream that its client has open
-pub up_is : (l : ℕ) (stream : Stream) (old : Tables) → at l old.streams.streams ≡ Some stream → (row : Opens l (at stream.client old.clients.entries))
+pub up_is : (l : ℕ) (stream : Stream) (old : Tables) → at l old.streams.streams ≡ Some stream
+    → (row : Opens l (at stream.client old.clients.entries))
     → sends_up l stream (client_row row.seen) (all_unsent stream old) (state_of old) ≡ up l (state_of old)
 up_is l stream old here row =
     let payloads_of = λ (seen : Option SeenClient). payloads stream.part.flow (maxdata_of stream.link old.devices) (held_at seen) in

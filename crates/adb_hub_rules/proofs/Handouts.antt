@@ -1,5 +1,6 @@
 -- Handing out what is due.
-use Rattle.std.proofs.Common.{ℕ, ◌≡◌, ◌≢◌, ◌<◌, true, false, Option, Some, refl, sym, ◌∙◌, ap, cond, eqb, arith, ◌⊎◌, inl, inr, length, drop, min}
+use Rattle.std.proofs.Common.{ℕ, ◌≡◌, ◌≢◌, ◌<◌, true, false, Option, Some, refl, sym, ◌∙◌, ap, cond, eqb, arith, ◌⊎◌, inl, inr, length}
+use Rattle.std.proofs.Common.{drop, min}
 use Rattle.std.specs.Prelude.{option_and_then}
 use Rattle.std.proofs.lemmas.Bool.{ne_eqb, cases_eq}
 use Rattle.adb_outside.specs.Tables.{Rows, change_row}
@@ -39,32 +40,39 @@ same_change {A} n f g rows row is same i k = at_place k i
 fewer_left : (left l : ℕ) (stream : Stream) (s : State) → left < to_hand stream.part.flow
     → stream_hands left l stream s ≡ leaves left l stream.part.flow stream s
 fewer_left left l stream s fewer =
-    ap (λ b. cond b (quietly s) (leaves left l stream.part.flow stream s)) (ne_eqb left (to_hand stream.part.flow) (λ e. omega (arith, fewer, e)))
+    ap (λ b. cond b (quietly s) (leaves left l stream.part.flow stream s))
+    (ne_eqb left (to_hand stream.part.flow) (λ e. omega (arith, fewer, e)))
 
-pub less_left : (due l : ℕ) (stream : Stream) (s : State) (left : ℕ) → left ≡ min (to_hand stream.part.flow) due → left < to_hand stream.part.flow
+pub less_left : (due l : ℕ) (stream : Stream) (s : State) (left : ℕ) → left ≡ min (to_hand stream.part.flow) due
+    → left < to_hand stream.part.flow
     → (leaves left l stream.part.flow stream s).state ≡ (stream_left due l (Some stream) s).state
 less_left due l stream s left is fewer =
     ap (λ (m : Made). m.state) (sym (fewer_left left l stream s fewer)) ∙ ap (λ (n : ℕ). (stream_hands n l stream s).state) is
 
 module _ (left l : ℕ) (stream : Stream) (s : State) where
   -- a device is told of a credit what is given back
-  pub told_credit : (flow : Flow) → has_credit flow ≡ true → (tells_credit (flow_back left flow) l stream s).state ≡ (tells_handed flow left l stream s).state
+  pub told_credit : (flow : Flow) → has_credit flow ≡ true → (tells_credit (flow_back left flow) l stream s).state
+      ≡ (tells_handed flow left l stream s).state
   told_credit (One window) is = absurd (let clash : false ≡ true = is in cc)
   told_credit (Credit credit) is = refl
 
   -- and of one write that it was handed out
-  pub told_one : {now : State} (flow : Flow) → has_credit flow ≡ false → ((window : OneWrite) → now ≡ (tells_handed (One window) left l stream s).state)
+  pub told_one : {now : State} (flow : Flow) → has_credit flow ≡ false
+      → ((window : OneWrite) → now ≡ (tells_handed (One window) left l stream s).state)
       → now ≡ (tells_handed flow left l stream s).state
   told_one (One window) is told = told window
   told_one (Credit credit) is told = absurd (let clash : true ≡ false = is in cc)
 
-pub left_then : (l : ℕ) (n m : ℕ) (s t : State) → n ≡ m → s ≡ t → (stream_left n l (s.streams l) s).state ≡ (stream_left m l (t.streams l) t).state
-left_then l n m s t same is = ap (λ (q : ℕ). (stream_left q l (s.streams l) s).state) same ∙ ap (λ (s : State). (stream_left m l (s.streams l) s).state) is
+pub left_then : (l : ℕ) (n m : ℕ) (s t : State) → n ≡ m → s ≡ t
+    → (stream_left n l (s.streams l) s).state ≡ (stream_left m l (t.streams l) t).state
+left_then l n m s t same is = ap (λ (q : ℕ). (stream_left q l (s.streams l) s).state) same
+    ∙ ap (λ (s : State). (stream_left m l (s.streams l) s).state) is
 
 module _ (c n : ℕ) (s : State) (row : Client) (here : s.clients c ≡ Some row) where
   -- a client that is not closing stays
   pub handed_is : hands n row ≡ handed n row → to_client c (handed n) s ≡ to_client c (hands n) s
-  handed_is same = ap (λ (rows : Rows (Option Client)). record s { clients = rows }) (same_change c (handed n) (hands n) s.clients row here (sym same))
+  handed_is same = ap (λ (rows : Rows (Option Client)). record s { clients = rows })
+      (same_change c (handed n) (hands n) s.clients row here (sym same))
 
   -- one that is closing is gone when nothing is left
   pub closed_is : row.about.phase ≡ Closing → closes c (to_client c (handed n) s) ≡ to_client c (hands n) s
@@ -93,7 +101,8 @@ module _ (c n : ℕ) (s : State) (row : Client) (here : s.clients c ≡ Some row
       ∙ ap (λ (client : Option Client). (takes_of c n client s).state) (sym here))
 
   -- any other client
-  pub plain_is : ((l : ℕ) → row.about.phase ≢ Streaming l) → row.about.phase ≢ Closing → to_client c (handed n) s ≡ (takes_of c n (s.clients c) s).state
+  pub plain_is : ((l : ℕ) → row.about.phase ≢ Streaming l) → row.about.phase ≢ Closing
+      → to_client c (handed n) s ≡ (takes_of c n (s.clients c) s).state
   plain_is no_stream stays_open = handed_is (stays row.about.phase no_stream stays_open)
       ∙ (quiet row.about.phase no_stream stays_open
       ∙ ap (λ (client : Option Client). (takes_of c n client s).state) (sym here))

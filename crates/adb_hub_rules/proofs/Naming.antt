@@ -4,7 +4,8 @@ use Rattle.std.specs.Prelude.{is_some, option_map}
 use Rattle.adb_outside.specs.Tables.{at, IsRising, set_at, change_at}
 use Rattle.adb_outside.proofs.TableLaws.{puts_is}
 use Rattle.adb_outside.specs.declared.identity.State.{State as DeviceState}
-use Rattle.adb_outside.specs.declared.identity.State.TheVariants.{Offline, Unauthorized, Device, Bootloader, Recovery, Sideload, Rescue, Host}
+use Rattle.adb_outside.specs.declared.identity.State.TheVariants.{Offline, Unauthorized, Device, Bootloader, Recovery, Sideload, Rescue}
+use Rattle.adb_outside.specs.declared.identity.State.TheVariants.{Host}
 use Rattle.adb_registry.specs.Row.{unauthorized_row}
 use Rattle.adb_registry.specs.Registry.{changed}
 use Rattle.adb_registry.specs.declared.row.Row.{Row}
@@ -14,12 +15,14 @@ use Rattle.adb_history.specs.Packets.{unauthorized_from, unauthorized}
 use Rattle.adb_hub_rules.specs.Came.{offline_state, offline_in}
 
 -- where a table has no row, none is changed
-pub none_changed : {X : Type 0} (n : ℕ) (f : X → X) (table : List (ℕ × X)) → IsRising table → is_some (at n table) ≡ false → table ≡ change_at n f table
+pub none_changed : {X : Type 0} (n : ℕ) (f : X → X) (table : List (ℕ × X)) → IsRising table
+    → is_some (at n table) ≡ false → table ≡ change_at n f table
 none_changed {X} n f table rises none = by_row (at n table) refl none
   where
     by_row : (row : Option X) → at n table ≡ row → is_some row ≡ false → table ≡ change_at n f table
     by_row None is none =
-        puts_is n None table table rises rises (record { here = is; others = λ q _. refl }) ∙ ap (λ row. set_at n (option_map f row) table) (sym is)
+        puts_is n None table table rises rises (record { here = is; others = λ q _. refl })
+        ∙ ap (λ row. set_at n (option_map f row) table) (sym is)
     by_row (Some row) is none = cc
 
 login_by : (t : ℕ) (state : DeviceState) (s : State) → offline_state state ≡ true

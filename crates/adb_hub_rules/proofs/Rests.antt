@@ -1,5 +1,6 @@
 -- The up rule that changes nothing tells of no stream's end.
-use Rattle.std.proofs.Common.{ℕ, ◌+◌, ◌≡◌, ◌≤◌, List, [], Bool, true, false, Option, Some, None, refl, sym, ◌∙◌, ap, subst, cond, eqb, arith, ◌⊎◌, inl, inr, zero, suc, drop}
+use Rattle.std.proofs.Common.{ℕ, ◌+◌, ◌≡◌, ◌≤◌, List, [], Bool, true, false, Option, Some, None, refl, sym, ◌∙◌, ap, subst, cond, eqb}
+use Rattle.std.proofs.Common.{arith, ◌⊎◌, inl, inr, zero, suc, drop}
 use Rattle.std.specs.Prelude.{option_and_then}
 use Rattle.adb_capture.specs.declared.entry.Entry.{Entry}
 use Rattle.adb_stream.specs.declared.row.Part.{Part}
@@ -9,7 +10,8 @@ use Rattle.adb_history.specs.declared.ending.Ending.TheVariants.{ClientClosed}
 use Rattle.adb_history.specs.Events.{Made, quietly, then_also}
 use Rattle.adb_history.specs.Links.{maxdata_of, close_packet, owe_link}
 use Rattle.adb_history.specs.Streams.{ends_telling}
-use Rattle.adb_history.specs.Flow.{payloads, total, with_flow, flow_after, all_go_up, noted, is_over, closes_if, sends_up, is_streaming, up_client, up_stream, up, up_all}
+use Rattle.adb_history.specs.Flow.{payloads, total, with_flow, flow_after, all_go_up, noted, is_over, closes_if, sends_up, is_streaming}
+use Rattle.adb_history.specs.Flow.{up_client, up_stream, up, up_all}
 use Rattle.adb_history.specs.Machine.{rule, step, ups}
 use Rattle.adb_hub_tables.specs.Places.{StaysOwned}
 use Rattle.adb_hub_tables.specs.Endings.{live, logged}
@@ -80,7 +82,8 @@ rests_end l stream s here = record { owned = owned; ends = inr (record { below =
 
     fewer : live (suc l) (ends_telling l ClientClosed stream s).state.streams + 1 ≤ live (suc l) s.streams
     fewer = fewer_live s.streams (ends_telling l ClientClosed stream s).state.streams l owned (one_of (s.streams l) stream here)
-        (none_of ((ends_telling l ClientClosed stream s).state.streams l) (ap (λ rows. rows l) rows ∙ row_gone l stream s here)) (suc l) (omega arith)
+        (none_of ((ends_telling l ClientClosed stream s).state.streams l)
+        (ap (λ rows. rows l) rows ∙ row_gone l stream s here)) (suc l) (omega arith)
 
 rests_close : (over : Bool) (l : ℕ) (row : Option Stream) (s : State) → s.streams l ≡ row → Rests s (closes_if over l row s)
 rests_close over l None s here = rests_quiet s
@@ -93,7 +96,8 @@ rests_up l stream client ps s =
     (λ s. closes_if (is_over client.about.ended (drop (total ps) client.held) (flow_after ps stream.part.flow)) l (s.streams l) s)
     (record { owned = owned; ends = inl (writes_none l stream ps (noted l stream client.held ps s)) })
     (rests_close (is_over client.about.ended (drop (total ps) client.held) (flow_after ps stream.part.flow)) l
-    ((all_go_up l stream ps (noted l stream client.held ps s)).state.streams l) (all_go_up l stream ps (noted l stream client.held ps s)).state refl)
+    ((all_go_up l stream ps (noted l stream client.held ps s)).state.streams l)
+    (all_go_up l stream ps (noted l stream client.held ps s)).state refl)
   where
     owned : AreOwned s (all_go_up l stream ps (noted l stream client.held ps s)).state
     owned j =
@@ -127,7 +131,8 @@ ups_none k s same = go (rests_all k s).ends
     go : ◌⊎◌ (TellsNone (up_all k s)) (Fewer s (up_all k s).state) → TellsNone (up_all k s)
     go (inl none) = none
     go (inr few) =
-        let equal : live few.below (up_all k s).state.streams ≡ live few.below s.streams = ap (λ (t : State). live few.below t.streams) same in
+        let equal : live few.below (up_all k s).state.streams ≡ live few.below s.streams =
+        ap (λ (t : State). live few.below t.streams) same in
         absurd (omega (arith, few.fewer, equal))
 
 -- ---- the step of an entry

@@ -1,5 +1,6 @@
 -- Writes that are made one after another, and what is kept then.
-use Rattle.std.proofs.Common.{ℕ, ◌+◌, ◌-◌, ◌≡◌, ◌≢◌, ◌≤◌, ◌<◌, List, [], ◌∷◌, Option, Some, None, refl, sym, ◌∙◌, ap, subst, arith, length, take, drop}
+use Rattle.std.proofs.Common.{ℕ, ◌+◌, ◌-◌, ◌≡◌, ◌≢◌, ◌≤◌, ◌<◌, List, [], ◌∷◌, Option, Some, None, refl, sym, ◌∙◌, ap, subst, arith, length}
+use Rattle.std.proofs.Common.{take, drop}
 use Rattle.std.specs.Prelude.{option_map, unwrap_or}
 use Rattle.std.proofs.Math.Seq.{drop-nil, take-nil}
 use Rattle.std.proofs.lemmas.List.{length-take-le, drop-drop}
@@ -21,7 +22,8 @@ use Rattle.adb_hub_rules.proofs.WritesUp.{one_let, within}
 -- a write is the first of all that are made
 pub written_first : (l : ℕ) (stream : Stream) (p : List ℕ) (ps : List (List ℕ)) (held : List ℕ) (s : State)
     → all_written l stream (p ∷ ps) held s
-    ≡ all_written l stream ps (drop (length p) held) (goes_up l stream p (to_client stream.client (with_held (drop (length p) held)) s)).state
+    ≡ all_written l stream ps (drop (length p) held)
+    (goes_up l stream p (to_client stream.client (with_held (drop (length p) held)) s)).state
 written_first l stream p ps held s =
     ap (λ (s : State). (all_go_up l stream ps (goes_up l stream p s).state).state)
     (ap (λ bytes. to_client stream.client (with_held bytes) s) rest
@@ -36,7 +38,8 @@ held_cut : (n : ℕ) (row : Option SeenClient) → held_at (option_map (cut_off 
 held_cut n None = sym (drop-nil n)
 held_cut n (Some row) = refl
 
-cut_one : (p : List ℕ) (ps : List (List ℕ)) (row : Option SeenClient) → CanCutAll (p ∷ ps) row → CanCutAll ps (option_map (cut_off (length p)) row)
+cut_one : (p : List ℕ) (ps : List (List ℕ)) (row : Option SeenClient) → CanCutAll (p ∷ ps) row
+    → CanCutAll ps (option_map (cut_off (length p)) row)
 cut_one p ps None can = tt
 cut_one p ps (Some row) (bytes, pieces) = (omega (arith, bytes), omega (arith, pieces))
 
@@ -113,7 +116,8 @@ module _ (l : ℕ) (stream : Stream) (m : ℕ) where
     flow = k.flow ∙ h.flow;
     fewer = omega (arith, h.fewer, k.fewer);
     uses = λ q. subst (λ (n : ℕ). Uses stream.link n q 0 a.1 c.1)
-        (together (length (unsent stream m a)) (length (unsent stream m b)) (length (unsent stream m c)) (h.fewer, k.fewer)) (uses_then (h.uses q) (k.uses q));
+        (together (length (unsent stream m a)) (length (unsent stream m b)) (length (unsent stream m c))
+        (h.fewer, k.fewer)) (uses_then (h.uses q) (k.uses q));
     cut = λ can. k.cut (h.cut can);
     streams = k.streams ∙ h.streams;
     others = λ q other. k.others q other ∙ h.others q other;

@@ -1,5 +1,6 @@
 -- The up rule for all streams, where nothing goes up most of them.
-use Rattle.std.proofs.Common.{ℕ, ◌+◌, ◌≡◌, ◌≢◌, ◌≤◌, ◌<◌, List, [], ◌∷◌, Bool, true, false, Option, Some, None, refl, sym, ◌∙◌, ap, subst, cond, arith, ◌⊎◌, inl, inr, drop, zero, suc}
+use Rattle.std.proofs.Common.{ℕ, ◌+◌, ◌≡◌, ◌≢◌, ◌≤◌, ◌<◌, List, [], ◌∷◌, Bool, true, false, Option, Some, None, refl, sym, ◌∙◌, ap, subst}
+use Rattle.std.proofs.Common.{cond, arith, ◌⊎◌, inl, inr, drop, zero, suc}
 use Rattle.std.specs.Prelude.{option_and_then}
 use Rattle.std.proofs.lemmas.Bool.{cases_eq}
 use Rattle.std.specs.Ordering.{nat_cmp}
@@ -26,8 +27,10 @@ not_closed l (Some stream) s = refl
 module _ (l : ℕ) (stream : Stream) (s : State) (here : s.streams l ≡ Some stream) where
   noted_none : (client : Client) → s.clients stream.client ≡ Some client → noted l stream client.held [] s ≡ s
   noted_none client owner =
-      ap (λ (rows : Rows (Option Client)). record (to_stream l (with_stream_part (with_flow stream.part.flow stream.part)) s) { clients = rows })
-      (same_rows stream.client (with_held (drop 0 client.held)) s.clients (ap (option_and_then (with_held (drop 0 client.held))) owner ∙ sym owner))
+      ap (λ (rows : Rows (Option Client)).
+      record (to_stream l (with_stream_part (with_flow stream.part.flow stream.part)) s) { clients = rows })
+      (same_rows stream.client (with_held (drop 0 client.held)) s.clients
+      (ap (option_and_then (with_held (drop 0 client.held))) owner ∙ sym owner))
       ∙ ap (λ (rows : Rows (Option Stream)). record s { streams = rows })
       (same_rows l (with_stream_part (with_flow stream.part.flow stream.part)) s.streams
       (ap (option_and_then (with_stream_part (with_flow stream.part.flow stream.part))) here ∙ sym here))
@@ -37,7 +40,8 @@ module _ (l : ℕ) (stream : Stream) (s : State) (here : s.streams l ≡ Some st
   nothing_sent client owner h =
       ap (λ ps. sends_up l stream client ps s) h.nothing
       ∙ (ap (λ b. closes_if b l ((noted l stream client.held [] s).streams l) (noted l stream client.held [] s)) h.goes_on
-      ∙ (not_closed l ((noted l stream client.held [] s).streams l) (noted l stream client.held [] s) ∙ ap quietly (noted_none client owner)))
+      ∙ (not_closed l ((noted l stream client.held [] s).streams l) (noted l stream client.held [] s)
+      ∙ ap quietly (noted_none client owner)))
 
   -- where nothing is sent, what is left of the rule is the end
   pub end_alone : (client : Client) (ps : List (List ℕ)) → s.clients stream.client ≡ Some client → ps ≡ []
@@ -48,12 +52,14 @@ module _ (l : ℕ) (stream : Stream) (s : State) (here : s.streams l ≡ Some st
       ∙ (ap (λ (now : State). closes_if over l (now.streams l) now) (sym (noted_none client owner))
       ∙ ap (λ ps. sends_up l stream client ps s) (sym none))
 
-  client_still : (row : Option Client) → s.clients stream.client ≡ row → IsStillFor l s.devices stream row → up_client l stream row s ≡ quietly s
+  client_still : (row : Option Client) → s.clients stream.client ≡ row → IsStillFor l s.devices stream row
+      → up_client l stream row s ≡ quietly s
   client_still None owner still = refl
   client_still (Some client) owner still = by_test (is_streaming l client.about.phase) refl
     where
       by_test : (b : Bool) → is_streaming l client.about.phase ≡ b
-          → cond b (sends_up l stream client (payloads stream.part.flow (maxdata_of stream.link s.devices) client.held) s) (quietly s) ≡ quietly s
+          → cond b (sends_up l stream client
+          (payloads stream.part.flow (maxdata_of stream.link s.devices) client.held) s) (quietly s) ≡ quietly s
       by_test true streaming = nothing_sent client owner (still streaming)
       by_test false streaming = refl
 
@@ -65,12 +71,14 @@ still_is l s still = at_row (s.streams l) refl still
     at_row (Some stream) here still = client_still l stream s here (s.clients stream.client) refl still
 
 -- ---- and stays so
-closed_still : (l : ℕ) (devices : DeviceTable) (stream : Stream) (row : Option Client) → stream_of_row l row ≡ false → IsStillFor l devices stream row
+closed_still : (l : ℕ) (devices : DeviceTable) (stream : Stream) (row : Option Client) → stream_of_row l row ≡ false
+    → IsStillFor l devices stream row
 closed_still l devices stream None is = tt
 closed_still l devices stream (Some client) is = λ streaming. absurd (subst IsNot (sym is ∙ for_it l client.about.phase streaming) tt)
 
 still_beside : (l id client : ℕ) (old new : State) → l ≢ id × KeepsBeside id client old new → IsStill l old → IsStill l new
-still_beside l id client old new (other, h) still = subst (λ row. IsStillOf l row new) (sym (h.streams l other)) (at_row (old.streams l) still)
+still_beside l id client old new (other, h) still = subst (λ row. IsStillOf l row new) (sym (h.streams l other))
+    (at_row (old.streams l) still)
   where
     at_row : (row : Option Stream) → IsStillOf l row old → IsStillOf l row new
     at_row None still = tt
@@ -92,7 +100,9 @@ still_stays l id s other still = at_row (s.streams id) refl
     at_client stream here (Some client) owner = by_test (is_streaming id client.about.phase) refl
       where
         by_test : (b : Bool) → is_streaming id client.about.phase ≡ b
-            → IsStill l (cond b (sends_up id stream client (payloads stream.part.flow (maxdata_of stream.link s.devices) client.held) s) (quietly s)).state
+            → IsStill l (cond b
+            (sends_up id stream client
+            (payloads stream.part.flow (maxdata_of stream.link s.devices) client.held) s) (quietly s)).state
         by_test true streaming = still_beside l id stream.client s _ (
           other,
           sends_beside id stream client s streaming here owner
@@ -131,7 +141,8 @@ record CoversRange (ids : List ℕ) (first n : ℕ) (s : State) : Type 0 where
   pub still : (l : ℕ) → first ≤ l → (IsAmong l ids → ⊥) → IsStill l s
 
 -- the first stream is not one of them
-range_still : (first n : ℕ) (ids : List ℕ) (s : State) → CoversRange ids first (suc n) s → (IsAmong first ids → ⊥) → CoversRange ids (suc first) n s
+range_still : (first n : ℕ) (ids : List ℕ) (s : State) → CoversRange ids first (suc n) s → (IsAmong first ids → ⊥)
+    → CoversRange ids (suc first) n s
 range_still first n ids s h none = record {
   rises = h.rises;
   within = λ l among. (apart l among, omega (arith, (h.within l among).1));
@@ -146,7 +157,8 @@ range_still first n ids s h none = record {
         by_place (inr other) = omega (arith, other, (h.within l among).0)
 
 -- or it is the first of them
-range_behind : (first n : ℕ) (ids : List ℕ) (s : State) → CoversRange (first ∷ ids) first (suc n) s → CoversRange ids (suc first) n (up first s).state
+range_behind : (first n : ℕ) (ids : List ℕ) (s : State) → CoversRange (first ∷ ids) first (suc n) s
+    → CoversRange ids (suc first) n (up first s).state
 range_behind first n ids s h = record {
   rises = rises_behind first ids h.rises;
   within = λ l among. (above first l ids h.rises among, omega (arith, (h.within l (inr among)).1));

@@ -1,5 +1,6 @@
 -- What the up rule for one stream leaves of what it needs for another.
-use Rattle.std.proofs.Common.{ℕ, ◌≡◌, ◌≢◌, ◌≤◌, List, [], ◌∷◌, Bool, true, false, Option, Some, None, refl, sym, ◌∙◌, ap, subst, cond, arith, ◌⊎◌, inl, inr, length, drop}
+use Rattle.std.proofs.Common.{ℕ, ◌≡◌, ◌≢◌, ◌≤◌, List, [], ◌∷◌, Bool, true, false, Option, Some, None, refl, sym, ◌∙◌, ap, subst, cond}
+use Rattle.std.proofs.Common.{arith, ◌⊎◌, inl, inr, length, drop}
 use Rattle.std.specs.Prelude.{option_map, option_and_then}
 use Rattle.std.proofs.lemmas.Bool.{ne_eqb, eq-eqb, cases_eq}
 use Rattle.std.proofs.lemmas.Bool.Decides.{nat_tests}
@@ -20,7 +21,8 @@ use Rattle.adb_history.specs.Flow.{payloads, total, with_flow, all_go_up, flow_a
 use Rattle.adb_hub_tables.specs.declared.tables.Tables.{Tables}
 use Rattle.adb_hub_tables.specs.Tables.{client_row, state_of}
 use Rattle.adb_hub_rules.specs.Handing.{HasRoom}
-use Rattle.adb_hub_rules.specs.Up.{IsCutFor, IsCutOf, writes_for, writes_of, writes_up, held_at, all_unsent, CanCutAll, is_for, has_stream, has_open, StaysReady, IsReadyUp, IsReadyToSend}
+use Rattle.adb_hub_rules.specs.Up.{IsCutFor, IsCutOf, writes_for, writes_of, writes_up, held_at, all_unsent, CanCutAll, is_for, has_stream}
+use Rattle.adb_hub_rules.specs.Up.{has_open, StaysReady, IsReadyUp, IsReadyToSend}
 use Rattle.adb_hub_tables.specs.Ready.{IsCut, up_writes}
 use Rattle.adb_hub_tables.proofs.Closings.{telling_is}
 use Rattle.adb_hub_tables.proofs.Using.{more_room}
@@ -158,14 +160,16 @@ closed_now l (Some row) = by_due row.due
 
 -- a client with an open stream is closing when that ends
 loses_is : (id c : ℕ) (row : Client) (s : State) → is_streaming id row.about.phase ≡ true → (client_loses (Some row) c s).state ≡ closes c s
-loses_is id c row s is = ap (λ phase. (loses row.about.forwarded phase c s).state) (streams_it id row.about.phase is) ∙ by_way row.about.forwarded
+loses_is id c row s is = ap (λ phase. (loses row.about.forwarded phase c s).state) (streams_it id row.about.phase is)
+    ∙ by_way row.about.forwarded
   where
     by_way : (forwarded : Bool) → (loses forwarded (Streaming id) c s).state ≡ closes c s
     by_way true = refl
     by_way false = refl
 
 module _ (id : ℕ) (stream : Stream) (client : Client) (s : State) (streaming : is_streaming id client.about.phase ≡ true) where
-  ends_beside : (ending : Ending) → s.clients stream.client ≡ Some client → KeepsBeside id stream.client s (ends_telling id ending stream s).state
+  ends_beside : (ending : Ending) → s.clients stream.client ≡ Some client
+      → KeepsBeside id stream.client s (ends_telling id ending stream s).state
   ends_beside ending owner = record {
     clients = λ c other. ap (λ (s : State). s.clients c) is
         ∙ ap (λ b. cond b (option_and_then closing (s.clients c)) (s.clients c)) (ne_eqb stream.client c (λ e. other (sym e)));
@@ -181,7 +185,8 @@ module _ (id : ℕ) (stream : Stream) (client : Client) (s : State) (streaming :
 
       is : (ends_telling id ending stream s).state ≡ closes stream.client told
       is = sym (telling_is id ending stream s)
-          ∙ (ap (λ (row : Option Client). (client_loses row stream.client told).state) owner ∙ loses_is id stream.client client told streaming)
+          ∙ (ap (λ (row : Option Client). (client_loses row stream.client told).state) owner
+          ∙ loses_is id stream.client client told streaming)
 
 beside_then : {id client : ℕ} {first second third : State} → KeepsBeside id client first second → KeepsBeside id client second third
     → KeepsBeside id client first third
@@ -203,7 +208,9 @@ module _ (id : ℕ) (stream : Stream) (client : Client) (s : State) (streaming :
         ∙ ap (λ b. cond b (option_and_then (with_held (drop (total ps) client.held)) (s.clients c)) (s.clients c))
         (ne_eqb stream.client c (λ e. other (sym e)));
     streams = λ l other. ap (λ (rows : Rows (Option Stream)). rows l) (goes_streams id stream ps (noted id stream client.held ps s))
-        ∙ ap (λ b. cond b (option_and_then (with_stream_part (with_flow (flow_after ps stream.part.flow) stream.part)) (s.streams l)) (s.streams l))
+        ∙ ap (λ b. cond b
+        (option_and_then (with_stream_part (with_flow (flow_after ps stream.part.flow) stream.part))
+        (s.streams l)) (s.streams l))
         (ne_eqb id l (λ e. other (sym e)));
     devices = goes_devices id stream ps (noted id stream client.held ps s);
     closed = λ l other. ap (stream_of_row l) (client_then id stream ps client.held s)
@@ -232,7 +239,8 @@ module _ (id : ℕ) (stream : Stream) (old new : Tables) (here : at id old.strea
   beside ps is = subst (KeepsBeside id stream.client (state_of old)) (sym is)
       (sends_beside id stream (client_row row.seen) (state_of old) row.streams here (ap (option_map client_row) row.is) ps)
 
-  pub same_devices : (ps : List (List ℕ)) → state_of new ≡ (sends_up id stream (client_row row.seen) ps (state_of old)).state → new.devices ≡ old.devices
+  pub same_devices : (ps : List (List ℕ))
+      → state_of new ≡ (sends_up id stream (client_row row.seen) ps (state_of old)).state → new.devices ≡ old.devices
   same_devices ps is = (beside ps is).devices
 
   pub leaves_be : (ps : List (List ℕ)) → state_of new ≡ (sends_up id stream (client_row row.seen) ps (state_of old)).state

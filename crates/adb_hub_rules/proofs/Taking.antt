@@ -1,5 +1,6 @@
 -- What packets take of the places.
-use Rattle.std.proofs.Common.{ℕ, ◌+◌, ◌≡◌, ◌≢◌, ◌≤◌, Bool, true, false, List, [], ◌∷◌, length, suc, eqb, Option, Some, None, refl, sym, ◌∙◌, ap, subst, cond, arith, ◌⊎◌, inl, inr}
+use Rattle.std.proofs.Common.{ℕ, ◌+◌, ◌≡◌, ◌≢◌, ◌≤◌, Bool, true, false, List, [], ◌∷◌, length, suc, eqb, Option, Some, None, refl, sym, ◌∙◌}
+use Rattle.std.proofs.Common.{ap, subst, cond, arith, ◌⊎◌, inl, inr}
 use Rattle.std.specs.Prelude.{unwrap_or}
 use Rattle.std.proofs.lemmas.Bool.{eq-eqb, ne_eqb, cases_eq}
 use Rattle.adb_outside.specs.Tables.{at}
@@ -30,7 +31,8 @@ module _ {link client a b : ℕ} {old new : Tables} (h : Uses link a client b ol
     read = h.read;
   }
     where
-      of_client : (n c : ℕ) → ◌⊎◌ (c ≡ client) (c ≢ client) → ClientRoom (n + slices c) (at c old.clients.entries) → ClientRoom n (at c new.clients.entries)
+      of_client : (n c : ℕ) → ◌⊎◌ (c ≡ client) (c ≢ client) → ClientRoom (n + slices c) (at c old.clients.entries)
+          → ClientRoom n (at c new.clients.entries)
       of_client n c (inl is) room =
           let here = subst (λ (q : ℕ). ClientRoom (n + slices q) (at q old.clients.entries)) is room in
           subst (λ (q : ℕ). ClientRoom n (at q new.clients.entries)) (sym is)
@@ -104,8 +106,11 @@ module _ {link total : ℕ} {first : ℕ → ℕ} {items : List Came} {old now :
   pub next_places : ((c : ℕ) → ClientRoom (first c) (at c old.clients.entries)) → (c : ℕ)
       → ClientRoom (slices_for (packet_of came) now.streams.streams c) (at c now.clients.entries)
   next_places places c =
-      more_places (0 + slices_in (packets_of items) now.streams.streams c) (slices_for (packet_of came) now.streams.streams c) (at c now.clients.entries)
-      (omega (arith, parts c)) (h.takes.of_clients 0 c (more_places (first c) (0 + first c) (at c old.clients.entries) (omega arith) (places c)))
+      more_places (0 + slices_in (packets_of items) now.streams.streams c)
+      (slices_for (packet_of came) now.streams.streams c) (at c now.clients.entries)
+      (omega (arith, parts c))
+      (h.takes.of_clients 0 c
+      (more_places (first c) (0 + first c) (at c old.clients.entries) (omega arith) (places c)))
 
   -- what is left after it
   pub takes_more : (new : Tables) → Takes link 1 (slices_for (packet_of came) now.streams.streams) now new
@@ -118,7 +123,8 @@ module _ {link total : ℕ} {first : ℕ → ℕ} {items : List Came} {old now :
         let fewer = fewer_in (packets_of rest) now.streams.streams new.streams.streams c k.owned in
         k.of_clients (n + slices_in (packets_of rest) new.streams.streams c) c
         (more_places (n + slices_in (packets_of items) now.streams.streams c)
-        (n + slices_in (packets_of rest) new.streams.streams c + slices_for (packet_of came) now.streams.streams c) (at c now.clients.entries)
+        (n + slices_in (packets_of rest) new.streams.streams c + slices_for (packet_of came) now.streams.streams c)
+        (at c now.clients.entries)
         (omega (arith, fewer, parts c)) (h.takes.of_clients n c room));
     counted = λ counted. k.counted (h.takes.counted counted);
     tracked = λ tracked. k.tracked (h.takes.tracked tracked);
@@ -128,7 +134,8 @@ module _ {link total : ℕ} {first : ℕ → ℕ} {items : List Came} {old now :
   }
 
 -- all are taken
-pub takes_over : (link packets : ℕ) (slices : ℕ → ℕ) (old new : Tables) → TakesAll link packets 0 slices (λ _. 0) old new → Takes link packets slices old new
+pub takes_over : (link packets : ℕ) (slices : ℕ → ℕ) (old new : Tables)
+    → TakesAll link packets 0 slices (λ _. 0) old new → Takes link packets slices old new
 takes_over link packets slices old new h = record {
   on_link = λ n room. more_room (n + 0) n (at link new.links.entries) (omega arith) (h.on_link n room);
   on_links = h.on_links;

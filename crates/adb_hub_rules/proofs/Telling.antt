@@ -35,7 +35,8 @@ records_none log old none = record { is = λ rows watches. none rows log }
 
 -- what a rule tells of a state that has the same streams
 pub records_from : {old middle : Tables} {before after : Log} (rule : State → Made) (made : State) → state_of middle ≡ made
-    → made.streams ≡ (state_of old).streams → Records (rule (state_of middle)).told before middle after → Records (rule made).told before old after
+    → made.streams ≡ (state_of old).streams → Records (rule (state_of middle)).told before middle after
+    → Records (rule made).told before old after
 records_from {old} {middle} {before} {after} rule made is streams h =
     records_same {old = old} {new = middle} (λ l. ap (λ (s : State). s.streams l) is ∙ ap (λ rows. rows l) streams)
     (subst (λ (s : State). Records (rule s).told before middle after) is h)
@@ -45,7 +46,8 @@ hears_none : (row : Option Client) (c : ℕ) (s : State) → TellsNone (hears_ok
 hears_none None c s = λ rows log. refl
 hears_none (Some client) c s = told_if client.about.forwarded _ _ (λ rows log. refl) (λ rows log. refl)
 
-first_none : (orphan : Bool) (l remote : ℕ) (word : Option ℕ) (stream : Stream) (s : State) → TellsNone (okay_first orphan l remote word stream s)
+first_none : (orphan : Bool) (l remote : ℕ) (word : Option ℕ) (stream : Stream) (s : State)
+    → TellsNone (okay_first orphan l remote word stream s)
 first_none true l remote word stream s = λ rows log. refl
 first_none false l remote word stream s = λ rows log.
     hears_none (s.clients stream.client) stream.client s rows log

@@ -34,4 +34,5 @@ module _ {old new : Tables} where
 pub spared_then : (old middle new : Tables) (row : Option Stream) (k c : ℕ) → ((t c : ℕ) → Uses t 0 c 0 old middle)
     → UsesOf row k c 0 middle new → UsesOf row k c 0 old new
 spared_then old middle new None k c h then = λ t. uses_then (h t c) (then t)
-spared_then old middle new (Some stream) k c h then = subst (λ (q : ℕ). Uses stream.link q c 0 old new) (nothing_before k) (uses_then (h stream.link c) then)
+spared_then old middle new (Some stream) k c h then = subst (λ (q : ℕ). Uses stream.link q c 0 old new)
+    (nothing_before k) (uses_then (h stream.link c) then)

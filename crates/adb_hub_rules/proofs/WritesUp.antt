@@ -1,5 +1,6 @@
 -- The writes that held bytes make, by the window or the credit of a stream.
-use Rattle.std.proofs.Common.{ℕ, ◌+◌, ◌-◌, ◌*◌, ◌/◌, ◌≡◌, ◌≤◌, ◌<◌, List, [], ◌∷◌, Bool, true, false, refl, sym, ◌∙◌, ap, subst, arith, length, take, drop, min, zero, suc, cond}
+use Rattle.std.proofs.Common.{ℕ, ◌+◌, ◌-◌, ◌*◌, ◌/◌, ◌≡◌, ◌≤◌, ◌<◌, List, [], ◌∷◌, Bool, true, false, refl, sym, ◌∙◌, ap, subst, arith}
+use Rattle.std.proofs.Common.{length, take, drop, min, zero, suc, cond}
 use Rattle.std.proofs.Math.Nat.{suc-mul, lt-div-mul-add}
 use Rattle.std.specs.Prelude.{nat_lt}
 use Rattle.std.proofs.lemmas.Bool.Decides.{nat_tests}
@@ -35,7 +36,8 @@ none_of_none m c held le = omega (arith, le)
 pub enough : (j k m c : ℕ) (held : List ℕ) → length held ≤ j × length held ≤ k → writes j m c held ≡ writes k m c held
 enough zero k m c held (below, le) = sym (no_write k m c held (none_of_none m c held below))
 enough (suc j) zero m c held (below, le) = no_write (suc j) m c held (none_of_none m c held le)
-enough (suc j) (suc k) m c held (below, le) = by_len (write_len m c held) (λ q some. enough j k m (c - q) (drop q held) (fits j q below some, fits k q le some))
+enough (suc j) (suc k) m c held (below, le) = by_len (write_len m c held)
+    (λ q some. enough j k m (c - q) (drop q held) (fits j q below some, fits k q le some))
   where
     fits : (k q : ℕ) → length held ≤ suc k → 0 < q → length (drop q held) ≤ k
     fits k q le some = let less : length (drop q held) ≡ length held - q = length-drop q held in omega (arith, le, less, some)
@@ -72,7 +74,8 @@ one_let (Credit credit) m held n is some = by_length (length held) refl
         let less : length (drop n held) ≡ length held - n = length-drop n held in
         write_first k m c held (subst (λ (k : ℕ). 0 < k) is some)
         ∙ (ap (λ (q : ℕ). take q held ∷ writes k m (c - q) (drop q held)) (sym is)
-        ∙ ap (λ others. take n held ∷ others) (enough k (length (drop n held)) m (c - n) (drop n held) (omega (arith, e, less, some), omega arith)))
+        ∙ ap (λ others. take n held ∷ others)
+        (enough k (length (drop n held)) m (c - n) (drop n held) (omega (arith, e, less, some), omega arith)))
 
 -- ---- how many there are at most
 all_within : (k m c : ℕ) (held : List ℕ) → total (writes k m c held) ≤ min c (length held)
@@ -104,7 +107,8 @@ few (suc k) m c held (suc p) less = by_len (write_len m c held) refl
         by_room true last =
             let left : length (drop (suc n) held) ≡ length held - suc n = length-drop (suc n) held in
             let none : write_len m (c - suc n) (drop (suc n) held) ≡ 0 = grind (arith, nat_tests, last, is, left) in
-            let nothing : length (writes k m (c - suc n) (drop (suc n) held)) ≡ 0 = ap length (no_write k m (c - suc n) (drop (suc n) held) none) in
+            let nothing : length (writes k m (c - suc n) (drop (suc n) held)) ≡ 0 =
+            ap length (no_write k m (c - suc n) (drop (suc n) held) none) in
             omega (arith, nothing)
         by_room false full =
             let left : length (drop (suc n) held) ≡ length held - suc n = length-drop (suc n) held in
@@ -140,7 +144,8 @@ few_writes (One window) m held = by_test window.outstanding
         by_len zero = omega arith
         by_len (suc n) = omega arith
 few_writes (Credit credit) m held =
-    subst (λ (c : ℕ). length (payloads (Credit credit) m held) ≤ min c (length held) / m + 1) (sym (none_more credit.to_send)) (few_of m credit.to_send held)
+    subst (λ (c : ℕ). length (payloads (Credit credit) m held) ≤ min c (length held) / m + 1)
+    (sym (none_more credit.to_send)) (few_of m credit.to_send held)
 
 pub few_bytes : (flow : Flow) (m : ℕ) (held : List ℕ) → total (payloads flow m held) ≤ up_bytes flow 0 m (length held)
 few_bytes (One window) m held = by_test window.outstanding

@@ -1,5 +1,6 @@
 -- Packets that came.
-use Rattle.std.specs.Prelude.{ℕ, ◌+◌, ◌≡◌, ◌≤◌, [], ◌∷◌, map, Bool, true, false, if◌then◌else◌, nat_eq, List, length, min, Option, Some, None, IfSome}
+use Rattle.std.specs.Prelude.{ℕ, ◌+◌, ◌≡◌, ◌≤◌, [], ◌∷◌, map, Bool, true, false, if◌then◌else◌, nat_eq, List, length, min, Option, Some}
+use Rattle.std.specs.Prelude.{None, IfSome}
 use Rattle.adb_outside.specs.Tables.{at}
 use Rattle.adb_banner.specs.Banner.{identity_of}
 use Rattle.adb_outside.specs.declared.identity.State.{State as DeviceState}

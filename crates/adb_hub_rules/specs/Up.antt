@@ -1,5 +1,6 @@
 -- What the up rule needs: bytes that are ready to be cut off, and places for its writes.
-use Rattle.std.specs.Prelude.{ℕ, ◌-◌, ◌≡◌, ◌≢◌, ◌≤◌, ◌<◌, Bool, true, false, nat_eq, if◌then◌else◌, List, [], length, drop, Option, Some, None}
+use Rattle.std.specs.Prelude.{ℕ, ◌-◌, ◌≡◌, ◌≢◌, ◌≤◌, ◌<◌, Bool, true, false, nat_eq, if◌then◌else◌, List, [], length, drop, Option, Some}
+use Rattle.std.specs.Prelude.{None}
 use Rattle.adb_outside.specs.Tables.{at}
 use Rattle.adb_wire.specs.declared.headers.TheConstants.{MAX_PAYLOAD}
 use Rattle.adb_client.specs.Client.{SeenClient}
@@ -96,7 +97,8 @@ CanSend stream maxdata w = CanCutAll (unsent stream maxdata w) (at stream.client
 
 -- what is kept when writes are made of what a client holds
 abbrev pub all_written : ℕ → Stream → List (List ℕ) → List ℕ → State → State
-all_written l stream payloads held s = (all_go_up l stream payloads (to_client stream.client (with_held (drop (total payloads) held)) s)).state
+all_written l stream payloads held s =
+    (all_go_up l stream payloads (to_client stream.client (with_held (drop (total payloads) held)) s)).state
 
 abbrev pub all_sent : ℕ → Stream → ℕ → Flow × Tables → State
 all_sent l stream maxdata w = all_written l stream (unsent stream maxdata w) (held_at (at stream.client w.1.clients.entries)) (state_of w.1)

@@ -12,7 +12,8 @@ use Rattle.adb_history.specs.Streams.{client_loses, ends_telling}
 use Rattle.adb_hub_tables.specs.Tables.{shut_row, refused}
 use Rattle.adb_history.proofs.OwnedStep.{tells_end_state as told_state}
 
-shut_with : (due fail : List ℕ) (b : ℕ) (row : Client) → row.due ≡ due ++ b ∷ fail → closing_with (due ++ b ∷ fail) row ≡ Some (shut_row row)
+shut_with : (due fail : List ℕ) (b : ℕ) (row : Client) → row.due ≡ due ++ b ∷ fail
+    → closing_with (due ++ b ∷ fail) row ≡ Some (shut_row row)
 shut_with [] fail b row is = ap (λ bytes. Some (record (shut_row row) { due = bytes })) (sym is)
 shut_with (a ∷ due) fail b row is = ap (λ bytes. Some (record (shut_row row) { due = bytes })) (sym is)
 
@@ -34,7 +35,8 @@ fused {A} n f g h rows both i k = at_place k i
     by_test true row = at_row row
     by_test false row = refl
 
-    at_place : (k : ℕ) → change_row n (option_and_then h) rows k ≡ change_row n (option_and_then f) (change_row n (option_and_then g) rows) k
+    at_place : (k : ℕ) → change_row n (option_and_then h) rows k
+        ≡ change_row n (option_and_then f) (change_row n (option_and_then g) rows) k
     at_place k = by_test (eqb n k) (rows k)
 
 -- the row goes before the device is told, or behind it
@@ -43,4 +45,5 @@ pub telling_is : (l : ℕ) (ending : Ending) (stream : Stream) (s : State)
     (client_loses (then.clients stream.client) stream.client then).state) ≡ (ends_telling l ending stream s).state
 telling_is l ending stream s =
     ap (λ (then : State). (client_loses (then.clients stream.client) stream.client then).state)
-    (sym (told_state stream.part.orphan l ending (to_stream l none_kept (owe_link stream.link (close_packet l stream.part.remote) s).state)))
+    (sym (told_state stream.part.orphan l ending
+    (to_stream l none_kept (owe_link stream.link (close_packet l stream.part.remote) s).state)))

@@ -1,5 +1,6 @@
 -- The first mark is the least.
-use Rattle.std.proofs.Common.{ℕ, ◌≡◌, ◌≢◌, ◌<◌, ◌*◌, ◌+◌, ◌^◌, ◌/◌, ◌%◌, Bool, true, false, cond, List, [], ◌∷◌, Option, Some, None, refl, sym, ◌∙◌}
+use Rattle.std.proofs.Common.{ℕ, ◌≡◌, ◌≢◌, ◌<◌, ◌*◌, ◌+◌, ◌^◌, ◌/◌, ◌%◌, Bool, true, false, cond, List, [], ◌∷◌, Option, Some, None, refl}
+use Rattle.std.proofs.Common.{sym, ◌∙◌}
 use Rattle.std.proofs.Common.{ap, arith, ◌⊎◌, inl, inr}
 use Rattle.std.specs.Prelude.{eqb}
 use Rattle.std.specs.Int.{bit_at, trailing_zeros, w64}
@@ -44,8 +45,13 @@ module _ (which : Kind) (e : ℕ × Block) (blocks : List (ℕ × Block)) (rises
   pass none (Some id) least = (passed none id ∙ least.0, λ n under. passed none n ∙ least.1 n under)
 
   -- a block with marks
-  stop : 0 < marks_of which e.1 → marks_of which e.1 < 2 ^ 64 → IsLeast which (e ∷ blocks) (Some (e.0 * 64 + trailing_zeros w64 (marks_of which e.1)))
-  stop some fits = (mark_here id high ∙ (ap (bit_at (marks_of which e.1)) place ∙ lowest.1), λ n under. below n under (cases_eq (n / 64) e.0))
+  stop : 0 < marks_of which e.1 → marks_of which e.1 < 2 ^ 64
+      → IsLeast which (e ∷ blocks) (Some (e.0 * 64 + trailing_zeros w64 (marks_of which e.1)))
+  stop some fits = (
+    mark_here id high ∙ (ap (bit_at (marks_of which e.1)) place ∙ lowest.1),
+    λ n under. below n under
+        (cases_eq (n / 64) e.0),
+  )
     where
       lowest : (trailing_zeros w64 (marks_of which e.1) < 64) × (bit_at (marks_of which e.1) (trailing_zeros w64 (marks_of which e.1)) ≡ 1)
           × ((i : ℕ) → i < trailing_zeros w64 (marks_of which e.1) → bit_at (marks_of which e.1) i ≡ 0)
@@ -80,15 +86,19 @@ module _ (which : Kind) (e : ℕ × Block) (blocks : List (ℕ × Block)) (rises
 
       below : (n : ℕ) → n < id → (n / 64 ≡ e.0) ⊎ (n / 64 ≡ e.0 → ⊥) → mark which (e ∷ blocks) n ≡ 0
       below n under (inl same) = mark_here n same ∙ lowest.2 (n % 64) (lower e.0 n tz within under same)
-      below n under (inr apart) = ap (λ o. mark_in which o (n % 64)) (below_head (n / 64) e blocks rises (before e.0 n tz within under apart))
+      below n under (inr apart) = ap (λ o. mark_in which o (n % 64))
+          (below_head (n / 64) e blocks rises (before e.0 n tz within under apart))
 
 -- the blocks behind the first
-pub behind : (e : ℕ × Block) (blocks : List (ℕ × Block)) → IsRising (e ∷ blocks) → AreBlocks (e ∷ blocks) → IsRising blocks × AreBlocks blocks
+pub behind : (e : ℕ × Block) (blocks : List (ℕ × Block)) → IsRising (e ∷ blocks) → AreBlocks (e ∷ blocks)
+    → IsRising blocks × AreBlocks blocks
 unfolding IsStrictlySortedBy
 behind e blocks rises all = (rises.1, λ high block is. off high block is (cases_eq high e.0))
   where
     off : (high : ℕ) (block : Block) → at high blocks ≡ Some block → (high ≡ e.0) ⊎ (high ≡ e.0 → ⊥) → IsBlock high block
-    off high block is (inl same) = absurd (let clash : None ≡ Some block = sym (ap (λ k. at k blocks) same ∙ past_head e blocks rises) ∙ is in cc)
+    off high block is (inl same) =
+        absurd (let clash : None ≡ Some block = sym (ap (λ k. at k blocks) same ∙ past_head e blocks rises)
+        ∙ is in cc)
     off high block is (inr apart) = all high block (at_tail high e blocks apart ∙ is)
 
 -- The first block lies within 32 bits, and so does its mark.
@@ -99,7 +109,8 @@ pub place_fits : (high marked : ℕ) → high < 2 ^ 26 → 0 < marked → marked
 place_fits high marked within some fits = let lowest = bit_at-trailing_zeros w64 marked some fits in omega (arith, within, lowest.0)
 
 -- The first mark is the least, where the blocks are in rising order.
-pub first_is_least : (which : Kind) (blocks : List (ℕ × Block)) → IsRising blocks → AreBlocks blocks → IsLeast which blocks (first_mark which blocks)
+pub first_is_least : (which : Kind) (blocks : List (ℕ × Block)) → IsRising blocks → AreBlocks blocks
+    → IsLeast which blocks (first_mark which blocks)
 first_is_least which [] rises all = λ n. refl
 first_is_least which (e ∷ blocks) rises all =
     let rest = behind e blocks rises all in go (eqb (marks_of which e.1) 0) refl (first_is_least which blocks rest.0 rest.1)
@@ -170,5 +181,6 @@ module _ {X : Type 0} {which : Kind} {owed : X → Bool} {blocks : List (ℕ × 
       go (Some row) is so = sym (least_owed owed rows id row rises is so (λ n other here under. unmarked n other here (least.1 n under)))
 
 -- nothing is due to a row of which it was seen
-pub seen : {X : Type 0} (owed : X → Bool) (n : ℕ) (rows : List (ℕ × X)) → owes_at owed n rows ≡ false → (row : X) → at n rows ≡ Some row → owed row ≡ false
+pub seen : {X : Type 0} (owed : X → Bool) (n : ℕ) (rows : List (ℕ × X)) → owes_at owed n rows ≡ false → (row : X)
+    → at n rows ≡ Some row → owed row ≡ false
 seen owed n rows nothing row is = ap (λ (o : Option _). option_map_or owed o false) (sym is) ∙ nothing

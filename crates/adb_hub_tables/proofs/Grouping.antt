@@ -1,5 +1,6 @@
 -- A change of a block leaves it known among the groups, and marked there where it has marks.
-use Rattle.std.proofs.Common.{ℕ, ◌≡◌, ◌<◌, ◌≤◌, ◌*◌, ◌+◌, ◌^◌, ◌/◌, ◌%◌, Bool, true, false, cond, List, [], ◌∷◌, Option, Some, None, refl, sym, ◌∙◌}
+use Rattle.std.proofs.Common.{ℕ, ◌≡◌, ◌<◌, ◌≤◌, ◌*◌, ◌+◌, ◌^◌, ◌/◌, ◌%◌, Bool, true, false, cond, List, [], ◌∷◌, Option, Some, None, refl}
+use Rattle.std.proofs.Common.{sym, ◌∙◌}
 use Rattle.std.proofs.Common.{ap, subst, arith, ◌⊎◌, inl, inr}
 use Rattle.std.specs.Prelude.{eqb, not, ◌||◌, option_map}
 use Rattle.std.specs.Int.{bit_not, trailing_zeros, w64}
@@ -38,8 +39,10 @@ has_all which b full = go which (eqb b.due 0) (eqb b.news 0) refl refl full
 
 module _ (number : ℕ) (fits : number < 2 ^ 32) {groups blocks : List (ℕ × Block)} (grouped : AreGrouped groups blocks) where
   -- a mark is set in a block, and the block is marked
-  pub mark_grouped : {after : List (ℕ × Block)} → Puts (number / 64) (option_map (with_mark (number % 64)) (at (number / 64) blocks)) blocks after
-      → {others : List (ℕ × Block)} → Puts (number / 64 / 64) (option_map (with_mark (number / 64 % 64)) (at (number / 64 / 64) groups)) groups others
+  pub mark_grouped : {after : List (ℕ × Block)} → Puts (number / 64)
+      (option_map (with_mark (number % 64)) (at (number / 64) blocks)) blocks after
+      → {others : List (ℕ × Block)} → Puts (number / 64 / 64)
+      (option_map (with_mark (number / 64 % 64)) (at (number / 64 / 64) groups)) groups others
       → AreGrouped others after
   mark_grouped {after} puts {others} on which = touched (number / 64) (high_below number fits) (grouped which) on after puts.others
       (λ row is. go (at (number / 64) blocks) refl row (sym puts.here ∙ is))
@@ -50,9 +53,11 @@ module _ (number : ℕ) (fits : number < 2 ^ 32) {groups blocks : List (ℕ × B
       go (Some old) is row made = (old, is)
 
   -- a mark is set in a block that has all marks somewhere
-  pub mark_full : {after : List (ℕ × Block)} → Puts (number / 64) (option_map (with_mark (number % 64)) (at (number / 64) blocks)) blocks after
+  pub mark_full : {after : List (ℕ × Block)} → Puts (number / 64)
+      (option_map (with_mark (number % 64)) (at (number / 64) blocks)) blocks after
       → option_map_or lacks_marks (at (number / 64) blocks) false ≡ false → AreGrouped groups after
-  mark_full {after} puts full which = lowered (number / 64) (grouped which) after _ puts (λ row is. go (at (number / 64) blocks) refl full row is)
+  mark_full {after} puts full which = lowered (number / 64) (grouped which) after _ puts
+      (λ row is. go (at (number / 64) blocks) refl full row is)
     where
       go : (o : Option Block) → at (number / 64) blocks ≡ o → option_map_or lacks_marks o false ≡ false → (row : Block)
           → option_map (with_mark (number % 64)) o ≡ Some row
@@ -62,12 +67,14 @@ module _ (number : ℕ) (fits : number < 2 ^ 32) {groups blocks : List (ℕ × B
 
   -- a mark of a number that is not known changes nothing
   pub mark_unknown : {after : List (ℕ × Block)} → ((k : ℕ) → at k after ≡ at k blocks) → AreGrouped groups after
-  mark_unknown {after} same which = record { blocked = (grouped which).blocked; each = λ n row is. (grouped which).each n row (sym (same n) ∙ is) }
+  mark_unknown {after} same which =
+      record { blocked = (grouped which).blocked; each = λ n row is. (grouped which).each n row (sym (same n) ∙ is) }
 
   -- a mark is taken away in a block
   pub unmark_grouped : (gone : Kind) {after : List (ℕ × Block)}
       → Puts (number / 64) (option_map (without_mark gone (number % 64)) (at (number / 64) blocks)) blocks after → AreGrouped groups after
-  unmark_grouped gone {after} puts which = lowered (number / 64) (grouped which) after _ puts (λ row is. go (at (number / 64) blocks) refl row is)
+  unmark_grouped gone {after} puts which = lowered (number / 64) (grouped which) after _ puts
+      (λ row is. go (at (number / 64) blocks) refl row is)
     where
       go : (o : Option Block) → at (number / 64) blocks ≡ o → (row : Block) → option_map (without_mark gone (number % 64)) o ≡ Some row
           → (old : Block) × (at (number / 64) blocks ≡ Some old) × (has_marks which row ≡ true → has_marks which old ≡ true)
@@ -82,7 +89,8 @@ module _ (number : ℕ) (fits : number < 2 ^ 32) {groups blocks : List (ℕ × B
   -- a number is forgotten in a block
   pub forget_grouped : {after : List (ℕ × Block)}
       → Puts (number / 64) (option_map (without_place (number % 64)) (at (number / 64) blocks)) blocks after → AreGrouped groups after
-  forget_grouped {after} puts which = lowered (number / 64) (grouped which) after _ puts (λ row is. go (at (number / 64) blocks) refl row is)
+  forget_grouped {after} puts which = lowered (number / 64) (grouped which) after _ puts
+      (λ row is. go (at (number / 64) blocks) refl row is)
     where
       go : (o : Option Block) → at (number / 64) blocks ≡ o → (row : Block) → option_map (without_place (number % 64)) o ≡ Some row
           → (old : Block) × (at (number / 64) blocks ≡ Some old) × (has_marks which row ≡ true → has_marks which old ≡ true)
@@ -93,17 +101,21 @@ module _ (number : ℕ) (fits : number < 2 ^ 32) {groups blocks : List (ℕ × B
           fewer same =
               let it : without_place (number % 64) old ≡ row = cc in
               let less : marks_of which (without_place (number % 64) old) ≤ marks_of which old =
-              subst (λ m. m ≤ marks_of which old) (sym (left_in which (number % 64) old)) (and_le_l (marks_of which old) (bit_not w64 (bit (number % 64)))) in
+              subst (λ m. m ≤ marks_of which old) (sym (left_in which (number % 64) old))
+              (and_le_l (marks_of which old) (bit_not w64 (bit (number % 64)))) in
               subst (λ (b : Block). marks_of which b ≤ marks_of which old) it less
 
 -- a block without a mark is not marked with it among the groups
-pub ungrouped : (gone which : Kind) (high : ℕ) → high < 2 ^ 32 → {groups others blocks : List (ℕ × Block)} → IsMarked which (has_marks which) groups blocks
+pub ungrouped : (gone which : Kind) (high : ℕ) → high < 2 ^ 32 → {groups others blocks : List (ℕ × Block)}
+    → IsMarked which (has_marks which) groups blocks
     → Puts (high / 64) (option_map (without_mark gone (high % 64)) (at (high / 64) groups)) groups others
     → owes_at (has_marks gone) high blocks ≡ false → IsMarked which (has_marks which) others blocks
-ungrouped Due Due high fits {groups} {others} {blocks} marked puts none = cleared high fits marked Due puts (seen (has_marks Due) high blocks none)
+ungrouped Due Due high fits {groups} {others} {blocks} marked puts none =
+    cleared high fits marked Due puts (seen (has_marks Due) high blocks none)
 ungrouped Due News high fits marked puts none = unnamed high fits marked Due puts (λ b. refl)
 ungrouped News Due high fits marked puts none = unnamed high fits marked News puts (λ b. refl)
-ungrouped News News high fits {groups} {others} {blocks} marked puts none = cleared high fits marked News puts (seen (has_marks News) high blocks none)
+ungrouped News News high fits {groups} {others} {blocks} marked puts none =
+    cleared high fits marked News puts (seen (has_marks News) high blocks none)
 
 -- the first block with marks, and the first mark of all in it
 pub record IsFirstBlock (which : Kind) (blocks : List (ℕ × Block)) (high : ℕ) : Type 0 where
@@ -118,7 +130,9 @@ first_of_block which [] rises high is = absurd (let clash : None ≡ Some high =
 first_of_block which (e ∷ blocks) rises high is = go (eqb (marks_of which e.1) 0) refl is (first_of_block which blocks rises.1 high)
   where
     apart : IsFirstBlock which blocks high → (high ≡ e.0) ⊎ (high ≡ e.0 → ⊥) → at high (e ∷ blocks) ≡ at high blocks
-    apart tail (inl same) = absurd (let clash : None ≡ Some tail.block = sym (ap (λ k. at k blocks) same ∙ past_head e blocks rises) ∙ tail.here in cc)
+    apart tail (inl same) =
+        absurd (let clash : None ≡ Some tail.block = sym (ap (λ k. at k blocks) same ∙ past_head e blocks rises)
+        ∙ tail.here in cc)
     apart tail (inr off) = at_tail high e blocks off
 
     go : (b : Bool) → eqb (marks_of which e.1) 0 ≡ b → cond (not b) (Some e.0) (first_number (has_marks which) blocks) ≡ Some high
@@ -134,7 +148,8 @@ first_of_block which (e ∷ blocks) rises high is = go (eqb (marks_of which e.1)
           first = rw full (ap (λ k. Some (k * 64 + trailing_zeros w64 (marks_of which e.1))) same);
         }
 
-pub first_of_none : (which : Kind) (blocks : List (ℕ × Block)) → first_number (has_marks which) blocks ≡ None → first_mark which blocks ≡ None
+pub first_of_none : (which : Kind) (blocks : List (ℕ × Block)) → first_number (has_marks which) blocks ≡ None
+    → first_mark which blocks ≡ None
 first_of_none which [] is = refl
 first_of_none which (e ∷ blocks) is = go (eqb (marks_of which e.1) 0) refl is (first_of_none which blocks)
   where
@@ -153,11 +168,13 @@ first_found which blocks high number rises first found = go (at high blocks) ref
     go None is clash = cc
     go (Some b) is here = full (eqb (marks_of which b) 0) refl here
       where
-        full : (e : Bool) → eqb (marks_of which b) 0 ≡ e → Some number ≡ cond e None (Some (high * 64 + trailing_zeros w64 (marks_of which b)))
+        full : (e : Bool) → eqb (marks_of which b) 0 ≡ e → Some number
+            ≡ cond e None (Some (high * 64 + trailing_zeros w64 (marks_of which b)))
             → Some number ≡ first_mark which blocks
         full true empty clash = cc
         full false some here =
-            let due : owes_at (has_marks which) high blocks ≡ true = ap (λ (o : Option Block). option_map_or (has_marks which) o false) is ∙ ap not some in
+            let due : owes_at (has_marks which) high blocks ≡ true =
+            ap (λ (o : Option Block). option_map_or (has_marks which) o false) is ∙ ap not some in
             let it = first_of_block which blocks rises high (sym (first due)) in
             let same : Some b ≡ Some it.block = sym is ∙ it.here in
             here ∙ (sym (rw some refl) ∙ (ap (first_at which high) same ∙ sym it.first))
@@ -176,13 +193,16 @@ none_found which blocks high none = go (at high blocks) none
         empty false clash = cc
 
 -- where no block has marks there is no first mark
-pub none_of_groups : (which : Kind) {groups blocks : List (ℕ × Block)} → IsMarked which (has_marks which) groups blocks → IsRising groups → IsRising blocks
+pub none_of_groups : (which : Kind) {groups blocks : List (ℕ × Block)}
+    → IsMarked which (has_marks which) groups blocks → IsRising groups → IsRising blocks
     → None ≡ first_mark which groups → None ≡ first_mark which blocks
 none_of_groups which {groups} {blocks} marked rises_groups rises none =
-    let least = subst (λ (first : Option ℕ). IsLeast which groups first) (sym none) (first_is_least which groups rises_groups marked.blocked) in
+    let least = subst (λ (first : Option ℕ). IsLeast which groups first) (sym none)
+    (first_is_least which groups rises_groups marked.blocked) in
     sym (first_of_none which blocks (sym (nobody marked rises least)))
 
 -- and where there is no first mark no number has one
 pub lacks_all : (which : Kind) (blocks : List (ℕ × Block)) → IsRising blocks → AreBlocks blocks → None ≡ first_mark which blocks
     → (n : ℕ) → mark which blocks n ≡ 0
-lacks_all which blocks rises all none = subst (λ (first : Option ℕ). IsLeast which blocks first) (sym none) (first_is_least which blocks rises all)
+lacks_all which blocks rises all none = subst (λ (first : Option ℕ). IsLeast which blocks first) (sym none)
+    (first_is_least which blocks rises all)

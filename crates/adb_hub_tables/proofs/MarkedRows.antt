@@ -20,13 +20,19 @@ use Rattle.adb_hub_tables.specs.Marked.{bit, marks_of, with_mark, without_mark, 
 use Rattle.adb_hub_tables.specs.Marked.{is_empty, Thins, Forgets, Names, Loses}
 use Rattle.adb_hub_tables.specs.Marked.{place_in, mark_in, mark, IsBlock, IsMarkedAt, IsMarked, weight}
 use Rattle.adb_hub_tables.proofs.TouchedRows.{written_other, written_none, left_at}
-use Rattle.adb_hub_tables.proofs.Marking.{Turns, low, turned, place_now, mark_now, known_same, placed, created, marked_in, unmarked_in, leaves, marks_block, knows_block, unmarks_block, empties_block, forgets_block}
+use Rattle.adb_hub_tables.proofs.Marking.{Turns, low, turned, place_now, mark_now, known_same, placed, created, marked_in, unmarked_in}
+use Rattle.adb_hub_tables.proofs.Marking.{leaves, marks_block, knows_block, unmarks_block, empties_block, forgets_block}
 
 -- Where blocks that know no number go, all rows are marked still.
-thinned : {X : Type 0} {which : Kind} {owed : X → Bool} {blocks others : List (ℕ × Block)} {rows : List (ℕ × X)} → IsMarked which owed blocks rows
+thinned : {X : Type 0} {which : Kind} {owed : X → Bool} {blocks others : List (ℕ × Block)} {rows : List (ℕ × X)}
+    → IsMarked which owed blocks rows
     → Thins blocks others → IsMarked which owed others rows
 thinned {X} {which} {owed} {blocks} {others} {rows} marked thins =
-    record { blocked = λ high block is. among high block is (thins high); each = λ n row is. still n (marked.each n row is) (thins (n / 64)) }
+    record {
+      blocked = λ high block is. among high block is (thins high);
+      each =
+          λ n row is. still n (marked.each n row is) (thins (n / 64));
+    }
   where
     among : (high : ℕ) (block : Block) → at high others ≡ Some block
         → (at high others ≡ at high blocks) ⊎ ((at high others ≡ None) × (is_empty (at high blocks) ≡ true)) → IsBlock high block
@@ -57,7 +63,8 @@ block_at number blocks = at (number / 64) blocks
 same_number : (a b : ℕ) → a ≡ b → nat_eq a b ≡ true
 same_number a b same = grind (arith, nat_tests)
 
-module _ {X : Type 0} {which : Kind} {owed : X → Bool} (number : ℕ) (fits : number < 2 ^ 32) {blocks others : List (ℕ × Block)} {rows : List (ℕ × X)}
+module _ {X : Type 0} {which : Kind} {owed : X → Bool} (number : ℕ) (fits : number < 2 ^ 32)
+    {blocks others : List (ℕ × Block)} {rows : List (ℕ × X)}
     (marked : IsMarked which owed blocks rows) where
   -- A row that is lent is marked first: then all rows are marked, whatever is written.
   module _ (puts : Puts (number / 64) (option_map (with_mark (number % 64)) (block_at number blocks)) blocks others) where
@@ -76,7 +83,8 @@ module _ {X : Type 0} {which : Kind} {owed : X → Bool} (number : ℕ) (fits : 
         both None none = cc
         both (Some b) was = (
           was,
-          ap (λ w. bit_at w (number % 64)) (marked_in which (number % 64) b) ∙ known_same b.places (marks_of which b) (number % 64) (low number) was,
+          ap (λ w. bit_at w (number % 64)) (marked_in which (number % 64) b)
+              ∙ known_same b.places (marks_of which b) (number % 64) (low number) was,
         )
 
     pub lent : (w : X) → IsMarked which owed others (set_value (is_at (nat_cmp number)) rows w)
@@ -133,7 +141,8 @@ module _ {X : Type 0} {which : Kind} {owed : X → Bool} (number : ℕ) (fits : 
           in record { puts = puts; keeps = is_so.0; is_block = is_so.1 }
 
   -- Nor does the block of one that is forgotten, once it is empty.
-  pub lost : Forgets number blocks others → (after : List (ℕ × X)) → ((n : ℕ) → n ≢ number → at n after ≡ at n rows) → at number after ≡ None
+  pub lost : Forgets number blocks others → (after : List (ℕ × X)) → ((n : ℕ) → n ≢ number → at n after ≡ at n rows)
+      → at number after ≡ None
       → IsMarked which owed others after
   lost h after same none =
       thinned (turned turns marked same (λ row is. absurd (let clash : None ≡ Some row = sym none ∙ is in cc))) h.thins
@@ -142,12 +151,15 @@ module _ {X : Type 0} {which : Kind} {owed : X → Bool} (number : ℕ) (fits : 
       turns = let is_so = empties_block number fits (block_at number blocks) (marked.blocked (number / 64))
           in record { puts = h.left; keeps = is_so.0; is_block = is_so.1 }
 
-  module _ (taken : Kind) (puts : Puts (number / 64) (option_map (without_mark taken (number % 64)) (block_at number blocks)) blocks others) where
+  module _ (taken : Kind)
+      (puts : Puts (number / 64) (option_map (without_mark taken (number % 64)) (block_at number blocks)) blocks
+      others) where
     takes : Turns number (option_map (without_mark taken (number % 64)) (block_at number blocks)) blocks others
     takes = let is_so = unmarks_block number fits taken (block_at number blocks) (marked.blocked (number / 64))
         in record { puts = puts; keeps = is_so.0; is_block = is_so.1 }
 
-    still_known : (o : Option Block) → place_in o (number % 64) ≡ 1 → place_in (option_map (without_mark taken (number % 64)) o) (number % 64) ≡ 1
+    still_known : (o : Option Block) → place_in o (number % 64) ≡ 1
+        → place_in (option_map (without_mark taken (number % 64)) o) (number % 64) ≡ 1
     still_known None none = cc
     still_known (Some b) was = ap (λ p. bit_at p (number % 64)) (leaves which taken (number % 64) (low number) b).places ∙ was
 
@@ -165,12 +177,14 @@ module _ {X : Type 0} {which : Kind} {owed : X → Bool} (number : ℕ) (fits : 
       marked = λ due. mark_now takes which ∙ (still (block_at number blocks) ∙ was.marked due);
     })
       where
-        still : (o : Option Block) → mark_in which (option_map (without_mark taken (number % 64)) o) (number % 64) ≡ mark_in which o (number % 64)
+        still : (o : Option Block) → mark_in which (option_map (without_mark taken (number % 64)) o) (number % 64)
+            ≡ mark_in which o (number % 64)
         still None = refl
         still (Some b) = ap (λ w. bit_at w (number % 64)) (same b)
 
   -- A number may be named.
-  pub still_named : (r : Bool) → is_some (at number rows) ≡ r → Names r number blocks others → which ≢ News → IsMarked which owed others rows
+  pub still_named : (r : Bool) → is_some (at number rows) ≡ r → Names r number blocks others → which ≢ News
+      → IsMarked which owed others rows
   still_named true some puts other = unnamed News puts (λ b. same which other b)
     where
       same : (w : Kind) → w ≢ News → (b : Block) → marks_of w (without_mark News (number % 64) b) ≡ marks_of w b
@@ -189,7 +203,8 @@ module _ {X : Type 0} {which : Kind} {owed : X → Bool} (number : ℕ) (fits : 
   has_left false forgets after same none = lost forgets after same none
 
   -- One row alone stays, with its block.
-  pub alone : others ≡ filter (λ block. nat_eq block.0 (number / 64)) blocks → (after : List (ℕ × X)) → after ≡ filter (λ row. nat_eq row.0 number) rows
+  pub alone : others ≡ filter (λ block. nat_eq block.0 (number / 64)) blocks → (after : List (ℕ × X))
+      → after ≡ filter (λ row. nat_eq row.0 number) rows
       → IsMarked which owed others after
   alone is after left = record {
     blocked = λ high block here. blocks_left high block
@@ -218,12 +233,18 @@ module _ {X : Type 0} {which : Kind} {owed : X → Bool} (number : ℕ) (fits : 
               let was = marked.each n row it in
               let one : number ≡ n = grind (arith, nat_tests) in
               let stays : at (n / 64) others ≡ at (n / 64) blocks =
-              at_blocks (n / 64) ∙ ap (λ (b : Bool). cond b (at (n / 64) blocks) None) (same_number (number / 64) (n / 64) (ap (λ k. k / 64) one)) in
-              record { known = ap (λ o. place_in o (n % 64)) stays ∙ was.known; marked = λ due. ap (λ o. mark_in which o (n % 64)) stays ∙ was.marked due }
+              at_blocks (n / 64) ∙ ap (λ (b : Bool). cond b (at (n / 64) blocks) None)
+              (same_number (number / 64) (n / 64) (ap (λ k. k / 64) one)) in
+              record {
+                known = ap (λ o. place_in o (n % 64)) stays ∙ was.known;
+                marked =
+                    λ due. ap (λ o. mark_in which o (n % 64)) stays ∙ was.marked due;
+              }
           go false off clash = cc
 
 -- Whoever is named, all rows are marked still.
-pub names : {X : Type 0} {owed : X → Bool} {blocks others : List (ℕ × Block)} {rows : List (ℕ × X)} (name : Option ℕ) → IfSome name (λ id. id < 2 ^ 32)
+pub names : {X : Type 0} {owed : X → Bool} {blocks others : List (ℕ × Block)} {rows : List (ℕ × X)} (name : Option ℕ)
+    → IfSome name (λ id. id < 2 ^ 32)
     → IfNone name (others ≡ blocks)
     → IfSome name (λ id. Names (is_some (at id rows)) id blocks others)
     → IsMarked Due owed blocks rows → IsMarked Due owed others rows
@@ -236,7 +257,8 @@ module _ {X : Type 0} {which : Kind} {owed : X → Bool} (number : ℕ) {blocks 
     (marked : IsMarked which owed blocks rows) where
   -- A row to which nothing is due that was not due before needs no mark.
   pub lowered : (after : List (ℕ × X)) (new : Option X) → Puts number new rows after
-      → ((row : X) → new ≡ Some row → (old : X) × (at number rows ≡ Some old) × (owed row ≡ true → owed old ≡ true)) → IsMarked which owed blocks after
+      → ((row : X) → new ≡ Some row → (old : X) × (at number rows ≡ Some old) × (owed row ≡ true → owed old ≡ true))
+      → IsMarked which owed blocks after
   lowered after new puts was = record { blocked = marked.blocked; each = λ n row is. go n row is (cases_eq n number) }
     where
       go : (n : ℕ) (row : X) → at n after ≡ Some row → (n ≡ number) ⊎ (n ≡ number → ⊥) → IsMarkedAt which owed blocks n row
@@ -250,15 +272,20 @@ module _ {X : Type 0} {which : Kind} {owed : X → Bool} (number : ℕ) {blocks 
 less_without : (marked i : ℕ) → i < 64 → bit_at marked i ≡ 1 → bit_and marked (bit_not w64 (bit i)) < marked
 less_without marked i within set = go (cases_eq (bit_and marked (bit_not w64 (bit i))) marked)
   where
-    go : (bit_and marked (bit_not w64 (bit i)) ≡ marked) ⊎ (bit_and marked (bit_not w64 (bit i)) ≡ marked → ⊥) → bit_and marked (bit_not w64 (bit i)) < marked
-    go (inl same) = absurd (let clash : 0 ≡ 1 = sym (bit_at_clear_same w64 marked i within) ∙ (ap (λ m. bit_at m i) same ∙ set) in omega (arith, clash))
+    go : (bit_and marked (bit_not w64 (bit i)) ≡ marked) ⊎ (bit_and marked (bit_not w64 (bit i)) ≡ marked → ⊥)
+        → bit_and marked (bit_not w64 (bit i)) < marked
+    go (inl same) =
+        absurd (let clash : 0 ≡ 1 = sym (bit_at_clear_same w64 marked i within)
+        ∙ (ap (λ m. bit_at m i) same ∙ set) in omega (arith, clash))
     go (inr other) = omega (arith, other, and_le_l marked (bit_not w64 (bit i)))
 
-pub lighter : (which : Kind) (number : ℕ) (blocks : List (ℕ × Block)) (block : Block) (after : List (ℕ × Block)) → at (number / 64) blocks ≡ Some block
+pub lighter : (which : Kind) (number : ℕ) (blocks : List (ℕ × Block)) (block : Block) (after : List (ℕ × Block))
+    → at (number / 64) blocks ≡ Some block
     → after ≡ set_value (is_at (nat_cmp (number / 64))) blocks (without_mark which (number % 64) block)
     → mark which blocks number ≡ 1 → weight which after < weight which blocks
 lighter which number blocks block after found is set =
-    let sums = sum_by-set_value (marks_of which) (is_at (nat_cmp (number / 64))) blocks block (without_mark which (number % 64) block) found in
+    let sums = sum_by-set_value (marks_of which) (is_at (nat_cmp (number / 64))) blocks block
+    (without_mark which (number % 64) block) found in
     let bit_set : bit_at (marks_of which block) (number % 64) ≡ 1 = ap (λ o. mark_in which o (number % 64)) (sym found) ∙ set in
     let less = less_without (marks_of which block) (number % 64) (low number) bit_set in
     rw is (omega (arith, sums, subst (λ w. w < marks_of which block) (sym (unmarked_in which (number % 64) block)) less))

@@ -14,7 +14,8 @@ use Rattle.adb_hub_tables.specs.declared.words.Block.{Block}
 use Rattle.adb_hub_tables.specs.declared.marks.Seen.TheVariants.{Marked}
 use Rattle.adb_hub_tables.specs.declared.words.Kind.{Kind}
 use Rattle.adb_hub_tables.specs.declared.words.Kind.TheVariants.{Due, News}
-use Rattle.adb_hub_tables.specs.Marked.{bit, marks_of, new_block, place_bit, with_place, with_mark, without_mark, without_place, known, forgotten}
+use Rattle.adb_hub_tables.specs.Marked.{bit, marks_of, new_block, place_bit, with_place, with_mark, without_mark, without_place, known}
+use Rattle.adb_hub_tables.specs.Marked.{forgotten}
 use Rattle.adb_hub_tables.specs.Marked.{place_in, mark_in, place, mark, IsBlock, AreBlocks, IsMarkedAt, IsMarked, Holds}
 
 -- the i-th number of a block that is known is so still, with this mark as before
@@ -110,7 +111,8 @@ module _ (places marks i : ℕ) (within : i < 64) where
   pub known_other : (j : ℕ) → j ≢ i → bit_at (bit_or marks (bit_and places (bit i))) j ≡ bit_at marks j
   known_other j apart =
       let none : bit_at (bit i) j ≡ 0 = bit_at_set_other w64 0 i within j apart ∙ bit_at-zero j in
-      let clear : bit_at (bit_and places (bit i)) j ≡ 0 = bit_at_and places (bit i) j ∙ (ap (min (bit_at places j)) none ∙ least (bit_at places j)) in
+      let clear : bit_at (bit_and places (bit i)) j ≡ 0 = bit_at_and places (bit i) j
+      ∙ (ap (min (bit_at places j)) none ∙ least (bit_at places j)) in
       bit_at_or marks (bit_and places (bit i)) j ∙ (ap (max (bit_at marks j)) clear ∙ most (bit_at marks j))
     where
       least : (b : ℕ) → min b 0 ≡ 0
@@ -150,7 +152,9 @@ module _ (i : ℕ) (within : i < 64) (b : Block) where
 
   -- to mark a number that is not known changes nothing
   pub unplaced : place_bit i b ≡ 0 → b ≡ with_mark i b
-  unplaced none = sym (ap (λ d. block_of b.places d (bit_or b.news (place_bit i b))) (already b.places b.due i within (λ known. absurd (not_known none known)))
+  unplaced none =
+      sym (ap (λ d. block_of b.places d (bit_or b.news (place_bit i b)))
+      (already b.places b.due i within (λ known. absurd (not_known none known)))
       ∙ ap (block_of b.places b.due) (already b.places b.news i within (λ known. absurd (not_known none known))))
 
   -- a number with a place is known
@@ -167,11 +171,13 @@ module _ (i : ℕ) (within : i < 64) (b : Block) where
       none off = same_from_bits (place_bit i b) 0 (λ j. at_bit j (cases_eq j i))
         where
           at_i : bit_at (place_bit i b) i ≡ bit_at 0 i
-          at_i = bit_at_and b.places (bit i) i ∙ (ap (λ k. min k (bit_at (bit i) i)) off ∙ (low_zero (bit_at (bit i) i) ∙ sym (bit_at-zero i)))
+          at_i = bit_at_and b.places (bit i) i
+              ∙ (ap (λ k. min k (bit_at (bit i) i)) off ∙ (low_zero (bit_at (bit i) i) ∙ sym (bit_at-zero i)))
 
           at_bit : (j : ℕ) → (j ≡ i) ⊎ (j ≡ i → ⊥) → bit_at (place_bit i b) j ≡ bit_at 0 j
           at_bit j (inl same) = subst (λ k. bit_at (place_bit i b) k ≡ bit_at 0 k) (sym same) at_i
-          at_bit j (inr apart) = bit_at_and b.places (bit i) j ∙ (ap (min (bit_at b.places j)) (bit_at_set_other w64 0 i within j apart ∙ bit_at-zero j)
+          at_bit j (inr apart) = bit_at_and b.places (bit i) j
+              ∙ (ap (min (bit_at b.places j)) (bit_at_set_other w64 0 i within j apart ∙ bit_at-zero j)
               ∙ (high_zero (bit_at b.places j) ∙ sym (bit_at-zero j)))
 
       go : (k : ℕ) → bit_at b.places i ≡ k → k < 2 → bit_at b.places i ≡ 1
@@ -196,7 +202,8 @@ pub left_in : (which : Kind) (i : ℕ) (b : Block) → marks_of which (without_p
 left_in Due i b = refl
 left_in News i b = refl
 
-pub unmarked_in : (which : Kind) (i : ℕ) (b : Block) → marks_of which (without_mark which i b) ≡ bit_and (marks_of which b) (bit_not w64 (bit i))
+pub unmarked_in : (which : Kind) (i : ℕ) (b : Block) → marks_of which (without_mark which i b)
+    ≡ bit_and (marks_of which b) (bit_not w64 (bit i))
 unmarked_in Due i b = refl
 unmarked_in News i b = refl
 
@@ -259,7 +266,8 @@ module _ (number : ℕ) (fits : number < 2 ^ 32) where
     },
     λ block made. subst (IsBlock high) (let same : with_place i b ≡ block = cc in same) (record {
       within = high_fits number fits;
-      fits = λ which. subst (λ w. w < 2 ^ 64) (sym (placed which i b)) (or_lt 64 (marks_of which b) (bit i) ((is b refl).fits which) (bit_fits i));
+      fits = λ which. subst (λ w. w < 2 ^ 64) (sym (placed which i b))
+          (or_lt 64 (marks_of which b) (bit i) ((is b refl).fits which) (bit_fits i));
     }),
   )
 
@@ -329,7 +337,8 @@ module _ (number : ℕ) (fits : number < 2 ^ 32) where
 -- ---- what was seen of the marks
 module _ (number : ℕ) {blocks others : List (ℕ × Block)} where
   -- a number that was marked has all marks, if it is known
-  pub seen_marked : Puts (number / 64) (option_map (with_mark (number % 64)) (at (number / 64) blocks)) blocks others → Holds (Marked number) others
+  pub seen_marked : Puts (number / 64) (option_map (with_mark (number % 64)) (at (number / 64) blocks)) blocks others
+      → Holds (Marked number) others
   seen_marked puts known which = ap (λ o. mark_in which o (number % 64)) puts.here
       ∙ go (at (number / 64) blocks) (sym (ap (λ o. place_in o (number % 64)) puts.here) ∙ known)
     where
@@ -358,7 +367,8 @@ marked_twice number blocks holds = record { here = go (at (number / 64) blocks) 
     same b is =
         let so : (which : Kind) → bit_at b.places (number % 64) ≡ 1 → bit_at (marks_of which b) (number % 64) ≡ 1 = λ which one.
         sym (ap (λ o. mark_in which o (number % 64)) is) ∙ holds (ap (λ o. place_in o (number % 64)) is ∙ one) which in
-        ap (λ d. block_of b.places d (bit_or b.news (place_bit (number % 64) b))) (already b.places b.due (number % 64) (low number) (so Due))
+        ap (λ d. block_of b.places d (bit_or b.news (place_bit (number % 64) b)))
+        (already b.places b.due (number % 64) (low number) (so Due))
         ∙ ap (block_of b.places b.due) (already b.places b.news (number % 64) (low number) (so News))
 
     go : (o : Option Block) → at (number / 64) blocks ≡ o → o ≡ option_map (with_mark (number % 64)) o

@@ -1,5 +1,6 @@
 -- What a log of endings records by rules, one after another.
-use Rattle.std.proofs.Common.{ℕ, ◌+◌, ◌≡◌, ◌≢◌, ◌≤◌, ◌<◌, List, [], ◌∷◌, ◌++◌, Bool, true, false, Option, Some, None, refl, sym, ◌∙◌, ap, subst, cond, eqb, arith, ◌⊎◌, inl, inr, zero, suc, length, append_assoc}
+use Rattle.std.proofs.Common.{ℕ, ◌+◌, ◌≡◌, ◌≢◌, ◌≤◌, ◌<◌, List, [], ◌∷◌, ◌++◌, Bool, true, false, Option, Some, None, refl, sym, ◌∙◌, ap}
+use Rattle.std.proofs.Common.{subst, cond, eqb, arith, ◌⊎◌, inl, inr, zero, suc, length, append_assoc}
 use Rattle.std.proofs.lemmas.List.{append-nil}
 use Rattle.std.proofs.lemmas.Bool.{ne_eqb, eq-eqb, cases_eq}
 use Rattle.std.proofs.lemmas.Bool.Decides.{nat_tests}
@@ -13,7 +14,8 @@ use Rattle.adb_history.specs.Streams.{tells_end}
 use Rattle.adb_hub_tables.specs.declared.endings.Ended.{Ended}
 use Rattle.adb_hub_tables.specs.declared.tables.Tables.{Tables}
 use Rattle.adb_hub_tables.specs.Places.{StaysOwned}
-use Rattle.adb_hub_tables.specs.Endings.{Log, Watches, Records, Reports, HasPlaceEach, ended_of, ended_at, endings_of, add, add_at, add_if_place, add_unless, logged, live, one_if}
+use Rattle.adb_hub_tables.specs.Endings.{Log, Watches, Records, Reports, HasPlaceEach, ended_of, ended_at, endings_of, add, add_at}
+use Rattle.adb_hub_tables.specs.Endings.{add_if_place, add_unless, logged, live, one_if}
 use Rattle.adb_hub_tables.proofs.Staying.{stays, owned_then}
 
 -- ---- what is recorded
@@ -31,7 +33,8 @@ added l ending None log more = refl
 added l ending (Some stream) log more = append_assoc log.list (ended_of l ending stream ∷ []) more
 
 -- the list of a log has the endings behind what it had
-pub logged_list : (rows : Rows (Option Stream)) (told : List Event) (log : Log) → (logged rows told log).list ≡ log.list ++ endings_of rows told
+pub logged_list : (rows : Rows (Option Stream)) (told : List Event) (log : Log)
+    → (logged rows told log).list ≡ log.list ++ endings_of rows told
 logged_list rows [] log = sym (append-nil log.list)
 logged_list rows (due_to_client client bytes ∷ events) log = logged_list rows events log
 logged_list rows (due_to_link link packet check ∷ events) log = logged_list rows events log
@@ -106,7 +109,8 @@ live_owned old new owned zero = omega arith
 live_owned old new owned (suc n) = omega (arith, live_owned old new owned n, one_owned (old n) (new n) (owned n))
 
 -- where one went there are fewer
-pub fewer_live : (old new : Rows (Option Stream)) (id : ℕ) → ((l : ℕ) → StaysOwned (old l) (new l)) → one_if (old id) ≡ 1 → one_if (new id) ≡ 0
+pub fewer_live : (old new : Rows (Option Stream)) (id : ℕ) → ((l : ℕ) → StaysOwned (old l) (new l))
+    → one_if (old id) ≡ 1 → one_if (new id) ≡ 0
     → (n : ℕ) → id < n → live n new + 1 ≤ live n old
 fewer_live old new id owned was gone zero less = absurd (omega (arith, less))
 fewer_live old new id owned was gone (suc n) less = by_place (cases_eq id n) (fewer_live old new id owned was gone n)
@@ -118,7 +122,8 @@ fewer_live old new id owned was gone (suc n) less = by_place (cases_eq id n) (fe
         omega (arith, live_owned old new owned n, now_gone, was_there)
     by_place (inr other) before = omega (arith, before (omega (arith, less, other)), one_owned (old n) (new n) (owned n))
 
-pub gone_live : (old new : Rows (Option Stream)) (id : ℕ) → ((l : ℕ) → StaysOwned (old l) (new l)) → one_if (old id) ≡ 1 → one_if (new id) ≡ 0
+pub gone_live : (old new : Rows (Option Stream)) (id : ℕ) → ((l : ℕ) → StaysOwned (old l) (new l))
+    → one_if (old id) ≡ 1 → one_if (new id) ≡ 0
     → (spare : ℕ) → ((n : ℕ) → live n old ≤ spare) → (n : ℕ) → live n new + 1 ≤ spare
 gone_live old new id owned was gone spare places n =
     let more = more_live new n (suc id) in
@@ -127,7 +132,8 @@ gone_live old new id owned was gone spare places n =
 
 -- ---- rules, one after another
 -- a rule by which no stream ends
-pub reports_none : (log : Log) (old new : Tables) → ((l : ℕ) → StaysOwned (at l old.streams.streams) (at l new.streams.streams)) → Reports [] log old log new
+pub reports_none : (log : Log) (old new : Tables)
+    → ((l : ℕ) → StaysOwned (at l old.streams.streams) (at l new.streams.streams)) → Reports [] log old log new
 reports_none log old new owned = record {
   log = record { is = λ rows watches. refl };
   places = λ places n.
@@ -144,12 +150,16 @@ watches_then {told} {before} {old} {after} {new} h rows watches = record {
 }
 
 -- of tables with the same streams
-pub watches_same : {old new : Tables} → ((l : ℕ) → at l new.streams.streams ≡ at l old.streams.streams) → (rows : Rows (Option Stream)) (log : Log)
+pub watches_same : {old new : Tables} → ((l : ℕ) → at l new.streams.streams ≡ at l old.streams.streams)
+    → (rows : Rows (Option Stream)) (log : Log)
     → Watches rows log old → Watches rows log new
 watches_same {old} {new} same rows log watches =
-    watches_then (reports_none log old new (λ l. subst (StaysOwned (at l old.streams.streams)) (sym (same l)) (stays (at l old.streams.streams)))) rows watches
+    watches_then (reports_none log old new
+    (λ l. subst (StaysOwned (at l old.streams.streams)) (sym (same l)) (stays (at l old.streams.streams)))) rows
+    watches
 
-pub records_same : {old new : Tables} {told : List Event} {before after : Log} → ((l : ℕ) → at l new.streams.streams ≡ at l old.streams.streams)
+pub records_same : {old new : Tables} {told : List Event} {before after : Log}
+    → ((l : ℕ) → at l new.streams.streams ≡ at l old.streams.streams)
     → Records told before new after → Records told before old after
 records_same {old} {new} {told} {before} {after} same h = record {
   is = λ rows watches. h.is rows (watches_same {old = old} {new = new} same rows before watches);
@@ -159,7 +169,8 @@ pub records_then : {first second : List Event} {before : Log} {old : Tables} {mi
     → Reports first before old middle now → Records second middle now after → Records (first ++ second) before old after
 records_then {first} {second} {before} {old} {middle} {now} {after} h k = record {
   is = λ rows watches.
-      k.is rows (watches_then h rows watches) ∙ (ap (logged rows second) (h.log.is rows watches) ∙ sym (logged_then rows first second before));
+      k.is rows (watches_then h rows watches)
+      ∙ (ap (logged rows second) (h.log.is rows watches) ∙ sym (logged_then rows first second before));
 }
 
 pub reports_then : {first second : List Event} {before : Log} {old : Tables} {middle : Log} {now : Tables} {after : Log} {new : Tables}
@@ -232,7 +243,8 @@ module _ (id : ℕ) (ending : Ending) (stream : Stream) (log : Log) (old : Table
   }
 
 -- the end of a stream whose row goes, unless it was an orphan
-pub reports_end : (orphan : Bool) (id : ℕ) (ending : Ending) (stream : Stream) (s : State) (log : Log) (old new : Tables) → Goes id stream old new
+pub reports_end : (orphan : Bool) (id : ℕ) (ending : Ending) (stream : Stream) (s : State) (log : Log)
+    (old new : Tables) → Goes id stream old new
     → Reports (tells_end orphan id ending s).told log old (add_unless orphan (ended_of id ending stream) log) new
 reports_end true id ending stream s log old new goes = reports_none log old new goes.owned
 reports_end false id ending stream s log old new goes = record {

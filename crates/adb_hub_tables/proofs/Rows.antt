@@ -17,7 +17,8 @@ module _ {X : Type 0} where
           by_place (inr other) = h.others k (λ e. other (sym e)) ∙ ap (λ b. cond b row (at k old)) (sym (ne_eqb n k other))
 
   -- a row that is put and a row that is changed are one
-  pub put_is_change : (n : ℕ) (rows : ℕ → Option X) (f : X → Option X) → put_row n (option_and_then f (rows n)) rows ≡ change_row n (option_and_then f) rows
+  pub put_is_change : (n : ℕ) (rows : ℕ → Option X) (f : X → Option X)
+      → put_row n (option_and_then f (rows n)) rows ≡ change_row n (option_and_then f) rows
   put_is_change n rows f i k = at_place k i
     where
       at_place : (k : ℕ) → put_row n (option_and_then f (rows n)) rows k ≡ change_row n (option_and_then f) rows k

@@ -12,7 +12,8 @@ use Rattle.adb_hub_tables.specs.declared.marks.Seen.{Seen}
 use Rattle.adb_hub_tables.specs.declared.marks.Seen.TheVariants.{Nothing, Marked, Lack, Alone}
 use Rattle.adb_hub_tables.specs.Marked.{marks_of, with_mark, without_mark, without_place, known, Thins}
 use Rattle.adb_hub_tables.specs.Marked.{place, place_in, mark_in, mark, is_empty, IsMarkedIn, LacksBut, Unmarks, Holds}
-use Rattle.adb_hub_tables.proofs.Marking.{low, apart_in, known_other, created, placed, marked_in, unmarked_in, left_in, leaves, seen_marked, seen_known}
+use Rattle.adb_hub_tables.proofs.Marking.{low, apart_in, known_other, created, placed, marked_in, unmarked_in, left_in, leaves, seen_marked}
+use Rattle.adb_hub_tables.proofs.Marking.{seen_known}
 
 -- ---- the marks of the other numbers of a block
 module _ (which : Kind) (i : ℕ) (within : i < 64) (j : ℕ) (apart : j ≢ i) where
@@ -54,22 +55,27 @@ module _ (which : Kind) {number : ℕ} {new : Option Block} {blocks others : Lis
 
 module _ (number : ℕ) {blocks others : List (ℕ × Block)} where
   -- A number that is known was marked.
-  pub is_marked_in : Puts (number / 64) (option_map (with_mark (number % 64)) (at (number / 64) blocks)) blocks others → place others number ≡ 1
+  pub is_marked_in : Puts (number / 64) (option_map (with_mark (number % 64)) (at (number / 64) blocks)) blocks others
+      → place others number ≡ 1
       → IsMarkedIn number blocks others
   is_marked_in puts known = record {
     all = λ which. seen_marked number puts known which;
-    apart = λ which n apart. same_apart which puts (λ j below off. other_marked which (number % 64) (low number) j off (at (number / 64) blocks)) n apart;
+    apart = λ which n apart. same_apart which puts
+        (λ j below off. other_marked which (number % 64) (low number) j off (at (number / 64) blocks)) n apart;
   }
 
   -- A number came to be known.
-  pub is_known_in : Puts (number / 64) (Some (known (number % 64) (at (number / 64) blocks))) blocks others → IsMarkedIn number blocks others
+  pub is_known_in : Puts (number / 64) (Some (known (number % 64) (at (number / 64) blocks))) blocks others
+      → IsMarkedIn number blocks others
   is_known_in puts = record {
     all = λ which. seen_known number puts which;
-    apart = λ which n apart. same_apart which puts (λ j below off. other_known which (number % 64) (low number) j off (at (number / 64) blocks)) n apart;
+    apart = λ which n apart. same_apart which puts
+        (λ j below off. other_known which (number % 64) (low number) j off (at (number / 64) blocks)) n apart;
   }
 
   -- A mark was taken away.
-  pub unmarked_last : (which : Kind) → Puts (number / 64) (option_map (without_mark which (number % 64)) (at (number / 64) blocks)) blocks others
+  pub unmarked_last : (which : Kind)
+      → Puts (number / 64) (option_map (without_mark which (number % 64)) (at (number / 64) blocks)) blocks others
       → Unmarks which number blocks others
   unmarked_last which puts lacks =
       lost which puts (λ j below off. other_unmarked which (number % 64) (low number) j off below which (at (number / 64) blocks)) lacks
@@ -93,15 +99,18 @@ module _ (number : ℕ) {blocks others : List (ℕ × Block)} where
           ∙ bit_at_clear_same w64 (marks_of which b) (number % 64) (low number)
 
 -- Where blocks go, no mark comes.
-pub thinned_lack : (which : Kind) (blocks others : List (ℕ × Block)) → Thins blocks others → Holds (Lack which) blocks → Holds (Lack which) others
+pub thinned_lack : (which : Kind) (blocks others : List (ℕ × Block)) → Thins blocks others → Holds (Lack which) blocks
+    → Holds (Lack which) others
 thinned_lack which blocks others thins lacks n = go (thins (n / 64))
   where
-    go : (at (n / 64) others ≡ at (n / 64) blocks) ⊎ ((at (n / 64) others ≡ None) × (is_empty (at (n / 64) blocks) ≡ true)) → mark which others n ≡ 0
+    go : (at (n / 64) others ≡ at (n / 64) blocks)
+        ⊎ ((at (n / 64) others ≡ None) × (is_empty (at (n / 64) blocks) ≡ true)) → mark which others n ≡ 0
     go (inl same) = ap (λ o. mark_in which o (n % 64)) same ∙ lacks n
     go (inr gone) = ap (λ o. mark_in which o (n % 64)) gone.0
 
 -- What was seen holds of blocks that are the same.
-pub still_holds : (seen : Seen) (blocks others : List (ℕ × Block)) → ((k : ℕ) → at k others ≡ at k blocks) → Holds seen blocks → Holds seen others
+pub still_holds : (seen : Seen) (blocks others : List (ℕ × Block)) → ((k : ℕ) → at k others ≡ at k blocks)
+    → Holds seen blocks → Holds seen others
 still_holds Nothing blocks others same holds = tt
 still_holds (Marked n) blocks others same holds = λ known which.
     ap (λ o. mark_in which o (n % 64)) (same (n / 64)) ∙ holds (sym (ap (λ o. place_in o (n % 64)) (same (n / 64))) ∙ known) which

@@ -28,24 +28,29 @@ module _ (streams : List (ℕ × Stream)) (id : ℕ) (stream : Stream) (here : a
       ≡ change_row id (option_and_then (with_stream_part part)) (λ l. at l streams)
   part_rows part =
       ap (λ (table : List (ℕ × Stream)). λ l. at l table) (put_part part)
-      ∙ (rows_put id (Some (with_part part stream)) streams (put_at id (with_part part stream) streams) (puts_put_at id (with_part part stream) streams)
+      ∙ (rows_put id (Some (with_part part stream)) streams (put_at id (with_part part stream) streams)
+      (puts_put_at id (with_part part stream) streams)
       ∙ (ap (λ row. λ l. cond (eqb id l) row (at l streams)) (ap (option_and_then (with_stream_part part)) (sym here))
       ∙ put_is_change id (λ l. at l streams) (with_stream_part part)))
 
-  pub gone_rows : IsRising streams → (λ l. at l (without id streams)) ≡ change_row id (option_and_then (none_kept {A = Stream})) (λ l. at l streams)
+  pub gone_rows : IsRising streams → (λ l. at l (without id streams))
+      ≡ change_row id (option_and_then (none_kept {A = Stream})) (λ l. at l streams)
   gone_rows rises =
       rows_put id None streams (without id streams) (puts_without id streams rises)
       ∙ (ap (λ row. λ l. cond (eqb id l) row (at l streams)) (ap (option_and_then (none_kept {A = Stream})) (sym here))
       ∙ put_is_change id (λ l. at l streams) (none_kept {A = Stream}))
 
-  pub part_counts : IsRising streams → (k : ℕ) (part : Part) → streams_on k (put_part_at id part (found stream.link id streams) streams) ≡ streams_on k streams
+  pub part_counts : IsRising streams → (k : ℕ) (part : Part)
+      → streams_on k (put_part_at id part (found stream.link id streams) streams) ≡ streams_on k streams
   part_counts rises k part =
       let moved = sum_by-insert_entry (is_on k) nat_cmp_total streams id (with_part part stream) rises in
-      let was : unwrap_or (option_map (is_on k) (at id streams)) 0 ≡ is_on k stream = ap (λ row. unwrap_or (option_map (is_on k) row) 0) here in
+      let was : unwrap_or (option_map (is_on k) (at id streams)) 0 ≡ is_on k stream =
+      ap (λ row. unwrap_or (option_map (is_on k) row) 0) here in
       ap (streams_on k) (put_part part) ∙ omega (arith, moved, was)
 
   pub gone_counts : (k : ℕ) → streams_on k (without id streams) + is_on k stream ≡ streams_on k streams
   gone_counts k =
       let moved = sum_by-remove_entry (is_on k) (is_at (nat_cmp id)) streams in
-      let was : unwrap_or (option_map (is_on k) (at id streams)) 0 ≡ is_on k stream = ap (λ row. unwrap_or (option_map (is_on k) row) 0) here in
+      let was : unwrap_or (option_map (is_on k) (at id streams)) 0 ≡ is_on k stream =
+      ap (λ row. unwrap_or (option_map (is_on k) row) 0) here in
       omega (arith, moved, was)

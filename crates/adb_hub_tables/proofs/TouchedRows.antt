@@ -1,5 +1,6 @@
 -- The first row to which something is due, and rows after one was written or all but one were left.
-use Rattle.std.proofs.Common.{ℕ, ◌≡◌, ◌≢◌, ◌<◌, Bool, true, false, cond, List, [], ◌∷◌, filter, Some, None, refl, sym, ◌∙◌, ap, arith, ◌⊎◌, inl, inr}
+use Rattle.std.proofs.Common.{ℕ, ◌≡◌, ◌≢◌, ◌<◌, Bool, true, false, cond, List, [], ◌∷◌, filter, Some, None, refl, sym, ◌∙◌, ap, arith, ◌⊎◌}
+use Rattle.std.proofs.Common.{inl, inr}
 use Rattle.std.specs.Prelude.{nat_eq}
 use Rattle.std.specs.BTreeMap.{is_at}
 use Rattle.std.specs.Ordering.{nat_cmp, is_eq}
@@ -24,7 +25,8 @@ module _ {X : Type 0} where
       go false is later = ap (cond (is_eq (nat_cmp n e.0)) (Some e.1)) later
 
   -- a number that has no row has none after a write
-  pub written_none : (number : ℕ) (w : X) (es : List (ℕ × X)) → at number es ≡ None → at number (set_value (is_at (nat_cmp number)) es w) ≡ None
+  pub written_none : (number : ℕ) (w : X) (es : List (ℕ × X)) → at number es ≡ None
+      → at number (set_value (is_at (nat_cmp number)) es w) ≡ None
   written_none number w [] none = refl
   written_none number w (e ∷ es) none = go (is_eq (nat_cmp number e.0)) refl none (written_none number w es)
     where
@@ -43,7 +45,8 @@ module _ {X : Type 0} where
 
   module _ (owed : X → Bool) where
     -- to no row anything is due
-    pub none_owed : (es : List (ℕ × X)) → IsRising es → ((n : ℕ) (row : X) → at n es ≡ Some row → owed row ≡ false) → first_number owed es ≡ None
+    pub none_owed : (es : List (ℕ × X)) → IsRising es → ((n : ℕ) (row : X) → at n es ≡ Some row → owed row ≡ false)
+        → first_number owed es ≡ None
     unfolding IsStrictlySortedBy
     none_owed [] rises none = refl
     none_owed (e ∷ es) rises none = rw (none e.0 e.1 (at_head e es)) (none_owed es rises.1 (λ n row is. go n row is (cases_eq n e.0)))
@@ -60,7 +63,8 @@ module _ {X : Type 0} where
     least_owed (e ∷ es) id found rises here due below = go (order e.0 id) (least_owed es id found rises.1)
       where
         later : (n : ℕ) (row : X) → at n es ≡ Some row → n < id → (n ≡ e.0) ⊎ (n ≡ e.0 → ⊥) → owed row ≡ false
-        later n row is under (inl same) = absurd (let clash : None ≡ Some row = sym (ap (λ k. at k es) same ∙ past_head e es rises) ∙ is in cc)
+        later n row is under (inl same) =
+            absurd (let clash : None ≡ Some row = sym (ap (λ k. at k es) same ∙ past_head e es rises) ∙ is in cc)
         later n row is under (inr apart) = below n row (at_tail n e es apart ∙ is) under
 
         go : (e.0 < id) ⊎ ((id < e.0) ⊎ (e.0 ≡ id))
@@ -69,7 +73,8 @@ module _ {X : Type 0} where
             → first_number owed (e ∷ es) ≡ Some id
         go (inl under) among =
             rw (below e.0 e.1 (at_head e es) under)
-            (among (sym (at_tail id e es (λ same. omega (arith, same, under))) ∙ here) due (λ n row is lower. later n row is lower (cases_eq n e.0)))
+            (among (sym (at_tail id e es (λ same. omega (arith, same, under))) ∙ here) due
+            (λ n row is lower. later n row is lower (cases_eq n e.0)))
         go (inr (inl above)) among = absurd (let clash : None ≡ Some found = sym (below_head id e es rises above) ∙ here in cc)
         go (inr (inr same)) among =
             let it : Some e.1 ≡ Some found = sym (at_head e es) ∙ (ap (λ n. at n (e ∷ es)) same ∙ here) in

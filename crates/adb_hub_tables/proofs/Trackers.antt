@@ -48,14 +48,16 @@ unmoved (k ∷ keys) rows c same =
     unmoved keys (change_row k (option_map marked) rows) c (ap (option_map marked) here ∙ (same ∙ sym here)) ∙ here
 
 -- and of one that is marked already or then
-then_marked : (k c : ℕ) (rows : Rows (Option Client)) → option_map marked (change_row k (option_map marked) rows c) ≡ option_map marked (rows c)
+then_marked : (k c : ℕ) (rows : Rows (Option Client)) → option_map marked (change_row k (option_map marked) rows c)
+    ≡ option_map marked (rows c)
 then_marked k c rows = by_place (eqb k c)
   where
     by_place : (b : Bool) → option_map marked (cond b (option_map marked (rows c)) (rows c)) ≡ option_map marked (rows c)
     by_place true = twice (rows c)
     by_place false = refl
 
-listed_marked : (keys : List ℕ) (rows : Rows (Option Client)) (c : ℕ) → IsAmong c keys → marked_each keys rows c ≡ option_map marked (rows c)
+listed_marked : (keys : List ℕ) (rows : Rows (Option Client)) (c : ℕ) → IsAmong c keys
+    → marked_each keys rows c ≡ option_map marked (rows c)
 listed_marked [] rows c there = absurd there
 listed_marked (k ∷ keys) rows c (inl is) =
     let here : change_row k (option_map marked) rows c ≡ option_map marked (rows c) =
@@ -64,7 +66,8 @@ listed_marked (k ∷ keys) rows c (inl is) =
 listed_marked (k ∷ keys) rows c (inr later) = listed_marked keys (change_row k (option_map marked) rows) c later ∙ then_marked k c rows
 
 -- a client that does not track has no mark to get
-spared : (keys : List ℕ) (c : ℕ) (phase : Phase) (client : Client) → IsListedIn phase c keys → ◌⊎◌ (IsAmong c keys) (marked_in phase client ≡ client)
+spared : (keys : List ℕ) (c : ℕ) (phase : Phase) (client : Client) → IsListedIn phase c keys
+    → ◌⊎◌ (IsAmong c keys) (marked_in phase client ≡ client)
 spared keys c Asking client listed = inr refl
 spared keys c (Opening l) client listed = inr refl
 spared keys c (Streaming l) client listed = inr refl
@@ -90,5 +93,6 @@ all_marked keys clients listed i c = at_row c (at c clients) refl (listed c) i
         by_list (inl among) = listed_marked keys (clients_of clients) c among
         by_list (inr plain) =
             let some : clients_of clients c ≡ Some (client_row client) = ap (option_map client_row) is in
-            let same : option_map marked (clients_of clients c) ≡ clients_of clients c = ap (option_map marked) some ∙ (ap Some plain ∙ sym some) in
+            let same : option_map marked (clients_of clients c) ≡ clients_of clients c =
+            ap (option_map marked) some ∙ (ap Some plain ∙ sym some) in
             unmoved keys (clients_of clients) c same ∙ sym same

@@ -1,5 +1,6 @@
 -- What changes of streams leave of the places.
-use Rattle.std.proofs.Common.{ℕ, ◌+◌, ◌≡◌, ◌≢◌, ◌≤◌, List, Option, Some, None, refl, sym, ◌∙◌, ap, subst, [], ◌∷◌, Bool, true, false, cond, eqb, arith, ◌⊎◌, inl, inr}
+use Rattle.std.proofs.Common.{ℕ, ◌+◌, ◌≡◌, ◌≢◌, ◌≤◌, List, Option, Some, None, refl, sym, ◌∙◌, ap, subst, [], ◌∷◌, Bool, true, false, cond}
+use Rattle.std.proofs.Common.{eqb, arith, ◌⊎◌, inl, inr}
 use Rattle.std.specs.Prelude.{option_map, option_and_then}
 use Rattle.std.proofs.lemmas.Bool.{ne_eqb, eq-eqb, cases_eq}
 use Rattle.std.specs.BTreeMap.{is_at}
@@ -18,7 +19,8 @@ use Rattle.adb_history.specs.Rows.{none_kept, with_stream_part}
 use Rattle.adb_hub_tables.specs.declared.ports.Port.{Port}
 use Rattle.adb_hub_tables.specs.declared.tables.Tables.{Tables}
 use Rattle.adb_hub_tables.specs.Tracked.{IsTracked, IsAmong, IsListedIn, IsListedAt}
-use Rattle.adb_hub_tables.specs.Places.{LinkRoom, ClientRoom, is_on, IsCountedAt, IsCounted, StaysOwned, StaysHeld, StaysRead, IsProvided, Uses, freed}
+use Rattle.adb_hub_tables.specs.Places.{LinkRoom, ClientRoom, is_on, IsCountedAt, IsCounted, StaysOwned, StaysHeld, StaysRead, IsProvided}
+use Rattle.adb_hub_tables.specs.Places.{Uses, freed}
 use Rattle.adb_hub_tables.proofs.StreamRows.{part_rows, part_counts, gone_rows, gone_counts}
 use Rattle.adb_hub_tables.proofs.Staying.{stays, owned_then, held_stays, held_then, read_stays, read_then}
 
@@ -94,7 +96,8 @@ part_spares old id stream here sound part = record {
     fewer : (k : ℕ) (port : Option Port) → IsCountedAt k old.streams.streams port
         → IsCountedAt k (put_part_at id part (found stream.link id old.streams.streams) old.streams.streams) port
     fewer k None counted = tt
-    fewer k (Some port) counted = subst (λ n. n ≤ port.kept) (sym (part_counts old.streams.streams id stream here sound.rises k part)) counted
+    fewer k (Some port) counted = subst (λ n. n ≤ port.kept)
+        (sym (part_counts old.streams.streams id stream here sound.rises k part)) counted
 
 -- a stream went, and a place on its link is free
 pub record Frees (link id : ℕ) (old new : Tables) : Type 0 where
@@ -113,14 +116,16 @@ freed_read None = tt
 freed_read (Some port) = refl
 
 -- where a stream stood on a link, its place is free now
-freed_place : (link : ℕ) (streams : List (ℕ × Stream)) (id : ℕ) (stream : Stream) → at id streams ≡ Some stream → stream.link ≡ link → (port : Option Port)
+freed_place : (link : ℕ) (streams : List (ℕ × Stream)) (id : ℕ) (stream : Stream) → at id streams ≡ Some stream
+    → stream.link ≡ link → (port : Option Port)
     → IsCountedAt link streams port → (n : ℕ) → LinkRoom n port → LinkRoom (n + 1) (option_map freed port)
 freed_place link streams id stream here on None counted n room = tt
 freed_place link streams id stream here on (Some port) counted n room =
     let one : is_on link stream ≡ 1 = ap (λ b. cond b 1 0) (eq-eqb stream.link link on) in
     omega (arith, counted, room, one, gone_counts streams id stream here link)
 
-freed_count : (link : ℕ) (streams : List (ℕ × Stream)) (id : ℕ) (stream : Stream) → at id streams ≡ Some stream → stream.link ≡ link → (port : Option Port)
+freed_count : (link : ℕ) (streams : List (ℕ × Stream)) (id : ℕ) (stream : Stream) → at id streams ≡ Some stream
+    → stream.link ≡ link → (port : Option Port)
     → IsCountedAt link streams port → IsCountedAt link (without id streams) (option_map freed port)
 freed_count link streams id stream here on None counted = tt
 freed_count link streams id stream here on (Some port) counted =
@@ -132,8 +137,10 @@ other_count : (k : ℕ) (streams : List (ℕ × Stream)) (id : ℕ) (stream : St
 other_count k streams id stream here None counted = tt
 other_count k streams id stream here (Some port) counted = omega (arith, counted, gone_counts streams id stream here k)
 
-module _ (old new : Tables) (id : ℕ) (stream : Stream) (here : at id old.streams.streams ≡ Some stream) (h : Frees stream.link id old new) where
-  pub gone_place : IsCounted old → (n : ℕ) → LinkRoom n (at stream.link old.links.entries) → LinkRoom (n + 1) (at stream.link new.links.entries)
+module _ (old new : Tables) (id : ℕ) (stream : Stream) (here : at id old.streams.streams ≡ Some stream)
+    (h : Frees stream.link id old new) where
+  pub gone_place : IsCounted old → (n : ℕ) → LinkRoom n (at stream.link old.links.entries)
+      → LinkRoom (n + 1) (at stream.link new.links.entries)
   gone_place counted n room =
       subst (LinkRoom (n + 1)) (sym h.here)
       (freed_place stream.link old.streams.streams id stream here refl (at stream.link old.links.entries) (counted stream.link) n room)
@@ -146,12 +153,15 @@ module _ (old new : Tables) (id : ℕ) (stream : Stream) (here : at id old.strea
         (counts k (cases_eq k stream.link) (counted k));
     tracked = λ tracked c. subst (λ (table : _). IsListedAt c new.trackers.keys (at c table.entries)) (sym h.clients)
         (subst (λ keys. IsListedAt c keys (at c old.clients.entries)) (sym h.trackers) (tracked c));
-    owned = λ l. subst (λ (table : _). StaysOwned (at l old.streams.streams) (at l table.streams)) (sym h.streams) (owned l (cases_eq id l));
-    held = λ c. subst (λ (table : _). StaysHeld (at c old.clients.entries) (at c table.entries)) (sym h.clients) (held_stays (at c old.clients.entries));
+    owned = λ l. subst (λ (table : _). StaysOwned (at l old.streams.streams) (at l table.streams)) (sym h.streams)
+        (owned l (cases_eq id l));
+    held = λ c. subst (λ (table : _). StaysHeld (at c old.clients.entries) (at c table.entries)) (sym h.clients)
+        (held_stays (at c old.clients.entries));
     read = λ k. reads k (cases_eq k stream.link);
   }
     where
-      keeps : (n k : ℕ) → ◌⊎◌ (k ≡ stream.link) (k ≢ stream.link) → LinkRoom n (at k old.links.entries) → LinkRoom n (at k new.links.entries)
+      keeps : (n k : ℕ) → ◌⊎◌ (k ≡ stream.link) (k ≢ stream.link) → LinkRoom n (at k old.links.entries)
+          → LinkRoom n (at k new.links.entries)
       keeps n k (inl is) room =
           let at_link = subst (λ (q : ℕ). LinkRoom n (at q old.links.entries)) is room in
           subst (λ (q : ℕ). LinkRoom n (at q new.links.entries)) (sym is)
@@ -198,11 +208,15 @@ more_places m n (Some client) le room = omega (arith, le, room)
 
 module _ {link client : ℕ} {old middle new : Tables} where
   -- two rules, with what both take
-  pub uses_then : {a b p q : ℕ} → Uses link a client p old middle → Uses link b client q middle new → Uses link (a + b) client (p + q) old new
+  pub uses_then : {a b p q : ℕ} → Uses link a client p old middle → Uses link b client q middle new
+      → Uses link (a + b) client (p + q) old new
   uses_then {a} {b} {p} {q} h k = record {
-    on_link = λ n room. k.on_link n (h.on_link (n + b) (more_room (n + (a + b)) (n + b + a) (at link old.links.entries) (omega arith) room));
+    on_link = λ n room. k.on_link n
+        (h.on_link (n + b) (more_room (n + (a + b)) (n + b + a) (at link old.links.entries) (omega arith) room));
     on_links = λ n l other room. k.on_links n l other (h.on_links n l other room);
-    of_client = λ n room. k.of_client n (h.of_client (n + q) (more_places (n + (p + q)) (n + q + p) (at client old.clients.entries) (omega arith) room));
+    of_client = λ n room. k.of_client n
+        (h.of_client (n + q)
+        (more_places (n + (p + q)) (n + q + p) (at client old.clients.entries) (omega arith) room));
     of_clients = λ n c other room. k.of_clients n c other (h.of_clients n c other room);
     counted = λ counted. k.counted (h.counted counted);
     tracked = λ tracked. k.tracked (h.tracked tracked);
@@ -216,14 +230,16 @@ among_without : (k c : ℕ) (keys : List ℕ) → k ≢ c → IsAmong c keys →
 among_without k c [] other among = absurd among
 among_without k c (q ∷ keys) other among = by_test (is_eq (nat_cmp k q)) refl (among_without k c keys other) among
   where
-    by_test : (b : Bool) → is_eq (nat_cmp k q) ≡ b → (IsAmong c keys → IsAmong c (remove_key (is_at (nat_cmp k)) keys)) → ◌⊎◌ (q ≡ c) (IsAmong c keys)
+    by_test : (b : Bool) → is_eq (nat_cmp k q) ≡ b
+        → (IsAmong c keys → IsAmong c (remove_key (is_at (nat_cmp k)) keys)) → ◌⊎◌ (q ≡ c) (IsAmong c keys)
         → IsAmong c (cond b keys (q ∷ remove_key (is_at (nat_cmp k)) keys))
     by_test true same before (inl is) = absurd (other (grind (arith, nat_tests)))
     by_test true same before (inr later) = later
     by_test false apart before (inl is) = inl is
     by_test false apart before (inr later) = inr (before later)
 
-listed_in_without : (k c : ℕ) (keys : List ℕ) → k ≢ c → (phase : Phase) → IsListedIn phase c keys → IsListedIn phase c (remove_key (is_at (nat_cmp k)) keys)
+listed_in_without : (k c : ℕ) (keys : List ℕ) → k ≢ c → (phase : Phase) → IsListedIn phase c keys
+    → IsListedIn phase c (remove_key (is_at (nat_cmp k)) keys)
 listed_in_without k c keys other Asking listed = tt
 listed_in_without k c keys other (Opening l) listed = tt
 listed_in_without k c keys other (Streaming l) listed = tt
@@ -232,7 +248,8 @@ listed_in_without k c keys other Tracking listed = among_without k c keys other 
 listed_in_without k c keys other Closing listed = tt
 listed_in_without k c keys other Gone listed = tt
 
-listed_without : (k c : ℕ) (keys : List ℕ) → k ≢ c → (row : Option SeenClient) → IsListedAt c keys row → IsListedAt c (remove_key (is_at (nat_cmp k)) keys) row
+listed_without : (k c : ℕ) (keys : List ℕ) → k ≢ c → (row : Option SeenClient) → IsListedAt c keys row
+    → IsListedAt c (remove_key (is_at (nat_cmp k)) keys) row
 listed_without k c keys other None listed = tt
 listed_without k c keys other (Some client) listed = listed_in_without k c keys other client.about.phase listed
 
@@ -250,9 +267,11 @@ lost_spares client old new h = record {
   counted = λ counted k. subst (λ (table : _). IsCountedAt k new.streams.streams (at k table.entries)) (sym h.links)
       (subst (λ (table : _). IsCountedAt k table.streams (at k old.links.entries)) (sym h.streams) (counted k));
   tracked = λ tracked c. lists c (cases_eq c client) (tracked c);
-  owned = λ l. subst (λ (table : _). StaysOwned (at l old.streams.streams) (at l table.streams)) (sym h.streams) (stays (at l old.streams.streams));
+  owned = λ l. subst (λ (table : _). StaysOwned (at l old.streams.streams) (at l table.streams)) (sym h.streams)
+      (stays (at l old.streams.streams));
   held = λ c. holds c (cases_eq c client);
-  read = λ k. subst (λ (table : _). StaysRead (at k old.links.entries) (at k table.entries)) (sym h.links) (read_stays (at k old.links.entries));
+  read = λ k. subst (λ (table : _). StaysRead (at k old.links.entries) (at k table.entries)) (sym h.links)
+      (read_stays (at k old.links.entries));
 }
   where
     keeps : (n c : ℕ) → ◌⊎◌ (c ≡ client) (c ≢ client) → ClientRoom n (at c old.clients.entries) → ClientRoom n (at c new.clients.entries)
@@ -277,7 +296,8 @@ pub record ChangesClients (old new : Tables) : Type 0 where
   pub streams : new.streams ≡ old.streams
   pub trackers : new.trackers ≡ old.trackers
   pub room : (n c : ℕ) → ClientRoom n (at c old.clients.entries) → ClientRoom n (at c new.clients.entries)
-  pub listed : (c : ℕ) (trackers : List ℕ) → IsListedAt c trackers (at c old.clients.entries) → IsListedAt c trackers (at c new.clients.entries)
+  pub listed : (c : ℕ) (trackers : List ℕ) → IsListedAt c trackers (at c old.clients.entries)
+      → IsListedAt c trackers (at c new.clients.entries)
   pub held : (c : ℕ) → StaysHeld (at c old.clients.entries) (at c new.clients.entries)
 
 pub clients_spares : (old new : Tables) → ChangesClients old new → Spares old new
@@ -286,10 +306,13 @@ clients_spares old new h = record {
   clients = h.room;
   counted = λ counted k. subst (λ (table : _). IsCountedAt k new.streams.streams (at k table.entries)) (sym h.links)
       (subst (λ (table : _). IsCountedAt k table.streams (at k old.links.entries)) (sym h.streams) (counted k));
-  tracked = λ tracked c. subst (λ (table : _). IsListedAt c table.keys (at c new.clients.entries)) (sym h.trackers) (h.listed c old.trackers.keys (tracked c));
-  owned = λ l. subst (λ (table : _). StaysOwned (at l old.streams.streams) (at l table.streams)) (sym h.streams) (stays (at l old.streams.streams));
+  tracked = λ tracked c. subst (λ (table : _). IsListedAt c table.keys (at c new.clients.entries)) (sym h.trackers)
+      (h.listed c old.trackers.keys (tracked c));
+  owned = λ l. subst (λ (table : _). StaysOwned (at l old.streams.streams) (at l table.streams)) (sym h.streams)
+      (stays (at l old.streams.streams));
   held = h.held;
-  read = λ k. subst (λ (table : _). StaysRead (at k old.links.entries) (at k table.entries)) (sym h.links) (read_stays (at k old.links.entries));
+  read = λ k. subst (λ (table : _). StaysRead (at k old.links.entries) (at k table.entries)) (sym h.links)
+      (read_stays (at k old.links.entries));
 }
 
 -- a place that became free is taken again
@@ -299,7 +322,8 @@ pub uses_freed : (link client : ℕ) (old middle new : Tables)
 uses_freed link client old middle new freed (h, k) = record {
   on_link = λ n room. k.on_link n (freed n (subst (λ (q : ℕ). LinkRoom q (at link old.links.entries)) (no_more n) room));
   on_links = λ n l other room. k.on_links n l other (h.on_links n l other room);
-  of_client = λ n room. k.of_client n (subst (λ (q : ℕ). ClientRoom q (at client middle.clients.entries)) (sym (no_more n)) (h.of_client n room));
+  of_client = λ n room. k.of_client n
+      (subst (λ (q : ℕ). ClientRoom q (at client middle.clients.entries)) (sym (no_more n)) (h.of_client n room));
   of_clients = λ n c other room. k.of_clients n c other (h.of_clients n c other room);
   counted = λ counted. k.counted (h.counted counted);
   tracked = λ tracked. k.tracked (h.tracked tracked);
@@ -336,7 +360,8 @@ spares_of link client old new h = record {
         subst (λ (q : ℕ). LinkRoom n (at q new.links.entries)) (sym is) (h.on_link n here)
     on_link n k (inr other) room = h.on_links n k other room
 
-    of_client : (n c : ℕ) → ◌⊎◌ (c ≡ client) (c ≢ client) → ClientRoom n (at c old.clients.entries) → ClientRoom n (at c new.clients.entries)
+    of_client : (n c : ℕ) → ◌⊎◌ (c ≡ client) (c ≢ client) → ClientRoom n (at c old.clients.entries)
+        → ClientRoom n (at c new.clients.entries)
     of_client n c (inl is) room =
         let of_it = subst (λ (q : ℕ). ClientRoom n (at q old.clients.entries)) is room in
         let here = subst (λ (q : ℕ). ClientRoom q (at client old.clients.entries)) (sym (no_more n)) of_it in

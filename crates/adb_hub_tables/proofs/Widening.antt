@@ -33,7 +33,8 @@ pub like_ports : (old new : List (ℕ × Port)) → ((k : ℕ) → at k new ≡ 
 like_ports old new same k = subst (WidensRow WidensPort (at k old)) (sym (same k)) (same_port (at k old))
 
 -- ---- one after another
-pub client_then : (old now new : Option SeenClient) → WidensRow WidensClient old now → WidensRow WidensClient now new → WidensRow WidensClient old new
+pub client_then : (old now new : Option SeenClient) → WidensRow WidensClient old now → WidensRow WidensClient now new
+    → WidensRow WidensClient old new
 client_then None None new h k = k
 client_then None (Some now) new h k = absurd h
 client_then (Some old) None new h k = absurd h
@@ -64,7 +65,8 @@ client_room n (Some old) (Some new) h room =
     let kept : kept_places new.about.phase ≡ kept_places old.about.phase = ap (λ (c : Client). kept_places c.about.phase) h.row in
     omega (arith, room, kept, h.places)
 
-client_listed : (c : ℕ) (keys : List ℕ) (old new : Option SeenClient) → WidensRow WidensClient old new → IsListedAt c keys old → IsListedAt c keys new
+client_listed : (c : ℕ) (keys : List ℕ) (old new : Option SeenClient) → WidensRow WidensClient old new
+    → IsListedAt c keys old → IsListedAt c keys new
 client_listed c keys None None h listed = tt
 client_listed c keys None (Some new) h listed = absurd h
 client_listed c keys (Some old) None h listed = absurd h
@@ -97,7 +99,8 @@ port_read (Some old) None h read = absurd h
 port_read (Some old) (Some new) h read = record {
   given = ap (λ (link : Linked). link.incoming.given) h.link ∙ read.given;
   sound = ap (λ (link : Linked). link.incoming.fault) h.link ∙ read.sound;
-  sums = ap (λ (link : Linked). link.incoming.reading.sums) h.link ∙ (read.sums ∙ ap (λ (link : Linked). link.version == MIN_VERSION) (sym h.link));
+  sums = ap (λ (link : Linked). link.incoming.reading.sums) h.link
+      ∙ (read.sums ∙ ap (λ (link : Linked). link.version == MIN_VERSION) (sym h.link));
 }
 
 -- ---- tables

@@ -1,5 +1,6 @@
 -- Which streams end, and why, as a caller is told.
-use Rattle.std.specs.Prelude.{ℕ, ◌+◌, ◌-◌, ◌≡◌, ◌≤◌, ◌==◌, Bool, true, false, if◌then◌else◌, List, [], ◌∷◌, ◌++◌, Option, Some, None, zero, suc}
+use Rattle.std.specs.Prelude.{ℕ, ◌+◌, ◌-◌, ◌≡◌, ◌≤◌, ◌==◌, Bool, true, false, if◌then◌else◌, List, [], ◌∷◌, ◌++◌, Option, Some, None, zero}
+use Rattle.std.specs.Prelude.{suc}
 use Rattle.adb_outside.specs.Tables.{Rows, at}
 use Rattle.adb_capture.specs.declared.entry.Entry.{Entry}
 use Rattle.adb_stream.specs.declared.row.Stream.{Stream}

@@ -1,5 +1,6 @@
 -- Numbers that are known, and those of them that are marked, in blocks of 64.
-use Rattle.std.specs.Prelude.{ℕ, ◌≡◌, ◌≢◌, ◌<◌, ◌*◌, ◌+◌, ◌^◌, ◌/◌, ◌%◌, ◌||◌, ◌⊎◌, ⊤, Bool, true, false, not, eqb, if◌then◌else◌, List, [], ◌∷◌, Option, Some, None}
+use Rattle.std.specs.Prelude.{ℕ, ◌≡◌, ◌≢◌, ◌<◌, ◌*◌, ◌+◌, ◌^◌, ◌/◌, ◌%◌, ◌||◌, ◌⊎◌, ⊤, Bool, true, false, not, eqb, if◌then◌else◌, List, []}
+use Rattle.std.specs.Prelude.{◌∷◌, Option, Some, None}
 use Rattle.std.specs.Prelude.{bit_and, bit_or, option_map}
 use Rattle.std.specs.List.{sum_by}
 use Rattle.std.specs.Map.{values_of}

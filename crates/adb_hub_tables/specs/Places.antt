@@ -90,7 +90,8 @@ abbrev pub IsWaiting : Option SeenClient → Type 0
 IsWaiting None = Unit {0}
 IsWaiting (Some client) = (kept_places client.about.phase ≡ 1) × (1 ≤ client.places)
 
--- What tables keep at all times: a place for the end of each stream, one for the answer to each client that waits for its stream, and each tracker by its
+-- What tables keep at all times: a place for the end of each stream, one for the answer to each client that waits for
+-- its stream, and each tracker by its
 -- number.
 pub record IsProvided (t : Tables) : Type 0 where
   pub links : (k : ℕ) → LinkRoom 0 (at k t.links.entries)

@@ -61,7 +61,8 @@ module _ (setting : Setting) where
       one commands.Auth none s = tt
       one commands.Stls none s = tt
 
-  pub none_unasked : (Such : ℕ → Type 0) (ps : List Packet) → Every (AsksNone Such) ps → KeptIn (unasked Such) (device_behind setting ps).serving
+  pub none_unasked : (Such : ℕ → Type 0) (ps : List Packet) → Every (AsksNone Such) ps
+      → KeptIn (unasked Such) (device_behind setting ps).serving
   none_unasked Such ps every =
       all_kept (unasked Such) setting ps (first_device setting) (allow_unasked Such ps every) (first_kept (unasked Such) tt)
 
@@ -123,7 +124,8 @@ module _ (setting : Setting) (l : ℕ) where
       }
       wrote (inr own) s k = λ row is host. absurd (k.live p.arg1 row is (host ∙ own)).1
 
-      one : (command : Command) → IsWriting l command p → (s : Serving) → KeptIn (unopened l first) s → Allows (unopened l first) command p s
+      one : (command : Command) → IsWriting l command p → (s : Serving) → KeptIn (unopened l first) s
+          → Allows (unopened l first) command p s
       one commands.Open writes s k = absurd writes
       one commands.Wrte writes s k = wrote writes s k
       one _ writes s k = tt
@@ -233,7 +235,8 @@ module _ (setting : Setting) (l : ℕ) where
     files_then = (device_behind setting before).serving.files
 
     -- packets that write for it alone
-    unopened_behind : (ps : List Packet) → Every (IsWriting l) ps → KeptIn (unopened l files_then) (fold (step setting) device_then ps).serving
+    unopened_behind : (ps : List Packet) → Every (IsWriting l) ps
+        → KeptIn (unopened l files_then) (fold (step setting) device_then ps).serving
     unopened_behind ps every =
         all_kept (unopened l files_then) setting ps device_then (allow_unopened files_then ps every)
         (from_none (unopened l files_then) device_then.serving (none_unasked setting (λ (host : ℕ). host ≡ l) before none) refl)
@@ -248,7 +251,8 @@ module _ (setting : Setting) (l : ℕ) where
     opened_alone : (ps : List Packet) → Split ps → AllRanAlone l files_then (fold (step setting) device_then ps).serving
     opened_alone ps s =
         subst (λ (x : Device). AllRanAlone l files_then x.serving)
-        (sym (step_more setting device_then s.front (s.asking ∷ s.rest)) ∙ ap (λ (x : List Packet). fold (step setting) device_then x) s.is) ran
+        (sym (step_more setting device_then s.front (s.asking ∷ s.rest))
+        ∙ ap (λ (x : List Packet). fold (step setting) device_then x) s.is) ran
       where
         mid : Device
         mid = fold (step setting) device_then s.front
@@ -263,7 +267,8 @@ module _ (setting : Setting) (l : ℕ) where
                 (fold (step setting) device_then s.front).serving
             none_there = record { live = λ own row is host. (k.live own row is host).1; over = λ own e is host. k.over own e is host }
 
-            begins : KeptIn (alone l ((fold (step setting) device_then s.front).serving.drawn + 1) files_then) (fold (step setting) device_then s.front).serving
+            begins : KeptIn (alone l ((fold (step setting) device_then s.front).serving.drawn + 1) files_then)
+                (fold (step setting) device_then s.front).serving
             begins = record {
               rises = k.rises;
               sound = tt;
@@ -290,12 +295,14 @@ module _ (setting : Setting) (l : ℕ) where
                 (allow_alone ((fold (step setting) device_then s.front).serving.drawn + 1) files_then s.rest s.behind)
                 (step_keeps (alone l ((fold (step setting) device_then s.front).serving.drawn + 1) files_then) setting
                 (fold (step setting) device_then s.front) s.asking
-                (subst (λ (c : Command). Allows (alone l ((fold (step setting) device_then s.front).serving.drawn + 1) files_then) c s.asking
+                (subst (λ (c : Command). Allows
+                (alone l ((fold (step setting) device_then s.front).serving.drawn + 1) files_then) c s.asking
                 (fold (step setting) device_then s.front).serving) (sym s.asks) opens) begins)
 
 pub one_runs_alone : (setting : Setting) → OneRunsAlone setting
 one_runs_alone setting l before ps none every once =
-    subst (λ (x : Device). AllRanAlone l (device_behind setting before).serving.files x.serving) (sym (step_more setting (first_device setting) before ps))
+    subst (λ (x : Device). AllRanAlone l (device_behind setting before).serving.files x.serving)
+    (sym (step_more setting (first_device setting) before ps))
     (go (split setting l ps every once))
   where
     go : Every (IsWriting l) ps ⊎ Split setting l ps
@@ -316,7 +323,8 @@ echoing d first = record {
   one = λ none a b here there. absurd none;
 }
 
-allow_echoing : (setting : Setting) (d : ℕ) (first : List Entry) (ps : List Packet) → Every (IsOfEchoes d) ps → AllAllow (echoing d first) setting ps
+allow_echoing : (setting : Setting) (d : ℕ) (first : List Entry) (ps : List Packet) → Every (IsOfEchoes d) ps
+    → AllAllow (echoing d first) setting ps
 allow_echoing setting d first [] every = tt
 allow_echoing setting d first (p ∷ ps) every = (λ s k. one p.command every.0 s k, allow_echoing setting d first ps every.1)
   where

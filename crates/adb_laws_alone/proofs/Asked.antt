@@ -48,24 +48,29 @@ count_more l (x ∷ done) p = go (is_open x.command && nat_eq x.arg0 l) (count_m
 pub asked_more : (d : ℕ) (done : List Packet) (p : Packet) (calls : List Call) → AllByRecursion (IsAskedIn d done) calls
     → AllByRecursion (IsAskedIn d (done ++ p ∷ [])) calls
 asked_more d done p [] all = tt
-asked_more d done p (call ∷ calls) all =
-    ((all.0.0, (let more = count_more call.caller done p in let once = all.0.1 in omega (arith, more, once))), asked_more d done p calls all.1)
+asked_more d done p (call ∷ calls) all = (
+  (all.0.0, (let more = count_more call.caller done p in let once = all.0.1 in omega (arith, more, once))),
+  asked_more d done p calls all.1,
+)
 
 pub asked_both : (d : ℕ) (ps : List Packet) (xs ys : List Call) → AllByRecursion (IsAskedIn d ps) xs → AllByRecursion (IsAskedIn d ps) ys
     → AllByRecursion (IsAskedIn d ps) (xs ++ ys)
 asked_both d ps [] ys left right = right
 asked_both d ps (x ∷ xs) ys left right = (left.0, asked_both d ps xs ys left.1 right)
 
-pub asked_own : (d : ℕ) (ps : List Packet) (l : ℕ) (asks : List Ask) → d < l → 1 ≤ count_from is_open l ps → AllByRecursion (IsAskedIn d ps) (calls_of l asks)
+pub asked_own : (d : ℕ) (ps : List Packet) (l : ℕ) (asks : List Ask) → d < l → 1 ≤ count_from is_open l ps
+    → AllByRecursion (IsAskedIn d ps) (calls_of l asks)
 asked_own d ps l [] past once = tt
 asked_own d ps l (ask ∷ asks) past once = ((past, once), asked_own d ps l asks past once)
 
 -- a stream that was not asked for has no calls
-pub none_of : (d l : ℕ) (ps : List Packet) (calls : List Call) → AllByRecursion (IsAskedIn d ps) calls → count_from is_open l ps ≡ 0 → asks_of l calls ≡ []
+pub none_of : (d l : ℕ) (ps : List Packet) (calls : List Call) → AllByRecursion (IsAskedIn d ps) calls
+    → count_from is_open l ps ≡ 0 → asks_of l calls ≡ []
 none_of d l ps [] all none = refl
 none_of d l ps (call ∷ calls) all none = go (cases_eq call.caller l) (none_of d l ps calls all.1 none)
   where
-    go : (call.caller ≡ l) ⊎ (call.caller ≡ l → ⊥) → asks_of l calls ≡ [] → cond (call.caller == l) (call.ask ∷ []) [] ++ asks_of l calls ≡ []
+    go : (call.caller ≡ l) ⊎ (call.caller ≡ l → ⊥) → asks_of l calls ≡ []
+        → cond (call.caller == l) (call.ask ∷ []) [] ++ asks_of l calls ≡ []
     go (inl same) more =
         let once = all.0.1 in
         let counts : count_from is_open call.caller ps ≡ 0 = ap (λ (n : ℕ). count_from is_open n ps) same ∙ none in
@@ -93,7 +98,8 @@ asks_apart l m calls asks other =
     ∙ (ap (λ (more : List Ask). asks_of m calls ++ more) (asks_other l m asks other) ∙ append-nil (asks_of m calls))
 
 module _ (rows : List Packet → List (ℕ × Row)) where
-  written_more : (l : ℕ) (done : List Packet) (came : List ℕ) (p : Packet) → WasWritten rows l done came → WasWritten rows l (done ++ p ∷ []) came
+  written_more : (l : ℕ) (done : List Packet) (came : List ℕ) (p : Packet) → WasWritten rows l done came
+      → WasWritten rows l (done ++ p ∷ []) came
   written_more l done came p w = record {
     front = w.front;
     packet = w.packet;
@@ -139,7 +145,8 @@ module _ (rows : List Packet → List (ℕ × Row)) where
           subst (Asks m (done ++ p ∷ [])) (sym (asks_apart l m calls asks other)) (asks_more m done (asks_of m calls) p (before m late))
 
 -- a stream that is asked for once was not asked for before
-pub fresh_by : (d : ℕ) (p : Packet) (ps done : List Packet) → IsOfLater d p.command p → ((l : ℕ) → d < l → count_from is_open l (done ++ p ∷ ps) ≤ 1)
+pub fresh_by : (d : ℕ) (p : Packet) (ps done : List Packet) → IsOfLater d p.command p
+    → ((l : ℕ) → d < l → count_from is_open l (done ++ p ∷ ps) ≤ 1)
     → p.command ≡ commands.Open → count_from is_open p.arg0 done ≡ 0
 fresh_by d p ps done of once asks =
     let past : d < p.arg0 = subst (λ (c : Command). IsOfLater d c p) asks of in

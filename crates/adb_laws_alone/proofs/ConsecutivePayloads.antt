@@ -31,7 +31,8 @@ further x y = go (ask_fault_in x) refl
     go : (fault : Option SyncFault) → ask_fault_in x ≡ fault → Further x y
     go None sound =
         let more : AskReading = asks_from (asks_from asks_start x).reading ((asks_from asks_start x).rest ++ y) in
-        let whole : asks_from asks_start (x ++ y) ≡ joined (asks_in x) more = cut_piece ask_front ask_of past_ask asks_are_framed (length x) asks_start x y
+        let whole : asks_from asks_start (x ++ y) ≡ joined (asks_in x) more =
+        cut_piece ask_front ask_of past_ask asks_are_framed (length x) asks_start x y
         (omega arith) sound in
         let send = open_after None (asks_in x) in
         let before : requests_in x ≡ requests_of None (asks_in x) =
@@ -48,7 +49,8 @@ further x y = go (ask_fault_in x) refl
         record {
           requests = [];
           is = ap (λ (asks : List SyncAsk). requests_of None asks ++ fault_request (ask_fault_in (x ++ y))) stays.0
-              ∙ (ap (λ (f : Option SyncFault). requests_of None (asks_in x) ++ fault_request f) (stays.1 ∙ sym broken) ∙ sym (append-nil (requests_in x)));
+              ∙ (ap (λ (f : Option SyncFault). requests_of None (asks_in x) ++ fault_request f) (stays.1 ∙ sym broken)
+              ∙ sym (append-nil (requests_in x)));
         }
 
 -- what a payload completes behind others
@@ -84,7 +86,9 @@ module _ (opened : List Entry) (came : Came) (before : List Came) (over : came.f
   all = ap (serve_all opened) f.is
 
   abbrev one_more : Answer → Answer
-  one_more answer = cond answer.ended answer (record { bytes = answer.bytes ++ (served_by before came).answer; ended = (served_by before came).ended })
+  one_more answer =
+      cond answer.ended answer
+      (record { bytes = answer.bytes ++ (served_by before came).answer; ended = (served_by before came).ended })
 
   more_served : ServedAtOnce opened (came ∷ before)
   more_served = go earlier.ended refl
@@ -99,13 +103,15 @@ module _ (opened : List Entry) (came : Came) (before : List Came) (over : came.f
                 (record { bytes = earlier.answer ++ (served_by before came).answer; ended = (served_by before came).ended })) e
                 ∙ ap answer_by (sym same));
             files = ap (λ (a : Answer). sync_files a.ended came.files (served_by before came)) so_far.answer
-                ∙ (ap (λ (t : Bool). cond t came.files (served_by before came).files) e ∙ (stands ∙ ap (λ (s : Served). s.files) (sym same)));
+                ∙ (ap (λ (t : Bool). cond t came.files (served_by before came).files) e
+                ∙ (stands ∙ ap (λ (s : Served). s.files) (sym same)));
           }
       go false e =
           let joins = serve_all-more (requests_in (bytes_in before)) f.requests opened e in
           let end : (served_by before came).ended ≡ (serve_all opened (requests_in (bytes_in before ++ came.bytes))).ended =
           ap (λ (s : Served). s.ended) next ∙ (sym joins.ended ∙ ap (λ (s : Served). s.ended) (sym all)) in
-          let bytes : earlier.answer ++ (served_by before came).answer ≡ (serve_all opened (requests_in (bytes_in before ++ came.bytes))).answer =
+          let bytes : earlier.answer ++ (served_by before came).answer
+          ≡ (serve_all opened (requests_in (bytes_in before ++ came.bytes))).answer =
           ap (λ (s : Served). earlier.answer ++ s.answer) next ∙ (sym joins.answer ∙ ap (λ (s : Served). s.answer) (sym all)) in
           record {
             answer = ap one_more so_far.answer
@@ -161,7 +167,8 @@ sync_enough first opened bytes more over =
       files = all.files ∙ (ap (λ (s : Served). s.files) same ∙ sym one.files);
     }
 
-pub are_enough : (kind : Kind) (first opened : List Entry) (bytes more : List ℕ) → (service_answer kind first (came_over bytes opened ∷ [])).ended ≡ true
+pub are_enough : (kind : Kind) (first opened : List Entry) (bytes more : List ℕ)
+    → (service_answer kind first (came_over bytes opened ∷ [])).ended ≡ true
     → AreEnough kind first opened bytes (bytes ++ more)
 are_enough Echoes first opened bytes more over = absurd (let clash : false ≡ true = over in cc)
 are_enough (Shells packets command) first opened bytes more over =

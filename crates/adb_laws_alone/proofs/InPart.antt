@@ -23,7 +23,8 @@ use Rattle.adb_daemon.proofs.Rules.{named_is}
 use Rattle.adb_laws_alone.specs.Alone.{Every}
 use Rattle.adb_laws_alone.specs.Calls.{AreFirst, Ask, Serves, asks_of, files_after, has_last, up_to_last}
 use Rattle.adb_laws_alone.specs.Together.{HasAsked, IsOfLater, RanInPart, RunInPart, rows_after}
-use Rattle.adb_laws_alone.proofs.Asked.{asked_both, asked_more, asked_own, asks_more, asks_with, count_both, count_last, count_more, fresh_by}
+use Rattle.adb_laws_alone.proofs.Asked.{asked_both, asked_more, asked_own, asks_more, asks_with, count_both, count_last, count_more}
+use Rattle.adb_laws_alone.proofs.Asked.{fresh_by}
 use Rattle.adb_laws_alone.proofs.Quiet.{AllLeaveFiles, LeavesFiles, none_completed}
 use Rattle.adb_laws_alone.proofs.Through.{are_calls, asks_fed, asks_opened, calls_of, files_both, files_opened_through, map_both, up_both}
 use Rattle.adb_laws_alone.proofs.Together.{Runs, open_asks, runs_after, write_asks}
@@ -42,7 +43,8 @@ module _ (rows : List Packet → List (ℕ × Row)) (d : ℕ) (first files : Lis
   all_more : (ps more : List Packet) → RanInPart rows d first ps files → RanInPart rows d first (ps ++ more) files
   all_more ps [] ran = subst (λ (qs : List Packet). RanInPart rows d first qs files) (sym (append-nil ps)) ran
   all_more ps (p ∷ more) ran =
-      subst (λ (qs : List Packet). RanInPart rows d first qs files) (append_assoc ps (p ∷ []) more) (all_more (ps ++ p ∷ []) more (one_more ps p ran))
+      subst (λ (qs : List Packet). RanInPart rows d first qs files) (append_assoc ps (p ∷ []) more)
+      (all_more (ps ++ p ∷ []) more (one_more ps p ran))
 
 -- ---- a prefix of the requests that a write makes whole
 abbrev asks_up_to : ℕ → List Came → List ℕ → List Ask
@@ -116,7 +118,8 @@ quiet_cut (p ∷ rest) s files quiet cut = go p.command quiet.0 cut
     go commands.Stls leaves same = same
 
 -- ---- the packet at which memory ran out
-module _ (rows : List Packet → List (ℕ × Row)) (d : ℕ) (first : List Entry) (done : List Packet) (p : Packet) (s : Serving) (r : Runs rows d first done s)
+module _ (rows : List Packet → List (ℕ × Row)) (d : ℕ) (first : List Entry) (done : List Packet) (p : Packet)
+    (s : Serving) (r : Runs rows d first done s)
     (files : List Entry) where
   as_before : files ≡ s.files → RanInPart rows d first done files
   as_before same = record { calls = r.calls; left = same ∙ r.left; asks = r.asks; asked = r.asked }
@@ -131,7 +134,8 @@ module _ (rows : List Packet → List (ℕ × Row)) (d : ℕ) (first : List Entr
     calls = r.calls ++ calls_of l asks;
     left = left ∙ (ap (λ (fs : List Entry). files_after fs (calls_of l asks)) r.left ∙ sym (files_both first r.calls (calls_of l asks)));
     asks = asks_with rows d l done p r.calls asks r.asks mine;
-    asked = asked_both d (done ++ p ∷ []) r.calls (calls_of l asks) (asked_more d done p r.calls r.asked) (asked_own d (done ++ p ∷ []) l asks past once);
+    asked = asked_both d (done ++ p ∷ []) r.calls (calls_of l asks) (asked_more d done p r.calls r.asked)
+        (asked_own d (done ++ p ∷ []) l asks past once);
   }
 
   open_part : p.command ≡ commands.Open → d < p.arg0 → count_from is_open p.arg0 done ≡ 0 → (files ≡ s.files) ⊎ Ran p s files
@@ -153,7 +157,8 @@ module _ (rows : List Packet → List (ℕ × Row)) (d : ℕ) (first : List Entr
       host = host_of p.arg0 fed.row (at p.arg1 s.rows) fed.live
 
       syncs : fed.row.kind ≡ Syncs → (k : ℕ)
-          → files ≡ sync_files (sync_answer fed.row.past).ended s.files (serve_all s.files (take k (completed_by (bytes_in fed.row.past) p.payload)))
+          → files ≡ sync_files (sync_answer fed.row.past).ended s.files
+          (serve_all s.files (take k (completed_by (bytes_in fed.row.past) p.payload)))
           → (d < fed.row.host) ⊎ (fed.row.host ≤ d) → RanInPart rows d first (done ++ p ∷ []) files
       syncs kind k is (inl past) =
           let asks = asks_up_to k fed.row.past p.payload in
@@ -176,7 +181,8 @@ module _ (rows : List Packet → List (ℕ × Row)) (d : ℕ) (first : List Entr
       by (Shells packets command) is left = none_done left
 
   cut_part : (command : Command) → p.command ≡ command → rows done ≡ s.rows → IsOfLater d command p
-      → (p.command ≡ commands.Open → count_from is_open p.arg0 done ≡ 0) → CutFiles command p s files → RanInPart rows d first (done ++ p ∷ []) files
+      → (p.command ≡ commands.Open → count_from is_open p.arg0 done ≡ 0) → CutFiles command p s files
+      → RanInPart rows d first (done ++ p ∷ []) files
   cut_part commands.Open is at_rows of fresh cut = open_part is of (fresh is) cut
   cut_part commands.Wrte is at_rows of fresh cut = write_part is at_rows of cut
   cut_part commands.Okay is at_rows of fresh cut = none_done cut
@@ -213,5 +219,6 @@ run_in_part setting d before ps rest files none every once cut = go rest every o
         subst (λ (qs : List Packet). RanInPart (rows_after setting before) d (device_behind setting before).serving.files qs files)
         (append_assoc ps (p ∷ []) more)
         (all_more (rows_after setting before) d (device_behind setting before).serving.files files (ps ++ p ∷ []) more
-        (cut_part (rows_after setting before) d (device_behind setting before).serving.files ps p (device_behind setting (before ++ ps)).serving runs files
+        (cut_part (rows_after setting before) d (device_behind setting before).serving.files ps p
+        (device_behind setting (before ++ ps)).serving runs files
         p.command refl refl (every_back d ps (p ∷ more) all).0 (fresh_by d p more ps (every_back d ps (p ∷ more) all).0 few) cut_files))

@@ -15,7 +15,8 @@ use Rattle.adb_device_streams.specs.Service.{Came, bytes_in, came_over, complete
 use Rattle.adb_device_streams.specs.Stream.{Row, is_done, row_acked, row_took, row_written}
 use Rattle.adb_device_streams.specs.declared.link.Link.{Link}
 use Rattle.adb_daemon.specs.Device.{Device, Setting, linked_to, served_on, step, treated}
-use Rattle.adb_daemon.specs.Serving.{Serving, acked_to, closable, closed_to, granted, named, owing, sent_writes, served, settled, settled_as, written_to}
+use Rattle.adb_daemon.specs.Serving.{Serving, acked_to, closable, closed_to, granted, named, owing, sent_writes, served, settled}
+use Rattle.adb_daemon.specs.Serving.{settled_as, written_to}
 use Rattle.adb_outside.specs.Tables.{at}
 
 -- no stream is asked for, and nothing is written
@@ -37,7 +38,8 @@ pub none_completed : (before : List ℕ) → completed_by before [] ≡ []
 none_completed before =
     ap (λ (x : List ℕ). drop (length (requests_in before)) (requests_in x)) (append-nil before) ∙ drop_all (requests_in before)
 
-pub fed_none : (kind : Kind) (past : List Came) (payload : List ℕ) (files : List Entry) → payload ≡ [] → files_fed kind past (came_over payload files) ≡ files
+pub fed_none : (kind : Kind) (past : List Came) (payload : List ℕ) (files : List Entry) → payload ≡ []
+    → files_fed kind past (came_over payload files) ≡ files
 fed_none Echoes past payload files none = refl
 fed_none (Shells packets command) past payload files none = refl
 fed_none Syncs past payload files none = go (sync_answer past).ended
@@ -95,7 +97,9 @@ module _ (setting : Setting) where
       on None = refl
       on (Some link) = served_files link p d.serving p.command leaves
 
-      treats : (b : Bool) → (cond b (linked_to (link_of setting.most setting.credit p) d) (served_on d.link p d)).serving.files ≡ d.serving.files
+      treats : (b : Bool)
+          → (cond b (linked_to (link_of setting.most setting.credit p) d) (served_on d.link p d)).serving.files
+          ≡ d.serving.files
       treats true = linked (link_of setting.most setting.credit p)
       treats false = on d.link
 

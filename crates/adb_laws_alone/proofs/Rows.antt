@@ -23,7 +23,8 @@ use Rattle.adb_laws_alone.specs.Together.{IsOpenedFor, RanThrough, RowRan}
 use Rattle.adb_laws_alone.proofs.Watching.{IsSameRow, written_same}
 
 -- one more has ended: this one, or one that had ended
-pub one_over : (closed : Bool) (q : ℕ) (row : Row) (ended : List Ended) (own : ℕ) (e : Ended) → over_at own (ended_at closed (q, row) ∷ ended) ≡ Some e
+pub one_over : (closed : Bool) (q : ℕ) (row : Row) (ended : List Ended) (own : ℕ) (e : Ended)
+    → over_at own (ended_at closed (q, row) ∷ ended) ≡ Some e
     → ((q ≡ own) × (row ≡ e.row)) ⊎ ((q ≡ own → ⊥) × (over_at own ended ≡ Some e))
 one_over closed q row ended own e is = go (cases_eq q own)
   where
@@ -37,14 +38,16 @@ one_over closed q row ended own e is = go (cases_eq q own)
         inr (apart, sym (ap (λ (b : Bool). cond b (Some (ended_at closed (q, row))) (over_at own ended)) (ne_eqb q own apart)) ∙ is)
 
 -- What is held of a row: it ran through the calls, its host's id stands for it alone, and was asked for.
-pub record Holding (first : List Entry) (calls : List Call) (place : ℕ → ℕ) (drawn : ℕ) (done : List Packet) (own : ℕ) (row : Row) : Type 0 where
+pub record Holding (first : List Entry) (calls : List Call) (place : ℕ → ℕ) (drawn : ℕ) (done : List Packet) (own : ℕ)
+    (row : Row) : Type 0 where
   pub ran : RowRan first calls row
   pub here : place row.host ≡ own
   pub within : own ≤ drawn
   pub asked : 1 ≤ count_from is_open row.host done
   pub known : IsOpenedFor row.host row.kind done
 
-pub holds_same : {first : List Entry} {calls : List Call} {place : ℕ → ℕ} {drawn : ℕ} {done : List Packet} {own : ℕ} (a b : Row) → IsSameRow a b
+pub holds_same : {first : List Entry} {calls : List Call} {place : ℕ → ℕ} {drawn : ℕ} {done : List Packet} {own : ℕ}
+    (a b : Row) → IsSameRow a b
     → Holding first calls place drawn done own a → Holding first calls place drawn done own b
 holds_same {first} {calls} {place} {drawn} {done} {own} a b same h = record {
   ran = subst (λ (l : ℕ). RanThrough first calls l b.kind b.first b.past) (sym same.host)
@@ -54,7 +57,8 @@ holds_same {first} {calls} {place} {drawn} {done} {own} a b same h = record {
   here = ap place same.host ∙ h.here;
   within = h.within;
   asked = subst (λ (l : ℕ). 1 ≤ count_from is_open l done) (sym same.host) h.asked;
-  known = subst (λ (l : ℕ). IsOpenedFor l b.kind done) (sym same.host) (subst (λ (k : Kind). IsOpenedFor a.host k done) (sym same.kind) h.known);
+  known = subst (λ (l : ℕ). IsOpenedFor l b.kind done) (sym same.host)
+      (subst (λ (k : Kind). IsOpenedFor a.host k done) (sym same.kind) h.known);
 }
 
 module _ (d : ℕ) (first : List Entry) (calls : List Call) (place : ℕ → ℕ) (drawn : ℕ) (done : List Packet) where
@@ -157,7 +161,8 @@ module _ (d : ℕ) (first : List Entry) (calls : List Call) (place : ℕ → ℕ
     apart = λ own row is past. absurd (let clash : None ≡ Some row = is in cc);
   }
     where
-      go : (own : ℕ) (e : Ended) (found : Option Row) → at own rows ≡ found → or_over own found (over_at own ended) ≡ Some e → d < e.row.host
+      go : (own : ℕ) (e : Ended) (found : Option Row) → at own rows ≡ found
+          → or_over own found (over_at own ended) ≡ Some e → d < e.row.host
           → Held own e.row
       go own e None there is past = k.over own e is past
       go own e (Some row) there is past =

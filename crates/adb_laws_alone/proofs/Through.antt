@@ -1,5 +1,6 @@
 -- Services that run through calls: what one more call leaves of each.
-use Rattle.std.specs.Prelude.{ℕ, ◌≡◌, ◌≢◌, ◌==◌, ◌||◌, Bool, true, false, cond, suc, List, [], ◌∷◌, ◌++◌, length, map, take, Option, Some, None}
+use Rattle.std.specs.Prelude.{ℕ, ◌≡◌, ◌≢◌, ◌==◌, ◌||◌, Bool, true, false, cond, suc, List, [], ◌∷◌, ◌++◌, length, map, take, Option, Some}
+use Rattle.std.specs.Prelude.{None}
 use Rattle.adb_outside.specs.Bytes.{IsPrefixOf}
 use Rattle.std.proofs.Common.{refl, sym, ◌∙◌, ap, append_assoc}
 use Rattle.std.specs.List.{AllByRecursion}
@@ -13,13 +14,16 @@ use Rattle.adb_files.specs.declared.file.FileError.TheVariants.{BadPath}
 use Rattle.adb_files.specs.Files.{put_refusal, refusal_text}
 use Rattle.adb_files.specs.Paths.{is_path}
 use Rattle.adb_files.specs.Requests.{Request, Stats, Lists, Receives, Sends, Quits, Fails, requests_in}
-use Rattle.adb_files.specs.Served.{Served, send_by, send_moded, sent_file, serve_all, serve_one, stored_mode, then_served, answered, fail_bytes}
+use Rattle.adb_files.specs.Served.{Served, send_by, send_moded, sent_file, serve_all, serve_one, stored_mode, then_served, answered}
+use Rattle.adb_files.specs.Served.{fail_bytes}
 use Rattle.adb_shell_service.specs.Service.{Answer, shell_answer}
 use Rattle.adb_shell_service.proofs.Answering.{ended_stays}
 use Rattle.adb_device_streams.specs.Asked.{Kind, Echoes, Syncs, Shells}
-use Rattle.adb_device_streams.specs.Service.{Came, bytes_in, came_over, completed_by, files_fed, files_opened, served_by, service_answer, sync_answer, sync_files}
+use Rattle.adb_device_streams.specs.Service.{Came, bytes_in, came_over, completed_by, files_fed, files_opened, served_by, service_answer}
+use Rattle.adb_device_streams.specs.Service.{sync_answer, sync_files}
 use Rattle.adb_laws_alone.proofs.ConsecutivePayloads.{completes, further}
-use Rattle.adb_laws_alone.specs.Calls.{AreFirst, Ask, Call, Runs, Serves, answer_if, answer_in, answer_over, answers_of, ask_if, asks_in, asks_of, call_of}
+use Rattle.adb_laws_alone.specs.Calls.{AreFirst, Ask, Call, Runs, Serves, answer_if, answer_in, answer_over, answers_of, ask_if, asks_in}
+use Rattle.adb_laws_alone.specs.Calls.{asks_of, call_of}
 use Rattle.adb_laws_alone.specs.Calls.{files_after, files_past, found_by, has_last, is_last, up_to_last}
 use Rattle.adb_laws_alone.specs.Together.{AnswersThrough, RanThrough}
 
@@ -59,7 +63,8 @@ no_asks : (t : Bool) (ask : Ask) (more : List Ask) → cond t (ask ∷ []) [] ++
 no_asks true ask more none = absurd (let clash : ask ∷ more ≡ [] = none in cc)
 no_asks false ask more none = (refl, none)
 
-found_none : (l : ℕ) (files : List Entry) (xs ys : List Call) → asks_of l xs ≡ [] → found_by l files (xs ++ ys) ≡ found_by l (files_after files xs) ys
+found_none : (l : ℕ) (files : List Entry) (xs ys : List Call) → asks_of l xs ≡ []
+    → found_by l files (xs ++ ys) ≡ found_by l (files_after files xs) ys
 found_none l files [] ys none = refl
 found_none l files (x ∷ xs) ys none =
     let both = no_asks (x.caller == l) x.ask (asks_of l xs) none in
@@ -80,7 +85,8 @@ calls_of l asks = map (call_of l) asks
 pub asks_own : (l : ℕ) (asks : List Ask) → asks_of l (calls_of l asks) ≡ asks
 asks_own l [] = refl
 asks_own l (ask ∷ asks) =
-    ap (λ (t : Bool). cond t (ask ∷ []) [] ++ asks_of l (calls_of l asks)) (eq-eqb l l refl) ∙ ap (λ (more : List Ask). ask ∷ more) (asks_own l asks)
+    ap (λ (t : Bool). cond t (ask ∷ []) [] ++ asks_of l (calls_of l asks)) (eq-eqb l l refl)
+    ∙ ap (λ (more : List Ask). ask ∷ more) (asks_own l asks)
 
 pub asks_other : (l m : ℕ) (asks : List Ask) → l ≢ m → asks_of m (calls_of l asks) ≡ []
 asks_other l m [] other = refl
@@ -94,7 +100,8 @@ send_goes_on files path file (Some refusal) = refl
 
 moded_goes_on : (files : List Entry) (path bytes : List ℕ) (mtime : ℕ) (o : Option ℕ) → (send_moded files path bytes mtime o).ended ≡ false
 moded_goes_on files path bytes mtime None = refl
-moded_goes_on files path bytes mtime (Some mode) = send_goes_on files path (sent_file mode mtime bytes) (put_refusal files path (length bytes))
+moded_goes_on files path bytes mtime (Some mode) = send_goes_on files path (sent_file mode mtime bytes)
+    (put_refusal files path (length bytes))
 
 pub last_ends : (files : List Entry) (request : Request) → (serve_one files request).ended ≡ is_last request
 last_ends files (Stats path) = refl
@@ -102,7 +109,9 @@ last_ends files (Lists path) = refl
 last_ends files (Receives path) = refl
 last_ends files (Sends path mode bytes mtime) = go (is_path path)
   where
-    go : (t : Bool) → (cond t (send_moded files path bytes mtime (stored_mode mode)) (answered files (fail_bytes (refusal_text BadPath)))).ended ≡ false
+    go : (t : Bool)
+        → (cond t (send_moded files path bytes mtime (stored_mode mode))
+        (answered files (fail_bytes (refusal_text BadPath)))).ended ≡ false
     go true = moded_goes_on files path bytes mtime (stored_mode mode)
     go false = refl
 last_ends files Quits = refl
@@ -199,7 +208,8 @@ whole before piece =
 
 -- ---- what one more call leaves of a service
 -- of another stream
-answers_stay : (first : List Entry) (calls new : List Call) (g : ℕ) (kind : Kind) (opened : List Entry) (past : List Came) → asks_of g new ≡ []
+answers_stay : (first : List Entry) (calls new : List Call) (g : ℕ) (kind : Kind) (opened : List Entry)
+    (past : List Came) → asks_of g new ≡ []
     → asks_of g calls ≡ asks_in kind (bytes_in past) → AnswersThrough kind first calls g opened past
     → AnswersThrough kind first (calls ++ new) g opened past
 answers_stay first calls new g Echoes opened past none asks answers = tt
@@ -213,7 +223,8 @@ answers_stay first calls new g Syncs opened past none asks answers = (
 answers_stay first calls new g (Shells packets command) opened past none asks answers =
     answers ∙ sym (found_both g first calls new (λ empty. let clash : Runs command ∷ [] ≡ [] = sym asks ∙ empty in cc))
 
-pub stays_through : (first : List Entry) (calls new : List Call) (g : ℕ) (kind : Kind) (opened : List Entry) (past : List Came) → asks_of g new ≡ []
+pub stays_through : (first : List Entry) (calls new : List Call) (g : ℕ) (kind : Kind) (opened : List Entry)
+    (past : List Came) → asks_of g new ≡ []
     → RanThrough first calls g kind opened past → RanThrough first (calls ++ new) g kind opened past
 stays_through first calls new g kind opened past none ran = record {
   asks = asks_both g calls new
@@ -245,13 +256,15 @@ answers_opened first calls l Syncs none =
     (sym (ap (answers_of l first) (append-nil calls) ∙ answers_none l first calls none), refl)
 answers_opened first calls l (Shells packets command) none =
     sym (found_none l first calls (calls_of l (Runs command ∷ [])) none
-    ∙ ap (λ (t : Bool). cond t (files_after first calls) (found_by l (files_past (files_after first calls) (Runs command)) [])) (eq-eqb l l refl))
+    ∙ ap (λ (t : Bool). cond t (files_after first calls)
+    (found_by l (files_past (files_after first calls) (Runs command)) [])) (eq-eqb l l refl))
 
 pub opens_through : (first : List Entry) (calls : List Call) (l : ℕ) (kind : Kind) → asks_of l calls ≡ []
     → RanThrough first (calls ++ calls_of l (asks_opened kind)) l kind (files_after first calls) []
 opens_through first calls l kind none = record {
   asks = asks_both l calls (calls_of l (asks_opened kind))
-      ∙ (ap (λ (asks : List Ask). asks ++ asks_of l (calls_of l (asks_opened kind))) none ∙ (asks_own l (asks_opened kind) ∙ at_first kind));
+      ∙ (ap (λ (asks : List Ask). asks ++ asks_of l (calls_of l (asks_opened kind))) none
+      ∙ (asks_own l (asks_opened kind) ∙ at_first kind));
   answers = answers_opened first calls l kind none;
 }
 
@@ -301,7 +314,8 @@ sync_fed first calls l past piece bytes ended = (
         ≡ answers_of l first calls ++ answers_of l files (calls_of l (map Serves (cond t [] (up_to_last rs))))
     answer true = bytes ∙ sym (append-nil (answers_of l first calls))
     answer false =
-        ap (λ (bs : List ℕ). bs ++ (serve_all files rs).answer) bytes ∙ ap (λ (bs : List ℕ). answers_of l first calls ++ bs) (sym are.answer)
+        ap (λ (bs : List ℕ). bs ++ (serve_all files rs).answer) bytes
+        ∙ ap (λ (bs : List ℕ). answers_of l first calls ++ bs) (sym are.answer)
 
     more : has_last (requests_in (bytes_in past ++ piece)) ≡ (a.ended || has_last rs)
     more =
@@ -309,7 +323,9 @@ sync_fed first calls l past piece bytes ended = (
         ∙ (list_any-append is_last (requests_in (bytes_in past)) rs ∙ ap (λ (t : Bool). t || has_last rs) (sym ended))
 
     last : (t : Bool) → a.ended ≡ t
-        → (cond t a (record { bytes = a.bytes ++ (serve_all files rs).answer; ended = (serve_all files rs).ended })).ended ≡ (t || has_last rs)
+        → (cond t a (record
+        { bytes = a.bytes ++ (serve_all files rs).answer; ended = (serve_all files rs).ended })).ended
+        ≡ (t || has_last rs)
     last true is = is
     last false is = are.ended
 
@@ -373,8 +389,11 @@ pub answer_enough : (kind : Kind) (first opened : List Entry) (calls : List Call
 answer_enough Echoes first opened calls l past more answers ended = absurd (let clash : false ≡ true = ended in cc)
 answer_enough Syncs first opened calls l past more answers ended = answers.0
 answer_enough (Shells packets command) first opened calls l past more answers ended =
-    sym (ap (λ (a : Answer). a.bytes) (ended_stays (record { packets = packets; command = command; files = opened }) (bytes_in past) more ended))
-    ∙ ap (λ (fs : List Entry). (shell_answer (record { packets = packets; command = command; files = fs }) (bytes_in past ++ more)).bytes) answers
+    sym (ap (λ (a : Answer). a.bytes)
+    (ended_stays (record { packets = packets; command = command; files = opened }) (bytes_in past) more ended))
+    ∙ ap (λ (fs : List Entry).
+    (shell_answer (record { packets = packets; command = command; files = fs }) (bytes_in past ++ more)).bytes)
+    answers
 
 -- ---- calls by other names
 abbrev pub renamed : (ℕ → ℕ) → List Call → List Call
@@ -384,7 +403,8 @@ renamed name calls = map (λ (call : Call). call_of (name call.caller) call.ask)
 abbrev pub IsNamed : (ℕ → ℕ) → (n l : ℕ) → Call → Type 0
 IsNamed name n l call = (name call.caller == n) ≡ (call.caller == l)
 
-pub files_renamed : (name : ℕ → ℕ) (files : List Entry) (calls : List Call) → files_after files (renamed name calls) ≡ files_after files calls
+pub files_renamed : (name : ℕ → ℕ) (files : List Entry) (calls : List Call)
+    → files_after files (renamed name calls) ≡ files_after files calls
 files_renamed name files [] = refl
 files_renamed name files (call ∷ calls) = files_renamed name (files_past files call.ask) calls
 
@@ -414,7 +434,9 @@ module _ (name : ℕ → ℕ) (n l : ℕ) where
   answer_renamed Echoes text files calls all = refl
   answer_renamed Syncs text files calls all = answers_renamed files calls all
   answer_renamed (Shells packets command) text files calls all =
-      ap (λ (fs : List Entry). (shell_answer (record { packets = packets; command = command; files = fs }) text).bytes) (found_renamed files calls all)
+      ap (λ (fs : List Entry).
+      (shell_answer (record { packets = packets; command = command; files = fs }) text).bytes)
+      (found_renamed files calls all)
 
 -- ---- the first asks
 -- what is asked of a prefix of a text is a prefix of what is asked of the text

@@ -1,5 +1,6 @@
 -- Streams that run over one set of files, by each packet of their host.
-use Rattle.std.specs.Prelude.{ℕ, ◌+◌, ◌≡◌, ◌≢◌, ◌==◌, ◌||◌, ◌⊎◌, ◌≤◌, ◌<◌, nat_eq, Bool, true, false, cond, List, [], ◌∷◌, ◌++◌, length, fold}
+use Rattle.std.specs.Prelude.{ℕ, ◌+◌, ◌≡◌, ◌≢◌, ◌==◌, ◌||◌, ◌⊎◌, ◌≤◌, ◌<◌, nat_eq, Bool, true, false, cond, List, [], ◌∷◌, ◌++◌, length}
+use Rattle.std.specs.Prelude.{fold}
 use Rattle.std.specs.Prelude.{Option, Some, None}
 use Rattle.std.proofs.Common.{refl, sym, ◌∙◌, ap, subst, arith, inl, inr, append_assoc}
 use Rattle.std.specs.List.{AllByRecursion}
@@ -20,7 +21,8 @@ use Rattle.adb_device_streams.specs.Stream.{Row, is_done, okay, opened, opening_
 use Rattle.adb_device_streams.specs.declared.link.Link.{Link}
 use Rattle.adb_daemon.specs.Device.{Device, Setting, device_behind, first_device, linked_to, served_on, step, treated}
 use Rattle.adb_daemon.specs.Serving.{Ended, Serving, acked_to, closable, closed_to, credit_of, all_gone, granted, is_taken, kind_for, named}
-use Rattle.adb_daemon.specs.Serving.{on_close, on_okay, on_open, on_write, open_as, owing, sent_ack, sent_writes, served, settled, settled_as}
+use Rattle.adb_daemon.specs.Serving.{on_close, on_okay, on_open, on_write, open_as, owing, sent_ack, sent_writes, served, settled}
+use Rattle.adb_daemon.specs.Serving.{settled_as}
 use Rattle.adb_daemon.specs.Serving.{with_sum, written_to}
 use Rattle.adb_daemon.specs.Streams.{over_at}
 use Rattle.adb_daemon.proofs.Machines.{step_more}
@@ -28,7 +30,8 @@ use Rattle.adb_daemon.proofs.Rules.{named_is, closable_is}
 use Rattle.adb_laws_alone.specs.Alone.{AsksNone, Every}
 use Rattle.adb_laws_alone.specs.Calls.{Ask, Call, asks_of, files_after}
 use Rattle.adb_laws_alone.specs.Together.{HasAsked, IsAskedIn, IsOfLater, IsOpenedFor, RanThrough, RunTogether, rows_after}
-use Rattle.adb_laws_alone.proofs.Asked.{asked_both, asked_more, asked_own, asks_mine, asks_more, asks_with, count_last, count_more, fresh_by, none_of}
+use Rattle.adb_laws_alone.proofs.Asked.{asked_both, asked_more, asked_own, asks_mine, asks_more, asks_with, count_last, count_more}
+use Rattle.adb_laws_alone.proofs.Asked.{fresh_by, none_of}
 use Rattle.adb_laws_alone.proofs.Asked.{opened_last, opened_more}
 use Rattle.adb_laws_alone.proofs.Alone.{none_unasked}
 use Rattle.adb_laws_alone.proofs.Quiet.{fed_none}
@@ -47,7 +50,8 @@ pub record Runs (rows : List Packet → List (ℕ × Row)) (d : ℕ) (first : Li
   pub asked : AllByRecursion (IsAskedIn d done) calls
   pub asks : (l : ℕ) → d < l → (asks_of l calls ≡ []) ⊎ HasAsked rows l done (asks_of l calls)
 
-settled_same : (link : Link) (q : ℕ) (row : Row) (s : Serving) → ((settled link q row s).files ≡ s.files) × ((settled link q row s).drawn ≡ s.drawn)
+settled_same : (link : Link) (q : ℕ) (row : Row) (s : Serving)
+    → ((settled link q row s).files ≡ s.files) × ((settled link q row s).drawn ≡ s.drawn)
 settled_same link q row s = go (is_done (row_written link.most row))
   where
     before : Serving
@@ -59,7 +63,8 @@ settled_same link q row s = go (is_done (row_written link.most row))
     go false = (refl, refl)
 
 -- the same row behind a packet that changes no call
-module _ (rows : List Packet → List (ℕ × Row)) (d : ℕ) (first : List Entry) (done : List Packet) (p : Packet) (s : Serving) (r : Runs rows d first done s) where
+module _ (rows : List Packet → List (ℕ × Row)) (d : ℕ) (first : List Entry) (done : List Packet) (p : Packet)
+    (s : Serving) (r : Runs rows d first done s) where
   abbrev next : List Packet
   next = done ++ p ∷ []
 
@@ -107,7 +112,8 @@ module _ (rows : List Packet → List (ℕ × Row)) (d : ℕ) (first : List Entr
           let before : Serving = granted p.arg1 (credit_word_in p.payload) s in
           let same = settled_same link p.arg1 acked before in
           same_calls (settled link p.arg1 acked before) same.0 same.1
-          (settles d first r.calls r.place s.drawn next link p.arg1 acked before (but d first r.calls r.place s.drawn next p.arg1 s.rows s.ended kept)
+          (settles d first r.calls r.place s.drawn next link p.arg1 acked before
+          (but d first r.calls r.place s.drawn next p.arg1 s.rows s.ended kept)
           (same_here d first r.calls r.place s.drawn next p.arg1 row acked s.ended (acked_same (credit_word_in p.payload) row)
           (stands d first r.calls r.place s.drawn next p.arg1 row s.rows s.ended kept there)))
 
@@ -119,14 +125,16 @@ module _ (rows : List Packet → List (ℕ × Row)) (d : ℕ) (first : List Entr
       go (Some row) is =
           let there = closable_is p.arg0 (at p.arg1 s.rows) row is in
           same_calls (closed_to p.arg1 (Some row) s) refl refl
-          (taken d first r.calls r.place s.drawn next p.arg1 row s.rows s.ended (but d first r.calls r.place s.drawn next p.arg1 s.rows s.ended kept)
+          (taken d first r.calls r.place s.drawn next p.arg1 row s.rows s.ended
+          (but d first r.calls r.place s.drawn next p.arg1 s.rows s.ended kept)
           (stands d first r.calls r.place s.drawn next p.arg1 row s.rows s.ended kept there) false)
 
   gone_runs : Runs rows d first next (all_gone s)
   gone_runs = same_calls (all_gone s) refl refl (all_keep d first r.calls r.place s.drawn next s.rows s.ended kept)
 
   -- ---- what its stream asked for with an OPEN, and with a prefix of what a write asks for
-  pub open_asks : (kind : Kind) → p.command ≡ commands.Open → count_from is_open p.arg0 done ≡ 0 → service_of (name_of p.payload) ≡ Some kind
+  pub open_asks : (kind : Kind) → p.command ≡ commands.Open → count_from is_open p.arg0 done ≡ 0
+      → service_of (name_of p.payload) ≡ Some kind
       → HasAsked rows p.arg0 next (asks_of p.arg0 r.calls ++ asks_opened kind)
   open_asks kind asks fresh known = record {
     kind = kind;
@@ -140,8 +148,10 @@ module _ (rows : List Packet → List (ℕ × Row)) (d : ℕ) (first : List Entr
     );
   }
 
-  pub write_asks : (row : Row) → at p.arg1 s.rows ≡ Some row → p.arg0 ≡ row.host → d < row.host → p.command ≡ commands.Wrte → rows done ≡ s.rows
-      → (asks more : List Ask) → asks ++ more ≡ asks_fed row.kind row.past p.payload → HasAsked rows row.host next (asks_of row.host r.calls ++ asks)
+  pub write_asks : (row : Row) → at p.arg1 s.rows ≡ Some row → p.arg0 ≡ row.host → d < row.host
+      → p.command ≡ commands.Wrte → rows done ≡ s.rows
+      → (asks more : List Ask) → asks ++ more ≡ asks_fed row.kind row.past p.payload
+      → HasAsked rows row.host next (asks_of row.host r.calls ++ asks)
   write_asks row there host past writes at_rows asks more is =
       let held = r.keeps.live p.arg1 row there past in
       let fed = asks_fed row.kind row.past p.payload in
@@ -166,7 +176,8 @@ module _ (rows : List Packet → List (ℕ × Row)) (d : ℕ) (first : List Entr
           more,
           append_assoc before asks more
               ∙ (ap (λ (x : List Ask). before ++ x) is
-              ∙ (sym (asks_mine row.host r.calls fed) ∙ (feeds_through first r.calls row.host row.kind row.first row.past p.payload held.ran).asks)),
+              ∙ (sym (asks_mine row.host r.calls fed)
+              ∙ (feeds_through first r.calls row.host row.kind row.first row.past p.payload held.ran).asks)),
         );
       }
 
@@ -182,7 +193,9 @@ module _ (rows : List Packet → List (ℕ × Row)) (d : ℕ) (first : List Entr
         place = r.place;
         left = same.0 ∙ (ap (λ (fs : List Entry). files_fed row.kind row.past (came_over p.payload fs)) r.left
             ∙ files_fed_through first r.calls row.host row.kind row.past p.payload);
-        keeps = subst (λ (n : ℕ). Keeps d first calls r.place n next (settled link p.arg1 now before).rows (settled link p.arg1 now before).ended) (sym same.1)
+        keeps = subst
+            (λ (n : ℕ). Keeps d first calls r.place n next (settled link p.arg1 now before).rows
+            (settled link p.arg1 now before).ended) (sym same.1)
             (settles d first calls r.place s.drawn next link p.arg1 now before others here);
         asked = asked_both d next r.calls (calls_of row.host asks) (asked_more d done p r.calls r.asked)
             (asked_own d next row.host asks past (later p.arg1 row held).asked);
@@ -222,7 +235,8 @@ module _ (rows : List Packet → List (ℕ × Row)) (d : ℕ) (first : List Entr
           more : (own : ℕ) (x : Row) → row.host ≢ x.host → Holding first r.calls r.place s.drawn next own x
               → Holding first calls r.place s.drawn next own x
           more own x apart h = record {
-            ran = stays_through first r.calls (calls_of row.host asks) x.host x.kind x.first x.past (asks_other row.host x.host asks apart) h.ran;
+            ran = stays_through first r.calls (calls_of row.host asks) x.host x.kind x.first x.past
+                (asks_other row.host x.host asks apart) h.ran;
             here = h.here;
             within = h.within;
             asked = h.asked;
@@ -230,7 +244,8 @@ module _ (rows : List Packet → List (ℕ × Row)) (d : ℕ) (first : List Entr
           }
 
           -- one that has ended too
-          over_other : (own : ℕ) (e : Ended) → over_at own s.ended ≡ Some e → d < e.row.host → Holding first r.calls r.place s.drawn next own e.row
+          over_other : (own : ℕ) (e : Ended) → over_at own s.ended ≡ Some e → d < e.row.host
+              → Holding first r.calls r.place s.drawn next own e.row
               → row.host ≢ e.row.host
           over_other own e found late h = λ is.
               let mine : own ≡ p.arg1 = sym h.here ∙ (ap r.place (sym is) ∙ held.here) in
@@ -275,10 +290,12 @@ module _ (rows : List Packet → List (ℕ × Row)) (d : ℕ) (first : List Entr
 
       go : (found : Option Row) → named p.arg0 (at p.arg1 s.rows) ≡ found → Runs rows d first next (written_to link p found s)
       go None is = unchanged
-      go (Some row) is = took row (named_is p.arg0 (at p.arg1 s.rows) row is) (host_of p.arg0 row (at p.arg1 s.rows) is) (cases_lt d row.host)
+      go (Some row) is = took row (named_is p.arg0 (at p.arg1 s.rows) row is)
+          (host_of p.arg0 row (at p.arg1 s.rows) is) (cases_lt d row.host)
 
   -- ---- an OPEN
-  open_runs : (link : Link) → p.command ≡ commands.Open → d < p.arg0 → count_from is_open p.arg0 done ≡ 0 → Runs rows d first next (on_open link p s)
+  open_runs : (link : Link) → p.command ≡ commands.Open → d < p.arg0 → count_from is_open p.arg0 done ≡ 0
+      → Runs rows d first next (on_open link p s)
   open_runs link asks past fresh = go (p.arg0 == 0 || is_taken p.arg0 s.rows)
     where
       some : (kind : Kind) → service_of (name_of p.payload) ≡ Some kind → Runs rows d first next (open_as link p (Some kind) s)
@@ -286,7 +303,9 @@ module _ (rows : List Packet → List (ℕ × Row)) (d : ℕ) (first : List Entr
         calls = calls;
         place = place;
         left = same.0 ∙ (ap (files_opened kind) r.left ∙ files_opened_through first r.calls p.arg0 kind);
-        keeps = subst (λ (n : ℕ). Keeps d first calls place n next (settled link (s.drawn + 1) row begun).rows (settled link (s.drawn + 1) row begun).ended)
+        keeps = subst
+            (λ (n : ℕ). Keeps d first calls place n next (settled link (s.drawn + 1) row begun).rows
+            (settled link (s.drawn + 1) row begun).ended)
             (sym same.1) (settles d first calls place (s.drawn + 1) next link (s.drawn + 1) row begun others here);
         asked = asked_both d next r.calls (calls_of p.arg0 (asks_opened kind)) (asked_more d done p r.calls r.asked)
             (asked_own d next p.arg0 (asks_opened kind) past (count_last done p asks));
@@ -345,7 +364,8 @@ module _ (rows : List Packet → List (ℕ × Row)) (d : ℕ) (first : List Entr
           here : Here d first calls place (s.drawn + 1) next (s.drawn + 1) (opened p.arg0 kind s.files (credit_of link p)) s.ended
           here = record {
             live = λ late. record {
-              ran = subst (λ (fs : List Entry). RanThrough first (r.calls ++ calls_of p.arg0 (asks_opened kind)) p.arg0 kind fs []) (sym r.left)
+              ran = subst (λ (fs : List Entry). RanThrough first (r.calls ++ calls_of p.arg0 (asks_opened kind))
+                  p.arg0 kind fs []) (sym r.left)
                   (opens_through first r.calls p.arg0 kind (none_of d p.arg0 done r.calls r.asked fresh));
               here = ap (λ (b : Bool). cond b (s.drawn + 1) (r.place p.arg0)) (eq-eqb p.arg0 p.arg0 refl);
               within = omega arith;
@@ -416,7 +436,8 @@ module _ (rows : List Packet → List (ℕ × Row)) (setting : Setting) (d : ℕ
       whole = append_assoc done (p ∷ []) ps
 
 -- what holds of a device after packets
-pub runs_after : (setting : Setting) (d : ℕ) (before ps : List Packet) → Every (AsksNone (λ (host : ℕ). d < host)) before → Every (IsOfLater d) ps
+pub runs_after : (setting : Setting) (d : ℕ) (before ps : List Packet)
+    → Every (AsksNone (λ (host : ℕ). d < host)) before → Every (IsOfLater d) ps
     → ((l : ℕ) → d < l → count_from is_open l ps ≤ 1)
     → Runs (rows_after setting before) d (device_behind setting before).serving.files ps (device_behind setting (before ++ ps)).serving
 unfolding IsStrictlySortedBy

@@ -1,5 +1,6 @@
 -- Streams that are watched: what holds of the rows of some ids of the host, and of the files, is kept by packets that allow it.
-use Rattle.std.specs.Prelude.{ℕ, ◌+◌, ◌-◌, ◌^◌, ◌≡◌, ◌≢◌, ◌==◌, ◌||◌, ◌⊎◌, ◌++◌, if◌then◌else◌, Bool, true, false, cond, List, [], ◌∷◌, length, map, fold}
+use Rattle.std.specs.Prelude.{ℕ, ◌+◌, ◌-◌, ◌^◌, ◌≡◌, ◌≢◌, ◌==◌, ◌||◌, ◌⊎◌, ◌++◌, if◌then◌else◌, Bool, true, false, cond, List, [], ◌∷◌}
+use Rattle.std.specs.Prelude.{length, map, fold}
 use Rattle.std.specs.Prelude.{Option, Some, None}
 use Rattle.std.proofs.Common.{refl, sym, ◌∙◌, ap, subst, inl, inr}
 use Rattle.std.specs.List.Sorted.{IsStrictlySortedBy}
@@ -14,11 +15,13 @@ use Rattle.adb_files.specs.Entries.{Entry}
 use Rattle.adb_device_streams.specs.Asked.{Kind, service_of, name_of}
 use Rattle.adb_device_streams.specs.Link.{credit_word_in, link_of}
 use Rattle.adb_device_streams.specs.Service.{came_over, files_fed, files_opened}
-use Rattle.adb_device_streams.specs.Stream.{Row, is_done, okay, opened, opening_word, row_acked, row_past, row_past_all, row_took, row_written, writes}
+use Rattle.adb_device_streams.specs.Stream.{Row, is_done, okay, opened, opening_word, row_acked, row_past, row_past_all, row_took}
+use Rattle.adb_device_streams.specs.Stream.{row_written, writes}
 use Rattle.adb_device_streams.specs.declared.link.Link.{Link}
 use Rattle.adb_daemon.specs.Device.{Device, Setting, linked_to, served_on, step, treated}
 use Rattle.adb_daemon.specs.Serving.{Ended, Serving, acked_to, closable, closed_to, credit_of, ended_at, granted, is_taken, kind_for, named}
-use Rattle.adb_daemon.specs.Serving.{on_close, on_okay, on_open, on_write, open_as, owing, sent_ack, sent_writes, served, settled, settled_as}
+use Rattle.adb_daemon.specs.Serving.{on_close, on_okay, on_open, on_write, open_as, owing, sent_ack, sent_writes, served, settled}
+use Rattle.adb_daemon.specs.Serving.{settled_as}
 use Rattle.adb_daemon.specs.Serving.{with_sum, written_to}
 use Rattle.adb_daemon.specs.Streams.{over_at}
 use Rattle.adb_daemon.proofs.Rules.{named_is, closable_is, or_over, all_over}
@@ -62,7 +65,8 @@ known_by drawn p kind is = go (drawn == 2 ^ 32 - 1) is
     go false e = e
 
 -- one more has ended
-one_over : (closed : Bool) (q : ℕ) (row : Row) (ended : List Ended) (own : ℕ) (e : Ended) → over_at own (ended_at closed (q, row) ∷ ended) ≡ Some e
+one_over : (closed : Bool) (q : ℕ) (row : Row) (ended : List Ended) (own : ℕ) (e : Ended)
+    → over_at own (ended_at closed (q, row) ∷ ended) ≡ Some e
     → (row ≡ e.row) ⊎ (over_at own ended ≡ Some e)
 one_over closed q row ended own e is = go (q == own) is
   where
@@ -71,7 +75,8 @@ one_over closed q row ended own e is = go (q == own) is
     go false found = inr found
 
 -- ---- what is watched
--- The rows of such ids of the host stand at such ids of the device, and this holds of each, over the files; this holds of the files alone; and where it says so
+-- The rows of such ids of the host stand at such ids of the device, and this holds of each, over the files; this
+-- holds of the files alone; and where it says so
 -- there is one of them at most, live or ended.
 pub record Watch : Type 1 where
   pub Such : ℕ → Type 0
@@ -158,7 +163,8 @@ module _ (w : Watch) where
     apart = λ single so. h.apart single (subst w.Such same.host so);
   }
 
-  settles : (link : Link) (q : ℕ) (row : Row) (s : Serving) → Others q s.rows s.ended s.files → Here q row s.ended s.files → KeptIn (settled link q row s)
+  settles : (link : Link) (q : ℕ) (row : Row) (s : Serving) → Others q s.rows s.ended s.files
+      → Here q row s.ended s.files → KeptIn (settled link q row s)
   settles link q row s o h = go (is_done (row_written link.most row))
     where
       go : (b : Bool) → KeptIn (settled_as b link q (row_written link.most row) (owing (sent_writes link q row) s))
@@ -321,7 +327,8 @@ module _ (w : Watch) where
         go : (found : Option Row) → closable p.arg0 (at p.arg1 s.rows) ≡ found → KeptIn (closed_to p.arg1 found s)
         go None is = k
         go (Some row) is =
-            taken p.arg1 row s.rows s.ended s.files (but p.arg1 s k) (stands p.arg1 row s k (closable_is p.arg0 (at p.arg1 s.rows) row is)) false
+            taken p.arg1 row s.rows s.ended s.files (but p.arg1 s k)
+            (stands p.arg1 row s k (closable_is p.arg0 (at p.arg1 s.rows) row is)) false
 
     served_keeps : (command : Command) → Allows command p s → KeptIn (served command link p s)
     served_keeps commands.Open allows = open_keeps allows
@@ -341,7 +348,8 @@ module _ (w : Watch) where
     apart = λ single own row is so. absurd (let clash : None ≡ Some row = is in cc);
   }
     where
-      go : (own : ℕ) (e : Ended) (found : Option Row) → at own s.rows ≡ found → or_over own found (over_at own s.ended) ≡ Some e → w.Such e.row.host
+      go : (own : ℕ) (e : Ended) (found : Option Row) → at own s.rows ≡ found
+          → or_over own found (over_at own s.ended) ≡ Some e → w.Such e.row.host
           → w.Holds s.files e.row
       go own e None there is so = k.over own e is so
       go own e (Some row) there is so =

@@ -36,7 +36,8 @@ IsOfEchoes d commands.Open p = service_of (name_of p.payload) ≡ Some Echoes
 IsOfEchoes d commands.Wrte p = (p.payload ≡ []) ⊎ (d < p.arg0)
 IsOfEchoes d _ p = Unit {0}
 
--- A service of a kind was opened over these files; each payload came over the files that those before it left; and the files are those that it left.
+-- A service of a kind was opened over these files; each payload came over the files that those before it left; and
+-- the files are those that it left.
 pub record RanAs (first files : List Entry) (kind : Kind) (opened : List Entry) (past : List Came) : Type 0 where
   pub over : opened ≡ first
   pub turn : ComeInTurn kind (files_opened kind first) past

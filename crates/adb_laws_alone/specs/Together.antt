@@ -1,4 +1,5 @@
--- What a model device makes of the packets of streams that were asked for behind others: they run over one set of files, one call after the other.
+-- What a model device makes of the packets of streams that were asked for behind others: they run over one set of
+-- files, one call after the other.
 use Rattle.std.specs.Prelude.{ℕ, ◌≡◌, ◌⊎◌, ◌≤◌, ◌<◌, List, [], ◌∷◌, ◌++◌, Some}
 use Rattle.std.specs.List.{AllByRecursion}
 use Rattle.adb_outside.specs.Tables.{at}
@@ -43,7 +44,8 @@ RowRan first calls row = RanThrough first calls row.host row.kind row.first row.
 abbrev pub IsAskedIn : ℕ → List Packet → Call → Type 0
 IsAskedIn d ps call = (d < call.caller) × (1 ≤ count_from is_open call.caller ps)
 
--- All calls in one order lead from some files to those of a device, and each row of a later id ran through them, be it live or one that has ended.
+-- All calls in one order lead from some files to those of a device, and each row of a later id ran through them, be
+-- it live or one that has ended.
 pub record RanTogether (d : ℕ) (first : List Entry) (ps : List Packet) (s : Serving) : Type 0 where
   pub calls : List Call
   pub left : s.files ≡ files_after first calls
@@ -66,7 +68,8 @@ abbrev pub IsOpenedFor : ℕ → Kind → List Packet → Type 0
 IsOpenedFor l kind [] = ⊥
 IsOpenedFor l kind (p ∷ ps) = IsOpenFor l kind p ⊎ IsOpenedFor l kind ps
 
--- A packet of these is a write of a stream to its live row, and these are the bytes that came for the row with it. The rows are those after packets.
+-- A packet of these is a write of a stream to its live row, and these are the bytes that came for the row with it.
+-- The rows are those after packets.
 pub record WasWritten (rows : List Packet → List (ℕ × Row)) (l : ℕ) (ps : List Packet) (came : List ℕ) : Type 0 where
   pub front : List Packet
   pub packet : Packet
@@ -88,7 +91,8 @@ pub record HasAsked (rows : List Packet → List (ℕ × Row)) (l : ℕ) (ps : L
   pub first : AreFirst asks (asks_in kind came)
 
 -- All calls in one order lead from some files to others, and each stream of a later id asked for a prefix of what came for it.
-pub record RanInPart (rows : List Packet → List (ℕ × Row)) (d : ℕ) (first : List Entry) (ps : List Packet) (files : List Entry) : Type 0 where
+pub record RanInPart (rows : List Packet → List (ℕ × Row)) (d : ℕ) (first : List Entry) (ps : List Packet)
+    (files : List Entry) : Type 0 where
   pub calls : List Call
   pub left : files ≡ files_after first calls
   pub asks : (l : ℕ) → d < l → (asks_of l calls ≡ []) ⊎ HasAsked rows l ps (asks_of l calls)

@@ -1,5 +1,6 @@
 -- The births of a history, in their order: which stays, which is new, and whose they are.
-use Rattle.std.proofs.Common.{◌≡◌, ◌≢◌, ℕ, ◌+◌, ◌≤◌, ◌<◌, zero, suc, Bool, true, false, cond, List, [], ◌∷◌, ◌++◌, length, Option, Some, None, refl, sym, ap}
+use Rattle.std.proofs.Common.{◌≡◌, ◌≢◌, ℕ, ◌+◌, ◌≤◌, ◌<◌, zero, suc, Bool, true, false, cond, List, [], ◌∷◌, ◌++◌, length, Option, Some}
+use Rattle.std.proofs.Common.{None, refl, sym, ap}
 use Rattle.std.proofs.Common.{◌∙◌}
 use Rattle.std.proofs.Common.{arith, inl, inr, ◌⊎◌}
 use Rattle.std.proofs.lemmas.Bool.{lt-ltb, ltb-true}
@@ -40,7 +41,8 @@ pub record IsBehind {X : Type 0} (xs ys : List X) (k : ℕ) (x : X) : Type 0 whe
   pub behind : k ≡ length xs + place
   pub is : slice_get ys place ≡ Some x
 
-pub get_either : {X : Type 0} (xs ys : List X) (k : ℕ) (x : X) → slice_get (xs ++ ys) k ≡ Some x → (slice_get xs k ≡ Some x) ⊎ IsBehind xs ys k x
+pub get_either : {X : Type 0} (xs ys : List X) (k : ℕ) (x : X) → slice_get (xs ++ ys) k ≡ Some x
+    → (slice_get xs k ≡ Some x) ⊎ IsBehind xs ys k x
 get_either [] ys k x e = inr (record { place = k; behind = omega arith; is = e })
 get_either (y ∷ xs) ys zero x e = inl e
 get_either (y ∷ xs) ys (suc k) x e = go (get_either xs ys k x e)
@@ -55,7 +57,8 @@ nothing zero b e = cc
 nothing (suc k) b e = cc
 
 -- the births of an entry are of its own client
-by_client : (c head : ℕ) (older : History) (next : Option Next) (k : ℕ) (b : Birth) → slice_get (birth_by c head older next) k ≡ Some b → b.client ≡ c
+by_client : (c head : ℕ) (older : History) (next : Option Next) (k : ℕ) (b : Birth)
+    → slice_get (birth_by c head older next) k ≡ Some b → b.client ≡ c
 by_client c head older (Some (what.Open t service)) zero b e = ap client_of (sym e)
   where
     client_of : Option Birth → ℕ
@@ -65,7 +68,8 @@ by_client c head older (Some (what.Open t service)) (suc zero) b e = absurd (let
 by_client c head older (Some (what.Open t service)) (suc (suc k)) b e = absurd (let clash : None ≡ Some b = e in cc)
 by_client c head older _ k b e = absurd (nothing k b e)
 
-through_client : (c : ℕ) (older : History) (o : Option ForwardRow) (k : ℕ) (b : Birth) → slice_get (birth_through c older o) k ≡ Some b → b.client ≡ c
+through_client : (c : ℕ) (older : History) (o : Option ForwardRow) (k : ℕ) (b : Birth)
+    → slice_get (birth_through c older o) k ≡ Some b → b.client ≡ c
 through_client c older None k b e = absurd (nothing k b e)
 through_client c older (Some row) k b e = go (is_connected row.transport (devices older)) k e
   where
@@ -124,12 +128,14 @@ pub born_more : (l : ℕ) (b : Birth) (e : Entry) (older : History) → born l o
 born_more zero b e older is = absurd (let clash : None ≡ Some b = is in cc)
 born_more (suc k) b e older is = go (nat_lt k stream_ids) is
   where
-    go : (within : Bool) → cond within (slice_get (births older) k) None ≡ Some b → cond within (slice_get (births (e ∷ older)) k) None ≡ Some b
+    go : (within : Bool) → cond within (slice_get (births older) k) None ≡ Some b
+        → cond within (slice_get (births (e ∷ older)) k) None ≡ Some b
     go true is = get_front (births older) (births_at e older) k b is
     go false is = absurd (let clash : None ≡ Some b = is in cc)
 
 -- the birth of an entry is the next stream, while there are ids
-pub born_now : (b : Birth) (rest : List Birth) (e : Entry) (older : History) → births_at e older ≡ b ∷ rest → length (births older) < stream_ids
+pub born_now : (b : Birth) (rest : List Birth) (e : Entry) (older : History) → births_at e older ≡ b ∷ rest
+    → length (births older) < stream_ids
     → born (suc (length (births older))) (e ∷ older) ≡ Some b
 born_now b rest e older is within =
     ap (λ (x : Bool). cond x (slice_get (births older ++ births_at e older) (length (births older))) None)
@@ -143,7 +149,8 @@ pub record IsBornNow (l : ℕ) (b : Birth) (e : Entry) (older : History) : Type 
   pub within : length (births older) + place < stream_ids
   pub is : slice_get (births_at e older) place ≡ Some b
 
-pub born_either : (l : ℕ) (b : Birth) (e : Entry) (older : History) → born l (e ∷ older) ≡ Some b → (born l older ≡ Some b) ⊎ IsBornNow l b e older
+pub born_either : (l : ℕ) (b : Birth) (e : Entry) (older : History) → born l (e ∷ older) ≡ Some b
+    → (born l older ≡ Some b) ⊎ IsBornNow l b e older
 born_either zero b e older is = absurd (let clash : None ≡ Some b = is in cc)
 born_either (suc k) b e older is = go (nat_lt k stream_ids) refl is
   where

@@ -40,7 +40,8 @@ module _ (t : ℕ) (bytes : List ℕ) (older : History) where
   pub brought_live : (link : Link) → ReadsAs (bytes_received t older) link → is_lost t older ≡ false
       → brought t (Recv t bytes ∷ older) ≡ brought t older ++ (cut_packets (record { sums = link.sums }) (link.rest ++ bytes)).given
   brought_live link reads lost =
-      ap (λ (x : List ℕ). (framed x).given) (received_is false lost) ∙ ap (λ c. c.given) (framed_piece (bytes_received t older) bytes link reads)
+      ap (λ (x : List ℕ). (framed x).given) (received_is false lost)
+      ∙ ap (λ c. c.given) (framed_piece (bytes_received t older) bytes link reads)
 
   -- one that was lost, or whose bytes have a fault, brings no more
   pub brought_lost : is_lost t older ≡ true → brought t (Recv t bytes ∷ older) ≡ brought t older
@@ -68,20 +69,31 @@ module _ (t : ℕ) (bytes : List ℕ) (older : History) where
       go true e o f = record { more = []; is = brought_lost e ∙ sym (append-nil (brought t older)) }
       go false e (Some fault) f = record { more = []; is = brought_faulty fault e f ∙ sym (append-nil (brought t older)) }
       go false e None f = record {
-        more = (cut_packets (record { sums = (framed (bytes_received t older)).reading.sums }) ((framed (bytes_received t older)).rest ++ bytes)).given;
-        is = brought_live (record { rest = (framed (bytes_received t older)).rest; sums = (framed (bytes_received t older)).reading.sums; due = [] })
+        more = (cut_packets (record { sums = (framed (bytes_received t older)).reading.sums })
+            ((framed (bytes_received t older)).rest ++ bytes)).given;
+        is = brought_live
+            (record {
+              rest = (framed (bytes_received t older)).rest;
+              sums =
+                  (framed (bytes_received t older)).reading.sums;
+              due = [];
+            })
             (record { rest = refl; sums = refl; sound = f }) e;
       }
 
 pub brought_apart : (n t : ℕ) (bytes : List ℕ) (older : History) → n ≢ t → brought t (Recv n bytes ∷ older) ≡ brought t older
 brought_apart n t bytes older apart =
-    ap (λ (b : Bool). (framed (cond (b && not (is_lost t older)) (bytes_received t older ++ bytes) (bytes_received t older))).given) (ne_eqb n t apart)
+    ap (λ (b : Bool).
+    (framed (cond (b && not (is_lost t older)) (bytes_received t older ++ bytes)
+    (bytes_received t older))).given) (ne_eqb n t apart)
 
 -- ---- a CNXN with which no device is taken seals what is pending
 refused_cnxn : (p : Packet) → is_refused p ≡ true → is_cnxn p.command ≡ true
 refused_cnxn p e = go (is_cnxn p.command) e
   where
-    go : (b : Bool) → (b && (nat_lt p.arg0 least_version || nat_lt p.arg1 least_maxdata || is_none (identity_of p.payload))) ≡ true → b ≡ true
+    go : (b : Bool)
+        → (b && (nat_lt p.arg0 least_version || nat_lt p.arg1 least_maxdata || is_none (identity_of p.payload)))
+        ≡ true → b ≡ true
     go true e = refl
     go false e = e
 
@@ -91,7 +103,8 @@ cnxn_is _ e = absurd (let clash : false ≡ true = e in cc)
 
 module _ (l : ℕ) where
   -- what is pending behind a packet was pending
-  pending_tail : (c : Command) (p : Packet) (ps : List Packet) → opening_by c l p ps (opening_in l ps) ≡ None → seals_by c l p (sealed_in l ps) ≡ false
+  pending_tail : (c : Command) (p : Packet) (ps : List Packet) → opening_by c l p ps (opening_in l ps) ≡ None
+      → seals_by c l p (sealed_in l ps) ≡ false
       → (c ≢ Cnxn) × IsPending l ps
   pending_tail Okay p ps e f = go (nat_eq p.arg1 l && not (eqb p.arg0 0)) e f
     where

@@ -1,5 +1,6 @@
 -- No stream of a link outlives the end of all its streams.
-use Rattle.std.proofs.Common.{◌≡◌, ◌≢◌, ℕ, ◌≤◌, ◌<◌, zero, suc, Bool, true, false, cond, Option, Some, None, refl, sym, ap, subst, ◌∙◌, eqb, arith, inl, inr}
+use Rattle.std.proofs.Common.{◌≡◌, ◌≢◌, ℕ, ◌≤◌, ◌<◌, zero, suc, Bool, true, false, cond, Option, Some, None, refl, sym, ap, subst, ◌∙◌, eqb}
+use Rattle.std.proofs.Common.{arith, inl, inr}
 use Rattle.std.proofs.Common.{◌⊎◌}
 use Rattle.std.specs.Prelude.{option_and_then, nat_eq}
 use Rattle.std.proofs.lemmas.Bool.{eq-eqb, ne_eqb, cases_eq}
@@ -21,10 +22,13 @@ use Rattle.adb_history.proofs.OwnedStep.{ends_state, client_loses_frame}
 -- a stream that ends changes no link
 pub ends_links : (k : ℕ) (ending : Ending) (stream : Stream) (s : State) → (ends_row k ending stream s).state.links ≡ s.links
 ends_links k ending stream s =
-    ap (λ (x : State). x.links) (ends_state k ending stream s ∙ client_loses_frame (s.clients stream.client) stream.client (to_stream k none_kept s))
+    ap (λ (x : State). x.links)
+    (ends_state k ending stream s ∙ client_loses_frame (s.clients stream.client) stream.client
+    (to_stream k none_kept s))
 
 -- a link that is gone stays so
-pub link_stays : (n t : ℕ) (f : Link → Option Link) (links : Rows (Option Link)) → links t ≡ None → change_row n (option_and_then f) links t ≡ None
+pub link_stays : (n t : ℕ) (f : Link → Option Link) (links : Rows (Option Link)) → links t ≡ None
+    → change_row n (option_and_then f) links t ≡ None
 link_stays n t f links none = go (eqb n t) (links t) none
   where
     go : (b : Bool) (o : Option Link) → o ≡ None → cond b (option_and_then f o) o ≡ None
@@ -42,7 +46,8 @@ module _ (l : ℕ) where
   none_of None = refl
   none_of (Some y) = refl
 
-  if_none : (t k : ℕ) (ending : Ending) (o : Option Stream) (s : State) → s.streams l ≡ None → (ends_if_of t k ending o s).state.streams l ≡ None
+  if_none : (t k : ℕ) (ending : Ending) (o : Option Stream) (s : State) → s.streams l ≡ None
+      → (ends_if_of t k ending o s).state.streams l ≡ None
   if_none t k ending None s none = none
   if_none t k ending (Some stream) s none = go (nat_eq stream.link t)
     where
@@ -99,12 +104,15 @@ module _ (l : ℕ) where
           less : (suc n ≡ l → ⊥) → suc n ≢ l
           less apart = apart
       go before (inl same) =
-          subst (λ (k : ℕ). (ends_if_of t k ending ((ends_of t n ending s).state.streams k) (ends_of t n ending s).state).state.streams l ≡ None) (sym same)
+          subst (λ (k : ℕ).
+          (ends_if_of t k ending ((ends_of t n ending s).state.streams k)
+          (ends_of t n ending s).state).state.streams l ≡ None) (sym same)
           (if_here t ending ((ends_of t n ending s).state.streams l) (ends_of t n ending s).state refl
           (λ y is. on y (sym (row_stays t n ending s (omega (arith, same))) ∙ is)))
 
   -- where its stream is of the link, or is gone, it is gone then
-  pub all_cleared : (t : ℕ) (ending : Ending) (s : State) → s.streams 0 ≡ None → l ≤ s.drawn → ((y : Stream) → s.streams l ≡ Some y → y.link ≡ t)
+  pub all_cleared : (t : ℕ) (ending : Ending) (s : State) → s.streams 0 ≡ None → l ≤ s.drawn
+      → ((y : Stream) → s.streams l ≡ Some y → y.link ≡ t)
       → (all_end t ending s).state.streams l ≡ None
   all_cleared t ending s zeroth le on = go (cases_eq l 0)
     where
@@ -112,7 +120,8 @@ module _ (l : ℕ) where
       go (inl same) = none_stays t s.drawn ending s (ap s.streams same ∙ zeroth)
       go (inr apart) = cleared t s.drawn ending s (omega (arith, apart)) le on
 
-  pub link_ends_cleared : (t : ℕ) (ending : Ending) (s : State) → s.streams 0 ≡ None → l ≤ s.drawn → ((y : Stream) → s.streams l ≡ Some y → y.link ≡ t)
+  pub link_ends_cleared : (t : ℕ) (ending : Ending) (s : State) → s.streams 0 ≡ None → l ≤ s.drawn
+      → ((y : Stream) → s.streams l ≡ Some y → y.link ≡ t)
       → (link_ends t ending s).state.streams l ≡ None
   link_ends_cleared t ending s zeroth le on = all_cleared t ending (forgets t s) zeroth le on
 
@@ -121,7 +130,8 @@ module _ (l : ℕ) where
       → (connects_now t version maxdata identity s).state.streams l ≡ None
   online_cleared t version maxdata identity s zeroth le on = go (is_connected t s.devices) refl (s.streams l) refl
     where
-      go : (b : Bool) → is_connected t s.devices ≡ b → (o : Option Stream) → s.streams l ≡ o → (streams_end_first b t s).state.streams l ≡ None
+      go : (b : Bool) → is_connected t s.devices ≡ b → (o : Option Stream) → s.streams l ≡ o
+          → (streams_end_first b t s).state.streams l ≡ None
       go true e o is = all_cleared t Lost s zeroth le (λ y at_l. (on y at_l).0)
       go false e None is = is
       go false e (Some y) is = absurd (let clash : true ≡ false = sym (on y is).1 ∙ e in cc)
@@ -143,7 +153,8 @@ online_links t version maxdata identity s none = link_stays t t (with_sums (has_
         by true stream e = ap (λ (f : ℕ → Option Link). f t) (ends_links (suc n) Lost stream (ends_of t n Lost s).state) ∙ e
         by false stream e = e
 
-        go : (ends_of t n Lost s).state.links t ≡ None → (o : Option Stream) → (ends_if_of t (suc n) Lost o (ends_of t n Lost s).state).state.links t ≡ None
+        go : (ends_of t n Lost s).state.links t ≡ None → (o : Option Stream)
+            → (ends_if_of t (suc n) Lost o (ends_of t n Lost s).state).state.links t ≡ None
         go e None = e
         go e (Some stream) = by (nat_eq stream.link t) stream e
 

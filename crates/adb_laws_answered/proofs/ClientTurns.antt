@@ -1,5 +1,6 @@
 -- What holds of a client that asks no more, through each entry.
-use Rattle.std.proofs.Common.{◌≡◌, ◌≢◌, ℕ, ◌+◌, ◌≤◌, Bool, true, false, cond, List, [], ◌∷◌, ◌++◌, length, Option, Some, None, refl, sym, ap, subst, ◌∙◌, eqb}
+use Rattle.std.proofs.Common.{◌≡◌, ◌≢◌, ℕ, ◌+◌, ◌≤◌, Bool, true, false, cond, List, [], ◌∷◌, ◌++◌, length, Option, Some, None, refl, sym}
+use Rattle.std.proofs.Common.{ap, subst, ◌∙◌, eqb}
 use Rattle.std.proofs.Common.{arith}
 use Rattle.std.specs.Prelude.{option_and_then, option_map}
 use Rattle.std.proofs.lemmas.Bool.{ne_eqb, eqb-true, eqb-false}
@@ -38,7 +39,8 @@ pub record IsOfClient (scope : Scope) (c t : ℕ) (P : State → List Event → 
   pub turns : (asker : ℕ) → asker ≢ c → Turns scope asker P
   pub owned : (s : State) (w : List Event) → P s w → IsOwned s
   pub busy : (s : State) (w : List Event) (client : Client) → P s w → s.clients c ≡ Some client → IsBusy client.about.phase
-  pub stays : (s next : State) (w : List Event) → IsOwned next → next.clients c ≡ s.clients c → next.streams ≡ s.streams → next.drawn ≡ s.drawn
+  pub stays : (s next : State) (w : List Event) → IsOwned next → next.clients c ≡ s.clients c
+      → next.streams ≡ s.streams → next.drawn ≡ s.drawn
       → next.links t ≡ s.links t → P s w → P next w
   pub marks : (s next : State) (w : List Event) → IsOwned next → next.clients c ≡ option_map marked (s.clients c) → next.streams ≡ s.streams
       → next.drawn ≡ s.drawn → next.links t ≡ s.links t → P s w → P next w
@@ -101,7 +103,9 @@ module _ {scope : Scope} {c t : ℕ} {P : State → List Event → Type 0} (k : 
       λ client is asking.
           k.stays s (to_client n (has_asked (asks_with s.devices s.forwards bytes (asked_before client))) s) w
           ((begins_owned s (k.owned s w h) (Read n bytes) w may).1 client is asking)
-          (ap (λ (b : Bool). cond b (option_and_then (has_asked (asks_with s.devices s.forwards bytes (asked_before client))) (s.clients c)) (s.clients c))
+          (ap (λ (b : Bool). cond b
+          (option_and_then (has_asked (asks_with s.devices s.forwards bytes (asked_before client)))
+          (s.clients c)) (s.clients c))
           (ne_eqb n c apart)) refl refl refl h,
     )
 
@@ -133,7 +137,8 @@ module _ {scope : Scope} {c t : ℕ} {P : State → List Event → Type 0} (k : 
     own_bound port (Some client) is = own_bound_in port client client.about.phase (k.busy s w client h is)
 
     -- a list is not offered to it
-    offers_none : (bytes : List ℕ) (client : Client) → s.clients c ≡ Some client → client.due ≡ [] → IsSomeOf bytes (offered s.devices client) → ⊥
+    offers_none : (bytes : List ℕ) (client : Client) → s.clients c ≡ Some client → client.due ≡ []
+        → IsSomeOf bytes (offered s.devices client) → ⊥
     offers_none bytes client is none may = go client.about.mark refl
       where
         nothing : (x : List ℕ) → IsPrefixOf x [] → x ≡ []
@@ -162,7 +167,8 @@ module _ {scope : Scope} {c t : ℕ} {P : State → List Event → Type 0} (k : 
         (λ v now. takes_turns (serving own_turns) m.state v now c (length bytes) (m.state.clients c) refl)
 
     -- ---- all entries
-    read_either : (n : ℕ) (bytes : List ℕ) → scope.stops → May s (Read n bytes) → (here : Bool) → eqb n c ≡ here → After P w (rule (Read n bytes) s)
+    read_either : (n : ℕ) (bytes : List ℕ) → scope.stops → May s (Read n bytes) → (here : Bool) → eqb n c ≡ here
+        → After P w (rule (Read n bytes) s)
     read_either n bytes stops may false e = read_kept n bytes (eqb-false n c e) stops may
     read_either n bytes stops may true e =
         subst (λ (m : ℕ). After P w (rule (Read m bytes) s)) (sym (eqb-true n c e)) (own_read bytes (s.clients c) refl)

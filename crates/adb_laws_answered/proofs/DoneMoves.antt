@@ -1,5 +1,6 @@
 -- A client that is closing or gone is told nothing more, through each move of another client, of a stream and of a link.
-use Rattle.std.proofs.Common.{◌≡◌, ◌≢◌, ℕ, ◌+◌, zero, suc, Bool, true, false, cond, List, [], ◌∷◌, ◌++◌, Option, Some, None, refl, sym, ap, subst, ◌∙◌, eqb}
+use Rattle.std.proofs.Common.{◌≡◌, ◌≢◌, ℕ, ◌+◌, zero, suc, Bool, true, false, cond, List, [], ◌∷◌, ◌++◌, Option, Some, None, refl, sym, ap}
+use Rattle.std.proofs.Common.{subst, ◌∙◌, eqb}
 use Rattle.std.proofs.lemmas.Bool.{ne_eqb}
 use Rattle.std.proofs.lemmas.List.{append-nil}
 use Rattle.std.specs.Prelude.{codes}
@@ -28,8 +29,10 @@ use Rattle.adb_history.proofs.OwnedMoves.{client_of}
 use Rattle.adb_history.proofs.OwnedStep.{owned_moves, ends_state}
 use Rattle.adb_history.specs.Turns.{everywhere, IsOpenedBy, Turns}
 use Rattle.adb_laws_answered.specs.Served.{IsDone}
-use Rattle.adb_laws_answered.proofs.ToldOthers.{quiet_after, owed_other, client_loses_owed, hears_owed, all_stop_owed, stopped_none, owned_opened, forgets_owned}
-use Rattle.adb_laws_answered.proofs.SteadyRows.{IsSteady, at_like, at_apart, at_none, at_closing, at_due, at_hands, at_marked, at_client_loses}
+use Rattle.adb_laws_answered.proofs.ToldOthers.{quiet_after, owed_other, client_loses_owed, hears_owed, all_stop_owed, stopped_none}
+use Rattle.adb_laws_answered.proofs.ToldOthers.{owned_opened, forgets_owned}
+use Rattle.adb_laws_answered.proofs.SteadyRows.{IsSteady, at_like, at_apart, at_none, at_closing, at_due, at_hands, at_marked}
+use Rattle.adb_laws_answered.proofs.SteadyRows.{at_client_loses}
 
 abbrev pub IsClosing : Client → Type 0
 IsClosing x = x.about.phase ≡ Closing
@@ -43,7 +46,8 @@ never_closing l (suc remote) e = cc
 
 module _ (c : ℕ) (out : List ℕ) where
   -- it is no stream's client
-  no_stream : (l : ℕ) (stream : Stream) (s : State) (w : List Event) → s.streams l ≡ Some stream → stream.part.orphan ≡ false → IsDone c out s w
+  no_stream : (l : ℕ) (stream : Stream) (s : State) (w : List Event) → s.streams l ≡ Some stream
+      → stream.part.orphan ≡ false → IsDone c out s w
       → stream.client ≢ c
   no_stream l stream s w is owned h same =
       let of = client_of s l stream is owned h.owned in
@@ -71,16 +75,20 @@ module _ (c : ℕ) (out : List ℕ) where
 
       go : (b : Bool) → stream.part.orphan ≡ b → owed_to c (w ++ (made b).told) ≡ out
       go true e =
-          let owner : OwnerIn true s.clients l stream = subst (λ (b : Bool). OwnerIn b s.clients l stream) e (h.owned.owned.stream l stream is).owner in
+          let owner : OwnerIn true s.clients l stream = subst (λ (b : Bool). OwnerIn b s.clients l stream) e
+          (h.owned.owned.stream l stream is).owner in
           none_told w (made true).told (ap (λ (o : Option Client). owed_to c (client_loses o stream.client gone).told) owner.1) h.told
       go false e =
           none_told w (made false).told
           (client_loses_owed c (s.clients stream.client) stream.client gone (ne_eqb stream.client c (no_stream l stream s w is e h))) h.told
 
-  all_end_done : (t : ℕ) (ending : Ending) (s : State) (w : List Event) → IsDone c out s w → After (λ s w. IsDone c out s w) w (all_end t ending s)
-  all_end_done t ending s w h = all_end_kept {P = λ s w. IsDone c out s w} (λ l ending stream s w is h. ends_done l ending stream s w is h) t ending s w h
+  all_end_done : (t : ℕ) (ending : Ending) (s : State) (w : List Event) → IsDone c out s w
+      → After (λ s w. IsDone c out s w) w (all_end t ending s)
+  all_end_done t ending s w h = all_end_kept {P = λ s w. IsDone c out s w}
+      (λ l ending stream s w is h. ends_done l ending stream s w is h) t ending s w h
 
-  link_ends_done : (t : ℕ) (ending : Ending) (s : State) (w : List Event) → IsDone c out s w → After (λ s w. IsDone c out s w) w (link_ends t ending s)
+  link_ends_done : (t : ℕ) (ending : Ending) (s : State) (w : List Event) → IsDone c out s w
+      → After (λ s w. IsDone c out s w) w (link_ends t ending s)
   link_ends_done t ending s w h =
       let forgot : State = forgets t s in
       let all : Made = all_end t ending forgot in
@@ -91,7 +99,8 @@ module _ (c : ℕ) (out : List ℕ) where
         told = kept.told;
       })
 
-  ends_first_done : (b : Bool) (t : ℕ) (s : State) (w : List Event) → IsDone c out s w → After (λ s w. IsDone c out s w) w (streams_end_first b t s)
+  ends_first_done : (b : Bool) (t : ℕ) (s : State) (w : List Event) → IsDone c out s w
+      → After (λ s w. IsDone c out s w) w (streams_end_first b t s)
   ends_first_done true t s w h = all_end_done t Lost s w h
   ends_first_done false t s w h = after_quietly (λ s w. IsDone c out s w) w s h
 
@@ -108,7 +117,8 @@ module _ (c : ℕ) (out : List ℕ) where
       })
 
   -- ---- OKAY
-  opened_done : (l remote : ℕ) (word : Option ℕ) (stream : Stream) (s : State) (w : List Event) → s.streams l ≡ Some stream → IsOpenedBy remote stream
+  opened_done : (l remote : ℕ) (word : Option ℕ) (stream : Stream) (s : State) (w : List Event)
+      → s.streams l ≡ Some stream → IsOpenedBy remote stream
       → IsDone c out s w → After (λ s w. IsDone c out s w) w (opened l remote word stream s)
   opened_done l remote word stream s w is by h =
       let heard : Made = hears_okay (s.clients stream.client) stream.client s in
@@ -119,7 +129,9 @@ module _ (c : ℕ) (out : List ℕ) where
         told = none_told w heard.told (hears_owed c (s.clients stream.client) stream.client s (ne_eqb stream.client c apart)) h.told;
       })
     where
-      due : (b : Bool) → (client : Client) → (cond b (quietly s) (owe_client stream.client (codes "OKAY") s)).state.clients c ≡ Some client → IsClosing client
+      due : (b : Bool) → (client : Client)
+          → (cond b (quietly s) (owe_client stream.client (codes "OKAY") s)).state.clients c ≡ Some client
+          → IsClosing client
       due true = h.row
       due false = at_due steady c stream.client (codes "OKAY") s.clients h.row
 
@@ -132,7 +144,8 @@ module _ (c : ℕ) (out : List ℕ) where
     not_here : eqb asker c ≡ false
     not_here = ne_eqb asker c apart
 
-    accepts_apart : (l : ℕ) (stream : Stream) (s : State) (w : List Event) → s.streams l ≡ Some stream → stream.part.remote ≢ 0 → IsDone c out s w
+    accepts_apart : (l : ℕ) (stream : Stream) (s : State) (w : List Event) → s.streams l ≡ Some stream
+        → stream.part.remote ≢ 0 → IsDone c out s w
         → eqb stream.client c ≡ false
     accepts_apart l stream s w is known h = go stream.part.orphan refl
       where
@@ -144,7 +157,12 @@ module _ (c : ℕ) (out : List ℕ) where
     pub done_turns : Turns everywhere asker (λ s w. IsDone c out s w)
     done_turns = record {
       owes = λ t p check s w of h.
-          record { owned = owned_moves.owes t p check s w of h.owned; row = h.row; told = none_told w (due_to_link t p check ∷ []) refl h.told };
+          record {
+            owned = owned_moves.owes t p check s w of h.owned;
+            row = h.row;
+            told =
+                none_told w (due_to_link t p check ∷ []) refl h.told;
+          };
       replies = λ bytes s w h. record {
         owned = owned_moves.due asker bytes s w h.owned;
         row = at_due steady c asker bytes s.clients h.row;
@@ -191,14 +209,18 @@ module _ (c : ℕ) (out : List ℕ) where
       };
       hands = λ n k x s w is fits h.
           record { owned = owned_moves.hands n k x s w is fits h.owned; row = at_hands steady c n k s.clients h.row; told = h.told };
-      flows = λ l stream flow s w is like h. record { owned = owned_moves.flows l stream flow s w is like h.owned; row = h.row; told = h.told };
+      flows = λ l stream flow s w is like h.
+          record { owned = owned_moves.flows l stream flow s w is like h.owned; row = h.row; told = h.told };
       accepts = λ l payload stream s w is known turn h. record {
         owned = owned_moves.accepts l payload stream s w is known turn h.owned;
         row = at_due steady c stream.client payload s.clients h.row;
-        told = none_told w (due_to_client stream.client payload ∷ []) (owed_other c stream.client payload (accepts_apart l stream s w is known h)) h.told;
+        told = none_told w (due_to_client stream.client payload ∷ [])
+            (owed_other c stream.client payload (accepts_apart l stream s w is known h)) h.told;
       };
       opened = λ l remote word stream s w is by may h. opened_done l remote word stream s w is by h;
-      orphan_goes = λ l stream s w is orphan h. record { owned = owned_moves.orphan_goes l stream s w is orphan h.owned; row = h.row; told = h.told };
+      orphan_goes =
+          λ l stream s w is orphan h.
+          record { owned = owned_moves.orphan_goes l stream s w is orphan h.owned; row = h.row; told = h.told };
       ends = λ l ending stream s w is so h. ends_done l ending stream s w is h;
       fails_open = λ n l failing s w at h. record {
         owned = owned_moves.fails_open n l failing s w at h.owned;

@@ -1,5 +1,6 @@
 -- In every legal history a client that did not come by itself is left out, or came through a forward and has a stream.
-use Rattle.std.proofs.Common.{◌≡◌, ◌≢◌, ℕ, ◌+◌, Bool, true, false, cond, ◌&&◌, ◌||◌, not, List, [], ◌∷◌, ◌++◌, length, Option, Some, None, refl}
+use Rattle.std.proofs.Common.{◌≡◌, ◌≢◌, ℕ, ◌+◌, Bool, true, false, cond, ◌&&◌, ◌||◌, not, List, [], ◌∷◌, ◌++◌, length, Option, Some, None}
+use Rattle.std.proofs.Common.{refl}
 use Rattle.std.proofs.Common.{sym, ap, subst, ◌∙◌, append_assoc, arith, eqb, inl, inr, ◌⊎◌, suc}
 use Rattle.std.proofs.lemmas.Bool.{eqb-true, eqb-false, eq-eqb}
 use Rattle.std.proofs.lemmas.List.{append-nil}
@@ -61,7 +62,8 @@ module _ (c port : ℕ) (older : History) (legal : IsLegal older) (may : May (st
       let done : IsDone c [] ruled.state (w ++ ruled.told) = record {
         owned = ruled_owned;
         row = λ client at_c. row client (ap (λ (x : Made). x.state.clients c) (sym is) ∙ at_c);
-        told = ap (λ (t : List Event). owed_to c (w ++ t)) (ap (λ (x : Made). x.told) is ∙ none) ∙ (ap (owed_to c) (append-nil w) ∙ h.done.told);
+        told = ap (λ (t : List Event). owed_to c (w ++ t)) (ap (λ (x : Made). x.told) is ∙ none)
+            ∙ (ap (owed_to c) (append-nil w) ∙ h.done.told);
       } in
       inl (record {
         none = still_none c (Enter c port) older bears_none h.none;
@@ -87,7 +89,8 @@ module _ (c port : ℕ) (older : History) (legal : IsLegal older) (may : May (st
   }
 
   births_through : (o : Option ForwardRow) → at port s.forwards ≡ o → births_at (Enter c port) older ≡ birth_through c older o
-  births_through o is = ap (λ (o : Option ForwardRow). birth_through c older o) (ap (λ (f : List (ℕ × ForwardRow)). at port f) same_forwards ∙ is)
+  births_through o is = ap (λ (o : Option ForwardRow). birth_through c older o)
+      (ap (λ (f : List (ℕ × ForwardRow)). at port f) same_forwards ∙ is)
 
   births_now : (row : ForwardRow) → at port s.forwards ≡ Some row → (connected : Bool) → is_connected row.transport s.devices ≡ connected
       → births_at (Enter c port) older ≡ cond connected (birth_of_row row ∷ []) []
@@ -104,7 +107,8 @@ module _ (c port : ℕ) (older : History) (legal : IsLegal older) (may : May (st
   without_ids all l b new = absurd (omega (arith, births_so.drawn, all, new.within))
 
   -- the stream is drawn
-  entered_now : (row : ForwardRow) → at port s.forwards ≡ Some row → is_connected row.transport s.devices ≡ true → s.drawn ≢ stream_ids → EnteredIn c now
+  entered_now : (row : ForwardRow) → at port s.forwards ≡ Some row → is_connected row.transport s.devices ≡ true
+      → s.drawn ≢ stream_ids → EnteredIn c now
   entered_now row is connected some = inr (record {
     stream = suc (length (births older));
     birth = birth_of_row row;
@@ -116,7 +120,8 @@ module _ (c port : ℕ) (older : History) (legal : IsLegal older) (may : May (st
   vain : rule (Enter c port) s ≡ quietly (comes_in_vain s) → births_at (Enter c port) older ≡ [] → EnteredIn c now
   vain is none = done_now (quietly (comes_in_vain s)) is h.done.row refl (without_birth none)
 
-  by_ids : (row : ForwardRow) → at port s.forwards ≡ Some row → is_connected row.transport s.devices ≡ true → (b : Bool) → eqb s.drawn stream_ids ≡ b
+  by_ids : (row : ForwardRow) → at port s.forwards ≡ Some row → is_connected row.transport s.devices ≡ true
+      → (b : Bool) → eqb s.drawn stream_ids ≡ b
       → EnteredIn c now
   by_ids row is connected false e = entered_now row is connected (eqb-false s.drawn stream_ids e)
   by_ids row is connected true e =
@@ -161,7 +166,8 @@ module _ (c : ℕ) (older : History) (legal : IsLegal older) where
   })
 
   -- an entry by which no stream is born
-  entered_more : (e : Entry) → May (state older) e → IsAnother c 0 e → ((n : ℕ) → IsBirthOf e n → ⊥) → EnteredIn c older → EnteredIn c (e ∷ older)
+  entered_more : (e : Entry) → May (state older) e → IsAnother c 0 e → ((n : ℕ) → IsBirthOf e n → ⊥)
+      → EnteredIn c older → EnteredIn c (e ∷ older)
   entered_more e may another bears_none = entered_by e may another (apart_births c e older (λ n of. absurd (bears_none n of)))
 
   entered_join : (n : ℕ) (here : Bool) → eqb n c ≡ here → (here || has_joined c older) ≡ false → May (state older) (Join n)

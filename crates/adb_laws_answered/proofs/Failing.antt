@@ -1,5 +1,6 @@
 -- A client whose connection failed is told nothing more.
-use Rattle.std.proofs.Common.{◌≡◌, ℕ, ◌≤◌, ◌<◌, Bool, true, false, cond, not, ◌&&◌, ◌||◌, List, [], ◌∷◌, ◌++◌, Option, Some, None, refl, sym, ap, subst, ◌∙◌}
+use Rattle.std.proofs.Common.{◌≡◌, ℕ, ◌≤◌, ◌<◌, Bool, true, false, cond, not, ◌&&◌, ◌||◌, List, [], ◌∷◌, ◌++◌, Option, Some, None, refl}
+use Rattle.std.proofs.Common.{sym, ap, subst, ◌∙◌}
 use Rattle.std.proofs.Common.{eqb}
 use Rattle.std.proofs.Common.{append_assoc, arith}
 use Rattle.std.proofs.lemmas.Bool.{eqb-true, eq-eqb}
@@ -74,8 +75,11 @@ module _ (c : ℕ) (older : History) (legal : IsLegal older) (came : has_joined 
   below = let le = joined_below older legal c came in omega (arith, le, (counted older).joined)
 
   failed_stays : (e : Entry) → May (state older) e → HasFailed c older → HasFailed c (e ∷ older)
-  failed_stays e may (out, h) =
-      (out, client_kept (done_client c out) (state older) (told older) e (another_comes c 0 (state older) e (below, omega arith) may) (covers_all e) may h)
+  failed_stays e may (out, h) = (
+    out,
+    client_kept (done_client c out) (state older) (told older) e
+        (another_comes c 0 (state older) e (below, omega arith) may) (covers_all e) may h,
+  )
 
   failed_now : (cause : Cause) → is_orderly cause ≡ false → HasFailed c (End c cause ∷ older)
   failed_now cause orderly =
@@ -92,7 +96,8 @@ module _ (c : ℕ) (older : History) (legal : IsLegal older) (came : has_joined 
       )
 
   failed_end : (n : ℕ) (cause : Cause) → May (state older) (End n cause) → (has_failed c older ≡ true → HasFailed c older)
-      → (a b f : Bool) → eqb n c ≡ a → is_orderly cause ≡ b → has_failed c older ≡ f → ((a && not b) || f) ≡ true → HasFailed c (End n cause ∷ older)
+      → (a b f : Bool) → eqb n c ≡ a → is_orderly cause ≡ b → has_failed c older ≡ f → ((a && not b) || f) ≡ true
+      → HasFailed c (End n cause ∷ older)
   failed_end n cause may before a b true same orderly is e = failed_stays (End n cause) may (before is)
   failed_end n cause may before true false false same orderly is e =
       subst (λ (k : ℕ). HasFailed c (End k cause ∷ older)) (sym (eqb-true n c same)) (failed_now cause orderly)
@@ -102,7 +107,8 @@ module _ (c : ℕ) (older : History) (legal : IsLegal older) (came : has_joined 
 pub all_failed : (h : History) → IsLegal h → (c : ℕ) → has_joined c h ≡ true → has_failed c h ≡ true → HasFailed c h
 all_failed [] legal c came e = absurd (let clash : false ≡ true = e in cc)
 all_failed (End n cause ∷ older) legal c came e =
-    failed_end c older legal.0 came n cause legal.2 (λ f. all_failed older legal.0 c came f) (eqb n c) (is_orderly cause) (has_failed c older) refl refl refl e
+    failed_end c older legal.0 came n cause legal.2 (λ f. all_failed older legal.0 c came f) (eqb n c)
+    (is_orderly cause) (has_failed c older) refl refl refl e
 all_failed (Join n ∷ older) legal c came e = go (eqb n c) refl came (λ before. all_failed older legal.0 c before e)
   where
     unheard : n ≡ c → ⊥
@@ -111,7 +117,8 @@ all_failed (Join n ∷ older) legal c came e = go (eqb n c) refl came (λ before
         let clash : true ≡ false = sym (failed_ended c older e) ∙ (all_unheard older legal.0 c above).ended in
         cc
 
-    go : (b : Bool) → eqb n c ≡ b → (b || has_joined c older) ≡ true → (has_joined c older ≡ true → HasFailed c older) → HasFailed c (Join n ∷ older)
+    go : (b : Bool) → eqb n c ≡ b → (b || has_joined c older) ≡ true → (has_joined c older ≡ true → HasFailed c older)
+        → HasFailed c (Join n ∷ older)
     go true f came before = absurd (unheard (eqb-true n c f))
     go false f came before = failed_stays c older legal.0 came (Join n) legal.2 (before came)
 all_failed (x ∷ older) legal c came e = failed_stays c older legal.0 came x legal.2 (all_failed older legal.0 c came e)

@@ -1,5 +1,6 @@
 -- In every legal history who came through a forward is known, and no stream has ended that was not drawn.
-use Rattle.std.proofs.Common.{◌≡◌, ℕ, ◌+◌, ◌≤◌, ◌<◌, zero, suc, Bool, true, false, cond, not, ◌||◌, List, [], ◌∷◌, ◌++◌, Option, Some, None, refl, sym, ap}
+use Rattle.std.proofs.Common.{◌≡◌, ℕ, ◌+◌, ◌≤◌, ◌<◌, zero, suc, Bool, true, false, cond, not, ◌||◌, List, [], ◌∷◌, ◌++◌, Option, Some, None}
+use Rattle.std.proofs.Common.{refl, sym, ap}
 use Rattle.std.proofs.Common.{subst, ◌∙◌, eqb}
 use Rattle.std.proofs.Common.{arith, inl, inr, ◌⊎◌}
 use Rattle.std.proofs.lemmas.Bool.{ne_eqb, eqb-true, eq-eqb, cases_lt}
@@ -37,7 +38,8 @@ use Rattle.adb_history.specs.Turns.{everywhere, IsOpenedBy, Turns}
 use Rattle.adb_laws_answered.specs.Served.{IsFresh}
 use Rattle.adb_history.proofs.RuleMoves.{step_turns}
 use Rattle.adb_laws_answered.proofs.ToldOthers.{quiet_after, owned_opened, forgets_owned}
-use Rattle.adb_laws_answered.proofs.SteadyRows.{IsSteady, at_change, at_like, at_none, at_closing, at_due, at_hands, at_marked, at_client_loses}
+use Rattle.adb_laws_answered.proofs.SteadyRows.{IsSteady, at_change, at_like, at_none, at_closing, at_due, at_hands, at_marked}
+use Rattle.adb_laws_answered.proofs.SteadyRows.{at_client_loses}
 use Rattle.adb_laws_answered.proofs.Endings.{ending_append, none_first, client_loses_ending, hears_ending}
 
 -- how a client came
@@ -63,13 +65,16 @@ drawn_stream k stream s h is = go (cases_lt s.drawn k)
     go (inl above) = absurd (let clash : None ≡ Some stream = sym (h.rows.streams.above k above) ∙ is in cc)
 
 -- an end is of a stream that was drawn
-one_unended : (k l drawn : ℕ) (ending : Ending) (later : Option Ending) → k ≤ drawn → drawn < l → later ≡ None → cond (eqb k l) (Some ending) later ≡ None
-one_unended k l drawn ending later le lt none = ap (λ (b : Bool). cond b (Some ending) later) (ne_eqb k l (λ e. omega (arith, e, le, lt))) ∙ none
+one_unended : (k l drawn : ℕ) (ending : Ending) (later : Option Ending) → k ≤ drawn → drawn < l → later ≡ None
+    → cond (eqb k l) (Some ending) later ≡ None
+one_unended k l drawn ending later le lt none = ap (λ (b : Bool). cond b (Some ending) later)
+    (ne_eqb k l (λ e. omega (arith, e, le, lt))) ∙ none
 
 all_stop_unended : (n l : ℕ) (streams : Rows (Option Stream)) → n < l → ending_in l (all_stop n streams) ≡ None
 all_stop_unended zero l streams lt = refl
 all_stop_unended (suc n) l streams lt =
-    more_unended l (all_stop n streams) (tells_stop (suc n) (streams (suc n))) (all_stop_unended n l streams (omega (arith, lt))) (one (streams (suc n)))
+    more_unended l (all_stop n streams) (tells_stop (suc n) (streams (suc n)))
+    (all_stop_unended n l streams (omega (arith, lt))) (one (streams (suc n)))
   where
     told : (b : Bool) → ending_in l (cond b [] (ended (suc n) Stopped ∷ [])) ≡ None
     told true = refl
@@ -88,7 +93,8 @@ module _ (joined : ℕ → Bool) where
       → After (λ s w. IsFresh joined s w) w (ends_row k ending stream s)
   ends_fresh k ending stream s w is h = record {
     owned = owned_moves.ends k ending stream s w is h.owned;
-    alone = λ n. subst (λ (x : State). (client : Client) → x.clients n ≡ Some client → CameBy (joined n) client) (sym (ends_state k ending stream s))
+    alone = λ n. subst (λ (x : State). (client : Client) → x.clients n ≡ Some client → CameBy (joined n) client)
+        (sym (ends_state k ending stream s))
         (at_client_loses (steady (joined n)) n (s.clients stream.client) stream.client (to_stream k none_kept s) (h.alone n));
     unended = λ l lt. none l (subst (λ (x : State). x.drawn < l) left lt) stream.part.orphan;
   }
@@ -96,20 +102,27 @@ module _ (joined : ℕ → Bool) where
       gone : State
       gone = to_stream k none_kept s
 
-      left : (ends_row k ending stream s).state ≡ record gone { clients = (client_loses (s.clients stream.client) stream.client gone).state.clients }
+      left : (ends_row k ending stream s).state ≡ record gone
+          { clients = (client_loses (s.clients stream.client) stream.client gone).state.clients }
       left = ends_state k ending stream s ∙ client_loses_frame (s.clients stream.client) stream.client gone
 
       none : (l : ℕ) → s.drawn < l → (b : Bool)
-          → ending_in l (w ++ (then_also (tells_end b k ending gone) (λ s. client_loses (s.clients stream.client) stream.client s)).told) ≡ None
+          → ending_in l
+          (w ++ (then_also (tells_end b k ending gone)
+          (λ s. client_loses (s.clients stream.client) stream.client s)).told) ≡ None
       none l lt true = more_unended l w _ (h.unended l lt) (client_loses_ending l (s.clients stream.client) stream.client gone)
       none l lt false = more_unended l w _ (h.unended l lt)
-          (one_unended k l s.drawn ending (ending_in l (client_loses (s.clients stream.client) stream.client gone).told) (drawn_stream k stream s h.owned is) lt
+          (one_unended k l s.drawn ending
+          (ending_in l (client_loses (s.clients stream.client) stream.client gone).told)
+          (drawn_stream k stream s h.owned is) lt
           (client_loses_ending l (s.clients stream.client) stream.client gone))
 
   all_end_fresh : (t : ℕ) (ending : Ending) (s : State) (w : List Event) → F s w → After (λ s w. IsFresh joined s w) w (all_end t ending s)
-  all_end_fresh t ending s w h = all_end_kept {P = λ s w. IsFresh joined s w} (λ l ending stream s w is h. ends_fresh l ending stream s w is h) t ending s w h
+  all_end_fresh t ending s w h = all_end_kept {P = λ s w. IsFresh joined s w}
+      (λ l ending stream s w is h. ends_fresh l ending stream s w is h) t ending s w h
 
-  link_ends_fresh : (t : ℕ) (ending : Ending) (s : State) (w : List Event) → F s w → After (λ s w. IsFresh joined s w) w (link_ends t ending s)
+  link_ends_fresh : (t : ℕ) (ending : Ending) (s : State) (w : List Event) → F s w
+      → After (λ s w. IsFresh joined s w) w (link_ends t ending s)
   link_ends_fresh t ending s w h =
       let forgot : State = forgets t s in
       let all : Made = all_end t ending forgot in
@@ -143,7 +156,8 @@ module _ (joined : ℕ → Bool) where
       (λ x y same e was. (let row : record x { about = record x.about { phase = p } } ≡ y = cc in
       ap (λ (z : Client). z.about.forwarded) (sym row) ∙ was)) h
 
-  opened_fresh : (k remote : ℕ) (word : Option ℕ) (stream : Stream) (s : State) (w : List Event) → s.streams k ≡ Some stream → IsOpenedBy remote stream
+  opened_fresh : (k remote : ℕ) (word : Option ℕ) (stream : Stream) (s : State) (w : List Event)
+      → s.streams k ≡ Some stream → IsOpenedBy remote stream
       → F s w → After (λ s w. IsFresh joined s w) w (opened k remote word stream s)
   opened_fresh k remote word stream s w is by h =
       let heard : Made = hears_okay (s.clients stream.client) stream.client s in
@@ -154,7 +168,9 @@ module _ (joined : ℕ → Bool) where
             (hears_ending l (s.clients stream.client) stream.client s);
       })
     where
-      due : (b : Bool) (n : ℕ) (x : Client) → (cond b (quietly s) (owe_client stream.client (codes "OKAY") s)).state.clients n ≡ Some x → CameBy (joined n) x
+      due : (b : Bool) (n : ℕ) (x : Client)
+          → (cond b (quietly s) (owe_client stream.client (codes "OKAY") s)).state.clients n ≡ Some x
+          → CameBy (joined n) x
       due true n = h.alone n
       due false n = at_due (steady (joined n)) n stream.client (codes "OKAY") s.clients (h.alone n)
 
@@ -180,7 +196,8 @@ module _ (joined : ℕ → Bool) where
       only x false is = absurd (let clash : None ≡ Some x = is in cc)
 
   about_alone : (n c : ℕ) (f : Client → Option Client) (s : State) → ((x y : Client) → f x ≡ Some y → y.about.forwarded ≡ x.about.forwarded)
-      → ((x : Client) → s.clients n ≡ Some x → CameBy (joined n) x) → (y : Client) → (to_client c f s).clients n ≡ Some y → CameBy (joined n) y
+      → ((x : Client) → s.clients n ≡ Some x → CameBy (joined n) x) → (y : Client)
+      → (to_client c f s).clients n ≡ Some y → CameBy (joined n) y
   about_alone n c f s same h = at_change (steady (joined n)) n c f s.clients (λ x y here e was. same x y e ∙ was) h
 
   pub fresh_turns : (asker : ℕ) → Turns everywhere asker (λ s w. IsFresh joined s w)
@@ -237,7 +254,8 @@ module _ (joined : ℕ → Bool) where
     };
     input_ended = λ c s w h. record {
       owned = owned_moves.input_ended c s w h.owned;
-      alone = λ n. at_like (steady (joined n)) n c (λ y. record y { about = record y.about { ended = true } }) s.clients (λ y. refl) (λ y. refl) (h.alone n);
+      alone = λ n. at_like (steady (joined n)) n c (λ y. record y { about = record y.about { ended = true } })
+          s.clients (λ y. refl) (λ y. refl) (h.alone n);
       unended = h.unended;
     };
     hands = λ c k x s w is fits h. record {
@@ -287,7 +305,8 @@ module _ (older : History) (legal : IsLegal older) (h : IsFresh (λ n. has_joine
   abbrev w : List Event
   w = told older
 
-  came_alone : (forwarded : Bool) (n : ℕ) (joined : ℕ → Bool) → forwarded ≡ not (joined n) → ((k : ℕ) → eqb n k ≡ false → joined k ≡ has_joined k older)
+  came_alone : (forwarded : Bool) (n : ℕ) (joined : ℕ → Bool) → forwarded ≡ not (joined n)
+      → ((k : ℕ) → eqb n k ≡ false → joined k ≡ has_joined k older)
       → (k : ℕ) (x : Client) → (comes forwarded n s).clients k ≡ Some x → CameBy (joined k) x
   came_alone forwarded n joined new others k x is = go (eqb n k) refl is
     where
@@ -300,7 +319,8 @@ module _ (older : History) (legal : IsLegal older) (h : IsFresh (λ n. has_joine
   fresh_join : (n : ℕ) → May s (Join n) → IsFresh (λ k. has_joined k (Join n ∷ older)) (comes false n s) w
   fresh_join n may = record {
     owned = begins_owned s h.owned (Join n) w may;
-    alone = came_alone false n (λ k. has_joined k (Join n ∷ older)) (sym (ap (λ (b : Bool). not (b || has_joined n older)) (eq-eqb n n refl)))
+    alone = came_alone false n (λ k. has_joined k (Join n ∷ older))
+        (sym (ap (λ (b : Bool). not (b || has_joined n older)) (eq-eqb n n refl)))
         (λ k e. ap (λ (b : Bool). b || has_joined k older) e);
     unended = h.unended;
   }

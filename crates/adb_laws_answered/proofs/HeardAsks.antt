@@ -40,7 +40,8 @@ use Rattle.adb_history.proofs.BookClients.{devices_now}
 use Rattle.adb_history.proofs.BookReads.{none_next, newly_same, and_parts, asked_all, replied_state, replied_row, replied_is}
 use Rattle.adb_history.proofs.Books.{booked}
 use Rattle.adb_history.specs.Turns.{everywhere, Turns}
-use Rattle.adb_laws_answered.specs.Heard.{Heard, heard, after_replies, asks_stream, asks_bind, IsUnanswered, PhaseSays, RowSays, RowsSay, Owes, Answers}
+use Rattle.adb_laws_answered.specs.Heard.{Heard, heard, after_replies, asks_stream, asks_bind, IsUnanswered, PhaseSays, RowSays, RowsSay}
+use Rattle.adb_laws_answered.specs.Heard.{Owes, Answers}
 use Rattle.adb_laws_answered.proofs.HeardMoves.{says_closing}
 use Rattle.adb_laws_answered.proofs.ToldOthers.{all_stop_owed}
 use Rattle.adb_laws_answered.proofs.HeardRules.{answers_turns}
@@ -50,7 +51,9 @@ module _ (c : ℕ) (r : Heard) (d : DeviceTable) where
   -- what is left of it says so, whatever it was
   pub rows_own : (f : Client → Option Client) (clients : Rows (Option Client)) → ((x y : Client) → f x ≡ Some y → RowSays r d y)
       → RowsSay c r d (change_row c (option_and_then f) clients)
-  rows_own f clients says y is = go (clients c) (sym (ap (λ (b : Bool). cond b (option_and_then f (clients c)) (clients c)) (eq-eqb c c refl)) ∙ is)
+  rows_own f clients says y is =
+      go (clients c)
+      (sym (ap (λ (b : Bool). cond b (option_and_then f (clients c)) (clients c)) (eq-eqb c c refl)) ∙ is)
     where
       go : (o : Option Client) → option_and_then f o ≡ Some y → RowSays r d y
       go None e = absurd (let clash : None ≡ Some y = e in cc)
@@ -83,8 +86,11 @@ module _ (c : ℕ) (r : Heard) (left : State) where
       id = left.drawn + 1
 
       row : (b : Bool)
-          → RowsSay c r (cond b (closes_with c (failed (codes "no stream ids left")).bytes left) (asks_for (left.drawn + 1) c t service left)).state.devices
-          (cond b (closes_with c (failed (codes "no stream ids left")).bytes left) (asks_for (left.drawn + 1) c t service left)).state.clients
+          → RowsSay c r
+          (cond b (closes_with c (failed (codes "no stream ids left")).bytes left)
+          (asks_for (left.drawn + 1) c t service left)).state.devices
+          (cond b (closes_with c (failed (codes "no stream ids left")).bytes left)
+          (asks_for (left.drawn + 1) c t service left)).state.clients
       row true = rows_closed c r left.devices (to_client c (with_due (failed (codes "no stream ids left")).bytes) left).clients
       row false = rows_own c r left.devices (in_phase (Opening (left.drawn + 1))) left.clients
           (λ x y e. (let same : record x { about = record x.about { phase = Opening (left.drawn + 1) } } ≡ y = cc in
@@ -100,7 +106,8 @@ module _ (c : ℕ) (r : Heard) (left : State) where
           subst (λ (x : Client). RowSays r left.devices x) same
           (subst (λ (p : Phase). PhaseSays p r left.devices client.about.long client.about.mark) (sym asking)
           (record { next = n.is; bound = n.bound; lists = n.lists }))
-  goes_on_after (Some what.Close) client here asking ends n = record { row = rows_closed c r left.devices left.clients; owed = λ other. refl }
+  goes_on_after (Some what.Close) client here asking ends n =
+      record { row = rows_closed c r left.devices left.clients; owed = λ other. refl }
   goes_on_after (Some (what.Select id)) client here asking ends n = absurd ends
   goes_on_after (Some (what.Track long)) client here asking ends n = record {
     row = rows_own c r left.devices (tracks long) left.clients
@@ -123,8 +130,10 @@ module _ (c : ℕ) (r : Heard) (left : State) where
           subst (λ (z : Client). RowSays r left.devices z) same (record { next = ap asks_bind is; bound = bound })
   goes_on_after (Some (what.Rebind transport local remote)) client here asking ends n =
       record { row = rows_closed c r left.devices left.clients; owed = λ other. refl }
-  goes_on_after (Some (what.Unbind local)) client here asking ends n = record { row = rows_closed c r left.devices left.clients; owed = λ other. refl }
-  goes_on_after (Some what.UnbindAll) client here asking ends n = record { row = rows_closed c r left.devices left.clients; owed = λ other. refl }
+  goes_on_after (Some (what.Unbind local)) client here asking ends n =
+      record { row = rows_closed c r left.devices left.clients; owed = λ other. refl }
+  goes_on_after (Some what.UnbindAll) client here asking ends n =
+      record { row = rows_closed c r left.devices left.clients; owed = λ other. refl }
   goes_on_after (Some what.Stop) client here asking ends n = record {
     row = rows_closed c r (stops c left).state.devices (only_client c left.clients);
     owed = λ other. all_stop_owed c left.drawn left.streams;
@@ -184,7 +193,9 @@ module _ (c : ℕ) (older : History) (legal : IsLegal older) (bytes : List ℕ) 
   pub heard_idle : (said c older).asking ≡ false → heard c (Read c bytes ∷ older) ≡ heard c older
   unfolding said_so
   heard_idle idle =
-      ap (λ (x : Bool). said_so (asked_with x (devices_if (book older).killed older) (book older).forwards bytes (asked c older)) (eqb c c)) idle ∙ go (eqb c c)
+      ap (λ (x : Bool). said_so
+      (asked_with x (devices_if (book older).killed older) (book older).forwards bytes (asked c older))
+      (eqb c c)) idle ∙ go (eqb c c)
     where
       go : (here : Bool) → said_so (asked c older) here ≡ heard c older
       go false = refl
@@ -200,7 +211,8 @@ module _ (c : ℕ) (older : History) (legal : IsLegal older) (bytes : List ℕ) 
     asks_on = sym as_before.asks ∙ ap asks_in asking
 
     pub open_next : (asked c older).next ≡ None
-    open_next = none_next (asked c older).next (and_parts (has_joined c older) (not (has_ended c older)) (still_asks (asked c older)) asks_on).2
+    open_next = none_next (asked c older).next
+        (and_parts (has_joined c older) (not (has_ended c older)) (still_asks (asked c older)) asks_on).2
 
     same_asked : SameAsked (said c older) client
     same_asked = as_before.same client refl asking
@@ -233,8 +245,11 @@ module _ (c : ℕ) (older : History) (legal : IsLegal older) (bytes : List ℕ) 
     pub heard_now : heard c (Read c bytes ∷ older) ≡ now
     unfolding said_so
     heard_now =
-        ap (λ (x : Bool). said_so (asked_with x (devices_if (book older).killed older) (book older).forwards bytes (asked c older)) (eqb c c)) asks_on
-        ∙ (ap (λ (d : DeviceTable). said_so (asks_with d (book older).forwards bytes (asked c older)) (eqb c c)) (sym (devices_now older legal books))
+        ap (λ (x : Bool). said_so
+        (asked_with x (devices_if (book older).killed older) (book older).forwards bytes (asked c older))
+        (eqb c c)) asks_on
+        ∙ (ap (λ (d : DeviceTable). said_so (asks_with d (book older).forwards bytes (asked c older)) (eqb c c))
+        (sym (devices_now older legal books))
         ∙ (ap (λ (f : List (ℕ × ForwardRow)). said_so (asks_with s.devices f bytes (asked c older)) (eqb c c)) (sym books.forwards)
         ∙ (ap (λ (here : Bool). said_so (asks_with s.devices s.forwards bytes (asked c older)) here) (eq-eqb c c refl)
         ∙ (ap (behind_so (asked c older).next) all ∙ ap (λ (o : Option Next). behind_so o (behind (asked c older) p)) open_next))))
@@ -255,8 +270,12 @@ module _ (c : ℕ) (older : History) (legal : IsLegal older) (bytes : List ℕ) 
             ∙ ap (λ (d : DeviceTable). tracked_list d long) (sym (devices_now older legal books));
       }
 
-      after : IsAfterAsking c now (goes_on p.next c (replied_state c bytes client s (asked c older) is asking same_asked.rest same_asked.selected open_next))
-      after = goes_on_after c now (replied_state c bytes client s (asked c older) is asking same_asked.rest same_asked.selected open_next) p.next
+      after : IsAfterAsking c now
+          (goes_on p.next c
+          (replied_state c bytes client s (asked c older) is asking same_asked.rest same_asked.selected open_next))
+      after = goes_on_after c now
+          (replied_state c bytes client s (asked c older) is asking same_asked.rest same_asked.selected open_next)
+          p.next
           (replied_row c bytes client s (asked c older) is asking same_asked.rest same_asked.selected open_next)
           (replied_is c bytes client s (asked c older) is asking same_asked.rest same_asked.selected open_next) asking
           (asks_ends s.devices s.forwards bytes (asked_before client) tt) newly_now
@@ -276,13 +295,15 @@ module _ (c : ℕ) (older : History) (legal : IsLegal older) (bytes : List ℕ) 
             (moves.rule_kept owned_moves (Read c bytes) s w (begins_owned s h.owned (Read c bytes) w may));
         row = after.row;
         owes = subst (λ (x : List ℕ). Owes now x) (sym out_is)
-            (owes_replies (heard c older) now (owed_to c w) p.replies (owed_to c went.told) s.devices h.owes open_next refl newly_now after.owed);
+            (owes_replies (heard c older) now (owed_to c w) p.replies (owed_to c went.told) s.devices h.owes open_next
+            refl newly_now after.owed);
       }
 
       pub asking_answers : Answers c (heard c (Read c bytes ∷ older)) (rule (Read c bytes) s).state.devices (rule (Read c bytes) s).state
           (w ++ (rule (Read c bytes) s).told)
       asking_answers = subst (λ (m : Made). Answers c (heard c (Read c bytes ∷ older)) m.state.devices m.state (w ++ m.told)) (sym made_is)
-          (subst (λ (r : Heard). Answers c r (asks p c s).state.devices (asks p c s).state (w ++ (asks p c s).told)) (sym heard_now) asks_answers)
+          (subst (λ (r : Heard). Answers c r (asks p c s).state.devices (asks p c s).state (w ++ (asks p c s).told))
+          (sym heard_now) asks_answers)
 
   -- ---- a client that does not ask, or is gone
   turns : Turns everywhere (c + 1) (λ x v. Answers c (heard c older) x.devices x v)
@@ -291,7 +312,8 @@ module _ (c : ℕ) (older : History) (legal : IsLegal older) (bytes : List ℕ) 
   module _ (h : Answers c (heard c older) s.devices s w) where
     idle_same : (said c older).asking ≡ false → After (λ x v. Answers c (heard c older) x.devices x v) w (rule (Read c bytes) s)
         → After (λ x v. Answers c (heard c (Read c bytes ∷ older)) x.devices x v) w (rule (Read c bytes) s)
-    idle_same idle answers = subst (λ (r : Heard). After (λ x v. Answers c r x.devices x v) w (rule (Read c bytes) s)) (sym (heard_idle idle)) answers
+    idle_same idle answers = subst (λ (r : Heard). After (λ x v. Answers c r x.devices x v) w (rule (Read c bytes) s))
+        (sym (heard_idle idle)) answers
 
     -- a client in another phase holds more, or nothing changes
     holds_more : (phase : Phase) (client : Client) → s.clients c ≡ Some client → client.about.phase ≡ phase → asks_in phase ≡ false
@@ -313,12 +335,15 @@ module _ (c : ℕ) (older : History) (legal : IsLegal older) (bytes : List ℕ) 
         in_phase_of client is true asking = asking_answers client is (asks_asking client.about.phase asking) h
         in_phase_of client is false idle =
             idle_same (sym (books.clients may.0 c).asks ∙ (ap asks_now is ∙ idle))
-            (subst (λ (m : Made). After (λ x v. Answers c (heard c older) x.devices x v) w m) (sym (ap (λ (o : Option Client). reads_from o c bytes s) is))
+            (subst (λ (m : Made). After (λ x v. Answers c (heard c older) x.devices x v) w m)
+            (sym (ap (λ (o : Option Client). reads_from o c bytes s) is))
             (holds_more client.about.phase client is refl idle))
 
-        go : (o : Option Client) → s.clients c ≡ o → After (λ x v. Answers c (heard c (Read c bytes ∷ older)) x.devices x v) w (rule (Read c bytes) s)
+        go : (o : Option Client) → s.clients c ≡ o
+            → After (λ x v. Answers c (heard c (Read c bytes ∷ older)) x.devices x v) w (rule (Read c bytes) s)
         go None is =
             idle_same (sym (books.clients may.0 c).asks ∙ ap asks_now is)
-            (subst (λ (m : Made). After (λ x v. Answers c (heard c older) x.devices x v) w m) (sym (ap (λ (o : Option Client). reads_from o c bytes s) is))
+            (subst (λ (m : Made). After (λ x v. Answers c (heard c older) x.devices x v) w m)
+            (sym (ap (λ (o : Option Client). reads_from o c bytes s) is))
             (after_quietly (λ x v. Answers c (heard c older) x.devices x v) w s h))
         go (Some client) is = in_phase_of client is (asks_in client.about.phase) refl

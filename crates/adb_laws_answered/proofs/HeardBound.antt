@@ -49,7 +49,8 @@ owes_bound r out reply un h = record {
 }
   where
     before : out ≡ r.replies
-    before = h.all (bind_streams r.next un.next) ∙ (ap (λ x. r.replies ++ x) (bind_after r r.next un.next ∙ un.bound) ∙ append-nil r.replies)
+    before = h.all (bind_streams r.next un.next)
+        ∙ (ap (λ x. r.replies ++ x) (bind_after r r.next un.next ∙ un.bound) ∙ append-nil r.replies)
 
 module _ (c : ℕ) (older : History) (legal : IsLegal older) (port : ℕ) (may : May (state older) (Bound c port)) where
   abbrev s : State
@@ -137,7 +138,8 @@ module _ (c : ℕ) (older : History) (legal : IsLegal older) (port : ℕ) (may :
             ∙ (ap (λ (x : Phase). bound_in x client.about.want c port s) binding ∙ ap (λ (o : Option Want). bound_for o c port s) e))
         wanted client is binding (Some want) e = bound_some client want is binding e
 
-        idle : (client : Client) → s.clients c ≡ Some client → (phase : Phase) → client.about.phase ≡ phase → wants_in phase client.about.want ≡ None
+        idle : (client : Client) → s.clients c ≡ Some client → (phase : Phase) → client.about.phase ≡ phase
+            → wants_in phase client.about.want ≡ None
             → bound_in phase client.about.want c port s ≡ quietly s
             → After (λ x v. Answers c (heard c (Bound c port ∷ older)) x.devices x v) w (rule (Bound c port) s)
         idle client is phase e none same =
@@ -154,6 +156,7 @@ module _ (c : ℕ) (older : History) (legal : IsLegal older) (port : ℕ) (may :
         in_phase_of client is Closing e = idle client is Closing e refl refl
         in_phase_of client is Gone e = idle client is Gone e refl refl
 
-        go : (o : Option Client) → s.clients c ≡ o → After (λ x v. Answers c (heard c (Bound c port ∷ older)) x.devices x v) w (rule (Bound c port) s)
+        go : (o : Option Client) → s.clients c ≡ o
+            → After (λ x v. Answers c (heard c (Bound c port ∷ older)) x.devices x v) w (rule (Bound c port) s)
         go None is = bound_none (ap wants_now is) (ap (λ (o : Option Client). bound_at o c port s) is)
         go (Some client) is = in_phase_of client is client.about.phase refl

@@ -1,5 +1,6 @@
 -- What a client is answered is what the entries say, through each entry of another client, of a link, and through its end.
-use Rattle.std.proofs.Common.{◌≡◌, ◌≢◌, ℕ, ◌+◌, ◌≤◌, ◌<◌, Bool, true, false, cond, List, ◌∷◌, ◌++◌, length, Option, Some, None, refl, sym, ap, ◌∙◌}
+use Rattle.std.proofs.Common.{◌≡◌, ◌≢◌, ℕ, ◌+◌, ◌≤◌, ◌<◌, Bool, true, false, cond, List, ◌∷◌, ◌++◌, length, Option, Some, None, refl, sym}
+use Rattle.std.proofs.Common.{ap, ◌∙◌}
 use Rattle.std.proofs.Common.{arith, eqb, inl, inr, ◌⊎◌}
 use Rattle.std.specs.Prelude.{nat_eq, ◌&&◌}
 use Rattle.std.proofs.lemmas.Bool.{ne_eqb, cases_lt}
@@ -123,7 +124,8 @@ module _ (c : ℕ) (older : History) (legal : IsLegal older) (came : has_joined 
             h,
             λ client is asking. record {
               owned = (begins_owned s h.owned (Read n bytes) w may).1 client is asking;
-              row = rows_apart c (heard c older) s.devices n (has_asked (asks_with s.devices s.forwards bytes (asked_before client))) s.clients apart h.row;
+              row = rows_apart c (heard c older) s.devices n
+                  (has_asked (asks_with s.devices s.forwards bytes (asked_before client))) s.clients apart h.row;
               owes = h.owes;
             },
           )

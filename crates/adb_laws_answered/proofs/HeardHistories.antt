@@ -1,5 +1,6 @@
 -- In every legal history what a client that came by itself is answered is what the entries say.
-use Rattle.std.proofs.Common.{◌≡◌, ◌≢◌, ℕ, ◌≤◌, ◌<◌, Bool, true, false, cond, ◌||◌, List, [], ◌∷◌, ◌++◌, length, Option, Some, None, refl, sym, ap, subst, ◌∙◌}
+use Rattle.std.proofs.Common.{◌≡◌, ◌≢◌, ℕ, ◌≤◌, ◌<◌, Bool, true, false, cond, ◌||◌, List, [], ◌∷◌, ◌++◌, length, Option, Some, None, refl}
+use Rattle.std.proofs.Common.{sym, ap, subst, ◌∙◌}
 use Rattle.std.proofs.Common.{arith, eqb}
 use Rattle.std.specs.Prelude.{nat_eq, ◌&&◌}
 use Rattle.std.proofs.lemmas.Bool.{eqb-true, eqb-false, ne_eqb, eq-eqb}
@@ -25,8 +26,10 @@ use Rattle.adb_history.proofs.OwnedStep.{begins_owned, all_owned}
 use Rattle.adb_history.proofs.OutputEntries.{tied}
 use Rattle.adb_history.proofs.BookTurns.{IsUnheard, all_unheard}
 use Rattle.adb_laws_answered.specs.Heard.{Heard, heard, after_replies, RowSays, Owes, Answers}
-use Rattle.adb_laws_answered.proofs.HeardEntries.{joined_below, heard_read, heard_bound, heard_put, join_answers, enter_answers, read_answers, bound_answers}
-use Rattle.adb_laws_answered.proofs.HeardEntries.{put_answers, attach_answers, end_answers, recv_answers, detach_answers, send_answers, ups_answers}
+use Rattle.adb_laws_answered.proofs.HeardEntries.{joined_below, heard_read, heard_bound, heard_put, join_answers, enter_answers}
+use Rattle.adb_laws_answered.proofs.HeardEntries.{read_answers, bound_answers}
+use Rattle.adb_laws_answered.proofs.HeardEntries.{put_answers, attach_answers, end_answers, recv_answers, detach_answers, send_answers}
+use Rattle.adb_laws_answered.proofs.HeardEntries.{ups_answers}
 use Rattle.adb_laws_answered.proofs.HeardAsks.{own_read_answers}
 use Rattle.adb_laws_answered.proofs.HeardBound.{own_bound_answers}
 use Rattle.adb_laws_answered.proofs.HeardPuts.{own_put_answers}
@@ -43,10 +46,13 @@ module _ (older : History) (legal : IsLegal older) (c : ℕ) (un : IsUntold olde
       go : (o : Option Want) → (bound_turn n port (devices_if (book older).killed older) o (book older)).bound c ≡ []
       go None = un.bound
       go (Some want) =
-          ap (λ (b : Bool). cond b (bound_by want port (devices_if (book older).killed older) (book older).forwards).reply ((book older).bound c))
+          ap (λ (b : Bool). cond b
+          (bound_by want port (devices_if (book older).killed older) (book older).forwards).reply
+          ((book older).bound c))
           (ne_eqb n c (λ e. omega (arith, e, le, lt))) ∙ un.bound
 
-  put_below : (n : ℕ) (bytes : List ℕ) (o : Option Client) → (state older).clients n ≡ o → MayPut (state older) o bytes → n ≤ (state older).joined
+  put_below : (n : ℕ) (bytes : List ℕ) (o : Option Client) → (state older).clients n ≡ o
+      → MayPut (state older) o bytes → n ≤ (state older).joined
   put_below n bytes None is may = absurd may
   put_below n bytes (Some client) is may = joined_client (state older) n client (all_drawn older legal) is
 
@@ -54,7 +60,8 @@ module _ (older : History) (legal : IsLegal older) (c : ℕ) (un : IsUntold olde
   put_untold n bytes le lt = record {
     bound = un.bound;
     lists = λ long. ap (λ (b : Bool).
-        list_if (b && nat_eq (length (bytes_put c older)) (length ((asked c older).replies ++ lists_of long c older))) (tracked_list (devices older) long)
+        list_if (b && nat_eq (length (bytes_put c older)) (length ((asked c older).replies ++ lists_of long c older)))
+        (tracked_list (devices older) long)
         (lists_of long c older)) (ne_eqb n c (λ e. omega (arith, e, le, lt))) ∙ un.lists long;
   }
 
@@ -109,7 +116,8 @@ IsAnsweredAfter c e older = After (λ s w. Answers c (heard c (e ∷ older)) s.d
 
 module _ (c : ℕ) (older : History) (legal : IsLegal older)
     (before : has_joined c older ≡ true → Answers c (heard c older) (state older).devices (state older) (told older)) where
-  answers_join : (n : ℕ) (here : Bool) → eqb n c ≡ here → May (state older) (Join n) → (here || has_joined c older) ≡ true → IsAnsweredAfter c (Join n) older
+  answers_join : (n : ℕ) (here : Bool) → eqb n c ≡ here → May (state older) (Join n)
+      → (here || has_joined c older) ≡ true → IsAnsweredAfter c (Join n) older
   answers_join n true e may came =
       subst (λ (k : ℕ). IsAnsweredAfter c (Join k) older) (sym (eqb-true n c e))
       (after_quietly (λ s w. Answers c (heard c older) s.devices s w) (told older) (comes false c (state older))
@@ -126,12 +134,14 @@ module _ (c : ℕ) (older : History) (legal : IsLegal older)
         apart : n ≢ c
         apart e = let le = joined_below older legal c came in omega (arith, e, le, may.1, (counted older).joined)
 
-    answers_read : (n : ℕ) (bytes : List ℕ) (here : Bool) → eqb n c ≡ here → May (state older) (Read n bytes) → IsAnsweredAfter c (Read n bytes) older
+    answers_read : (n : ℕ) (bytes : List ℕ) (here : Bool) → eqb n c ≡ here → May (state older) (Read n bytes)
+        → IsAnsweredAfter c (Read n bytes) older
     answers_read n bytes true e may =
         subst (λ (k : ℕ). IsAnsweredAfter c (Read k bytes) older) (sym (eqb-true n c e))
         (own_read_answers c older legal bytes (subst (λ (k : ℕ). May (state older) (Read k bytes)) (eqb-true n c e) may) h)
     answers_read n bytes false e may =
-        subst (λ (r : Heard). After (λ s w. Answers c r s.devices s w) (told older) (rule (Read n bytes) (state older))) (sym (heard_read n c bytes older e))
+        subst (λ (r : Heard). After (λ s w. Answers c r s.devices s w) (told older)
+        (rule (Read n bytes) (state older))) (sym (heard_read n c bytes older e))
         (read_answers c older legal came h n (eqb-false n c e) bytes may)
 
     answers_bound : (n port : ℕ) (here : Bool) → eqb n c ≡ here → May (state older) (Bound n port) → IsAnsweredAfter c (Bound n port) older
@@ -139,15 +149,18 @@ module _ (c : ℕ) (older : History) (legal : IsLegal older)
         subst (λ (k : ℕ). IsAnsweredAfter c (Bound k port) older) (sym (eqb-true n c e))
         (own_bound_answers c older legal port (subst (λ (k : ℕ). May (state older) (Bound k port)) (eqb-true n c e) may) h)
     answers_bound n port false e may =
-        subst (λ (r : Heard). After (λ s w. Answers c r s.devices s w) (told older) (rule (Bound n port) (state older))) (sym (heard_bound n c port older e))
+        subst (λ (r : Heard). After (λ s w. Answers c r s.devices s w) (told older)
+        (rule (Bound n port) (state older))) (sym (heard_bound n c port older e))
         (bound_answers c older legal came h n (eqb-false n c e) port)
 
-    answers_put : (n : ℕ) (bytes : List ℕ) (here : Bool) → eqb n c ≡ here → May (state older) (Put n bytes) → IsAnsweredAfter c (Put n bytes) older
+    answers_put : (n : ℕ) (bytes : List ℕ) (here : Bool) → eqb n c ≡ here → May (state older) (Put n bytes)
+        → IsAnsweredAfter c (Put n bytes) older
     answers_put n bytes true e may =
         subst (λ (k : ℕ). IsAnsweredAfter c (Put k bytes) older) (sym (eqb-true n c e))
         (own_put_answers c older legal bytes h (subst (λ (k : ℕ). May (state older) (Put k bytes)) (eqb-true n c e) may))
     answers_put n bytes false e may =
-        subst (λ (r : Heard). After (λ s w. Answers c r s.devices s w) (told older) (rule (Put n bytes) (state older))) (sym (heard_put n c bytes older e))
+        subst (λ (r : Heard). After (λ s w. Answers c r s.devices s w) (told older)
+        (rule (Put n bytes) (state older))) (sym (heard_put n c bytes older e))
         (put_answers c older legal came h n (eqb-false n c e) bytes)
 
   answers_rule : (e : Entry) → May (state older) e → has_joined c (e ∷ older) ≡ true → IsAnsweredAfter c e older

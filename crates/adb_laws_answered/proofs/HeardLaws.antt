@@ -19,7 +19,8 @@ use Rattle.adb_history.specs.Machine.{History, state, told, told_at, rule, ups, 
 use Rattle.adb_history.specs.Bytes.{has_joined, bytes_put}
 use Rattle.adb_history.specs.Book.{asked, devices}
 use Rattle.adb_history.specs.Lives.{output_of}
-use Rattle.adb_history.specs.Answered.{last_list, is_all, IsUpToDate, RepliesFirst, RepliesWhenBound, ListsTracked, HasPresentList, SaysNothingMore}
+use Rattle.adb_history.specs.Answered.{last_list, is_all, IsUpToDate, RepliesFirst, RepliesWhenBound, ListsTracked, HasPresentList}
+use Rattle.adb_history.specs.Answered.{SaysNothingMore}
 use Rattle.adb_history.proofs.Growing.{owed_append}
 use Rattle.adb_history.proofs.OutputEntries.{all_due_past_put}
 use Rattle.adb_history.proofs.Books.{all_books}
@@ -42,7 +43,8 @@ module _ (older : History) (legal : IsLegal older) (c : ℕ) (bytes : List ℕ) 
       let offer = offered s.devices client in
       let out : output_of c older ≡ bytes_put c older =
       all_due_past_put older legal c client is ∙ (ap (λ x. bytes_put c older ++ x) none ∙ append-nil (bytes_put c older)) in
-      let list : owed_to c (due_to_client c offer ∷ []) ≡ offer = ap (λ (b : Bool). cond b offer [] ++ []) (eq-eqb c c refl) ∙ append-nil offer in
+      let list : owed_to c (due_to_client c offer ∷ []) ≡ offer =
+      ap (λ (b : Bool). cond b offer [] ++ []) (eq-eqb c c refl) ∙ append-nil offer in
       subst (λ (x : List ℕ). IsPrefixOf (bytes_put c older ++ bytes) (x ++ owed_to c (due_to_client c offer ∷ []))) (sym out)
       (subst (λ (x : List ℕ). IsPrefixOf (bytes_put c older ++ bytes) (bytes_put c older ++ x)) (sym list)
       (prefix_behind (bytes_put c older) bytes offer front))
@@ -136,8 +138,10 @@ module _ (h : History) (legal : IsLegal h) (c : ℕ) (came : has_joined c h ≡ 
       → client.about.phase ≡ Tracking → client.about.mark ≡ false → last_list long c h ≡ tracked_list (devices h) long
   present_in long next client is tracking clean =
       let told_so : IsTold (heard c h) (state h).devices client.about.long client.about.mark =
-      subst (λ (p : Phase). PhaseSays p (heard c h) (state h).devices client.about.long client.about.mark) tracking (answers.row client is) in
-      let same : client.about.long ≡ long = (let both : Some (what.Track client.about.long) ≡ Some (what.Track long) = sym told_so.next ∙ next in cc) in
+      subst (λ (p : Phase). PhaseSays p (heard c h) (state h).devices client.about.long client.about.mark) tracking
+      (answers.row client is) in
+      let same : client.about.long ≡ long =
+      (let both : Some (what.Track client.about.long) ≡ Some (what.Track long) = sym told_so.next ∙ next in cc) in
       subst (λ (b : Bool). last_list b c h ≡ tracked_list (devices h) b) same
       (told_so.present clean ∙ ap (λ (d : DeviceTable). tracked_list d client.about.long) (all_books h legal).devices)
 

@@ -26,7 +26,8 @@ module _ (c : ℕ) (r : Heard) where
   -- to a client that asked for a stream more becomes due
   pub owes_more : (w es : List Event) → asks_stream r.next ≡ true → Owes r (owed_to c w) → Owes r (owed_to c (w ++ es))
   owes_more w es stream h = record {
-    begins = subst (λ (x : List ℕ). IsPrefixOf r.replies x) (sym (owed_append c w es)) (prefix_more r.replies (owed_to c w) (owed_to c es) h.begins);
+    begins = subst (λ (x : List ℕ). IsPrefixOf r.replies x) (sym (owed_append c w es))
+        (prefix_more r.replies (owed_to c w) (owed_to c es) h.begins);
     all = λ other. let clash : true ≡ false = sym stream ∙ other in cc;
   }
 
@@ -100,10 +101,12 @@ module _ (c : ℕ) (r : Heard) (d : DeviceTable) where
       → RowsSay c r d clients → RowsSay c r d (change_row n (option_and_then f) clients)
   rows_apart n f clients apart h = rows_change n f clients (λ x y at_c same is was. absurd (apart same)) h
 
-  pub rows_none : (n : ℕ) (clients : Rows (Option Client)) → RowsSay c r d clients → RowsSay c r d (change_row n (option_and_then none_kept) clients)
+  pub rows_none : (n : ℕ) (clients : Rows (Option Client)) → RowsSay c r d clients
+      → RowsSay c r d (change_row n (option_and_then none_kept) clients)
   rows_none n clients h = rows_change n none_kept clients (λ x y at_c same is was. absurd (let clash : None ≡ Some y = is in cc)) h
 
-  pub rows_closing : (n : ℕ) (clients : Rows (Option Client)) → RowsSay c r d clients → RowsSay c r d (change_row n (option_and_then closing) clients)
+  pub rows_closing : (n : ℕ) (clients : Rows (Option Client)) → RowsSay c r d clients
+      → RowsSay c r d (change_row n (option_and_then closing) clients)
   rows_closing n clients h = rows_change n closing clients (λ x y at_c same is was. says_closing r d x.due x y is) h
 
   pub rows_due : (n : ℕ) (bytes : List ℕ) (clients : Rows (Option Client)) → RowsSay c r d clients
@@ -111,7 +114,8 @@ module _ (c : ℕ) (r : Heard) (d : DeviceTable) where
   rows_due n bytes clients h =
       rows_likewise n (λ x. record x { due = x.due ++ bytes }) clients (λ x. record { phase = refl; long = refl; mark = refl }) h
 
-  pub rows_marked : (new : DeviceTable) (clients : Rows (Option Client)) → RowsSay c r d clients → RowsSay c r new (λ k. option_map marked (clients k))
+  pub rows_marked : (new : DeviceTable) (clients : Rows (Option Client)) → RowsSay c r d clients
+      → RowsSay c r new (λ k. option_map marked (clients k))
   rows_marked new clients h y is = go (clients c) refl is
     where
       go : (o : Option Client) → clients c ≡ o → option_map marked o ≡ Some y → RowSays r new y
@@ -120,6 +124,7 @@ module _ (c : ℕ) (r : Heard) (d : DeviceTable) where
           let row : marked x ≡ y = (let both : Some (marked x) ≡ Some y = e in cc) in
           subst (λ (z : Client). RowSays r new z) row (says_marked_in r d x.about.phase new x refl (h x at_c))
 
-  pub rows_hands : (n k : ℕ) (clients : Rows (Option Client)) → RowsSay c r d clients → RowsSay c r d (change_row n (option_and_then (hands k)) clients)
+  pub rows_hands : (n k : ℕ) (clients : Rows (Option Client)) → RowsSay c r d clients
+      → RowsSay c r d (change_row n (option_and_then (hands k)) clients)
   rows_hands n k clients h =
       rows_change n (hands k) clients (λ x y at_c same is was. says_left r d x.about.phase (drop k x.due) x y refl is was) h

@@ -1,5 +1,6 @@
 -- A client is handed what is due to it: what it is answered is what the entries say.
-use Rattle.std.proofs.Common.{◌≡◌, ℕ, ◌+◌, Bool, true, false, cond, List, [], ◌∷◌, ◌++◌, length, Option, Some, None, refl, sym, ap, subst, ◌∙◌}
+use Rattle.std.proofs.Common.{◌≡◌, ℕ, ◌+◌, Bool, true, false, cond, List, [], ◌∷◌, ◌++◌, length, Option, Some, None, refl, sym, ap, subst}
+use Rattle.std.proofs.Common.{◌∙◌}
 use Rattle.std.proofs.Common.{append_assoc, arith}
 use Rattle.std.specs.Prelude.{nat_eq, ◌&&◌}
 use Rattle.std.proofs.lemmas.Bool.{eq-eqb, ne_eqb}
@@ -105,7 +106,8 @@ module _ (c : ℕ) (older : History) (legal : IsLegal older) (bytes : List ℕ) 
 
     -- ---- something was due
     module _ (b : ℕ) (due : List ℕ) (some : client.due ≡ b ∷ due) where
-      longer : (lists : List ℕ) → owed_to c w ≡ r.replies ++ lists → nat_eq (length (bytes_put c older)) (length (r.replies ++ lists)) ≡ false
+      longer : (lists : List ℕ) → owed_to c w ≡ r.replies ++ lists
+          → nat_eq (length (bytes_put c older)) (length (r.replies ++ lists)) ≡ false
       longer lists e = ne_eqb (length (bytes_put c older)) (length (r.replies ++ lists)) (λ same.
           omega (arith, same, ap length (sym e ∙ due_is), length-append (bytes_put c older) client.due, ap length some))
 
@@ -121,11 +123,14 @@ module _ (c : ℕ) (older : History) (legal : IsLegal older) (bytes : List ℕ) 
       unfolding through said_put
       keeps = record {
         asking = λ none long nil.
-            ap (λ (x : Bool). list_if x (tracked_list (devices older) long) (lists_of long c older)) (longer (r.lists long) (all_asked none long nil));
+            ap (λ (x : Bool). list_if x (tracked_list (devices older) long) (lists_of long c older))
+            (longer (r.lists long) (all_asked none long nil));
         lists = λ long track.
-            ap (λ (x : Bool). list_if x (tracked_list (devices older) long) (lists_of long c older)) (longer (r.lists long) (all_listed long track));
+            ap (λ (x : Bool). list_if x (tracked_list (devices older) long) (lists_of long c older))
+            (longer (r.lists long) (all_listed long track));
         last = λ long track.
-            ap (λ (x : Bool). cond x (tracked_list (devices older) long) (last_list long c older)) (longer (r.lists long) (all_listed long track));
+            ap (λ (x : Bool). cond x (tracked_list (devices older) long) (last_list long c older))
+            (longer (r.lists long) (all_listed long track));
       }
 
       due_answers : Answers c (said_put through) s.devices s w
@@ -194,14 +199,18 @@ module _ (c : ℕ) (older : History) (legal : IsLegal older) (bytes : List ℕ) 
       unfolding said_put
       owes_list = record {
         begins = prefix_more r.replies (owed_to c w) (offered s.devices client) h.owes.begins;
-        all = λ stream. (ap (λ x. x ++ offered s.devices client) all_lists ∙ append_assoc r.replies (r.lists long) (offered s.devices client))
+        all = λ stream.
+            (ap (λ x. x ++ offered s.devices client) all_lists
+            ∙ append_assoc r.replies (r.lists long) (offered s.devices client))
             ∙ ap (λ x. r.replies ++ x) (sym lists_now);
       }
         where
           lists_now : after_replies r.next (said_put through) ≡ r.lists client.about.long ++ offered s.devices client
           lists_now = ap (λ (o : Option Next). after_replies o (said_put through)) told_so.next
-              ∙ (ap (λ (x : Bool). list_if x (tracked_list (devices older) client.about.long) (lists_of client.about.long c older)) is_through
-              ∙ ap (λ x. r.lists client.about.long ++ x) (ap (λ (d : DeviceTable). tracked_list d client.about.long) (sym same_devices) ∙ sym list_is))
+              ∙ (ap (λ (x : Bool). list_if x (tracked_list (devices older) client.about.long)
+              (lists_of client.about.long c older)) is_through
+              ∙ ap (λ x. r.lists client.about.long ++ x)
+              (ap (λ (d : DeviceTable). tracked_list d client.about.long) (sym same_devices) ∙ sym list_is))
 
       list_answers : Answers c (said_put through) listed.state.devices listed.state (w ++ listed.told)
       list_answers = record {
@@ -226,13 +235,15 @@ module _ (c : ℕ) (older : History) (legal : IsLegal older) (bytes : List ℕ) 
     handed_answers : After (λ x v. Answers c (said_put through) x.devices x v) w (puts_to (Some client) c (length bytes) s)
     handed_answers =
         let m : Made = lists_first c client.due client s in
-        after_then (λ x v. Answers c (said_put through) x.devices x v) w m (λ x. takes_of c (length bytes) (x.clients c) x) (first client.due refl)
+        after_then (λ x v. Answers c (said_put through) x.devices x v) w m
+        (λ x. takes_of c (length bytes) (x.clients c) x) (first client.due refl)
         (λ v now. takes_turns (serving turns) m.state v now c (length bytes) (m.state.clients c) refl)
 
   pub own_put_answers : Answers c (heard c older) s.devices s w → May s (Put c bytes)
       → After (λ x v. Answers c (heard c (Put c bytes ∷ older)) x.devices x v) w (rule (Put c bytes) s)
   own_put_answers h may =
-      subst (λ (r : Heard). After (λ x v. Answers c r x.devices x v) w (rule (Put c bytes) s)) (sym heard_put_own) (go (s.clients c) refl may)
+      subst (λ (r : Heard). After (λ x v. Answers c r x.devices x v) w (rule (Put c bytes) s)) (sym heard_put_own)
+      (go (s.clients c) refl may)
     where
       go : (o : Option Client) → s.clients c ≡ o → MayPut s o bytes
           → After (λ x v. Answers c (said_put through) x.devices x v) w (puts_to (s.clients c) c (length bytes) s)

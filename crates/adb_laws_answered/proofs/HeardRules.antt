@@ -1,5 +1,6 @@
 -- What a client is answered is what the entries say, through each rule of another client, of a stream and of a link.
-use Rattle.std.proofs.Common.{◌≡◌, ◌≢◌, ℕ, ◌+◌, zero, suc, Bool, true, false, cond, List, [], ◌∷◌, ◌++◌, Option, Some, None, refl, sym, ap, subst, ◌∙◌}
+use Rattle.std.proofs.Common.{◌≡◌, ◌≢◌, ℕ, ◌+◌, zero, suc, Bool, true, false, cond, List, [], ◌∷◌, ◌++◌, Option, Some, None, refl, sym, ap}
+use Rattle.std.proofs.Common.{subst, ◌∙◌}
 use Rattle.std.proofs.Common.{eqb}
 use Rattle.std.specs.Prelude.{codes, option_and_then}
 use Rattle.std.proofs.lemmas.Bool.{eqb-true, ne_eqb}
@@ -32,16 +33,19 @@ use Rattle.adb_history.proofs.OwnedMoves.{client_of}
 use Rattle.adb_history.proofs.OwnedStep.{owned_moves, ends_state}
 use Rattle.adb_history.specs.Turns.{everywhere, IsOpenedBy, Turns}
 use Rattle.adb_laws_answered.specs.Heard.{Heard, asks_stream, PhaseSays, RowSays, RowsSay, Owes, Answers}
-use Rattle.adb_laws_answered.proofs.ToldOthers.{quiet_after, owed_other, client_loses_owed, hears_owed, all_stop_owed, stopped_none, owned_opened, forgets_owned}
+use Rattle.adb_laws_answered.proofs.ToldOthers.{quiet_after, owed_other, client_loses_owed, hears_owed, all_stop_owed, stopped_none}
+use Rattle.adb_laws_answered.proofs.ToldOthers.{owned_opened, forgets_owned}
 use Rattle.adb_laws_answered.proofs.ToldOthers.{opened_devices}
 use Rattle.adb_laws_answered.proofs.ToldOthers.{ends_devices}
-use Rattle.adb_laws_answered.proofs.HeardMoves.{owes_more, owes_none, rows_change, rows_likewise, rows_apart, rows_none, rows_closing, rows_due}
+use Rattle.adb_laws_answered.proofs.HeardMoves.{owes_more, owes_none, rows_change, rows_likewise, rows_apart, rows_none, rows_closing}
+use Rattle.adb_laws_answered.proofs.HeardMoves.{rows_due}
 use Rattle.adb_laws_answered.proofs.HeardMoves.{rows_marked, rows_hands}
 
 -- ---- a client loses its stream
 module _ (c : ℕ) where
   module _ (r : Heard) (d : DeviceTable) where
-    loses_rows : (forwarded : Bool) (p : Phase) (n : ℕ) (s : State) → RowsSay c r d s.clients → RowsSay c r d (loses forwarded p n s).state.clients
+    loses_rows : (forwarded : Bool) (p : Phase) (n : ℕ) (s : State) → RowsSay c r d s.clients
+        → RowsSay c r d (loses forwarded p n s).state.clients
     loses_rows true (Streaming l) n s h = rows_closing c r d n s.clients h
     loses_rows false (Streaming l) n s h = rows_closing c r d n s.clients h
     loses_rows true (Opening l) n s h = rows_closing c r d n s.clients h
@@ -69,7 +73,8 @@ module _ (c : ℕ) (r : Heard) (d : DeviceTable) where
       (h of.client (subst (λ (n : ℕ). s.clients n ≡ Some of.client) same of.is)))
 
   -- ---- stream end
-  pub ends_answers : (l : ℕ) (ending : Ending) (stream : Stream) (s : State) (w : List Event) → s.streams l ≡ Some stream → Answers c r d s w
+  pub ends_answers : (l : ℕ) (ending : Ending) (stream : Stream) (s : State) (w : List Event)
+      → s.streams l ≡ Some stream → Answers c r d s w
       → After (λ s w. Answers c r d s w) w (ends_row l ending stream s)
   ends_answers l ending stream s w is h = record {
     owned = owned_moves.ends l ending stream s w is h.owned;
@@ -86,7 +91,8 @@ module _ (c : ℕ) (r : Heard) (d : DeviceTable) where
 
       go : (b : Bool) → stream.part.orphan ≡ b → (here : Bool) → eqb stream.client c ≡ here → Owes r (owed_to c (w ++ (made b).told))
       go true e here same =
-          let owner : OwnerIn true s.clients l stream = subst (λ (b : Bool). OwnerIn b s.clients l stream) e (h.owned.owned.stream l stream is).owner in
+          let owner : OwnerIn true s.clients l stream = subst (λ (b : Bool). OwnerIn b s.clients l stream) e
+          (h.owned.owned.stream l stream is).owner in
           owes_none c r w (made true).told (ap (λ (o : Option Client). owed_to c (client_loses o stream.client gone).told) owner.1) h.owes
       go false e true same =
           owes_more c r w (made false).told (stream_asked l stream s is e (eqb-true stream.client c same) h.owned h.row) h.owes
@@ -100,7 +106,8 @@ module _ (c : ℕ) (r : Heard) (d : DeviceTable) where
 
   -- ---- a link, or its device, changes
   -- with other devices each list is stale
-  marks_answers : (new : DeviceTable) (s next : State) (w : List Event) → IsOwned (mark_all next) → next.clients ≡ s.clients → Answers c r d s w
+  marks_answers : (new : DeviceTable) (s next : State) (w : List Event) → IsOwned (mark_all next)
+      → next.clients ≡ s.clients → Answers c r d s w
       → Answers c r new (mark_all next) w
   marks_answers new s next w owned same h = record {
     owned = owned;
@@ -118,7 +125,8 @@ module _ (c : ℕ) (r : Heard) (d : DeviceTable) where
       quiet_after (λ s w. Answers c r new s w) w all.told (mark_all all.state)
       (marks_answers new all.state all.state (w ++ all.told) owned refl (all_end_answers t ending forgot w kept))
 
-  ends_first_answers : (b : Bool) (t : ℕ) (s : State) (w : List Event) → Answers c r d s w → After (λ s w. Answers c r d s w) w (streams_end_first b t s)
+  ends_first_answers : (b : Bool) (t : ℕ) (s : State) (w : List Event) → Answers c r d s w
+      → After (λ s w. Answers c r d s w) w (streams_end_first b t s)
   ends_first_answers true t s w h = all_end_answers t Lost s w h
   ends_first_answers false t s w h = after_quietly (λ s w. Answers c r d s w) w s h
 
@@ -152,8 +160,10 @@ module _ (c : ℕ) (r : Heard) (d : DeviceTable) where
       (λ x y at_c same is was. (let row : record x { about = record x.about { phase = Streaming l } } ≡ y = cc in
       subst (λ (z : Client). RowSays r d z) row (asked same))) h
 
-  pub opened_answers : (l remote : ℕ) (word : Option ℕ) (stream : Stream) (s : State) (w : List Event) → s.streams l ≡ Some stream → IsOpenedBy remote stream
-      → IsOwned (opened l remote word stream s).state → Answers c r d s w → After (λ s w. Answers c r d s w) w (opened l remote word stream s)
+  pub opened_answers : (l remote : ℕ) (word : Option ℕ) (stream : Stream) (s : State) (w : List Event)
+      → s.streams l ≡ Some stream → IsOpenedBy remote stream
+      → IsOwned (opened l remote word stream s).state → Answers c r d s w
+      → After (λ s w. Answers c r d s w) w (opened l remote word stream s)
   opened_answers l remote word stream s w is by owned h =
       let heard : Made = hears_okay (s.clients stream.client) stream.client s in
       quiet_after (λ s w. Answers c r d s w) w heard.told (open_now l remote word stream heard.state) (record {
@@ -163,10 +173,12 @@ module _ (c : ℕ) (r : Heard) (d : DeviceTable) where
         owes = go (eqb stream.client c) refl;
       })
     where
-      go : (here : Bool) → eqb stream.client c ≡ here → Owes r (owed_to c (w ++ (hears_okay (s.clients stream.client) stream.client s).told))
+      go : (here : Bool) → eqb stream.client c ≡ here → Owes r
+          (owed_to c (w ++ (hears_okay (s.clients stream.client) stream.client s).told))
       go true e = owes_more c r w (hears_okay (s.clients stream.client) stream.client s).told
           (stream_asked l stream s is by.owned (eqb-true stream.client c e) h.owned h.row) h.owes
-      go false e = owes_none c r w (hears_okay (s.clients stream.client) stream.client s).told (hears_owed c (s.clients stream.client) stream.client s e) h.owes
+      go false e = owes_none c r w (hears_okay (s.clients stream.client) stream.client s).told
+          (hears_owed c (s.clients stream.client) stream.client s e) h.owes
 
 -- ---- all moves of another client
 module _ (asker c : ℕ) (r : Heard) (apart : asker ≢ c) where
@@ -176,11 +188,13 @@ module _ (asker c : ℕ) (r : Heard) (apart : asker ≢ c) where
   not_here : eqb asker c ≡ false
   not_here = ne_eqb asker c apart
 
-  accepts_owes : (l : ℕ) (payload : List ℕ) (stream : Stream) (s : State) (w : List Event) → s.streams l ≡ Some stream → stream.part.remote ≢ 0
+  accepts_owes : (l : ℕ) (payload : List ℕ) (stream : Stream) (s : State) (w : List Event) → s.streams l ≡ Some stream
+      → stream.part.remote ≢ 0
       → P s w → Owes r (owed_to c (w ++ due_to_client stream.client payload ∷ []))
   accepts_owes l payload stream s w is known h = go stream.part.orphan refl (eqb stream.client c) refl
     where
-      go : (b : Bool) → stream.part.orphan ≡ b → (here : Bool) → eqb stream.client c ≡ here → Owes r (owed_to c (w ++ due_to_client stream.client payload ∷ []))
+      go : (b : Bool) → stream.part.orphan ≡ b → (here : Bool) → eqb stream.client c ≡ here
+          → Owes r (owed_to c (w ++ due_to_client stream.client payload ∷ []))
       go true e here same =
           absurd (known (subst (λ (b : Bool). OwnerIn b s.clients l stream) e (h.owned.owned.stream l stream is).owner).0)
       go false e true same =
@@ -192,7 +206,12 @@ module _ (asker c : ℕ) (r : Heard) (apart : asker ≢ c) where
   pub answers_turns : Turns everywhere asker (λ s w. Answers c r s.devices s w)
   answers_turns = record {
     owes = λ t p check s w of h.
-        record { owned = owned_moves.owes t p check s w of h.owned; row = h.row; owes = owes_none c r w (due_to_link t p check ∷ []) refl h.owes };
+        record {
+          owned = owned_moves.owes t p check s w of h.owned;
+          row = h.row;
+          owes =
+              owes_none c r w (due_to_link t p check ∷ []) refl h.owes;
+        };
     replies = λ bytes s w h. record {
       owned = owned_moves.due asker bytes s w h.owned;
       row = rows_due c r s.devices asker bytes s.clients h.row;
@@ -229,7 +248,8 @@ module _ (asker c : ℕ) (r : Heard) (apart : asker ≢ c) where
         record { owned = owned_moves.drops n x s w is none h.owned; row = rows_none c r s.devices n s.clients h.row; owes = h.owes };
     holds = λ n x bytes s w is has h. record {
       owned = owned_moves.holds n x bytes s w is has h.owned;
-      row = rows_likewise c r s.devices n (λ y. record y { held = bytes }) s.clients (λ y. record { phase = refl; long = refl; mark = refl }) h.row;
+      row = rows_likewise c r s.devices n (λ y. record y { held = bytes }) s.clients
+          (λ y. record { phase = refl; long = refl; mark = refl }) h.row;
       owes = h.owes;
     };
     input_ended = λ n s w h. record {
@@ -240,7 +260,8 @@ module _ (asker c : ℕ) (r : Heard) (apart : asker ≢ c) where
     };
     hands = λ n k x s w is fits h.
         record { owned = owned_moves.hands n k x s w is fits h.owned; row = rows_hands c r s.devices n k s.clients h.row; owes = h.owes };
-    flows = λ l stream flow s w is like h. record { owned = owned_moves.flows l stream flow s w is like h.owned; row = h.row; owes = h.owes };
+    flows = λ l stream flow s w is like h.
+        record { owned = owned_moves.flows l stream flow s w is like h.owned; row = h.row; owes = h.owes };
     accepts = λ l payload stream s w is known turn h. record {
       owned = owned_moves.accepts l payload stream s w is known turn h.owned;
       row = rows_due c r s.devices stream.client payload s.clients h.row;
@@ -250,7 +271,9 @@ module _ (asker c : ℕ) (r : Heard) (apart : asker ≢ c) where
         let made : Made = opened l remote word stream s in
         subst (λ (d : DeviceTable). Answers c r d made.state (w ++ made.told)) (sym (opened_devices l remote word stream s))
         (opened_answers c r s.devices l remote word stream s w is by (owned_opened l remote word stream s is by h.owned) h);
-    orphan_goes = λ l stream s w is orphan h. record { owned = owned_moves.orphan_goes l stream s w is orphan h.owned; row = h.row; owes = h.owes };
+    orphan_goes =
+        λ l stream s w is orphan h.
+        record { owned = owned_moves.orphan_goes l stream s w is orphan h.owned; row = h.row; owes = h.owes };
     ends = λ l ending stream s w is so h.
         let made : Made = ends_row l ending stream s in
         subst (λ (d : DeviceTable). Answers c r d made.state (w ++ made.told)) (sym (ends_devices l ending stream s))

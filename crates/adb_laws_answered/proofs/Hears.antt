@@ -1,5 +1,6 @@
 -- What became due to the client of a stream is what its device told, up to the stream's end.
-use Rattle.std.proofs.Common.{◌≡◌, ℕ, ◌<◌, zero, suc, Bool, true, false, cond, List, [], ◌++◌, Option, Some, None, is_some, refl, sym, ap, subst, ◌∙◌}
+use Rattle.std.proofs.Common.{◌≡◌, ℕ, ◌<◌, zero, suc, Bool, true, false, cond, List, [], ◌++◌, Option, Some, None, is_some, refl, sym, ap}
+use Rattle.std.proofs.Common.{subst, ◌∙◌}
 use Rattle.std.proofs.Common.{append_assoc, arith, inl, inr, ◌⊎◌}
 use Rattle.std.proofs.lemmas.List.{append-nil, append_cancel_left}
 use Rattle.std.specs.Prelude.{option_map}
@@ -29,7 +30,8 @@ abbrev UpTo : Option Ending → ℕ → Option Opening → (while_alive bytes : 
 UpTo ending l o while_alive bytes = FollowsUpTo ending (joined (told_after l o)) (joined (told_before l o)) while_alive bytes
 
 -- where the stream ended
-ended_up_to : (ending : Option Ending) (told before while_alive bytes : List ℕ) → is_some ending ≡ true → IsPrefixOf while_alive bytes × IsPrefixOf bytes told
+ended_up_to : (ending : Option Ending) (told before while_alive bytes : List ℕ) → is_some ending ≡ true
+    → IsPrefixOf while_alive bytes × IsPrefixOf bytes told
     → (ending ≡ Some PeerClosed → bytes ≡ before) → FollowsUpTo ending told before while_alive bytes
 ended_up_to None told before while_alive bytes over within closed = absurd (let clash : false ≡ true = over in cc)
 ended_up_to (Some ClientClosed) told before while_alive bytes over within closed = within
@@ -52,7 +54,8 @@ abbrev Says : Cradle → (List ℕ → Type 0) → List ℕ → Type 0
 Says k Told output = (((output ≡ k.replies) ⊎ (output ≡ unopened_output k.forwarded k.replies)) × Told []) ⊎ IsPastLead k Told output
 
 -- through a forward there are no replies
-says_alone : (k : Cradle) (Told : List ℕ → Type 0) (output : List ℕ) → k.forwarded ≡ true → k.replies ≡ [] → Says k Told output → Told output
+says_alone : (k : Cradle) (Told : List ℕ → Type 0) (output : List ℕ) → k.forwarded ≡ true → k.replies ≡ []
+    → Says k Told output → Told output
 says_alone k Told output forwarded none (inl (inl is, told)) = subst Told (sym (is ∙ none)) told
 says_alone k Told output forwarded none (inl (inr is, told)) =
     subst Told (sym (is ∙ (ap (λ (f : Bool). unopened_output f k.replies) forwarded ∙ none))) told
@@ -64,7 +67,8 @@ says_alone k Told output forwarded none (inr past) =
 says_behind : (k : Cradle) (Told : List ℕ → Type 0) (output bytes : List ℕ) → k.forwarded ≡ false → output ≡ k.replies ++ (okay ++ bytes)
     → Says k Told output → Told bytes
 says_behind k Told output bytes own behind (inl (inl is, told)) =
-    absurd (opened_not_closed k.replies bytes [] false (append-nil (k.replies ++ (okay ++ bytes)) ∙ (sym behind ∙ (is ∙ sym (append-nil k.replies)))))
+    absurd (opened_not_closed k.replies bytes [] false
+    (append-nil (k.replies ++ (okay ++ bytes)) ∙ (sym behind ∙ (is ∙ sym (append-nil k.replies)))))
 says_behind k Told output bytes own behind (inl (inr is, told)) =
     absurd (opened_not_closed k.replies bytes [] true (append-nil (k.replies ++ (okay ++ bytes))
     ∙ (sym behind ∙ (is ∙ ap (λ (f : Bool). unopened_output f k.replies) own))))
@@ -103,21 +107,31 @@ module _ (h : History) (l : ℕ) (b : Birth) (is : born l h ≡ Some b) (f : Fol
       (subst (λ (x : List ℕ). IsDueBehind x while_alive (output_of b.client h)) (sym (lead_first l b h f)) due)
 
   -- nothing came behind the replies
-  ended_early : is_some (ending_of l h) ≡ true → (v.output ≡ f.cradle.replies) ⊎ (v.output ≡ unopened_output f.cradle.forwarded f.cradle.replies)
+  ended_early : is_some (ending_of l h) ≡ true → (v.output ≡ f.cradle.replies)
+      ⊎ (v.output ≡ unopened_output f.cradle.forwarded f.cradle.replies)
       → (ending_of l h ≡ Some PeerClosed → [] ≡ joined (told_before l (opening_of l b h))) → Told []
   ended_early over which closed =
-      ended_up_to (ending_of l h) (joined (told_after l (opening_of l b h))) (joined (told_before l (opening_of l b h))) while_alive [] over
-      (([], append-nil while_alive ∙ none_alive f.cradle while_alive v.output alive_due which), (joined (told_after l (opening_of l b h)), refl)) closed
+      ended_up_to (ending_of l h) (joined (told_after l (opening_of l b h))) (joined (told_before l (opening_of l b h))) while_alive [] over (
+        ([], append-nil while_alive ∙ none_alive f.cradle while_alive v.output alive_due which),
+        (joined (told_after l (opening_of l b h)), refl),
+      ) closed
 
-  past : (o : Opening) → opening_of l b h ≡ Some o → (bytes : List ℕ) → v.output ≡ lead f.cradle ++ bytes → UpTo (ending_of l h) l (Some o) while_alive bytes
+  past : (o : Opening) → opening_of l b h ≡ Some o → (bytes : List ℕ) → v.output ≡ lead f.cradle ++ bytes
+      → UpTo (ending_of l h) l (Some o) while_alive bytes
       → Says f.cradle Told v.output
   past o opened bytes is told =
-      inr (record { bytes = bytes; is = is; follows = subst (λ (x : Option Opening). UpTo (ending_of l h) l x while_alive bytes) (sym opened) told })
+      inr (record {
+        bytes = bytes;
+        is = is;
+        follows =
+            subst (λ (x : Option Opening). UpTo (ending_of l h) l x while_alive bytes) (sym opened) told;
+      })
 
   was_open : is_some (ending_of l h) ≡ true → WasOpen l f.cradle (since b h) v.output v.ending → Says f.cradle Told v.output
   was_open over i =
       past i.opening i.opened i.bytes i.output_is
-      (ended_up_to (ending_of l h) (joined (told_after l (Some i.opening))) (joined (told_before l (Some i.opening))) while_alive i.bytes over
+      (ended_up_to (ending_of l h) (joined (told_after l (Some i.opening))) (joined (told_before l (Some i.opening)))
+      while_alive i.bytes over
       (past_alive f.cradle while_alive v.output i.bytes alive_due i.output_is, i.front)
       (λ e. (i.closed (sym ending_is ∙ e)).whole))
 
@@ -137,7 +151,8 @@ module _ (h : History) (l : ℕ) (b : Birth) (is : born l h ≡ Some b) (f : Fol
       )
   alive false (suc r) none i =
       past i.opening i.opened (joined (told_in i.opening.remote l i.opening.later)) i.output
-      (subst (λ (e : Option Ending). UpTo e l (Some i.opening) while_alive (joined (told_in i.opening.remote l i.opening.later))) (sym none) refl)
+      (subst (λ (e : Option Ending). UpTo e l (Some i.opening) while_alive
+      (joined (told_in i.opening.remote l i.opening.later))) (sym none) refl)
 
   over : is_some (ending_of l h) ≡ true → Story l f.cradle (since b h) (is_shut b.link h) (heard v) → Says f.cradle Told v.output
   over ended (inl (never, output)) =
@@ -162,7 +177,8 @@ module _ (h : History) (l : ℕ) (b : Birth) (is : born l h ≡ Some b) (f : Fol
   heard_as_told = record {
     behind = λ own bytes is. says_behind f.cradle Told v.output bytes (f.forwarded ∙ own)
         (sym output_is ∙ (is ∙ ap (λ (x : List ℕ). x ++ (okay ++ bytes)) (sym (replies_by false own)))) says;
-    alone = λ through. subst Told (sym output_is) (says_alone f.cradle Told v.output (f.forwarded ∙ through) (replies_by true through) says);
+    alone = λ through. subst Told (sym output_is)
+        (says_alone f.cradle Told v.output (f.forwarded ∙ through) (replies_by true through) says);
   }
 
 pub hears_as_told : (h : History) → IsLegal h → HearsAsTold h

@@ -1,5 +1,6 @@
 -- What one more packet says of the opening of a stream.
-use Rattle.std.proofs.Common.{◌≡◌, ◌≢◌, ℕ, Bool, true, false, cond, not, ◌&&◌, List, [], ◌∷◌, ◌++◌, Option, Some, None, refl, sym, ap, ◌∙◌, eqb}
+use Rattle.std.proofs.Common.{◌≡◌, ◌≢◌, ℕ, Bool, true, false, cond, not, ◌&&◌, List, [], ◌∷◌, ◌++◌, Option, Some, None, refl, sym, ap, ◌∙◌}
+use Rattle.std.proofs.Common.{eqb}
 use Rattle.std.proofs.Common.{inl, inr, ◌⊎◌}
 use Rattle.std.specs.Prelude.{nat_eq}
 use Rattle.std.proofs.lemmas.Bool.{eqb-true, eqb-false, ne_eqb}
@@ -33,7 +34,8 @@ module _ (l : ℕ) where
       go false e = h o e
   stays_by Clse p ps qs h o e = go (is_between 0 l p) e
     where
-      go : (b : Bool) → cond b None (opening_in l ps) ≡ Some o → cond b None (opening_in l (ps ++ qs)) ≡ Some (record o { later = o.later ++ qs })
+      go : (b : Bool) → cond b None (opening_in l ps) ≡ Some o
+          → cond b None (opening_in l (ps ++ qs)) ≡ Some (record o { later = o.later ++ qs })
       go true e = absurd (let clash : None ≡ Some o = e in cc)
       go false e = h o e
   stays_by Cnxn p ps qs h o e = absurd (let clash : None ≡ Some o = e in cc)
@@ -64,7 +66,8 @@ module _ (l : ℕ) where
   sealed_none [] qs e = absurd (let clash : false ≡ true = e in cc)
   sealed_none (p ∷ ps) qs e = sealed_by p.command p ps qs (sealed_none ps qs) e
 
-  seals_more : (c : Command) (p : Packet) (before after : Bool) → (before ≡ true → after ≡ true) → seals_by c l p before ≡ true → seals_by c l p after ≡ true
+  seals_more : (c : Command) (p : Packet) (before after : Bool) → (before ≡ true → after ≡ true)
+      → seals_by c l p before ≡ true → seals_by c l p after ≡ true
   seals_more Okay p before after h e = go (nat_eq p.arg1 l && not (eqb p.arg0 0)) e
     where
       go : (b : Bool) → cond b false before ≡ true → cond b false after ≡ true
@@ -90,12 +93,14 @@ module _ (l : ℕ) where
   pending_by : (c : Command) (p : Packet) (ps qs : List Packet)
       → (IsPending ps → (opening_in l (ps ++ qs) ≡ opening_in l qs) × (sealed_in l (ps ++ qs) ≡ sealed_in l qs))
       → opening_by c l p ps (opening_in l ps) ≡ None → seals_by c l p (sealed_in l ps) ≡ false
-      → (opening_by c l p (ps ++ qs) (opening_in l (ps ++ qs)) ≡ opening_in l qs) × (seals_by c l p (sealed_in l (ps ++ qs)) ≡ sealed_in l qs)
+      → (opening_by c l p (ps ++ qs) (opening_in l (ps ++ qs)) ≡ opening_in l qs)
+      × (seals_by c l p (sealed_in l (ps ++ qs)) ≡ sealed_in l qs)
   pending_by Okay p ps qs h e f = go (nat_eq p.arg1 l && not (eqb p.arg0 0)) e f
     where
       go : (b : Bool) → cond b (Some (record { remote = p.arg0; word = credit_word p.payload; later = ps })) (opening_in l ps) ≡ None
           → cond b false (sealed_in l ps) ≡ false
-          → (cond b (Some (record { remote = p.arg0; word = credit_word p.payload; later = ps ++ qs })) (opening_in l (ps ++ qs)) ≡ opening_in l qs)
+          → (cond b (Some (record { remote = p.arg0; word = credit_word p.payload; later = ps ++ qs }))
+          (opening_in l (ps ++ qs)) ≡ opening_in l qs)
           × (cond b false (sealed_in l (ps ++ qs)) ≡ sealed_in l qs)
       go true e f = absurd (some (record { remote = p.arg0; word = credit_word p.payload; later = ps }) e)
         where
@@ -111,7 +116,8 @@ module _ (l : ℕ) where
   pending_by Cnxn p ps qs h e f = absurd (let clash : true ≡ false = f in cc)
   pending_by _ p ps qs h e f = h (e, f)
 
-  pub pending_more : (ps qs : List Packet) → IsPending ps → (opening_in l (ps ++ qs) ≡ opening_in l qs) × (sealed_in l (ps ++ qs) ≡ sealed_in l qs)
+  pub pending_more : (ps qs : List Packet) → IsPending ps → (opening_in l (ps ++ qs) ≡ opening_in l qs)
+      × (sealed_in l (ps ++ qs) ≡ sealed_in l qs)
   pending_more [] qs e = (refl, refl)
   pending_more (p ∷ ps) qs e = pending_by p.command p ps qs (pending_more ps qs) e.0 e.1
 
@@ -121,7 +127,8 @@ module _ (l : ℕ) where
   named_by Okay p ps h o e named = go (nat_eq p.arg1 l) (eqb p.arg0 0) refl e named
     where
       go : (a b : Bool) → eqb p.arg0 0 ≡ b
-          → cond (a && not b) (Some (record { remote = p.arg0; word = credit_word p.payload; later = ps })) (opening_in l ps) ≡ Some o → o.remote ≢ 0
+          → cond (a && not b) (Some (record { remote = p.arg0; word = credit_word p.payload; later = ps }))
+          (opening_in l ps) ≡ Some o → o.remote ≢ 0
       go true false f e same = eqb-false p.arg0 0 f (ap remote_of e ∙ same)
         where
           remote_of : Option Opening → ℕ
@@ -155,7 +162,8 @@ module _ (l : ℕ) where
       go (Some x) is e = absurd (opening_named ps x is e)
 
   -- an id that was told stays
-  pub remote_stays : (ps qs : List Packet) → remote_in (opening_in l ps) ≢ 0 → remote_in (opening_in l (ps ++ qs)) ≡ remote_in (opening_in l ps)
+  pub remote_stays : (ps qs : List Packet) → remote_in (opening_in l ps) ≢ 0
+      → remote_in (opening_in l (ps ++ qs)) ≡ remote_in (opening_in l ps)
   remote_stays ps qs some =
       let there = remote_some (opening_in l ps) some in
       ap remote_in (opening_stays ps qs there.0 there.1) ∙ sym (ap remote_in there.1)
@@ -179,7 +187,8 @@ module _ (l : ℕ) where
   nothing_one : (c : Command) (p : Packet) → SaysNothing c l p → (opening_by c l p [] None ≡ None) × (seals_by c l p false ≡ false)
   nothing_one Okay p apart =
       let e : nat_eq p.arg1 l ≡ false = ne_eqb p.arg1 l apart in (
-        ap (λ (b : Bool). cond (b && not (eqb p.arg0 0)) (Some (record { remote = p.arg0; word = credit_word p.payload; later = [] })) None) e,
+        ap (λ (b : Bool). cond (b && not (eqb p.arg0 0))
+            (Some (record { remote = p.arg0; word = credit_word p.payload; later = [] })) None) e,
         ap (λ (b : Bool). cond (b && not (eqb p.arg0 0)) false false) e,
       )
   nothing_one Clse p apart =

@@ -1,5 +1,6 @@
 -- What a device wrote while its stream lived became due.
-use Rattle.std.proofs.Common.{◌≡◌, ℕ, ◌<◌, ◌≤◌, zero, suc, Bool, true, false, cond, List, [], ◌∷◌, ◌++◌, length, drop, Option, Some, None, is_some}
+use Rattle.std.proofs.Common.{◌≡◌, ℕ, ◌<◌, ◌≤◌, zero, suc, Bool, true, false, cond, List, [], ◌∷◌, ◌++◌, length, drop, Option, Some, None}
+use Rattle.std.proofs.Common.{is_some}
 use Rattle.std.proofs.Common.{refl, sym, ap, subst, ◌∙◌, append_assoc, arith, inl, inr, ◌⊎◌}
 use Rattle.std.proofs.lemmas.List.{append-nil, append_cancel_left, length-append}
 use Rattle.std.specs.Prelude.{option_map}
@@ -78,7 +79,8 @@ module _ (h : History) (legal : IsLegal h) (l : ℕ) (b : Birth) (is : born l h 
           → LivesIn (option_map seen row) l f.cradle (since b h) (is_shut b.link h) (heard f.holds.seen)
           → IsDueBehind (first_of b h) (joined (told_to l b h)) (output_of b.client h)
       by None gone i =
-          let clash : false ≡ true = sym (ap is_some lives) ∙ (all_endings h legal l).gone gone (id l is) f.holds.shows.0.born in absurd (cc)
+          let clash : false ≡ true = sym (ap is_some lives) ∙ (all_endings h legal l).gone gone (id l is)
+          f.holds.shows.0.born in absurd (cc)
       by (Some stream) kept i = alive stream.part.orphan stream.part.remote ((all_endings h legal l).kept stream kept) i
 
 -- ---- it goes on
@@ -108,9 +110,11 @@ drop_all [] = refl
 drop_all (x ∷ xs) = drop_all xs
 
 -- at its birth its link has brought nothing of it
-born_behind : (l : ℕ) (b : Birth) (e : Entry) (older : History) → births_at e older ≡ b ∷ [] → b.packets_before ≡ length (brought b.link older)
+born_behind : (l : ℕ) (b : Birth) (e : Entry) (older : History) → births_at e older ≡ b ∷ []
+    → b.packets_before ≡ length (brought b.link older)
 born_behind l b (Read c bytes) older is =
-    let by = by_request c (asked c (Read c bytes ∷ older)).used older (newly (asked c older).next (asked c (Read c bytes ∷ older)).next) b is in
+    let by = by_request c (asked c (Read c bytes ∷ older)).used older
+    (newly (asked c older).next (asked c (Read c bytes ∷ older)).next) b is in
     ap (λ (x : Birth). x.packets_before) by.birth ∙ ap (λ (t : ℕ). length (brought t older)) (sym (ap (λ (x : Birth). x.link) by.birth))
 born_behind l b (Enter c port) older is =
     let by = by_forward c older (at port (forwards older)) b is in
@@ -139,7 +143,8 @@ was_due (e ∷ older) legal l b is = go (ending_of l older) refl (ending_in l (t
         → IsDueBehind (first_of b (e ∷ older)) (joined (told_to l b (cond (is_some (ending_of l older)) (lived l older)
         (cond (is_some (ending_in l (told_at e older))) older (e ∷ older))))) (output_of b.client (e ∷ older))
     go (Some x) ended now at_now (inr new) rest = absurd (let clash : None ≡ Some x = sym (unended l b e older legal.0 new) ∙ ended in cc)
-    go (Some x) ended now at_now (inl was) rest = rw ended (due_on e older legal.0 l b was (joined (told_to l b (lived l older))) (rest was))
+    go (Some x) ended now at_now (inl was) rest =
+        rw ended (due_on e older legal.0 l b was (joined (told_to l b (lived l older))) (rest was))
     go None none (Some y) ended (inl was) rest =
         rw none (rw ended (due_on e older legal.0 l b was (joined (told_to l b older)) (due_alive older legal.0 l b was none)))
     go None none (Some y) ended (inr new) rest = rw none (rw ended (inl (nothing_told l b e older new)))
@@ -164,7 +169,8 @@ none_alive k told output (inr (rest, is)) which = by k.forwarded refl which
         let front : (k.replies ++ told) ++ rest ≡ output = ap (λ (x : Bool). (okay_after x k.replies ++ told) ++ rest) (sym e) ∙ is in
         empty told (short front which)
       where
-        short : (k.replies ++ told) ++ rest ≡ output → (output ≡ k.replies) ⊎ (output ≡ unopened_output k.forwarded k.replies) → length told ≤ 0
+        short : (k.replies ++ told) ++ rest ≡ output → (output ≡ k.replies)
+            ⊎ (output ≡ unopened_output k.forwarded k.replies) → length told ≤ 0
         short front (inl out) =
             omega (arith, ap length (front ∙ out), length-append (k.replies ++ told) rest, length-append k.replies told)
         short front (inr out) =
@@ -185,7 +191,8 @@ none_alive k told output (inr (rest, is)) which = by k.forwarded refl which
         ∙ (ap (λ (x : Bool). (okay_after x k.replies ++ told) ++ rest) (sym e) ∙ is) in
         absurd (opened_not_closed k.replies told rest true (front ∙ (out ∙ ap (λ (x : Bool). unopened_output x k.replies) e)))
 
-pub past_alive : (k : Cradle) (told output bytes : List ℕ) → IsDueBehind (lead k) told output → output ≡ lead k ++ bytes → IsPrefixOf told bytes
+pub past_alive : (k : Cradle) (told output bytes : List ℕ) → IsDueBehind (lead k) told output
+    → output ≡ lead k ++ bytes → IsPrefixOf told bytes
 past_alive k told output bytes (inl none) is = (bytes, ap (λ (x : List ℕ). x ++ bytes) none)
 past_alive k told output bytes (inr (rest, front)) is =
     (rest, append_cancel_left (lead k) (told ++ rest) bytes (sym (append_assoc (lead k) told rest) ∙ (front ∙ is)))

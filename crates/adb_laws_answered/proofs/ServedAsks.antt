@@ -1,5 +1,6 @@
 -- A client asks for a stream: it is born, and the client waits for it; or no id is left.
-use Rattle.std.proofs.Common.{◌≡◌, ◌≢◌, ℕ, ◌+◌, suc, min, Bool, true, false, cond, not, List, [], ◌∷◌, ◌++◌, length, Option, Some, None, refl, sym, ap, subst}
+use Rattle.std.proofs.Common.{◌≡◌, ◌≢◌, ℕ, ◌+◌, suc, min, Bool, true, false, cond, not, List, [], ◌∷◌, ◌++◌, length, Option, Some, None}
+use Rattle.std.proofs.Common.{refl, sym, ap, subst}
 use Rattle.std.proofs.Common.{◌∙◌}
 use Rattle.std.proofs.Common.{append_assoc, arith, eqb, inl, inr, ◌⊎◌}
 use Rattle.std.proofs.lemmas.Bool.{eq-eqb, eqb-true, eqb-false}
@@ -91,10 +92,12 @@ module _ (c : ℕ) (older : History) (legal : IsLegal older) (bytes : List ℕ) 
 
     pub births_now : births_at (Read c bytes) older ≡ birth ∷ []
     births_now =
-        ap (λ (o : Option Next). birth_by c (asked c now).used older (newly o (asked c now).next)) (open_next c older legal bytes may client is asking)
+        ap (λ (o : Option Next). birth_by c (asked c now).used older (newly o (asked c now).next))
+        (open_next c older legal bytes may client is asking)
         ∙ ap (λ (o : Option Next). birth_by c (asked c now).used older o) next_now
 
-    module _ (h : Answers c (heard c older) s.devices s w) (fresh : IsFresh (λ n. has_joined n older) s w) (came : has_joined c older ≡ true)
+    module _ (h : Answers c (heard c older) s.devices s w) (fresh : IsFresh (λ n. has_joined n older) s w)
+        (came : has_joined c older ≡ true)
         (drawn : s.drawn ≡ min (length (births older)) stream_ids) where
       pub owned : IsOwned (rule (Read c bytes) s).state
       owned = moves.rule_kept owned_moves (Read c bytes) s w (begins_owned s h.owned (Read c bytes) w may)
@@ -122,10 +125,12 @@ module _ (c : ℕ) (older : History) (legal : IsLegal older) (bytes : List ℕ) 
         owned = owned;
         row = λ y is. closed (to_client c (with_due no_ids_reply) left).clients y is;
         told = out_with (due_to_client c no_ids_reply ∷ [])
-            ∙ ap (λ x. (asked c now).replies ++ x) (ap (λ (b : Bool). cond b no_ids_reply [] ++ []) (eq-eqb c c refl) ∙ append-nil no_ids_reply);
+            ∙ ap (λ x. (asked c now).replies ++ x)
+            (ap (λ (b : Bool). cond b no_ids_reply [] ++ []) (eq-eqb c c refl) ∙ append-nil no_ids_reply);
       }
         where
-          closed : (clients : Rows (Option Client)) (y : Client) → change_row c (option_and_then closing) clients c ≡ Some y → y.about.phase ≡ Closing
+          closed : (clients : Rows (Option Client)) (y : Client)
+              → change_row c (option_and_then closing) clients c ≡ Some y → y.about.phase ≡ Closing
           closed clients y is =
               go (clients c) (sym (ap (λ (b : Bool). cond b (option_and_then closing (clients c)) (clients c)) (eq-eqb c c refl)) ∙ is)
             where
@@ -159,7 +164,8 @@ module _ (c : ℕ) (older : History) (legal : IsLegal older) (bytes : List ℕ) 
           let same : new ≡ y = (let both : Some new ≡ Some y = sym there ∙ at_id in cc) in
           record {
             client = ap (λ (z : Stream). z.client) (sym same);
-            live = λ o e. ending_append id w given.told ∙ none_first (ending_in id w) (ending_in id given.told) (fresh.unended id (omega arith)) refl;
+            live = λ o e. ending_append id w given.told ∙ none_first (ending_in id w) (ending_in id given.told)
+                (fresh.unended id (omega arith)) refl;
           }
 
       given_served : IsOwned given.state → IsServed false c id (asked c now).replies given.state (w ++ given.told)
@@ -183,14 +189,17 @@ module _ (c : ℕ) (older : History) (legal : IsLegal older) (bytes : List ℕ) 
           → IsGiven c now (asked c now).replies (rule (Read c bytes) s).state (w ++ (rule (Read c bytes) s).told)
           ⊎ IsRefused c now (asked c now).replies (rule (Read c bytes) s).state (w ++ (rule (Read c bytes) s).told)
       asks_stream_now none =
-          subst (λ (m : Made). IsGiven c now (asked c now).replies m.state (w ++ m.told) ⊎ IsRefused c now (asked c now).replies m.state (w ++ m.told))
+          subst (λ (m : Made). IsGiven c now (asked c now).replies m.state (w ++ m.told)
+          ⊎ IsRefused c now (asked c now).replies m.state (w ++ m.told))
           (sym made_so) (go (eqb s.drawn stream_ids) refl (subst (λ (m : Made). IsOwned m.state) made_so owned))
         where
           by : Bool → Made
-          by b = then_also (owe_client c p.replies (to_client c (has_asked p) s)) (λ x. cond b (no_ids_left false c x) (asks_for (s.drawn + 1) c t service x))
+          by b = then_also (owe_client c p.replies (to_client c (has_asked p) s))
+              (λ x. cond b (no_ids_left false c x) (asks_for (s.drawn + 1) c t service x))
 
           go : (b : Bool) → eqb s.drawn stream_ids ≡ b → IsOwned (by b).state
-              → IsGiven c now (asked c now).replies (by b).state (w ++ (by b).told) ⊎ IsRefused c now (asked c now).replies (by b).state (w ++ (by b).told)
+              → IsGiven c now (asked c now).replies (by b).state (w ++ (by b).told)
+              ⊎ IsRefused c now (asked c now).replies (by b).state (w ++ (by b).told)
           go true e owned = inr (record { none = refused_none (eqb-true s.drawn stream_ids e) none; done = refused_done owned })
           go false e owned = inl (record {
             stream = id;

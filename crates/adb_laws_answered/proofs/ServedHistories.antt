@@ -1,5 +1,6 @@
 -- In every legal history a client that came by itself and asked for a stream is served by it.
-use Rattle.std.proofs.Common.{◌≡◌, ◌≢◌, ℕ, ◌≤◌, ◌<◌, zero, suc, min, Bool, true, false, ◌||◌, List, [], ◌∷◌, ◌++◌, length, Option, Some, None, refl, sym, ap}
+use Rattle.std.proofs.Common.{◌≡◌, ◌≢◌, ℕ, ◌≤◌, ◌<◌, zero, suc, min, Bool, true, false, ◌||◌, List, [], ◌∷◌, ◌++◌, length, Option, Some}
+use Rattle.std.proofs.Common.{None, refl, sym, ap}
 use Rattle.std.proofs.Common.{subst, ◌∙◌}
 use Rattle.std.proofs.Common.{append_assoc, arith, eqb, inl, inr, ◌⊎◌}
 use Rattle.std.proofs.lemmas.Bool.{eqb-true, eqb-false}
@@ -67,7 +68,8 @@ pub record IsSilent (c : ℕ) (e : Entry) (older : History) : Type 0 where
   pub none : (l : ℕ) (b : Birth) → IsBornNow l b e older → b.client ≢ c
 
 -- an entry that has no births of it
-pub apart_births : (c : ℕ) (e : Entry) (older : History) → ((n : ℕ) → IsBirthOf e n → n ≢ c) → (l : ℕ) (b : Birth) → IsBornNow l b e older → b.client ≢ c
+pub apart_births : (c : ℕ) (e : Entry) (older : History) → ((n : ℕ) → IsBirthOf e n → n ≢ c) → (l : ℕ) (b : Birth)
+    → IsBornNow l b e older → b.client ≢ c
 apart_births c e older apart l b new = apart b.client (birth_of e older new.place b new.is)
 
 silent_same : (c : ℕ) (e : Entry) (older : History) → (asked c (e ∷ older)).next ≡ (asked c older).next
@@ -153,7 +155,8 @@ module _ (c : ℕ) (older : History) (legal : IsLegal older) (came : has_joined 
     none_before h = subst (λ (o : Option Next). ServedIn (asks_stream o) c older) (open_next c older legal bytes may client is asking) h
 
     -- the up rule behind it
-    given_up : IsGiven c now (asked c now).replies ruled.state (told older ++ ruled.told) → IsGiven c now (asked c now).replies (state now) (told now)
+    given_up : IsGiven c now (asked c now).replies ruled.state (told older ++ ruled.told)
+        → IsGiven c now (asked c now).replies (state now) (told now)
     given_up g =
         let kept = client_ups (served_client c g.stream (asked c now).replies) ruled.state (told older ++ ruled.told) (g.heard, g.served) in
         record {
@@ -167,7 +170,8 @@ module _ (c : ℕ) (older : History) (legal : IsLegal older) (came : has_joined 
               (append_assoc (told older) ruled.told (ups ruled.state).told) kept.1;
         }
 
-    refused_up : IsRefused c now (asked c now).replies ruled.state (told older ++ ruled.told) → IsRefused c now (asked c now).replies (state now) (told now)
+    refused_up : IsRefused c now (asked c now).replies ruled.state (told older ++ ruled.told)
+        → IsRefused c now (asked c now).replies (state now) (told now)
     refused_up r = record {
       none = r.none;
       done = subst (λ (v : List Event). IsDone c ((asked c now).replies ++ no_ids_reply) (state now) v)
@@ -177,7 +181,8 @@ module _ (c : ℕ) (older : History) (legal : IsLegal older) (came : has_joined 
 
     by_next : (b : Bool) → asks_stream (asked c now).next ≡ b → Before → ServedIn b c now
     by_next false e h = still_none c (Read c bytes) older (λ l b new. absurd (none_at new.place b (births_at (Read c bytes) older)
-        (ap (λ (o : Option Next). birth_by c (asked c now).used older (newly o (asked c now).next)) (open_next c older legal bytes may client is asking)
+        (ap (λ (o : Option Next). birth_by c (asked c now).used older (newly o (asked c now).next))
+        (open_next c older legal bytes may client is asking)
         ∙ no_birth c (asked c now).used older (asked c now).next e) new.is)) (none_before h)
     by_next true e h = go (asks_stream_now c older legal bytes may client is asking request.transport request.service request.is
         (all_answers older legal c came) (all_fresh older legal) came drawn (none_before h))
@@ -194,14 +199,16 @@ module _ (c : ℕ) (older : History) (legal : IsLegal older) (came : has_joined 
     asks_served : Before → After_with (Read c bytes)
     asks_served h = by_next (asks_stream (asked c now).next) refl h
 
-  module _ (bytes : List ℕ) (may : May (state older) (Read c bytes)) (drawn : (state older).drawn ≡ min (length (births older)) stream_ids) where
+  module _ (bytes : List ℕ) (may : May (state older) (Read c bytes))
+      (drawn : (state older).drawn ≡ min (length (births older)) stream_ids) where
     own_served : Before → After_with (Read c bytes)
     own_served h = go ((state older).clients c) refl
       where
         idle : (said c older).asking ≡ false → After_with (Read c bytes)
         idle e = served_silent (Read c bytes) may (silent_idle c older legal bytes may e) h
 
-        by : (client : Client) → (state older).clients c ≡ Some client → (b : Bool) → asks_in client.about.phase ≡ b → After_with (Read c bytes)
+        by : (client : Client) → (state older).clients c ≡ Some client → (b : Bool) → asks_in client.about.phase ≡ b
+            → After_with (Read c bytes)
         by client is true e = asks_served bytes may client is (asks_asking client.about.phase e) drawn h
         by client is false e = idle (sym ((booked older legal).clients may.0 c).asks ∙ (ap asks_now is ∙ e))
 
@@ -221,14 +228,16 @@ module _ (c : ℕ) (older : History) (legal : IsLegal older) (came : has_joined 
       (own_served bytes (subst (λ (m : ℕ). May (state older) (Read m bytes)) (eqb-true n c e) may) b.drawn h)
 
   served_entry : (e : Entry) → May (state older) e → HasBirths older → Before → After_with e
-  served_entry (Enter n port) may b h = served_silent (Enter n port) may (silent_same c (Enter n port) older refl refl (enter_apart n port may)) h
+  served_entry (Enter n port) may b h = served_silent (Enter n port) may
+      (silent_same c (Enter n port) older refl refl (enter_apart n port may)) h
   served_entry (Read n bytes) may b h = read_served n bytes may b (eqb n c) refl h
   served_entry (Bound n port) may b h = served_silent (Bound n port) may (silent_bound c n port older) h
   served_entry e may b h = served_silent e may (silent_same c e older refl refl (λ m of. absurd of)) h
 
 -- ---- all histories
 -- who comes has no stream yet
-new_served : (c : ℕ) (older : History) → IsLegal older → May (state older) (Join c) → ServedIn (asks_stream (asked c (Join c ∷ older)).next) c (Join c ∷ older)
+new_served : (c : ℕ) (older : History) → IsLegal older → May (state older) (Join c)
+    → ServedIn (asks_stream (asked c (Join c ∷ older)).next) c (Join c ∷ older)
 new_served c older legal may =
     let above : came_count older < c = omega (arith, may.1, (counted older).joined) in
     subst (λ (q : Asked). ServedIn (asks_stream q.next) c (Join c ∷ older)) (sym (all_unheard older legal c above).asked)

@@ -10,7 +10,8 @@ use Rattle.adb_history.specs.Bytes.{has_joined, has_failed}
 use Rattle.adb_history.specs.Book.{asked}
 use Rattle.adb_history.specs.Births.{since}
 use Rattle.adb_history.specs.Lives.{output_of, ending_of}
-use Rattle.adb_history.specs.Answered.{tells_closed, closed_reply, is_heard, FollowsTold, FollowsOpen, IsStreamOf, AnswersOpen, IsBehindReplies}
+use Rattle.adb_history.specs.Answered.{tells_closed, closed_reply, is_heard, FollowsTold, FollowsOpen, IsStreamOf, AnswersOpen}
+use Rattle.adb_history.specs.Answered.{IsBehindReplies}
 use Rattle.adb_history.specs.Answered.{RepliesOfStream, HasStreamAlone, IsAnswered}
 use Rattle.adb_laws_answered.specs.Heard.{asks_stream}
 use Rattle.adb_laws_answered.specs.Served.{OutBy, no_ids_reply, IsGiven, IsRefused, ServedIn, IsEntered, IsLeftOut, HearsAsTold}
@@ -28,7 +29,8 @@ abbrev ShownBy : Bool → (replies out : List ℕ) → Type 0
 ShownBy false replies out = (closed : Bool) × (out ≡ replies ++ closed_reply closed)
 ShownBy true replies out = (bytes : List ℕ) × (out ≡ replies ++ (okay ++ bytes))
 
-shown_out : (heard : Bool) (x : Subject) (seen : Seen) (s : State) (w : List Event) → IsShown heard x seen s w → ShownBy heard x.replies (owed_to x.client w)
+shown_out : (heard : Bool) (x : Subject) (seen : Seen) (s : State) (w : List Event) → IsShown heard x seen s w
+    → ShownBy heard x.replies (owed_to x.client w)
 shown_out false x seen s w n = (n.out.closed, n.out.out_is)
 shown_out true x seen s w n = (n.out.bytes, n.out.out_is)
 
@@ -54,11 +56,13 @@ module _ (h : History) (legal : IsLegal h) where
     known g = all_shown h legal g.stream g.birth g.born g.alone (subst (λ (n : ℕ). has_joined n h ≡ true) (sym g.client) came)
 
     -- it heard that its stream is open
-    given_heard : (g : IsGiven c h (asked c h).replies (state h) (told h)) → is_heard g.stream g.birth h ≡ true → IsBehindReplies h c (AnswersOpen h c)
+    given_heard : (g : IsGiven c h (asked c h).replies (state h) (told h)) → is_heard g.stream g.birth h ≡ true
+        → IsBehindReplies h c (AnswersOpen h c)
     given_heard g e =
         let n = known g in
         let heard = opened_out n.heard (asked g.birth.client h).replies (output_of g.birth.client h)
-        (shown_out n.heard (subject_of g.stream g.birth h (may_hear g.stream g.birth h) (has_failed g.birth.client h)) (seen g.stream (since g.birth h))
+        (shown_out n.heard (subject_of g.stream g.birth h (may_hear g.stream g.birth h) (has_failed g.birth.client h))
+        (seen g.stream (since g.birth h))
         (state h) (told h) n.shown) (n.is ∙ e) in
         record {
           after = okay ++ heard.0;
@@ -88,7 +92,8 @@ module _ (h : History) (legal : IsLegal h) where
     given_unheard g e true (bytes, out) =
         let n = known g in
         let closed = unopened_out n.heard (asked g.birth.client h).replies (output_of g.birth.client h)
-        (shown_out n.heard (subject_of g.stream g.birth h (may_hear g.stream g.birth h) (has_failed g.birth.client h)) (seen g.stream (since g.birth h))
+        (shown_out n.heard (subject_of g.stream g.birth h (may_hear g.stream g.birth h) (has_failed g.birth.client h))
+        (seen g.stream (since g.birth h))
         (state h) (told h) n.shown) (n.is ∙ e) in
         absurd (opened_not_closed (asked c h).replies bytes [] closed.0 (append-nil ((asked c h).replies ++ (okay ++ bytes))
         ∙ (sym out ∙ subst (λ (n : ℕ). output_of n h ≡ (asked n h).replies ++ closed_reply closed.0) g.client closed.1)))

@@ -1,5 +1,6 @@
 -- What a client is handed that asked for a stream, through each rule in which it asks nothing.
-use Rattle.std.proofs.Common.{◌≡◌, ◌≢◌, ℕ, ◌+◌, ◌≤◌, Bool, true, false, cond, List, [], ◌∷◌, ◌++◌, length, Option, Some, None, refl, sym, ap, subst, ◌∙◌, eqb}
+use Rattle.std.proofs.Common.{◌≡◌, ◌≢◌, ℕ, ◌+◌, ◌≤◌, Bool, true, false, cond, List, [], ◌∷◌, ◌++◌, length, Option, Some, None, refl, sym}
+use Rattle.std.proofs.Common.{ap, subst, ◌∙◌, eqb}
 use Rattle.std.proofs.Common.{arith, inl}
 use Rattle.std.proofs.lemmas.Bool.{ne_eqb, eqb-true, eqb-false, eq-eqb}
 use Rattle.std.proofs.lemmas.List.{append-nil}
@@ -36,10 +37,12 @@ use Rattle.adb_history.proofs.OwnedMoves.{client_of}
 use Rattle.adb_history.proofs.OwnedStep.{owned_moves}
 use Rattle.adb_history.specs.Turns.{everywhere, IsOpenedBy, Turns}
 use Rattle.adb_laws_answered.specs.Served.{PhaseFor, RowServed, OutBy, IsItsOwn, IsServed}
-use Rattle.adb_laws_answered.proofs.ToldOthers.{quiet_after, owed_other, hears_owed, all_stop_owed, stopped_none, owned_opened, forgets_owned}
+use Rattle.adb_laws_answered.proofs.ToldOthers.{quiet_after, owed_other, hears_owed, all_stop_owed, stopped_none, owned_opened}
+use Rattle.adb_laws_answered.proofs.ToldOthers.{forgets_owned}
 use Rattle.adb_laws_answered.proofs.SteadyRows.{at_like, at_apart, at_none, at_closing, at_due, at_hands, at_marked}
 use Rattle.adb_laws_answered.proofs.Endings.{hears_ending, all_stop_ending, all_end_by}
-use Rattle.adb_laws_answered.proofs.ServedMoves.{steady, own_part, own_none, out_quiet, out_heard, still_alive, its_client, ends_served, phase_waiting, phase_open}
+use Rattle.adb_laws_answered.proofs.ServedMoves.{steady, own_part, own_none, out_quiet, out_heard, still_alive, its_client, ends_served}
+use Rattle.adb_laws_answered.proofs.ServedMoves.{phase_waiting, phase_open}
 
 -- ---- links
 module _ (heard : Bool) (c l : ℕ) (replies : List ℕ) where
@@ -67,7 +70,8 @@ module _ (heard : Bool) (c l : ℕ) (replies : List ℕ) where
         out = kept.out;
       })
 
-  ends_first_served : (b : Bool) (t : ℕ) (s : State) (w : List Event) → S s w → After (λ s w. IsServed heard c l replies s w) w (streams_end_first b t s)
+  ends_first_served : (b : Bool) (t : ℕ) (s : State) (w : List Event) → S s w
+      → After (λ s w. IsServed heard c l replies s w) w (streams_end_first b t s)
   ends_first_served true t s w h = all_end_served t Lost s w refl h
   ends_first_served false t s w h = after_quietly (λ s w. IsServed heard c l replies s w) w s h
 
@@ -104,7 +108,8 @@ module _ (c l k remote : ℕ) (word : Option ℕ) (stream : Stream) where
     hears : Made
     hears = hears_okay (s.clients stream.client) stream.client s
 
-    hears_rows : (o : Option Client) (client : Client) → (hears_okay o stream.client s).state.clients c ≡ Some client → RowServed l heard client
+    hears_rows : (o : Option Client) (client : Client) → (hears_okay o stream.client s).state.clients c ≡ Some client
+        → RowServed l heard client
     hears_rows None = h.row
     hears_rows (Some x) = due x.about.forwarded
       where
@@ -114,19 +119,23 @@ module _ (c l k remote : ℕ) (word : Option ℕ) (stream : Stream) where
         due false = at_due (steady l heard) c stream.client (codes "OKAY") s.clients h.row
 
     -- the stream of another client opens
-    opened_apart : stream.client ≢ c → IsServed heard c l replies (opened k remote word stream s).state (w ++ (opened k remote word stream s).told)
+    opened_apart : stream.client ≢ c → IsServed heard c l replies (opened k remote word stream s).state
+        (w ++ (opened k remote word stream s).told)
     unfolding part_now hears
     opened_apart apart =
         let e : eqb stream.client c ≡ false = ne_eqb stream.client c apart in
         quiet_after (λ s w. IsServed heard c l replies s w) w hears.told (open_now k remote word stream hears.state) (record {
           owned = owned_opened k remote word stream s is by h.owned;
-          row = at_apart (steady l heard) c stream.client (in_phase (Streaming k)) hears.state.clients apart (hears_rows (s.clients stream.client));
+          row = at_apart (steady l heard) c stream.client (in_phase (Streaming k)) hears.state.clients apart
+              (hears_rows (s.clients stream.client));
           own = subst (λ (x : State). (y : Stream) → change_row k (option_and_then (with_stream_part part_now)) x.streams l ≡ Some y
-              → IsItsOwn c (heard ≡ false → ending_in l (w ++ hears.told) ≡ None) y) (sym (hears_streams (s.clients stream.client) stream.client s))
+              → IsItsOwn c (heard ≡ false → ending_in l (w ++ hears.told) ≡ None) y)
+              (sym (hears_streams (s.clients stream.client) stream.client s))
               (own_part l c (heard ≡ false → ending_in l (w ++ hears.told) ≡ None) k stream part_now s.streams is refl
               (λ y at_l. (let was = h.own y at_l in record {
                 client = was.client;
-                live = λ o. still_alive c l replies heard w hears.told (hears_ending l (s.clients stream.client) stream.client s) (was.live o);
+                live = λ o. still_alive c l replies heard w hears.told
+                    (hears_ending l (s.clients stream.client) stream.client s) (was.live o);
               })));
           drawn = subst (λ (x : State). l ≤ x.drawn) (sym (hears_streams (s.clients stream.client) stream.client s)) h.drawn;
           out = out_quiet c l replies heard w hears.told (hears_owed c (s.clients stream.client) stream.client s e)
@@ -157,7 +166,9 @@ module _ (c l k remote : ℕ) (word : Option ℕ) (stream : Stream) where
     out_own : owed_to c (w ++ (hears_okay (s.clients stream.client) stream.client s).told) ≡ replies ++ (okay ++ [])
     out_own = owed_append c w (hears_okay (s.clients stream.client) stream.client s).told
         ∙ (ap (λ x. owed_to c w ++ x) told_own
-        ∙ (ap (λ x. x ++ okay) (h.out ∙ (ap (λ (o : Option Ending). replies ++ closed_reply (tells_closed o)) alive_own ∙ append-nil replies))
+        ∙ (ap (λ x. x ++ okay)
+        (h.out ∙ (ap (λ (o : Option Ending). replies ++ closed_reply (tells_closed o)) alive_own
+        ∙ append-nil replies))
         ∙ ap (λ x. replies ++ x) (sym (append-nil okay))))
 
     streaming_own : (x y : Client) → in_phase (Streaming k) x ≡ Some y → RowServed l false x → RowServed l true y
@@ -169,7 +180,8 @@ module _ (c l k remote : ℕ) (word : Option ℕ) (stream : Stream) where
         → (y : Client) → change_row stream.client (option_and_then (in_phase (Streaming k))) clients c ≡ Some y → RowServed l true y
     row_own clients was y at_c =
         go (clients c) refl
-        (sym (ap (λ (b : Bool). cond b (option_and_then (in_phase (Streaming k)) (clients c)) (clients c)) (eq-eqb stream.client c same)) ∙ at_c)
+        (sym (ap (λ (b : Bool). cond b (option_and_then (in_phase (Streaming k)) (clients c)) (clients c))
+        (eq-eqb stream.client c same)) ∙ at_c)
       where
         go : (o : Option Client) → clients c ≡ o → option_and_then (in_phase (Streaming k)) o ≡ Some y → RowServed l true y
         go None here e = absurd (let clash : None ≡ Some y = e in cc)
@@ -177,16 +189,18 @@ module _ (c l k remote : ℕ) (word : Option ℕ) (stream : Stream) where
 
     pub opened_own : IsServed true c l replies (opened k remote word stream s).state (w ++ (opened k remote word stream s).told)
     unfolding part_now hears_own
-    opened_own = quiet_after (λ s w. IsServed true c l replies s w) w hears_own.told (open_now k remote word stream hears_own.state) (record {
-      owned = owned_opened k remote word stream s is by h.owned;
-      row = row_own hears_own.state.clients (hears_rows false replies s w is by h (s.clients stream.client));
-      own = subst (λ (x : State). (y : Stream) → change_row k (option_and_then (with_stream_part part_now)) x.streams l ≡ Some y
-          → IsItsOwn c (true ≡ false → ending_in l (w ++ hears_own.told) ≡ None) y) (sym (hears_streams (s.clients stream.client) stream.client s))
-          (own_part l c (true ≡ false → ending_in l (w ++ hears_own.told) ≡ None) k stream part_now s.streams is refl
-          (λ y at_l. record { client = (h.own y at_l).client; live = λ o e. absurd (let clash : true ≡ false = e in cc) }));
-      drawn = subst (λ (x : State). l ≤ x.drawn) (sym (hears_streams (s.clients stream.client) stream.client s)) h.drawn;
-      out = ([], out_own);
-    })
+    opened_own = quiet_after (λ s w. IsServed true c l replies s w) w hears_own.told
+        (open_now k remote word stream hears_own.state) (record {
+          owned = owned_opened k remote word stream s is by h.owned;
+          row = row_own hears_own.state.clients (hears_rows false replies s w is by h (s.clients stream.client));
+          own = subst (λ (x : State). (y : Stream) → change_row k (option_and_then (with_stream_part part_now)) x.streams l ≡ Some y
+              → IsItsOwn c (true ≡ false → ending_in l (w ++ hears_own.told) ≡ None) y)
+              (sym (hears_streams (s.clients stream.client) stream.client s))
+              (own_part l c (true ≡ false → ending_in l (w ++ hears_own.told) ≡ None) k stream part_now s.streams is refl
+              (λ y at_l. record { client = (h.own y at_l).client; live = λ o e. absurd (let clash : true ≡ false = e in cc) }));
+          drawn = subst (λ (x : State). l ≤ x.drawn) (sym (hears_streams (s.clients stream.client) stream.client s)) h.drawn;
+          out = ([], out_own);
+        })
 
 -- a client that asked for a stream, whether it heard that it is open or not
 abbrev pub IsServedSo : (c l : ℕ) → List ℕ → State → List Event → Type 0
@@ -196,7 +210,8 @@ module _ (c l : ℕ) (replies : List ℕ) where
   abbrev P : State → List Event → Type 0
   P s w = IsServedSo c l replies s w
 
-  opened_served : (k remote : ℕ) (word : Option ℕ) (stream : Stream) (s : State) (w : List Event) → s.streams k ≡ Some stream → IsOpenedBy remote stream
+  opened_served : (k remote : ℕ) (word : Option ℕ) (stream : Stream) (s : State) (w : List Event)
+      → s.streams k ≡ Some stream → IsOpenedBy remote stream
       → P s w → After (λ s w. IsServedSo c l replies s w) w (opened k remote word stream s)
   opened_served k remote word stream s w is by (heard, h) = go (eqb stream.client c) refl heard h
     where
@@ -205,16 +220,19 @@ module _ (c l : ℕ) (replies : List ℕ) where
       go false e heard h = (heard, opened_apart c l k remote word stream heard replies s w is by h (eqb-false stream.client c e))
       go true e false h = (true, opened_own c l k remote word stream replies s w is by h (eqb-true stream.client c e))
       go true e true h =
-          let phase : PhaseFor (phase_for k stream.part.remote) l true = its_client true c l replies k stream s w is by.owned (eqb-true stream.client c e) h in
+          let phase : PhaseFor (phase_for k stream.part.remote) l true =
+          its_client true c l replies k stream s w is by.owned (eqb-true stream.client c e) h in
           absurd (phase_open k l stream.part.remote phase by.new)
 
   -- ---- WRTE
   accepts_served : (heard : Bool) (k : ℕ) (payload : List ℕ) (stream : Stream) (s : State) (w : List Event) → s.streams k ≡ Some stream
       → stream.part.remote ≢ 0 → IsServed heard c l replies s w
-      → OutBy heard replies (owed_to c (w ++ due_to_client stream.client payload ∷ [])) (ending_in l (w ++ due_to_client stream.client payload ∷ []))
+      → OutBy heard replies (owed_to c (w ++ due_to_client stream.client payload ∷ []))
+      (ending_in l (w ++ due_to_client stream.client payload ∷ []))
   accepts_served true k payload stream s w is known h = out_heard c l replies w (due_to_client stream.client payload ∷ []) h.out
   accepts_served false k payload stream s w is known h =
-      out_quiet c l replies false w (due_to_client stream.client payload ∷ []) (owed_other c stream.client payload (apart stream.part.orphan refl)) refl h.out
+      out_quiet c l replies false w (due_to_client stream.client payload ∷ [])
+      (owed_other c stream.client payload (apart stream.part.orphan refl)) refl h.out
     where
       apart : (b : Bool) → stream.part.orphan ≡ b → eqb stream.client c ≡ false
       apart true e = absurd (known (subst (λ (b : Bool). OwnerIn b s.clients k stream) e (h.owned.owned.stream k stream is).owner).0)
@@ -224,7 +242,8 @@ module _ (c l : ℕ) (replies : List ℕ) where
   -- its stream stays, and no end of it is told
   like_own : (heard : Bool) (streams : Rows (Option Stream)) (w : List Event)
       → ((y : Stream) → streams l ≡ Some y → IsItsOwn c (heard ≡ false → ending_in l w ≡ None) y)
-      → (es : List Event) → ending_in l es ≡ None → (y : Stream) → streams l ≡ Some y → IsItsOwn c (heard ≡ false → ending_in l (w ++ es) ≡ None) y
+      → (es : List Event) → ending_in l es ≡ None → (y : Stream) → streams l ≡ Some y
+      → IsItsOwn c (heard ≡ false → ending_in l (w ++ es) ≡ None) y
   like_own heard streams w own es none y at_l =
       let was = own y at_l in record { client = was.client; live = λ o. still_alive c l replies heard w es none (was.live o) }
 
@@ -340,7 +359,8 @@ module _ (c l : ℕ) (replies : List ℕ) where
           row = λ y e. absurd (let clash : None ≡ Some y = sym (stopped_none asker c s.clients not_here) ∙ e in cc);
           own = λ y e. absurd (let clash : None ≡ Some y = e in cc);
           drawn = h.drawn;
-          out = out_quiet c l replies b w (all_stop s.drawn s.streams) (all_stop_owed c s.drawn s.streams) (all_stop_ending l s.drawn s.streams) h.out;
+          out = out_quiet c l replies b w (all_stop s.drawn s.streams) (all_stop_owed c s.drawn s.streams)
+              (all_stop_ending l s.drawn s.streams) h.out;
         },
       );
       closes = λ n x s w is free (b, h). (
@@ -377,7 +397,8 @@ module _ (c l : ℕ) (replies : List ℕ) where
         b,
         record {
           owned = owned_moves.input_ended n s w h.owned;
-          row = at_like (steady l b) c n (λ y. record y { about = record y.about { ended = true } }) s.clients (λ y. refl) (λ y. refl) h.row;
+          row = at_like (steady l b) c n (λ y. record y { about = record y.about { ended = true } }) s.clients
+              (λ y. refl) (λ y. refl) h.row;
           own = h.own;
           drawn = h.drawn;
           out = h.out;
@@ -442,12 +463,23 @@ module _ (c l : ℕ) (replies : List ℕ) where
         record {
           owned = owned_moves.fails_asked n k failing s w at h.owned;
           row = at_none (steady l b) c n s.clients h.row;
-          own = fails_own b k failing.cause (with_stream_part (orphaned failing.stream.part)) s w (λ z y e. orphan_of failing.stream z y e) h;
+          own = fails_own b k failing.cause (with_stream_part (orphaned failing.stream.part)) s w
+              (λ z y e. orphan_of failing.stream z y e) h;
           drawn = h.drawn;
           out = out_quiet c l replies b w (ended k (ClientFailed failing.cause) ∷ []) refl (fails_quiet k failing.cause) h.out;
         },
       );
-      links = λ t f s w (b, h). (b, record { owned = owned_moves.links t f s w h.owned; row = h.row; own = h.own; drawn = h.drawn; out = h.out });
+      links = λ t f s w (b, h). (
+        b,
+        record {
+          owned = owned_moves.links t f s w h.owned;
+          row = h.row;
+          own = h.own;
+          drawn = h.drawn;
+          out =
+              h.out;
+        },
+      );
       link_ends = λ t ending s w told (b, h). (b, link_ends_served b c l replies t ending s w told.0 h);
       online = λ t version maxdata identity s w may (b, h). (b, online_served b c l replies t version maxdata identity s w h);
       unauthorized = λ t row s w is offline (b, h). (

@@ -1,5 +1,6 @@
 -- In every legal history it is known of each stream that a client asked for, whether its client heard that it is open.
-use Rattle.std.proofs.Common.{◌≡◌, ℕ, ◌+◌, ◌<◌, zero, suc, min, Bool, true, false, cond, ◌||◌, List, [], ◌∷◌, length, Option, Some, None, refl, sym, ap, subst}
+use Rattle.std.proofs.Common.{◌≡◌, ℕ, ◌+◌, ◌<◌, zero, suc, min, Bool, true, false, cond, ◌||◌, List, [], ◌∷◌, length, Option, Some, None}
+use Rattle.std.proofs.Common.{refl, sym, ap, subst}
 use Rattle.std.proofs.Common.{◌∙◌, arith, eqb, inl, inr, ◌⊎◌}
 use Rattle.std.proofs.lemmas.Bool.{eqb-true}
 use Rattle.std.specs.Prelude.{slice_get}
@@ -36,7 +37,8 @@ use Rattle.adb_laws_answered.proofs.ShownSteps.{shown_step}
 use Rattle.adb_laws_answered.proofs.ShownBirths.{shown_birth}
 
 -- the births through a forward
-through_forward : (c : ℕ) (older : History) (o : Option ForwardRow) (k : ℕ) (b : Birth) → slice_get (birth_through c older o) k ≡ Some b → b.forwarded ≡ true
+through_forward : (c : ℕ) (older : History) (o : Option ForwardRow) (k : ℕ) (b : Birth)
+    → slice_get (birth_through c older o) k ≡ Some b → b.forwarded ≡ true
 through_forward c older None k b e = absurd (none_at k b (birth_through c older None) refl e)
 through_forward c older (Some row) k b e = go (is_connected row.transport (devices older)) k e
   where
@@ -75,7 +77,8 @@ module _ (l : ℕ) (b : Birth) (older : History) (legal : IsLegal older) where
     asked_stream : asks_stream (asked b.client older).next ≡ true
     asked_stream = go (asks_stream (asked b.client older).next) refl (all_served older legal b.client came)
       where
-        go : (v : Bool) → asks_stream (asked b.client older).next ≡ v → ServedIn v b.client older → asks_stream (asked b.client older).next ≡ true
+        go : (v : Bool) → asks_stream (asked b.client older).next ≡ v → ServedIn v b.client older
+            → asks_stream (asked b.client older).next ≡ true
         go true e h = e
         go false e h = absurd (h l b old refl)
 
@@ -84,7 +87,8 @@ module _ (l : ℕ) (b : Birth) (older : History) (legal : IsLegal older) where
         → (asked b.client (Read b.client bytes ∷ older)).replies ≡ (asked b.client older).replies
     own_replies bytes may = go ((state older).clients b.client) refl
       where
-        idle : (said b.client older).asking ≡ false → (asked b.client (Read b.client bytes ∷ older)).replies ≡ (asked b.client older).replies
+        idle : (said b.client older).asking ≡ false → (asked b.client (Read b.client bytes ∷ older)).replies
+            ≡ (asked b.client older).replies
         idle e = (silent_idle b.client older legal bytes may e).replies
 
         by : (client : Client) → (state older).clients b.client ≡ Some client → (v : Bool) → asks_in client.about.phase ≡ v
@@ -111,7 +115,8 @@ module _ (l : ℕ) (b : Birth) (older : History) (legal : IsLegal older) where
     same_replies (Bound n port) may = (silent_bound b.client n port older).replies
     same_replies _ may = refl
 
-  came_before : (e : Entry) → May (state older) e → born l older ≡ Some b → has_joined b.client (e ∷ older) ≡ true → has_joined b.client older ≡ true
+  came_before : (e : Entry) → May (state older) e → born l older ≡ Some b → has_joined b.client (e ∷ older) ≡ true
+      → has_joined b.client older ≡ true
   came_before (Join n) may old came = go (eqb n b.client) refl came
     where
       go : (here : Bool) → eqb n b.client ≡ here → (here || has_joined b.client older) ≡ true → has_joined b.client older ≡ true
@@ -123,17 +128,20 @@ module _ (l : ℕ) (b : Birth) (older : History) (legal : IsLegal older) where
 
   -- ---- a stream that is born now
   module _ (c : ℕ) (bytes : List ℕ) (may : May (state older) (Read c bytes)) (came : has_joined c older ≡ true)
-      (drawn : (state older).drawn ≡ min (length (births older)) stream_ids) (new : IsBornNow l b (Read c bytes) older) (same : b.client ≡ c) where
+      (drawn : (state older).drawn ≡ min (length (births older)) stream_ids)
+      (new : IsBornNow l b (Read c bytes) older) (same : b.client ≡ c) where
     abbrev now : History
     now = Read c bytes ∷ older
 
     idle_shown : (said c older).asking ≡ false → IsShownAt l b (Read c bytes ∷ older)
     idle_shown e = absurd ((silent_idle c older legal bytes may e).none l b new same)
 
-    asks_shown : (client : Client) → (state older).clients c ≡ Some client → client.about.phase ≡ Asking → (v : Bool) → asks_stream (asked c now).next ≡ v
+    asks_shown : (client : Client) → (state older).clients c ≡ Some client → client.about.phase ≡ Asking → (v : Bool)
+        → asks_stream (asked c now).next ≡ v
         → IsShownAt l b (Read c bytes ∷ older)
     asks_shown client is asking false e = absurd (none_at new.place b (births_at (Read c bytes) older)
-        (ap (λ (o : Option Next). birth_by c (asked c now).used older (newly o (asked c now).next)) (open_next c older legal bytes may client is asking)
+        (ap (λ (o : Option Next). birth_by c (asked c now).used older (newly o (asked c now).next))
+        (open_next c older legal bytes may client is asking)
         ∙ no_birth c (asked c now).used older (asked c now).next e) new.is)
     asks_shown client is asking true e =
         let request : IsOpen (asks_with (state older).devices (state older).forwards bytes (asked_before client)).next =
@@ -150,7 +158,8 @@ module _ (l : ℕ) (b : Birth) (older : History) (legal : IsLegal older) where
     read_shown : IsShownAt l b (Read c bytes ∷ older)
     read_shown = go ((state older).clients c) refl
       where
-        by : (client : Client) → (state older).clients c ≡ Some client → (v : Bool) → asks_in client.about.phase ≡ v → IsShownAt l b (Read c bytes ∷ older)
+        by : (client : Client) → (state older).clients c ≡ Some client → (v : Bool) → asks_in client.about.phase ≡ v
+            → IsShownAt l b (Read c bytes ∷ older)
         by client is true e = asks_shown client is (asks_asking client.about.phase e) (asks_stream (asked c now).next) refl
         by client is false e = idle_shown (sym ((booked older legal).clients may.0 c).asks ∙ (ap asks_now is ∙ e))
 
@@ -158,7 +167,8 @@ module _ (l : ℕ) (b : Birth) (older : History) (legal : IsLegal older) where
         go None is = idle_shown (sym ((booked older legal).clients may.0 c).asks ∙ ap asks_now is)
         go (Some client) is = by client is (asks_in client.about.phase) refl
 
-  new_shown : (e : Entry) → May (state older) e → HasBirths older → b.forwarded ≡ false → has_joined b.client (e ∷ older) ≡ true → IsBornNow l b e older
+  new_shown : (e : Entry) → May (state older) e → HasBirths older → b.forwarded ≡ false
+      → has_joined b.client (e ∷ older) ≡ true → IsBornNow l b e older
       → IsShownAt l b (e ∷ older)
   new_shown (Read n bytes) may births alone came new =
       let same : b.client ≡ n = birth_of (Read n bytes) older new.place b new.is in

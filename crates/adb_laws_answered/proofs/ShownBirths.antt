@@ -1,5 +1,6 @@
 -- A stream that a client asks for: what is known of it and of its client when it is born.
-use Rattle.std.proofs.Common.{◌≡◌, ◌≢◌, ℕ, ◌+◌, ◌≤◌, zero, suc, min, Bool, true, false, cond, not, ◌&&◌, ◌||◌, List, [], ◌∷◌, ◌++◌, length, drop, Option, Some}
+use Rattle.std.proofs.Common.{◌≡◌, ◌≢◌, ℕ, ◌+◌, ◌≤◌, zero, suc, min, Bool, true, false, cond, not, ◌&&◌, ◌||◌, List, [], ◌∷◌, ◌++◌, length}
+use Rattle.std.proofs.Common.{drop, Option, Some}
 use Rattle.std.proofs.Common.{None}
 use Rattle.std.proofs.Common.{is_some, refl, sym, ap, subst, ◌∙◌, append_assoc, arith, eqb}
 use Rattle.std.proofs.lemmas.Bool.{eqb-true, eqb-false, eq-eqb, ltb-true, ltb-false}
@@ -101,7 +102,8 @@ there_now t h row is = go (is_lost t h || is_broken t h) refl is
 module _ (c : ℕ) (older : History) (legal : IsLegal older) (bytes : List ℕ) (may : May (state older) (Read c bytes)) (client : Client)
     (is : (state older).clients c ≡ Some client) (asking : client.about.phase ≡ Asking) (t : ℕ) (service : List ℕ)
     (next : (asks_with (state older).devices (state older).forwards bytes (asked_before client)).next ≡ Some (what.Open t service))
-    (came : has_joined c older ≡ true) (drawn : (state older).drawn ≡ min (length (births older)) stream_ids) (some : (state older).drawn ≢ stream_ids) where
+    (came : has_joined c older ≡ true) (drawn : (state older).drawn ≡ min (length (births older)) stream_ids)
+    (some : (state older).drawn ≢ stream_ids) where
   abbrev s : State
   s = state older
 
@@ -130,7 +132,8 @@ module _ (c : ℕ) (older : History) (legal : IsLegal older) (bytes : List ℕ) 
   given = then_also (owe_client c p.replies (to_client c (has_asked p) s)) (asks_for (s.drawn + 1) c t service)
 
   abbrev by : Bool → Made
-  by b = then_also (owe_client c p.replies (to_client c (has_asked p) s)) (λ x. cond b (no_ids_left false c x) (asks_for (s.drawn + 1) c t service x))
+  by b = then_also (owe_client c p.replies (to_client c (has_asked p) s))
+      (λ x. cond b (no_ids_left false c x) (asks_for (s.drawn + 1) c t service x))
 
   unfull : (b : Bool) → eqb s.drawn stream_ids ≡ b → b ≡ false
   unfull true e = absurd (some (eqb-true s.drawn stream_ids e))
@@ -150,7 +153,9 @@ module _ (c : ℕ) (older : History) (legal : IsLegal older) (bytes : List ℕ) 
   link_drawn = go (nat_lt (plugged_count older) t) refl
     where
       go : (v : Bool) → nat_lt (plugged_count older) t ≡ v → t ≤ plugged_count older
-      go true e = absurd (let clash : None ≡ Some takes.row = sym ((tied older legal).rows.above t (ltb-true (plugged_count older) t e)) ∙ takes.is in cc)
+      go true e = absurd
+          (let clash : None ≡ Some takes.row =
+          sym ((tied older legal).rows.above t (ltb-true (plugged_count older) t e)) ∙ takes.is in cc)
       go false e = let le = ltb-false (plugged_count older) t e in omega (arith, le)
 
   -- its client has not failed

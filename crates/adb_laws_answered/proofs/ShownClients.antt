@@ -1,5 +1,6 @@
 -- A stream and its client, as a client that asks no more; and with other things said of them.
-use Rattle.std.proofs.Common.{◌≡◌, ℕ, Bool, true, false, List, [], ◌∷◌, ◌++◌, Option, Some, refl, sym, ap, ◌∙◌, append_assoc, arith, inl, inr, ◌⊎◌}
+use Rattle.std.proofs.Common.{◌≡◌, ℕ, Bool, true, false, List, [], ◌∷◌, ◌++◌, Option, Some, refl, sym, ap, ◌∙◌, append_assoc, arith, inl}
+use Rattle.std.proofs.Common.{inr, ◌⊎◌}
 use Rattle.adb_stream.specs.declared.row.Stream.{Stream}
 use Rattle.adb_reply.specs.Strings.{okay, failed}
 use Rattle.adb_history.specs.Rows.{State}
@@ -60,9 +61,18 @@ module _ (heard : Bool) (x : Subject) where
       none (inl e) = inl e
       none (inr f) = inr (said.fails f)
 
-      out : (c : Bool) → heard ≡ c → ShownOut c x seen s (owed_to x.client w) → ShownOut c (record x { may = may; failed = failed }) seen s (owed_to x.client w)
+      out : (c : Bool) → heard ≡ c → ShownOut c x seen s (owed_to x.client w)
+          → ShownOut c (record x { may = may; failed = failed }) seen s (owed_to x.client w)
       out true e o = record { bytes = o.bytes; out_is = o.out_is; may = said.hears e; told = o.told }
-      out false e o = record { closed = o.closed; out_is = o.out_is; waits = o.waits; gone = λ g. by (o.gone g); none = λ c. none (o.none c) }
+      out false e o =
+          record {
+            closed = o.closed;
+            out_is = o.out_is;
+            waits = o.waits;
+            gone = λ g. by (o.gone g);
+            none =
+                λ c. none (o.none c);
+          }
 
 -- ---- what a client was told tells whether it heard
 -- `OKAY` is no refusal

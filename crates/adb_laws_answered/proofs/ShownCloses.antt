@@ -1,5 +1,6 @@
 -- A CLSE of a stream, and a CNXN of its link: the stream is as the packets say.
-use Rattle.std.proofs.Common.{◌≡◌, ◌≢◌, ℕ, Bool, true, false, cond, ◌&&◌, ◌||◌, List, [], ◌∷◌, ◌++◌, Option, Some, None, is_some, refl, sym, ap, subst}
+use Rattle.std.proofs.Common.{◌≡◌, ◌≢◌, ℕ, Bool, true, false, cond, ◌&&◌, ◌||◌, List, [], ◌∷◌, ◌++◌, Option, Some, None, is_some, refl, sym}
+use Rattle.std.proofs.Common.{ap, subst}
 use Rattle.std.proofs.Common.{◌∙◌, eqb, inl, inr}
 use Rattle.std.proofs.lemmas.Bool.{ne_eqb, eqb-true, eqb-false, eq-eqb}
 use Rattle.std.specs.Prelude.{nat_eq, nat_lt, option_and_then}
@@ -27,11 +28,13 @@ use Rattle.adb_laws_answered.proofs.Openings.{remote_sealed, seen_pending, seen_
 use Rattle.adb_laws_answered.proofs.ServedMoves.{phase_waiting}
 use Rattle.adb_laws_answered.proofs.ShownMoves.{shown_client}
 use Rattle.adb_laws_answered.proofs.ShownEnds.{ends_shown, link_ends_cut, online_shown}
-use Rattle.adb_laws_answered.proofs.ShownPackets.{seen_on, gone_more, gone_reason, told_more, sealed_more, still_none, pardon, restore, live_link, no_link}
+use Rattle.adb_laws_answered.proofs.ShownPackets.{seen_on, gone_more, gone_reason, told_more, sealed_more, still_none, pardon, restore}
+use Rattle.adb_laws_answered.proofs.ShownPackets.{live_link, no_link}
 
 module _ (x : Subject) where
   -- a stream that waits has been told no id
-  pub waiting_none : (ps : List Packet) (s : State) (w : List Event) (y : Stream) → s.streams x.stream ≡ Some y → IsShown false x (seen x.stream ps) s w
+  pub waiting_none : (ps : List Packet) (s : State) (w : List Event) (y : Stream) → s.streams x.stream ≡ Some y
+      → IsShown false x (seen x.stream ps) s w
       → remote_in (opening_in x.stream ps) ≡ 0
   waiting_none ps s w y is h = sym (h.own y is).remote ∙ go y.part.orphan refl
     where
@@ -58,8 +61,11 @@ module _ (x : Subject) where
         sealed true h e = absurd (let clash : true ≡ false = e in cc)
         sealed false h e =
             let zeroth = waiting_none ps s w y is h in
-            let same = seen_pending x.stream ps (p ∷ []) zeroth ((h.own y is).pending zeroth) in
-            (ap (λ (a : Seen). a.sealed) same ∙ seals zeroth, ap (λ (a : Seen). a.remote) same ∙ remote_sealed x.stream (p ∷ []) [] (seals zeroth))
+            let same = seen_pending x.stream ps (p ∷ []) zeroth ((h.own y is).pending zeroth) in (
+              ap (λ (a : Seen). a.sealed) same ∙ seals zeroth,
+              ap (λ (a : Seen). a.remote) same
+                  ∙ remote_sealed x.stream (p ∷ []) [] (seals zeroth),
+            )
 
   -- ---- CLSE
   module _ (p : Packet) (command : p.command ≡ Clse) (names : p.arg1 ≡ x.stream) where
@@ -89,12 +95,15 @@ module _ (x : Subject) where
         either true = refl
         either false = refl
 
-    pub close_apart : (o : Option Link) (t : ℕ) (s : State) (y : Stream) → s.streams x.stream ≡ Some y → y.link ≢ t → treat_on o t p s ≡ quietly s
+    pub close_apart : (o : Option Link) (t : ℕ) (s : State) (y : Stream) → s.streams x.stream ≡ Some y → y.link ≢ t
+        → treat_on o t p s ≡ quietly s
     close_apart None t s y is apart = refl
     close_apart (Some link) t s y is apart =
         ap (λ (c : Command). treat_any t c p s) command
-        ∙ (ap (λ (o : Option Stream). cond (is_connected t s.devices) (at_stream t o (takes_close p.arg1 p.arg0) s) (quietly s)) (ap s.streams names ∙ is)
-        ∙ (ap (λ (b : Bool). cond (is_connected t s.devices) (cond b (takes_close p.arg1 p.arg0 y s) (quietly s)) (quietly s)) (ne_eqb y.link t apart)
+        ∙ (ap (λ (o : Option Stream). cond (is_connected t s.devices) (at_stream t o (takes_close p.arg1 p.arg0) s)
+        (quietly s)) (ap s.streams names ∙ is)
+        ∙ (ap (λ (b : Bool). cond (is_connected t s.devices) (cond b (takes_close p.arg1 p.arg0 y s) (quietly s))
+        (quietly s)) (ne_eqb y.link t apart)
         ∙ either (is_connected t s.devices)))
       where
         either : (b : Bool) → cond b (quietly s) (quietly s) ≡ quietly s
@@ -118,14 +127,16 @@ module _ (x : Subject) where
       Shows m = IsShown heard x (seen x.stream (ps ++ p ∷ [])) m.state (w ++ m.told)
 
       -- from id 0, or from the device's own id
-      seals_so : (a b : Bool) → eqb p.arg0 0 ≡ a → eqb p.arg0 y.part.remote ≡ b → (a || b) ≡ true → remote_in (opening_in x.stream ps) ≡ 0 → Seals p
+      seals_so : (a b : Bool) → eqb p.arg0 0 ≡ a → eqb p.arg0 y.part.remote ≡ b → (a || b) ≡ true
+          → remote_in (opening_in x.stream ps) ≡ 0 → Seals p
       seals_so true b e f or zeroth = close_seals e
       seals_so false true e f or zeroth =
           let same : p.arg0 ≡ 0 = eqb-true p.arg0 y.part.remote f ∙ ((h.own y is).remote ∙ zeroth) in
           absurd (eqb-false p.arg0 0 e same)
       seals_so false false e f or zeroth = absurd (let clash : false ≡ true = or in cc)
 
-      closes_shown : (b : Bool) → (eqb p.arg0 0 || eqb p.arg0 y.part.remote) ≡ b → Shows (cond b (ends_row x.stream PeerClosed y s) (quietly s))
+      closes_shown : (b : Bool) → (eqb p.arg0 0 || eqb p.arg0 y.part.remote) ≡ b
+          → Shows (cond b (ends_row x.stream PeerClosed y s) (quietly s))
       closes_shown true e =
           let m : Made = ends_row x.stream PeerClosed y s in
           sealed_shown ps p heard y s m.state w (w ++ m.told) is
@@ -133,7 +144,8 @@ module _ (x : Subject) where
           (ends_streams x.stream x.stream PeerClosed y s
           ∙ (ap (λ (b : Bool). cond b (option_and_then none_kept (s.streams x.stream)) (s.streams x.stream)) (eq-eqb x.stream x.stream refl)
           ∙ none_of x.stream (s.streams x.stream)))
-          (ends_shown heard (record x { failed = true }) (seen x.stream ps) x.stream PeerClosed y s w is (pardon x heard (seen x.stream ps) s w h)
+          (ends_shown heard (record x { failed = true }) (seen x.stream ps) x.stream PeerClosed y s w is
+          (pardon x heard (seen x.stream ps) s w h)
           (λ here quiet owned. inr (inr refl)))
       closes_shown false e = after_quietly (λ s w. IsShown heard x (seen x.stream (ps ++ p ∷ [])) s w) w s
           (seen_on x heard (seen x.stream ps) (seen x.stream (ps ++ p ∷ [])) s w (seen_one x.stream ps p (close_one (first e))) h)
@@ -166,7 +178,8 @@ module _ (x : Subject) where
     renews_seals : Seals p
     renews_seals = ap (λ (c : Command). seals_by c x.stream p false) command
 
-    module _ (ps : List Packet) (s : State) (w : List Event) (linked : IsLinked s) (heard : Bool) (h : IsShown heard x (seen x.stream ps) s w) where
+    module _ (ps : List Packet) (s : State) (w : List Event) (linked : IsLinked s) (heard : Bool)
+        (h : IsShown heard x (seen x.stream ps) s w) where
       -- its row goes, whatever the CNXN says
       gone_then : (m : Made) → m.state.streams x.stream ≡ None → (s.links x.link ≡ None → m.state.links x.link ≡ None)
           → IsShown heard (record x { failed = true }) (seen x.stream ps) m.state (w ++ m.told)
@@ -180,7 +193,8 @@ module _ (x : Subject) where
 
           go : (o : Option Stream) → s.streams x.stream ≡ o → IsShown heard x (seen x.stream (ps ++ p ∷ [])) m.state (w ++ m.told)
           go (Some y) is = sealed_shown ps p heard y s m.state w (w ++ m.told) is (λ e. renews_seals) h none after
-          go None is = restore x heard (seen x.stream ps) (seen x.stream (ps ++ p ∷ [])) m.state (w ++ m.told) none (told_more x ps (p ∷ []))
+          go None is = restore x heard (seen x.stream ps) (seen x.stream (ps ++ p ∷ [])) m.state (w ++ m.told) none
+              (told_more x ps (p ∷ []))
               (λ e. (let why = gone_reason x heard (seen x.stream ps) s w is h e in
               (moved (sealed_more x ps (p ∷ []) s why), still_none x ps (p ∷ []) s why))) after
 
@@ -189,7 +203,8 @@ module _ (x : Subject) where
 
       breaks : IsShown heard x (seen x.stream (ps ++ p ∷ [])) (link_ends x.link Broken s).state (w ++ (link_ends x.link Broken s).told)
       breaks =
-          let after = link_ends_cut heard (record x { failed = true }) (seen x.stream ps) x.link Broken s w (λ same. inr refl) (pardon x heard
+          let after = link_ends_cut heard (record x { failed = true }) (seen x.stream ps) x.link Broken s w
+          (λ same. inr refl) (pardon x heard
           (seen x.stream ps) s w h) in
           gone_then (link_ends x.link Broken s) (link_ends_cleared x.stream x.link Broken s h.owned.rows.streams.zero h.drawn on_link)
           (λ e. after.1 refl) after.0

@@ -108,7 +108,8 @@ module _ (heard : Bool) (x : Subject) (seen : Seen) where
       row_gone : (y : Stream) → left.streams x.stream ≡ Some y → ⊥
       unfolding left gone
       row_gone y e = go (s.streams x.stream)
-          (sym (ap (λ (b : Bool). cond b (option_and_then none_kept (s.streams x.stream)) (s.streams x.stream)) (eq-eqb k x.stream here)) ∙ e)
+          (sym (ap (λ (b : Bool). cond b (option_and_then none_kept (s.streams x.stream)) (s.streams x.stream))
+          (eq-eqb k x.stream here)) ∙ e)
         where
           go : (o : Option Stream) → option_and_then none_kept o ≡ Some y → ⊥
           go None e = let clash : None ≡ Some y = e in cc
@@ -123,14 +124,16 @@ module _ (heard : Bool) (x : Subject) (seen : Seen) where
           let at_c : s.clients x.client ≡ Some of.client = subst (λ (n : ℕ). s.clients n ≡ Some of.client) same of.is in
           let phase = shown_client heard x seen k stream s w is e same h in
           let none : stream.part.remote ≡ 0 =
-          phase_waiting k x.stream stream.part.remote (subst (λ (b : Bool). PhaseFor (phase_for k stream.part.remote) x.stream b) quiet phase) in
+          phase_waiting k x.stream stream.part.remote
+          (subst (λ (b : Bool). PhaseFor (phase_for k stream.part.remote) x.stream b) quiet phase) in
           let opening : of.client.about.phase ≡ Opening x.stream =
           of.phase ∙ (ap (phase_for k) none ∙ ap (λ (n : ℕ). Opening n) here) in
           ap (λ (o : Option Client). owed_to x.client (client_loses o stream.client (to_stream k none_kept s)).told) of.is
           ∙ (ap (λ (n : ℕ). owed_to x.client (client_loses (Some of.client) n (to_stream k none_kept s)).told) same
           ∙ closed_told x.client x.stream of.client (to_stream k none_kept s) (h.row of.client at_c).alone opening)
 
-      out_left : (b : Bool) → stream.part.orphan ≡ b → (hears : Bool) → heard ≡ hears → (hears ≡ false → b ≡ false → WillNotOpen x seen.sealed s)
+      out_left : (b : Bool) → stream.part.orphan ≡ b → (hears : Bool) → heard ≡ hears
+          → (hears ≡ false → b ≡ false → WillNotOpen x seen.sealed s)
           → ShownOut hears x seen s (owed_to x.client w) → ShownOut hears x seen left (owed_to x.client (w ++ (ends_made b).told))
       unfolding left gone
       out_left b e true f reason out =
@@ -155,7 +158,8 @@ module _ (heard : Bool) (x : Subject) (seen : Seen) where
         none = out.none;
       }
 
-      ends_here : (b : Bool) → stream.part.orphan ≡ b → (heard ≡ false → b ≡ false → WillNotOpen x seen.sealed s) → V left (w ++ (ends_made b).told)
+      ends_here : (b : Bool) → stream.part.orphan ≡ b → (heard ≡ false → b ≡ false → WillNotOpen x seen.sealed s)
+          → V left (w ++ (ends_made b).told)
       unfolding left gone
       ends_here b e reason = record {
         owned = left_owned;
@@ -177,11 +181,13 @@ module _ (heard : Bool) (x : Subject) (seen : Seen) where
 
   -- a stream that is open does not wait
   open_heard : (k : ℕ) (ending : Ending) (stream : Stream) (s : State) (w : List Event) → s.streams k ≡ Some stream
-      → EndsSo (λ l. l ≢ x.stream) s.clients k ending stream → V s w → k ≡ x.stream → heard ≡ false → stream.part.orphan ≡ false → WillNotOpen x seen.sealed s
+      → EndsSo (λ l. l ≢ x.stream) s.clients k ending stream → V s w → k ≡ x.stream → heard ≡ false
+      → stream.part.orphan ≡ false → WillNotOpen x seen.sealed s
   open_heard k ending stream s w is (inl (told, apart)) h here quiet owned = absurd (apart here)
   open_heard k ending stream s w is (inr (inl some)) h here quiet owned =
       let phase = shown_client heard x seen k stream s w is owned (h.own stream (ap s.streams (sym here) ∙ is)).client h in
-      absurd (some (phase_waiting k x.stream stream.part.remote (subst (λ (b : Bool). PhaseFor (phase_for k stream.part.remote) x.stream b) quiet phase)))
+      absurd (some (phase_waiting k x.stream stream.part.remote
+      (subst (λ (b : Bool). PhaseFor (phase_for k stream.part.remote) x.stream b) quiet phase)))
   open_heard k ending stream s w is (inr (inr (client, at_c, streaming))) h here quiet owned =
       let same = (h.own stream (ap s.streams (sym here) ∙ is)).client in
       let row = h.row client (subst (λ (n : ℕ). s.clients n ≡ Some client) same at_c) in
@@ -189,7 +195,8 @@ module _ (heard : Bool) (x : Subject) (seen : Seen) where
       absurd (let clash : false ≡ true = sym quiet ∙ phase.1 in cc)
 
   pub ends_so_shown : (k : ℕ) (ending : Ending) (stream : Stream) (s : State) (w : List Event) → s.streams k ≡ Some stream
-      → EndsSo (λ l. l ≢ x.stream) s.clients k ending stream → V s w → V (ends_row k ending stream s).state (w ++ (ends_row k ending stream s).told)
+      → EndsSo (λ l. l ≢ x.stream) s.clients k ending stream → V s w
+      → V (ends_row k ending stream s).state (w ++ (ends_row k ending stream s).told)
   ends_so_shown k ending stream s w is so h = ends_shown k ending stream s w is h (open_heard k ending stream s w is so h)
 
 -- ---- links
@@ -205,12 +212,15 @@ module _ (heard : Bool) (x : Subject) (seen : Seen) where
   abbrev W : State → List Event → Type 0
   W s w = IsShown heard x seen s w
 
-  marked_shown : (s next : State) (w : List Event) → IsOwned (mark_all next) → next.clients ≡ s.clients → next.streams ≡ s.streams → next.drawn ≡ s.drawn
+  marked_shown : (s next : State) (w : List Event) → IsOwned (mark_all next) → next.clients ≡ s.clients
+      → next.streams ≡ s.streams → next.drawn ≡ s.drawn
       → (s.links x.link ≡ None → next.links x.link ≡ None) → W s w → W (mark_all next) w
   marked_shown s next w owned clients streams drawn links h =
-      shown_quietly heard x seen s (mark_all next) w (steps_same x s (mark_all next) (ap (λ (f : ℕ → Option Stream). f x.stream) streams) links) owned
+      shown_quietly heard x seen s (mark_all next) w
+      (steps_same x s (mark_all next) (ap (λ (f : ℕ → Option Stream). f x.stream) streams) links) owned
       (at_marked (steady x.stream heard) x.client next.clients
-      (subst (λ (f : ℕ → Option Client). (client : Client) → f x.client ≡ Some client → RowServed x.stream heard client) (sym clients) h.row))
+      (subst (λ (f : ℕ → Option Client). (client : Client) → f x.client ≡ Some client
+      → RowServed x.stream heard client) (sym clients) h.row))
       (omega (arith, drawn)) h
 
   -- a link is gone: its streams will not open
@@ -228,7 +238,8 @@ module _ (heard : Bool) (x : Subject) (seen : Seen) where
       go (inl cut) = inr (inl (cut, none))
       go (inr failed) = inr (inr failed)
 
-  all_end_cut : (t : ℕ) (ending : Ending) (s : State) (w : List Event) → CutReason t → Cut t s w → After (λ s w. IsShown heard x seen s w × (t ≡ x.link
+  all_end_cut : (t : ℕ) (ending : Ending) (s : State) (w : List Event) → CutReason t → Cut t s w
+      → After (λ s w. IsShown heard x seen s w × (t ≡ x.link
       → s.links x.link ≡ None)) w
       (all_end t ending s)
   all_end_cut t ending s w reason h = all_end_by {P = λ s w. IsShown heard x seen s w × (t ≡ x.link → s.links x.link ≡ None)} t ending

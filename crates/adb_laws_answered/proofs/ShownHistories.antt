@@ -1,5 +1,6 @@
 -- In every legal history the client of a stream hears that it is open exactly where the entries say so.
-use Rattle.std.proofs.Common.{◌≡◌, ◌≢◌, ℕ, ◌≤◌, Bool, true, false, cond, not, ◌&&◌, ◌||◌, List, ◌∷◌, ◌++◌, length, take, drop, Option, Some, None, is_some}
+use Rattle.std.proofs.Common.{◌≡◌, ◌≢◌, ℕ, ◌≤◌, Bool, true, false, cond, not, ◌&&◌, ◌||◌, List, ◌∷◌, ◌++◌, length, take, drop, Option, Some}
+use Rattle.std.proofs.Common.{None, is_some}
 use Rattle.std.proofs.Common.{refl, sym, ap, subst, ◌∙◌, arith, inl, inr, ◌⊎◌}
 use Rattle.std.proofs.lemmas.List.{length-append, drop-append-le, take-append-le, take-append-drop}
 use Rattle.std.proofs.lemmas.List.Folds.{list_any-append}
@@ -32,7 +33,8 @@ use Rattle.adb_history.proofs.Numbers.{counted}
 use Rattle.adb_history.proofs.Received.{ReadTie, received}
 use Rattle.adb_history.proofs.Devices.{shows_devices}
 use Rattle.adb_history.proofs.LinkMoves.{all_linked}
-use Rattle.adb_laws_answered.proofs.Brought.{brought_live, brought_lost, brought_faulty, BringsMore, brings_more, brought_apart, pending_taken}
+use Rattle.adb_laws_answered.proofs.Brought.{brought_live, brought_lost, brought_faulty, BringsMore, brings_more, brought_apart}
+use Rattle.adb_laws_answered.proofs.Brought.{pending_taken}
 use Rattle.adb_laws_answered.proofs.ShownReceives.{receives_here, receives_apart}
 use Rattle.adb_laws_answered.proofs.ShownPackets.{gone_more, no_link}
 use Rattle.adb_laws_answered.proofs.HeardEntries.{joined_below}
@@ -152,11 +154,14 @@ module _ (l : ℕ) (b : Birth) (e : Entry) (older : History) (legal : IsLegal (e
   abbrev x : Subject
   x = subject_of l b older (may_hear l b older) (has_failed b.client (e ∷ older))
 
-  begun : IsShown n.heard (subject_of l b older (may_hear l b older) (has_failed b.client (e ∷ older))) (seen l (since b older)) (state older) (told older)
-  begun = resubject n.heard (subject_of l b older (may_hear l b older) (has_failed b.client older)) (may_hear l b older) (has_failed b.client (e ∷ older))
+  begun : IsShown n.heard (subject_of l b older (may_hear l b older) (has_failed b.client (e ∷ older)))
+      (seen l (since b older)) (state older) (told older)
+  begun = resubject n.heard (subject_of l b older (may_hear l b older) (has_failed b.client older))
+      (may_hear l b older) (has_failed b.client (e ∷ older))
       (seen l (since b older)) (state older) (told older) (record {
         live = λ y is owned. (n.shown.own y is).may owned;
-        hears = λ c. hears_may n.heard (subject_of l b older (may_hear l b older) (has_failed b.client older)) (seen l (since b older)) (state older)
+        hears = λ c. hears_may n.heard (subject_of l b older (may_hear l b older) (has_failed b.client older))
+            (seen l (since b older)) (state older)
             (told older) n.shown c;
         fails = failed_more b.client e older;
       }) n.shown
@@ -175,9 +180,11 @@ module _ (l : ℕ) (b : Birth) (e : Entry) (older : History) (legal : IsLegal (e
     pub none : heard ≡ false → NotNow
 
   -- who heard before hears
-  heard_before : (c : Bool) → IsShown c (subject_of l b older (may_hear l b older) (has_failed b.client (e ∷ older))) (seen l (since b older)) (state older)
+  heard_before : (c : Bool) → IsShown c (subject_of l b older (may_hear l b older) (has_failed b.client (e ∷ older)))
+      (seen l (since b older)) (state older)
       (told older)
-      → IsShown false (subject_of l b older (may_hear l b older) (has_failed b.client (e ∷ older))) (seen l (since b (e ∷ older))) (state (e ∷ older)) (told
+      → IsShown false (subject_of l b older (may_hear l b older) (has_failed b.client (e ∷ older)))
+      (seen l (since b (e ∷ older))) (state (e ∷ older)) (told
       (e ∷ older))
       → c ≡ false
   heard_before false before after = refl
@@ -186,7 +193,8 @@ module _ (l : ℕ) (b : Birth) (e : Entry) (older : History) (legal : IsLegal (e
       (ap (λ v. v ++ owed_to b.client (told_at e older)) (sym before.out.out_is)
       ∙ (sym (owed_append b.client (told older) (told_at e older)) ∙ after.out.out_is)))
 
-  hears_so : (c : Bool) → IsShown c (subject_of l b older (may_hear l b older) (has_failed b.client (e ∷ older))) (seen l (since b (e ∷ older))) (state
+  hears_so : (c : Bool) → IsShown c (subject_of l b older (may_hear l b older) (has_failed b.client (e ∷ older)))
+      (seen l (since b (e ∷ older))) (state
       (e ∷ older))
       (told (e ∷ older)) → (c ≡ false → NotNow) → c ≡ is_heard l b (e ∷ older)
   hears_so true h none = sym (hears_true (is_heard l b older) (is_some (opening_of l b (e ∷ older))) (is_some (opening_of l b older))
@@ -212,8 +220,10 @@ module _ (l : ℕ) (b : Birth) (e : Entry) (older : History) (legal : IsLegal (e
 
   -- and then it is known as much
   module _ (replies : (asked b.client (e ∷ older)).replies ≡ (asked b.client older).replies) where
-    may_live : (c : Bool) → IsShown c (subject_of l b older (may_hear l b older) (has_failed b.client (e ∷ older))) (seen l (since b (e ∷ older)))
-        (state (e ∷ older)) (told (e ∷ older)) → c ≡ is_heard l b (e ∷ older) → (y : Stream) → (state (e ∷ older)).streams l ≡ Some y → y.part.orphan ≡ false
+    may_live : (c : Bool) → IsShown c (subject_of l b older (may_hear l b older) (has_failed b.client (e ∷ older)))
+        (seen l (since b (e ∷ older)))
+        (state (e ∷ older)) (told (e ∷ older)) → c ≡ is_heard l b (e ∷ older) → (y : Stream)
+        → (state (e ∷ older)).streams l ≡ Some y → y.part.orphan ≡ false
         → may_hear l b (e ∷ older) ≡ true
     may_live true h is y at_l owned =
         ap (λ (v : Bool). v || (not (is_some (opening_of l b (e ∷ older))) && not (has_failed b.client (e ∷ older)))) (sym is)
@@ -226,7 +236,9 @@ module _ (l : ℕ) (b : Birth) (e : Entry) (older : History) (legal : IsLegal (e
         ∙ (ap (λ (v : Bool). not v && not (has_failed b.client (e ∷ older))) none ∙ ap not alive)
 
     may_heard : (c : Bool) → c ≡ is_heard l b (e ∷ older) → c ≡ true → may_hear l b (e ∷ older) ≡ true
-    may_heard c is f = ap (λ (v : Bool). v || (not (is_some (opening_of l b (e ∷ older))) && not (has_failed b.client (e ∷ older)))) (sym is ∙ f)
+    may_heard c is f =
+        ap (λ (v : Bool). v || (not (is_some (opening_of l b (e ∷ older))) && not (has_failed b.client (e ∷ older))))
+        (sym is ∙ f)
 
     pub finished : IsStepped → IsShownAt l b (e ∷ older)
     finished m =
@@ -248,7 +260,8 @@ module _ (l : ℕ) (b : Birth) (e : Entry) (older : History) (legal : IsLegal (e
             failed = has_failed b.client (e ∷ older);
             cut = true;
           }) (seen l (since b (e ∷ older))) (state (e ∷ older)) (told (e ∷ older))) (sym replies)
-              (resubject m.heard x (may_hear l b (e ∷ older)) (has_failed b.client (e ∷ older)) (seen l (since b (e ∷ older))) (state (e ∷ older)) (told
+              (resubject m.heard x (may_hear l b (e ∷ older)) (has_failed b.client (e ∷ older))
+              (seen l (since b (e ∷ older))) (state (e ∷ older)) (told
               (e ∷ older))
               (record {
                 live = λ y at_l owned. may_live m.heard m.shown is y at_l owned;
@@ -269,7 +282,8 @@ module _ (l : ℕ) (b : Birth) (e : Entry) (older : History) (legal : IsLegal (e
       go false f = inl (same ∙ f)
 
   pub stepped_same : brought b.link (e ∷ older) ≡ brought b.link older
-      → IsShown n.heard (subject_of l b older (may_hear l b older) (has_failed b.client (e ∷ older))) (seen l (since b older)) (state (e ∷ older)) (told
+      → IsShown n.heard (subject_of l b older (may_hear l b older) (has_failed b.client (e ∷ older)))
+      (seen l (since b older)) (state (e ∷ older)) (told
       (e ∷ older))
       → IsStepped l b e older legal came n
   stepped_same same h = record {
@@ -287,12 +301,14 @@ module _ (l : ℕ) (b : Birth) (e : Entry) (older : History) (legal : IsLegal (e
   pub stepped_other : brought b.link (e ∷ older) ≡ brought b.link older
       → Covers (aside (subject_of l b older (may_hear l b older) (has_failed b.client (e ∷ older)))) e → IsStepped l b e older legal came n
   stepped_other same covers = stepped_same same
-      (client_kept (shown_of n.heard (subject_of l b older (may_hear l b older) (has_failed b.client (e ∷ older))) (seen l (since b older))) (state older)
+      (client_kept (shown_of n.heard (subject_of l b older (may_hear l b older) (has_failed b.client (e ∷ older)))
+      (seen l (since b older))) (state older)
       (told older) e
       (another_comes b.client b.link (state older) e (below, n.drawn) legal.2) covers legal.2 (begun l b e older legal came n))
 
 -- ---- bytes are received
-module _ (l : ℕ) (b : Birth) (t : ℕ) (bytes : List ℕ) (older : History) (legal : IsLegal (Recv t bytes ∷ older)) (came : has_joined b.client older ≡ true)
+module _ (l : ℕ) (b : Birth) (t : ℕ) (bytes : List ℕ) (older : History) (legal : IsLegal (Recv t bytes ∷ older))
+    (came : has_joined b.client older ≡ true)
     (n : IsShownAt l b older) where
   abbrev e : Entry
   e = Recv t bytes
@@ -309,18 +325,24 @@ module _ (l : ℕ) (b : Birth) (t : ℕ) (bytes : List ℕ) (older : History) (l
   from : IsShown n.heard (subject_of l b older (may_hear l b older) (has_failed b.client older)) (seen l (since b older)) s w
   from = begun l b e older legal came n
 
-  ups_shown : (heard : Bool) (a : Seen) → IsShown heard (subject_of l b older (may_hear l b older) (has_failed b.client older)) a (rule e s).state (w ++
+  ups_shown : (heard : Bool) (a : Seen)
+      → IsShown heard (subject_of l b older (may_hear l b older) (has_failed b.client older)) a (rule e s).state (w ++
       (rule e s).told)
       → IsShown heard (subject_of l b older (may_hear l b older) (has_failed b.client older)) a (state (e ∷ older)) (told (e ∷ older))
-  ups_shown heard a h = after_then (λ s w. IsShown heard (subject_of l b older (may_hear l b older) (has_failed b.client older)) a s w) w (rule e s) ups h
-      (λ v now. client_ups (shown_of heard (subject_of l b older (may_hear l b older) (has_failed b.client older)) a) (rule e s).state v now)
+  ups_shown heard a h =
+      after_then (λ s w. IsShown heard (subject_of l b older (may_hear l b older) (has_failed b.client older)) a s w)
+      w (rule e s) ups h
+      (λ v now. client_ups (shown_of heard (subject_of l b older (may_hear l b older) (has_failed b.client older)) a)
+      (rule e s).state v now)
 
   pub recv_apart : t ≢ b.link → IsStepped l b e older legal came n
   recv_apart apart = stepped_same l b e older legal came n (brought_apart t b.link bytes older apart)
       (ups_shown n.heard (seen l (since b older))
-      (receives_apart (subject_of l b older (may_hear l b older) (has_failed b.client older)) (seen l (since b older)) t apart n.heard bytes s w from))
+      (receives_apart (subject_of l b older (may_hear l b older) (has_failed b.client older)) (seen l (since b older))
+      t apart n.heard bytes s w from))
 
-module _ (l : ℕ) (b : Birth) (bytes : List ℕ) (older : History) (legal : IsLegal (Recv b.link bytes ∷ older)) (came : has_joined b.client older ≡ true)
+module _ (l : ℕ) (b : Birth) (bytes : List ℕ) (older : History) (legal : IsLegal (Recv b.link bytes ∷ older))
+    (came : has_joined b.client older ≡ true)
     (n : IsShownAt l b older) where
   abbrev here : Entry
   here = Recv b.link bytes
@@ -339,29 +361,39 @@ module _ (l : ℕ) (b : Birth) (bytes : List ℕ) (older : History) (legal : IsL
       → since b (Recv b.link bytes ∷ older) ≡ since b older ++ qs
   since_more qs is = ap (drop b.packets_before) is ∙ drop-append-le b.packets_before (brought b.link older) qs n.within
 
-  shown_from : IsShown n.heard (subject_of l b older (may_hear l b older) (has_failed b.client older)) (seen l (since b older)) (state older) (told older)
+  shown_from : IsShown n.heard (subject_of l b older (may_hear l b older) (has_failed b.client older))
+      (seen l (since b older)) (state older) (told older)
   shown_from = begun l b (Recv b.link bytes) older legal came n
 
   -- the link lives
   recv_live : (link : Link) → (state older).links b.link ≡ Some link → IsStepped l b (Recv b.link bytes) older legal came n
   recv_live link is =
       let x : Subject = subject_of l b older (may_hear l b older) (has_failed b.client older) in
-      let reads = subst (λ (o : Option Link). ReadTie (is_lost b.link older) o (bytes_received b.link older)) is ((received older legal.0).links b.link) in
+      let reads = subst (λ (o : Option Link). ReadTie (is_lost b.link older) o (bytes_received b.link older)) is
+      ((received older legal.0).links b.link) in
       let qs = (cut_packets (record { sums = link.sums }) (link.rest ++ bytes)).given in
       let more = brought_live b.link bytes older link reads.0 reads.1 in
-      let treated = receives_here x bytes (since b older) link (state older) (told older) (all_linked older legal.0) is n.heard shown_from in
+      let treated = receives_here x bytes (since b older) link (state older) (told older) (all_linked older legal.0)
+      is n.heard shown_from in
       record {
         within = within_more qs more;
         clean = clean_more qs more;
         heard = treated.heard;
-        shown = subst (λ (ps : List Packet). IsShown treated.heard x (seen l ps) (state (Recv b.link bytes ∷ older)) (told (Recv b.link bytes ∷ older)))
-            (sym (since_more qs more)) (ups_shown l b b.link bytes older legal came n treated.heard (seen l (since b older ++ qs)) treated.shown);
+        shown = subst
+            (λ (ps : List Packet). IsShown treated.heard x (seen l ps) (state (Recv b.link bytes ∷ older))
+            (told (Recv b.link bytes ∷ older)))
+            (sym (since_more qs more))
+            (ups_shown l b b.link bytes older legal came n treated.heard (seen l (since b older ++ qs))
+            treated.shown);
         none = λ f. live_none qs more (treated.none f);
       }
     where
       live_none : (qs : List Packet) → brought b.link (Recv b.link bytes ∷ older) ≡ brought b.link older ++ qs
-          → (remote_in (opening_in l (since b older ++ qs)) ≡ 0) ⊎ (has_failed b.client older ≡ true) → NotNow l b (Recv b.link bytes) older legal came n
-      live_none qs more (inl none) = inl (ap (λ (ps : List Packet). is_some (opening_in l ps)) (since_more qs more) ∙ none_remote l (since b older ++ qs) none)
+          → (remote_in (opening_in l (since b older ++ qs)) ≡ 0) ⊎ (has_failed b.client older ≡ true)
+          → NotNow l b (Recv b.link bytes) older legal came n
+      live_none qs more (inl none) =
+          inl (ap (λ (ps : List Packet). is_some (opening_in l ps)) (since_more qs more)
+          ∙ none_remote l (since b older ++ qs) none)
       live_none qs more (inr f) = inr (inr f)
 
   -- the link is gone: what it brings opens nothing
@@ -411,7 +443,9 @@ module _ (l : ℕ) (b : Birth) (bytes : List ℕ) (older : History) (legal : IsL
         go (Some o) is v f = inr (inl (ap is_some is))
         go None is true f = inl (ap (λ (ps : List Packet). is_some (opening_in l ps)) (since_more more.more more.is)
             ∙ none_remote l (since b older ++ more.more) (remote_sealed l (since b older) more.more f))
-        go None is false f = inl (ap (λ (ps : List Packet). is_some (opening_in l (drop b.packets_before ps))) (pending_none (is, f)) ∙ ap is_some is)
+        go None is false f =
+            inl (ap (λ (ps : List Packet). is_some (opening_in l (drop b.packets_before ps))) (pending_none (is, f))
+            ∙ ap is_some is)
 
     recv_gone : IsStepped l b (Recv b.link bytes) older legal came n
     recv_gone =
@@ -426,8 +460,11 @@ module _ (l : ℕ) (b : Birth) (bytes : List ℕ) (older : History) (legal : IsL
           within = within_more more.more more.is;
           clean = clean_more more.more more.is;
           heard = n.heard;
-          shown = subst (λ (ps : List Packet). IsShown n.heard x (seen l ps) (state (Recv b.link bytes ∷ older)) (told (Recv b.link bytes ∷ older)))
-              (sym (since_more more.more more.is)) (ups_shown l b b.link bytes older legal came n n.heard (seen l (since b older ++ more.more)) ruled);
+          shown = subst
+              (λ (ps : List Packet). IsShown n.heard x (seen l ps) (state (Recv b.link bytes ∷ older))
+              (told (Recv b.link bytes ∷ older)))
+              (sym (since_more more.more more.is))
+              (ups_shown l b b.link bytes older legal came n n.heard (seen l (since b older ++ more.more)) ruled);
           none = λ f. gone_none;
         }
 

@@ -58,7 +58,8 @@ module _ (x : Subject) (s next : State) where
   }
 
   -- the flow of a stream changes
-  pub steps_part : (k : ℕ) (stream : Stream) (part : Part) → s.streams k ≡ Some stream → (part.remote ≡ stream.part.remote) × (part.orphan ≡ stream.part.orphan)
+  pub steps_part : (k : ℕ) (stream : Stream) (part : Part) → s.streams k ≡ Some stream
+      → (part.remote ≡ stream.part.remote) × (part.orphan ≡ stream.part.orphan)
       → next.streams x.stream ≡ change_row k (option_and_then (with_stream_part part)) s.streams x.stream
       → (s.links x.link ≡ None → next.links x.link ≡ None) → Steps x s next
   steps_part k stream part is same rows links = record {
@@ -88,7 +89,8 @@ module _ (x : Subject) (s next : State) where
           }
       was y false e o at h = record { before = y; is = at ∙ h; alike = alike_same y }
 
-      stays : (y : Stream) → y.part.orphan ≡ false → (b : Bool) → eqb k x.stream ≡ b → s.streams x.stream ≡ Some y → StaysAt next.streams x.stream
+      stays : (y : Stream) → y.part.orphan ≡ false → (b : Bool) → eqb k x.stream ≡ b → s.streams x.stream ≡ Some y
+          → StaysAt next.streams x.stream
       stays y owned true e at = record {
         after = record y { part = part };
         is = rows ∙ (ap (λ (b : Bool). cond b (option_and_then (with_stream_part part) (s.streams x.stream)) (s.streams x.stream)) e
@@ -103,7 +105,8 @@ module _ (x : Subject) (s next : State) where
 
 -- ---- what became due
 module _ (x : Subject) (seen : Seen) where
-  will_not : (s next : State) → (s.links x.link ≡ None → next.links x.link ≡ None) → WillNotOpen x seen.sealed s → WillNotOpen x seen.sealed next
+  will_not : (s next : State) → (s.links x.link ≡ None → next.links x.link ≡ None) → WillNotOpen x seen.sealed s
+      → WillNotOpen x seen.sealed next
   will_not s next links (inl sealed) = inl sealed
   will_not s next links (inr (inl gone)) = inr (inl (gone.0, links gone.1))
   will_not s next links (inr (inr failed)) = inr (inr failed)
@@ -131,7 +134,8 @@ module _ (x : Subject) (seen : Seen) where
         orphan = λ orphan. row.orphan (sym was.alike.orphan ∙ orphan);
       }
 
-  pub out_steps : (heard : Bool) (s next : State) (out new : List ℕ) → Steps x s next → new ≡ out → ShownOut heard x seen s out → ShownOut heard x seen next new
+  pub out_steps : (heard : Bool) (s next : State) (out new : List ℕ) → Steps x s next → new ≡ out
+      → ShownOut heard x seen s out → ShownOut heard x seen next new
   out_steps true s next out new steps same h = record { bytes = h.bytes; out_is = same ∙ h.out_is; may = h.may; told = h.told }
   out_steps false s next out new steps same h = record {
     closed = h.closed;
@@ -166,14 +170,16 @@ module _ (heard : Bool) (x : Subject) (seen : Seen) where
       subst (λ (p : Phase). PhaseFor p x.stream heard) of.phase
       (h.row of.client (subst (λ (n : ℕ). s.clients n ≡ Some of.client) same of.is)).phase
 
-  pub other_client : (k : ℕ) (stream : Stream) (s : State) (w : List Event) → s.streams k ≡ Some stream → stream.part.orphan ≡ false → k ≢ x.stream
+  pub other_client : (k : ℕ) (stream : Stream) (s : State) (w : List Event) → s.streams k ≡ Some stream
+      → stream.part.orphan ≡ false → k ≢ x.stream
       → V s w → eqb stream.client x.client ≡ false
   other_client k stream s w is owned apart h = ne_eqb stream.client x.client (λ same.
       apart (phase_of_own k x.stream stream.part.remote heard (shown_client k stream s w is owned same h)))
 
   -- A change that does not concern the stream, by which nothing becomes due to its client.
   pub shown_steps : (s next : State) (w es : List Event) → Steps x s next → IsOwned next
-      → ((client : Client) → next.clients x.client ≡ Some client → RowServed x.stream heard client) → (s.drawn ≤ next.drawn) × (owed_to x.client es ≡ [])
+      → ((client : Client) → next.clients x.client ≡ Some client → RowServed x.stream heard client)
+      → (s.drawn ≤ next.drawn) × (owed_to x.client es ≡ [])
       → V s w → V next (w ++ es)
   shown_steps s next w es steps owned row less h = record {
     owned = owned;
@@ -185,7 +191,8 @@ module _ (heard : Bool) (x : Subject) (seen : Seen) where
 
   -- and where nothing is told
   pub shown_quietly : (s next : State) (w : List Event) → Steps x s next → IsOwned next
-      → ((client : Client) → next.clients x.client ≡ Some client → RowServed x.stream heard client) → s.drawn ≤ next.drawn → V s w → V next w
+      → ((client : Client) → next.clients x.client ≡ Some client → RowServed x.stream heard client)
+      → s.drawn ≤ next.drawn → V s w → V next w
   shown_quietly s next w steps owned row less h = record {
     owned = owned;
     row = row;

@@ -1,5 +1,6 @@
 -- A stream and its client are as the packets of its link say, packet after packet.
-use Rattle.std.proofs.Common.{◌≡◌, ◌≢◌, ℕ, ◌+◌, ◌≤◌, Bool, true, false, cond, not, ◌&&◌, List, [], ◌∷◌, ◌++◌, Option, Some, None, is_some, refl, sym, ap, subst}
+use Rattle.std.proofs.Common.{◌≡◌, ◌≢◌, ℕ, ◌+◌, ◌≤◌, Bool, true, false, cond, not, ◌&&◌, List, [], ◌∷◌, ◌++◌, Option, Some, None, is_some}
+use Rattle.std.proofs.Common.{refl, sym, ap, subst}
 use Rattle.std.proofs.Common.{◌∙◌, eqb}
 use Rattle.std.proofs.Common.{arith, inl, inr, ◌⊎◌}
 use Rattle.std.proofs.lemmas.Bool.{ne_eqb, eqb-true, eqb-false, eq-eqb}
@@ -31,7 +32,8 @@ use Rattle.adb_history.proofs.OutputEntries.{connected_is}
 use Rattle.adb_history.proofs.OwnedMoves.{client_of}
 use Rattle.adb_history.specs.Turns.{IsOpenedBy, Allows, serving}
 use Rattle.adb_laws_answered.specs.Served.{RowServed}
-use Rattle.adb_laws_answered.specs.Shown.{aside, Seen, seen, seals_by, sealed_in, SaysNothing, Subject, IsShownRow, WillNotOpen, ShownOut, IsShown}
+use Rattle.adb_laws_answered.specs.Shown.{aside, Seen, seen, seals_by, sealed_in, SaysNothing, Subject, IsShownRow, WillNotOpen, ShownOut}
+use Rattle.adb_laws_answered.specs.Shown.{IsShown}
 use Rattle.adb_laws_answered.proofs.ToldOthers.{quiet_after, owned_opened}
 use Rattle.adb_history.proofs.PacketMoves.{treat_on_turns, orphan_kept, okay_open_kept}
 use Rattle.adb_laws_answered.proofs.SteadyRows.{at_due}
@@ -44,7 +46,8 @@ use Rattle.adb_laws_answered.proofs.ShownRules.{shown_turns}
 module _ (x : Subject) where
   -- ---- what is seen changes
   -- a packet that says nothing of the stream
-  pub seen_on : (heard : Bool) (a b : Seen) (s : State) (w : List Event) → IsSeenOn x.stream a b → IsShown heard x a s w → IsShown heard x b s w
+  pub seen_on : (heard : Bool) (a b : Seen) (s : State) (w : List Event) → IsSeenOn x.stream a b
+      → IsShown heard x a s w → IsShown heard x b s w
   seen_on heard a b s w on h = record {
     owned = h.owned;
     row = h.row;
@@ -108,7 +111,8 @@ module _ (x : Subject) where
       }
 
   -- why it was not opened, where its row is gone
-  pub gone_reason : (heard : Bool) (a : Seen) (s : State) (w : List Event) → s.streams x.stream ≡ None → IsShown heard x a s w → heard ≡ false
+  pub gone_reason : (heard : Bool) (a : Seen) (s : State) (w : List Event) → s.streams x.stream ≡ None
+      → IsShown heard x a s w → heard ≡ false
       → WillNotOpen x a.sealed s
   gone_reason false a s w none h e = h.out.gone (λ y is. absurd (let clash : None ≡ Some y = sym none ∙ is in cc))
   gone_reason true a s w none h e = absurd (let clash : true ≡ false = e in cc)
@@ -116,7 +120,8 @@ module _ (x : Subject) where
   pub told_more : (ps qs : List Packet) → remote_in (opening_in x.stream ps) ≢ 0 → remote_in (opening_in x.stream (ps ++ qs)) ≢ 0
   told_more ps qs some e = some (sym (remote_stays x.stream ps qs some) ∙ e)
 
-  pub sealed_more : (ps qs : List Packet) (s : State) → WillNotOpen x (sealed_in x.stream ps) s → WillNotOpen x (sealed_in x.stream (ps ++ qs)) s
+  pub sealed_more : (ps qs : List Packet) (s : State) → WillNotOpen x (sealed_in x.stream ps) s
+      → WillNotOpen x (sealed_in x.stream (ps ++ qs)) s
   sealed_more ps qs s (inl sealed) = inl (sealed_stays x.stream ps qs sealed)
   sealed_more ps qs s (inr other) = inr other
 
@@ -127,7 +132,8 @@ module _ (x : Subject) where
   still_none ps qs s (inr (inr failed)) e = inr failed
 
   -- packets that come when its row is gone
-  pub gone_more : (heard : Bool) (ps qs : List Packet) (s : State) (w : List Event) → s.streams x.stream ≡ None → IsShown heard x (seen x.stream ps) s w
+  pub gone_more : (heard : Bool) (ps qs : List Packet) (s : State) (w : List Event) → s.streams x.stream ≡ None
+      → IsShown heard x (seen x.stream ps) s w
       → IsShown heard x (seen x.stream (ps ++ qs)) s w
   gone_more heard ps qs s w none h = row_gone heard (seen x.stream ps) (seen x.stream (ps ++ qs)) s w none (told_more ps qs)
       (λ e. (let why = gone_reason heard (seen x.stream ps) s w none h e in (sealed_more ps qs s why, still_none ps qs s why))) h
@@ -163,7 +169,8 @@ module _ (x : Subject) where
       nothing : (y : Stream) → s.streams x.stream ≡ Some y → ⊥
       nothing y is = let clash : None ≡ Some y = sym none ∙ is in cc
 
-      out : (c : Bool) → heard ≡ c → ShownOut c (record x { failed = true }) a s (owed_to x.client w) → ShownOut c x b s (owed_to x.client w)
+      out : (c : Bool) → heard ≡ c → ShownOut c (record x { failed = true }) a s (owed_to x.client w)
+          → ShownOut c x b s (owed_to x.client w)
       out true e o = record { bytes = o.bytes; out_is = o.out_is; may = o.may; told = told o.told }
       out false e o = record {
         closed = o.closed;
@@ -178,7 +185,8 @@ module _ (x : Subject) where
   pub live_link : (y : Stream) (s : State) → IsLinked s → s.streams x.stream ≡ Some y → y.link ≡ x.link
       → (is_connected x.link s.devices ≡ true) × (is_some (s.links x.link) ≡ true)
   live_link y s linked is link =
-      let connected : is_connected x.link s.devices ≡ true = ap (λ (n : ℕ). is_connected n s.devices) (sym link) ∙ (linked.on x.stream y is).connected in
+      let connected : is_connected x.link s.devices ≡ true =
+      ap (λ (n : ℕ). is_connected n s.devices) (sym link) ∙ (linked.on x.stream y is).connected in
       (connected, linked.rows.linked x.link ∙ connected_is (at x.link s.devices.rows) connected)
 
   -- without its link its row is gone
@@ -229,7 +237,8 @@ module _ (x : Subject) where
   pub other : x.client + 1 ≢ x.client
   other e = omega (arith, e)
 
-  pub allowed_kept : (heard : Bool) (a : Seen) (t : ℕ) (p : Packet) (s : State) (w : List Event) → Allows (aside x) t p.command p → IsShown heard x a s w
+  pub allowed_kept : (heard : Bool) (a : Seen) (t : ℕ) (p : Packet) (s : State) (w : List Event)
+      → Allows (aside x) t p.command p → IsShown heard x a s w
       → IsShown heard x a (treat t p s).state (w ++ (treat t p s).told)
   allowed_kept heard a t p s w may h = treat_on_turns (serving (shown_turns heard x a (x.client + 1) other)) s w h (s.links t) t p may
 
@@ -239,7 +248,9 @@ module _ (x : Subject) where
     okay_one some =
         ap (λ (c : Command). record { remote = remote_in (opening_by c x.stream p [] None); sealed = seals_by c x.stream p false }) command
         ∙ (ap (λ (b : Bool). record {
-          remote = remote_in (cond (b && not (eqb p.arg0 0)) (Some (record { remote = p.arg0; word = credit_word p.payload; later = [] })) None);
+          remote = remote_in
+              (cond (b && not (eqb p.arg0 0))
+              (Some (record { remote = p.arg0; word = credit_word p.payload; later = [] })) None);
           sealed = cond (b && not (eqb p.arg0 0)) false false;
         }) (eq-eqb p.arg1 x.stream names)
         ∙ ap (λ (b : Bool). record {
@@ -271,7 +282,8 @@ module _ (x : Subject) where
     okay_none None t s none = refl
     okay_none (Some link) t s none =
         ap (λ (c : Command). treat_any t c p s) command
-        ∙ (ap (λ (o : Option Stream). cond (is_connected t s.devices) (at_stream t o (takes_okay p.arg1 p.arg0 (credit_word p.payload)) s) (quietly s))
+        ∙ (ap (λ (o : Option Stream). cond (is_connected t s.devices)
+        (at_stream t o (takes_okay p.arg1 p.arg0 (credit_word p.payload)) s) (quietly s))
         (ap s.streams names ∙ none) ∙ either (is_connected t s.devices))
       where
         either : (b : Bool) → cond b (quietly s) (quietly s) ≡ quietly s
@@ -279,25 +291,31 @@ module _ (x : Subject) where
         either false = refl
 
     -- nor one of another link
-    pub okay_apart : (o : Option Link) (t : ℕ) (s : State) (y : Stream) → s.streams x.stream ≡ Some y → y.link ≢ t → treat_on o t p s ≡ quietly s
+    pub okay_apart : (o : Option Link) (t : ℕ) (s : State) (y : Stream) → s.streams x.stream ≡ Some y → y.link ≢ t
+        → treat_on o t p s ≡ quietly s
     okay_apart None t s y is apart = refl
     okay_apart (Some link) t s y is apart =
         ap (λ (c : Command). treat_any t c p s) command
-        ∙ (ap (λ (o : Option Stream). cond (is_connected t s.devices) (at_stream t o (takes_okay p.arg1 p.arg0 (credit_word p.payload)) s) (quietly s))
+        ∙ (ap (λ (o : Option Stream). cond (is_connected t s.devices)
+        (at_stream t o (takes_okay p.arg1 p.arg0 (credit_word p.payload)) s) (quietly s))
         (ap s.streams names ∙ is)
-        ∙ (ap (λ (b : Bool). cond (is_connected t s.devices) (cond b (takes_okay p.arg1 p.arg0 (credit_word p.payload) y s) (quietly s)) (quietly s))
+        ∙ (ap (λ (b : Bool). cond (is_connected t s.devices)
+        (cond b (takes_okay p.arg1 p.arg0 (credit_word p.payload) y s) (quietly s)) (quietly s))
         (ne_eqb y.link t apart) ∙ either (is_connected t s.devices)))
       where
         either : (b : Bool) → cond b (quietly s) (quietly s) ≡ quietly s
         either true = refl
         either false = refl
 
-    okay_is : (o : Option Link) (t : ℕ) (s : State) (y : Stream) → s.streams x.stream ≡ Some y → y.link ≡ t → is_some o ≡ true → is_connected t s.devices ≡ true
+    okay_is : (o : Option Link) (t : ℕ) (s : State) (y : Stream) → s.streams x.stream ≡ Some y → y.link ≡ t
+        → is_some o ≡ true → is_connected t s.devices ≡ true
         → treat_on o t p s ≡ takes_okay x.stream p.arg0 (credit_word p.payload) y s
     okay_is None t s y is link there connected = absurd (let clash : false ≡ true = there in cc)
     okay_is (Some l) t s y is link there connected =
         ap (λ (c : Command). treat_any t c p s) command
-        ∙ (ap (λ (b : Bool). cond b (at_stream t (s.streams p.arg1) (takes_okay p.arg1 p.arg0 (credit_word p.payload)) s) (quietly s)) connected
+        ∙ (ap (λ (b : Bool). cond b
+        (at_stream t (s.streams p.arg1) (takes_okay p.arg1 p.arg0 (credit_word p.payload)) s) (quietly s))
+        connected
         ∙ (ap (λ (n : ℕ). at_stream t (s.streams n) (takes_okay n p.arg0 (credit_word p.payload)) s) names
         ∙ (ap (λ (o : Option Stream). at_stream t o (takes_okay x.stream p.arg0 (credit_word p.payload)) s) is
         ∙ ap (λ (b : Bool). cond b (takes_okay x.stream p.arg0 (credit_word p.payload) y s) (quietly s)) (eq-eqb y.link t link))))
@@ -331,13 +349,17 @@ module _ (x : Subject) where
             let of = client_of s x.stream y is by.owned h.owned in
             let at_c : s.clients x.client ≡ Some of.client = subst (λ (n : ℕ). s.clients n ≡ Some of.client) same_client of.is in
             ap (λ (o : Option Client). owed_to x.client (hears_okay o y.client s).told) of.is
-            ∙ (ap (λ (b : Bool). owed_to x.client (cond b (quietly s) (owe_client y.client (codes "OKAY") s)).told) (h.row of.client at_c).alone
+            ∙ (ap (λ (b : Bool). owed_to x.client (cond b (quietly s) (owe_client y.client (codes "OKAY") s)).told)
+            (h.row of.client at_c).alone
             ∙ (ap (λ (b : Bool). cond b (codes "OKAY") [] ++ []) (eq-eqb y.client x.client same_client) ∙ append-nil (codes "OKAY")))
 
         out_own : owed_to x.client (w ++ (hears_okay (s.clients y.client) y.client s).told) ≡ x.replies ++ (okay ++ [])
         out_own = owed_append x.client w (hears_okay (s.clients y.client) y.client s).told
             ∙ (ap (λ v. owed_to x.client w ++ v) told_own
-            ∙ (ap (λ v. v ++ okay) (h.out.out_is ∙ (ap (λ (b : Bool). x.replies ++ closed_reply b) (h.out.waits y is by.owned) ∙ append-nil x.replies))
+            ∙ (ap (λ v. v ++ okay)
+            (h.out.out_is
+            ∙ (ap (λ (b : Bool). x.replies ++ closed_reply b) (h.out.waits y is by.owned)
+            ∙ append-nil x.replies))
             ∙ ap (λ v. x.replies ++ v) (sym (append-nil okay))))
 
         streaming_own : (a b : Client) → in_phase (Streaming x.stream) a ≡ Some b → RowServed x.stream false a → RowServed x.stream true b
@@ -346,17 +368,20 @@ module _ (x : Subject) where
             subst (λ (z : Client). RowServed x.stream true z) row (record { alone = was.alone; phase = (refl, refl) })
 
         row_own : (clients : Rows (Option Client)) → ((z : Client) → clients x.client ≡ Some z → RowServed x.stream false z)
-            → (b : Client) → change_row y.client (option_and_then (in_phase (Streaming x.stream))) clients x.client ≡ Some b → RowServed x.stream true b
+            → (b : Client) → change_row y.client (option_and_then (in_phase (Streaming x.stream))) clients x.client
+            ≡ Some b → RowServed x.stream true b
         row_own clients was b at_c =
             go (clients x.client) refl
             (sym (ap (λ (v : Bool). cond v (option_and_then (in_phase (Streaming x.stream)) (clients x.client)) (clients x.client))
             (eq-eqb y.client x.client same_client)) ∙ at_c)
           where
-            go : (o : Option Client) → clients x.client ≡ o → option_and_then (in_phase (Streaming x.stream)) o ≡ Some b → RowServed x.stream true b
+            go : (o : Option Client) → clients x.client ≡ o → option_and_then (in_phase (Streaming x.stream)) o
+                ≡ Some b → RowServed x.stream true b
             go None here e = absurd (let clash : None ≡ Some b = e in cc)
             go (Some z) here e = streaming_own z b e (was z here)
 
-        hears_rows : (o : Option Client) (z : Client) → (hears_okay o y.client s).state.clients x.client ≡ Some z → RowServed x.stream false z
+        hears_rows : (o : Option Client) (z : Client) → (hears_okay o y.client s).state.clients x.client ≡ Some z
+            → RowServed x.stream false z
         hears_rows None = h.row
         hears_rows (Some v) = due v.about.forwarded
           where
@@ -379,7 +404,8 @@ module _ (x : Subject) where
         unfolding part_now
         row_now z at_l =
             let was = h.own y is in
-            let there : change_row x.stream (option_and_then (with_stream_part part_now)) s.streams x.stream ≡ Some (record y { part = part_now }) =
+            let there : change_row x.stream (option_and_then (with_stream_part part_now)) s.streams x.stream
+            ≡ Some (record y { part = part_now }) =
             changed_here x.stream (with_stream_part part_now) s.streams y is in
             let both : Some (record y { part = part_now }) ≡ Some z = sym there ∙ at_l in
             let it : record y { part = part_now } ≡ z = cc in
@@ -392,14 +418,16 @@ module _ (x : Subject) where
               orphan = was.orphan;
             })
 
-        opened_shown : IsShown true x (record { remote = p.arg0; sealed = false }) (opened x.stream p.arg0 (credit_word p.payload) y s).state
+        opened_shown : IsShown true x (record { remote = p.arg0; sealed = false })
+            (opened x.stream p.arg0 (credit_word p.payload) y s).state
             (w ++ (opened x.stream p.arg0 (credit_word p.payload) y s).told)
         unfolding part_now hears
         opened_shown = quiet_after (λ s w. IsShown true x (record { remote = p.arg0; sealed = false }) s w) w hears.told
             (open_now x.stream p.arg0 (credit_word p.payload) y hears.state) (record {
               owned = owned_opened x.stream p.arg0 (credit_word p.payload) y s is by h.owned;
               row = row_own hears.state.clients (hears_rows (s.clients y.client));
-              own = subst (λ (v : State). (z : Stream) → change_row x.stream (option_and_then (with_stream_part part_now)) v.streams x.stream ≡ Some z
+              own = subst (λ (v : State). (z : Stream) → change_row x.stream
+                  (option_and_then (with_stream_part part_now)) v.streams x.stream ≡ Some z
                   → IsShownRow x (record { remote = p.arg0; sealed = false }) z) (sym (hears_frame (s.clients y.client))) row_now;
               drawn = subst (λ (v : State). x.stream ≤ v.drawn) (sym (hears_frame (s.clients y.client))) h.drawn;
               out = record { bytes = []; out_is = out_own; may = (h.own y is).may by.owned; told = by.by };
@@ -430,7 +458,8 @@ module _ (x : Subject) where
             let kept = orphan_kept (serving (shown_turns heard x (seen x.stream ps) (x.client + 1) other)) s w h x.stream p.arg0 y is e in (
               heard,
               gone_more heard ps (p ∷ []) m.state (w ++ m.told)
-                  (ap (λ (b : Bool). cond b (option_and_then none_kept (s.streams x.stream)) (s.streams x.stream)) (eq-eqb x.stream x.stream refl)
+                  (ap (λ (b : Bool). cond b (option_and_then none_kept (s.streams x.stream)) (s.streams x.stream))
+                  (eq-eqb x.stream x.stream refl)
                   ∙ none_of x.stream (s.streams x.stream)) kept,
             )
         first_shows false e none some = go heard h
@@ -450,7 +479,8 @@ module _ (x : Subject) where
               heard,
               seen_on heard (seen x.stream ps) (seen x.stream (ps ++ p ∷ [])) m.state (w ++ m.told)
                   (seen_told x.stream ps (p ∷ []) (λ e. some ((h.own y is).remote ∙ e)))
-                  (okay_open_kept (serving (shown_turns heard x (seen x.stream ps) (x.client + 1) other)) s w h x.stream (credit_word p.payload) y is),
+                  (okay_open_kept (serving (shown_turns heard x (seen x.stream ps) (x.client + 1) other)) s w h
+                  x.stream (credit_word p.payload) y is),
             )
 
         known_shows : (b : Bool) → eqb y.part.remote 0 ≡ b → p.arg0 ≢ 0

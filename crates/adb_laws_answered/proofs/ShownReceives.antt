@@ -1,5 +1,6 @@
 -- Bytes are received: a stream and its client are as the packets of its link say.
-use Rattle.std.proofs.Common.{◌≡◌, ◌≢◌, ℕ, ◌+◌, Bool, true, false, List, [], ◌∷◌, ◌++◌, Option, Some, None, is_some, refl, sym, ap, subst, ◌∙◌, append_assoc}
+use Rattle.std.proofs.Common.{◌≡◌, ◌≢◌, ℕ, ◌+◌, Bool, true, false, List, [], ◌∷◌, ◌++◌, Option, Some, None, is_some, refl, sym, ap, subst}
+use Rattle.std.proofs.Common.{◌∙◌, append_assoc}
 use Rattle.std.proofs.Common.{inl, inr, ◌⊎◌}
 use Rattle.std.proofs.lemmas.Bool.{cases_eq}
 use Rattle.std.proofs.lemmas.List.{append-nil}
@@ -38,7 +39,8 @@ module _ (x : Subject) where
   ShownSo ps s w = (heard : Bool) × IsShown heard x (seen x.stream ps) s w
 
   -- ---- packets of its link
-  module _ (ps : List Packet) (p : Packet) (s : State) (w : List Event) (linked : IsLinked s) (heard : Bool) (h : IsShown heard x (seen x.stream ps) s w) where
+  module _ (ps : List Packet) (p : Packet) (s : State) (w : List Event) (linked : IsLinked s) (heard : Bool)
+      (h : IsShown heard x (seen x.stream ps) s w) where
     abbrev Next : Type 0
     Next = ShownSo (ps ++ p ∷ []) (treat x.link p s).state (w ++ (treat x.link p s).told)
 
@@ -79,8 +81,10 @@ module _ (x : Subject) where
       let rest = all_here packets (ps ++ p ∷ []) m.state (w ++ m.told) (linked_packet x.link p s linked) first in
       let later : Made = treat_all x.link packets m.state in (
         rest.0,
-        subst (λ (qs : List Packet). IsShown rest.0 x (seen x.stream qs) later.state (w ++ (m.told ++ later.told))) (append_assoc ps (p ∷ []) packets)
-            (subst (λ (v : List Event). IsShown rest.0 x (seen x.stream ((ps ++ p ∷ []) ++ packets)) later.state v) (append_assoc w m.told later.told) rest.1),
+        subst (λ (qs : List Packet). IsShown rest.0 x (seen x.stream qs) later.state (w ++ (m.told ++ later.told)))
+            (append_assoc ps (p ∷ []) packets)
+            (subst (λ (v : List Event). IsShown rest.0 x (seen x.stream ((ps ++ p ∷ []) ++ packets)) later.state v)
+            (append_assoc w m.told later.told) rest.1),
       )
 
   -- ---- packets of another link
@@ -88,18 +92,21 @@ module _ (x : Subject) where
     abbrev V : State → List Event → Type 0
     V s w = IsShown heard x a s w
 
-    quiet_packet : (p : Packet) (s : State) (w : List Event) → treat t p s ≡ quietly s → V s w → V (treat t p s).state (w ++ (treat t p s).told)
+    quiet_packet : (p : Packet) (s : State) (w : List Event) → treat t p s ≡ quietly s → V s w
+        → V (treat t p s).state (w ++ (treat t p s).told)
     quiet_packet p s w is h = subst (λ (m : Made). V m.state (w ++ m.told)) (sym is) (after_quietly (λ s w. IsShown heard x a s w) w s h)
 
     named_apart : (p : Packet) (s : State) (w : List Event) → V s w → (s.streams x.stream ≡ None → treat t p s ≡ quietly s)
-        → ((y : Stream) → s.streams x.stream ≡ Some y → y.link ≢ t → treat t p s ≡ quietly s) → V (treat t p s).state (w ++ (treat t p s).told)
+        → ((y : Stream) → s.streams x.stream ≡ Some y → y.link ≢ t → treat t p s ≡ quietly s)
+        → V (treat t p s).state (w ++ (treat t p s).told)
     named_apart p s w h none some = go (s.streams x.stream) refl
       where
         go : (o : Option Stream) → s.streams x.stream ≡ o → V (treat t p s).state (w ++ (treat t p s).told)
         go None is = quiet_packet p s w (none is) h
         go (Some y) is = quiet_packet p s w (some y is (λ same. apart (sym same ∙ (h.own y is).link))) h
 
-    by_apart : (p : Packet) (s : State) (w : List Event) → V s w → (c : Command) → p.command ≡ c → V (treat t p s).state (w ++ (treat t p s).told)
+    by_apart : (p : Packet) (s : State) (w : List Event) → V s w → (c : Command) → p.command ≡ c
+        → V (treat t p s).state (w ++ (treat t p s).told)
     by_apart p s w h Okay e = go (cases_eq p.arg1 x.stream)
       where
         go : (p.arg1 ≡ x.stream) ⊎ (p.arg1 ≡ x.stream → ⊥) → V (treat t p s).state (w ++ (treat t p s).told)
@@ -115,17 +122,24 @@ module _ (x : Subject) where
       renews = λ f. apart;
       cuts = λ f same. absurd (apart same);
     })) h
-    by_apart p s w h Open e = allowed_kept x heard a t p s w (subst (λ (c : Command). Allows (aside x) t c p) (sym e) (allows_by x t Open p tt)) h
-    by_apart p s w h Wrte e = allowed_kept x heard a t p s w (subst (λ (c : Command). Allows (aside x) t c p) (sym e) (allows_by x t Wrte p tt)) h
-    by_apart p s w h Auth e = allowed_kept x heard a t p s w (subst (λ (c : Command). Allows (aside x) t c p) (sym e) (allows_by x t Auth p tt)) h
-    by_apart p s w h Stls e = allowed_kept x heard a t p s w (subst (λ (c : Command). Allows (aside x) t c p) (sym e) (allows_by x t Stls p tt)) h
+    by_apart p s w h Open e = allowed_kept x heard a t p s w
+        (subst (λ (c : Command). Allows (aside x) t c p) (sym e) (allows_by x t Open p tt)) h
+    by_apart p s w h Wrte e = allowed_kept x heard a t p s w
+        (subst (λ (c : Command). Allows (aside x) t c p) (sym e) (allows_by x t Wrte p tt)) h
+    by_apart p s w h Auth e = allowed_kept x heard a t p s w
+        (subst (λ (c : Command). Allows (aside x) t c p) (sym e) (allows_by x t Auth p tt)) h
+    by_apart p s w h Stls e = allowed_kept x heard a t p s w
+        (subst (λ (c : Command). Allows (aside x) t c p) (sym e) (allows_by x t Stls p tt)) h
 
-    all_apart : (packets : List Packet) (s : State) (w : List Event) → V s w → After (λ s w. IsShown heard x a s w) w (treat_all t packets s)
+    all_apart : (packets : List Packet) (s : State) (w : List Event) → V s w
+        → After (λ s w. IsShown heard x a s w) w (treat_all t packets s)
     all_apart [] s w h = after_quietly (λ s w. IsShown heard x a s w) w s h
-    all_apart (p ∷ packets) s w h = after_then (λ s w. IsShown heard x a s w) w (treat t p s) (treat_all t packets) (by_apart p s w h p.command refl)
+    all_apart (p ∷ packets) s w h = after_then (λ s w. IsShown heard x a s w) w (treat t p s) (treat_all t packets)
+        (by_apart p s w h p.command refl)
         (λ v now. all_apart packets (treat t p s).state v now)
 
-    cut_apart : (c : Cut PacketFormat Packet PacketFault) (s : State) (w : List Event) → V s w → After (λ s w. IsShown heard x a s w) w (receives_cut t c s)
+    cut_apart : (c : Cut PacketFormat Packet PacketFault) (s : State) (w : List Event) → V s w
+        → After (λ s w. IsShown heard x a s w) w (receives_cut t c s)
     cut_apart c s w h =
         let taken : State = to_link t (with_rest c.rest) s in
         let turns = shown_turns heard x a (x.client + 1) (other x) in
@@ -142,7 +156,8 @@ module _ (x : Subject) where
         go (Some link) = cut_apart (cut_packets (record { sums = link.sums }) (link.rest ++ bytes)) s w h
 
 -- ---- a link that may be gone
-pub allow_cut : (x : Subject) (heard : Bool) (a : Seen) (s : State) (w : List Event) → IsShown heard x a s w → IsShown heard (record x { cut = true }) a s w
+pub allow_cut : (x : Subject) (heard : Bool) (a : Seen) (s : State) (w : List Event) → IsShown heard x a s w
+    → IsShown heard (record x { cut = true }) a s w
 allow_cut x heard a s w h = record {
   owned = h.owned;
   row = h.row;
@@ -209,7 +224,8 @@ deny_cut x heard ps s w there h = record {
       none = λ e. still h (s.streams x.stream) refl;
     }
 
--- What a stream and its client are after bytes of its link: as the packets say; and who did not hear that it is open was told no id, or failed.
+-- What a stream and its client are after bytes of its link: as the packets say; and who did not hear that it is open
+-- was told no id, or failed.
 pub record IsTreated (x : Subject) (ps : List Packet) (s : State) (w : List Event) : Type 0 where
   pub heard : Bool
   pub shown : IsShown heard (record x { cut = true }) (seen x.stream ps) s w
@@ -221,7 +237,8 @@ module _ (x : Subject) where
   none_of_shown false a s w h e = h.out.none refl
   none_of_shown true a s w h e = absurd (let clash : true ≡ false = e in cc)
 
-  pub receives_here : (bytes : List ℕ) (ps : List Packet) (link : Link) (s : State) (w : List Event) → IsLinked s → s.links x.link ≡ Some link
+  pub receives_here : (bytes : List ℕ) (ps : List Packet) (link : Link) (s : State) (w : List Event) → IsLinked s
+      → s.links x.link ≡ Some link
       → (heard : Bool) → IsShown heard (record x { cut = true }) (seen x.stream ps) s w
       → IsTreated x (ps ++ (cut_packets (record { sums = link.sums }) (link.rest ++ bytes)).given) (receives x.link bytes s).state
       (w ++ (receives x.link bytes s).told)
@@ -232,11 +249,15 @@ module _ (x : Subject) where
       let begun = (shown_turns heard (record x { cut = false }) (seen x.stream ps) (x.client + 1) (other x)).links x.link
       (λ l. record l { rest = c.rest }) s w denied in
       let m : Made = treat_all x.link c.given taken in
-      let run = all_here (record x { cut = false }) c.given ps taken w (linked_moves.links x.link (λ l. record l { rest = c.rest }) s w linked)
+      let run = all_here (record x { cut = false }) c.given ps taken w
+      (linked_moves.links x.link (λ l. record l { rest = c.rest }) s w linked)
       (heard, begun) in
       let allowed = allow_cut (record x { cut = false }) run.0 (seen x.stream (ps ++ c.given)) m.state (w ++ m.told) run.1 in
-      let done = after_then (λ s w. IsShown run.0 (record x { cut = true }) (seen x.stream (ps ++ c.given)) s w) w m (faulty x.link c.fault) allowed
-      (λ v now. faulty_kept (serving (shown_turns run.0 (record x { cut = true }) (seen x.stream (ps ++ c.given)) (x.client + 1) (other x))) m.state v now
+      let done = after_then (λ s w. IsShown run.0 (record x { cut = true }) (seen x.stream (ps ++ c.given)) s w) w m
+      (faulty x.link c.fault) allowed
+      (λ v now. faulty_kept
+      (serving (shown_turns run.0 (record x { cut = true }) (seen x.stream (ps ++ c.given)) (x.client + 1)
+      (other x))) m.state v now
       (m.state.links x.link) x.link c.fault (λ same. refl)) in
       record {
         heard = run.0;

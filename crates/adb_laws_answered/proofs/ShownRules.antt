@@ -1,5 +1,6 @@
 -- A stream and its client are as the packets of its link say, through each rule that does not concern them.
-use Rattle.std.proofs.Common.{◌≡◌, ◌≢◌, ℕ, ◌+◌, Bool, true, false, cond, List, [], ◌∷◌, ◌++◌, length, Option, Some, None, refl, sym, ap, subst, ◌∙◌, eqb}
+use Rattle.std.proofs.Common.{◌≡◌, ◌≢◌, ℕ, ◌+◌, Bool, true, false, cond, List, [], ◌∷◌, ◌++◌, length, Option, Some, None, refl, sym, ap}
+use Rattle.std.proofs.Common.{subst, ◌∙◌, eqb}
 use Rattle.std.proofs.Common.{arith, inl, inr}
 use Rattle.std.proofs.lemmas.Bool.{ne_eqb, eqb-true, eqb-false, eq-eqb}
 use Rattle.std.proofs.lemmas.List.{append-nil}
@@ -36,7 +37,8 @@ use Rattle.adb_laws_answered.proofs.ToldOthers.{quiet_after, all_stop_owed, stop
 use Rattle.adb_laws_answered.proofs.SteadyRows.{at_marked, at_due, at_apart, at_none, at_closing, at_like, at_hands}
 use Rattle.adb_laws_answered.proofs.Clearing.{link_stays}
 use Rattle.adb_laws_answered.proofs.ServedMoves.{steady, phase_waiting}
-use Rattle.adb_laws_answered.proofs.ShownMoves.{Steps, steps_same, steps_part, shown_quietly, shown_steps, shown_gone, own_steps, out_steps, out_more, shown_client}
+use Rattle.adb_laws_answered.proofs.ShownMoves.{Steps, steps_same, steps_part, shown_quietly, shown_steps, shown_gone, own_steps, out_steps}
+use Rattle.adb_laws_answered.proofs.ShownMoves.{out_more, shown_client}
 use Rattle.adb_laws_answered.proofs.ShownMoves.{other_client, none_more}
 use Rattle.adb_laws_answered.proofs.ShownEnds.{ends_so_shown, link_ends_cut, online_shown}
 
@@ -45,7 +47,8 @@ module _ (heard : Bool) (x : Subject) (seen : Seen) where
   W s w = IsShown heard x seen s w
 
   -- ---- OKAY of another stream
-  hears_shown : (k : ℕ) (stream : Stream) (s : State) (w : List Event) → s.streams k ≡ Some stream → stream.part.orphan ≡ false → k ≢ x.stream → W s w
+  hears_shown : (k : ℕ) (stream : Stream) (s : State) (w : List Event) → s.streams k ≡ Some stream
+      → stream.part.orphan ≡ false → k ≢ x.stream → W s w
       → W (hears_okay (s.clients stream.client) stream.client s).state (w ++ (hears_okay (s.clients stream.client) stream.client s).told)
   hears_shown k stream s w is owned apart h = go (s.clients stream.client)
     where
@@ -55,7 +58,8 @@ module _ (heard : Bool) (x : Subject) (seen : Seen) where
       due : (b : Bool) → W (cond b (quietly s) (owe_client stream.client (codes "OKAY") s)).state
           (w ++ (cond b (quietly s) (owe_client stream.client (codes "OKAY") s)).told)
       due true = after_quietly (λ s w. IsShown heard x seen s w) w s h
-      due false = shown_steps heard x seen s (owe_client stream.client (codes "OKAY") s).state w (due_to_client stream.client (codes "OKAY") ∷ [])
+      due false = shown_steps heard x seen s (owe_client stream.client (codes "OKAY") s).state w
+          (due_to_client stream.client (codes "OKAY") ∷ [])
           (steps_same x s (owe_client stream.client (codes "OKAY") s).state refl (λ e. e))
           (owned_moves.due stream.client (codes "OKAY") s w h.owned)
           (at_due (steady x.stream heard) x.client stream.client (codes "OKAY") s.clients h.row)
@@ -65,7 +69,8 @@ module _ (heard : Bool) (x : Subject) (seen : Seen) where
       go None = after_quietly (λ s w. IsShown heard x seen s w) w s h
       go (Some y) = due y.about.forwarded
 
-  opened_apart : (k remote : ℕ) (word : Option ℕ) (stream : Stream) (s : State) (w : List Event) → s.streams k ≡ Some stream → IsOpenedBy remote stream
+  opened_apart : (k remote : ℕ) (word : Option ℕ) (stream : Stream) (s : State) (w : List Event)
+      → s.streams k ≡ Some stream → IsOpenedBy remote stream
       → k ≢ x.stream → W s w → W (opened k remote word stream s).state (w ++ (opened k remote word stream s).told)
   opened_apart k remote word stream s w is by apart h =
       let heard_made : Made = hears_okay (s.clients stream.client) stream.client s in
@@ -73,18 +78,23 @@ module _ (heard : Bool) (x : Subject) (seen : Seen) where
       quiet_after (λ s w. IsShown heard x seen s w) w heard_made.told (open_now k remote word stream heard_made.state)
       (shown_quietly heard x seen heard_made.state (open_now k remote word stream heard_made.state) (w ++ heard_made.told)
       (steps_same x heard_made.state (open_now k remote word stream heard_made.state)
-      (ap (λ (b : Bool). cond b (option_and_then (with_stream_part (with_remote remote (with_flow (first_credit word stream.part.flow) stream.part)))
+      (ap (λ (b : Bool). cond b
+      (option_and_then
+      (with_stream_part (with_remote remote (with_flow (first_credit word stream.part.flow) stream.part)))
       (heard_made.state.streams x.stream)) (heard_made.state.streams x.stream)) (ne_eqb k x.stream apart)) (λ e. e))
       (owned_opened k remote word stream s is by h.owned)
       (at_apart (steady x.stream heard) x.client stream.client (in_phase (Streaming k)) heard_made.state.clients
       (eqb-false stream.client x.client (other_client heard x seen k stream s w is by.owned apart h)) kept.row) (omega arith) kept)
 
   -- ---- WRTE
-  pub accepts_shown : (k : ℕ) (payload : List ℕ) (stream : Stream) (s : State) (w : List Event) → s.streams k ≡ Some stream → stream.part.remote ≢ 0
-      → is_out_of_turn stream.part.flow (length payload) ≡ false → W s w → W (accepts_now k payload stream s) (w ++ due_to_client stream.client payload ∷ [])
+  pub accepts_shown : (k : ℕ) (payload : List ℕ) (stream : Stream) (s : State) (w : List Event)
+      → s.streams k ≡ Some stream → stream.part.remote ≢ 0
+      → is_out_of_turn stream.part.flow (length payload) ≡ false → W s w
+      → W (accepts_now k payload stream s) (w ++ due_to_client stream.client payload ∷ [])
   accepts_shown k payload stream s w is known turn h =
       let next : State = accepts_now k payload stream s in
-      let steps : Steps x s next = steps_part x s next k stream (with_flow (accepted (length payload) stream.part.flow) stream.part) is (refl, refl) refl
+      let steps : Steps x s next = steps_part x s next k stream
+      (with_flow (accepted (length payload) stream.part.flow) stream.part) is (refl, refl) refl
       (λ e. e) in
       record {
         owned = owned_moves.accepts k payload stream s w is known turn h.owned;
@@ -101,7 +111,8 @@ module _ (heard : Bool) (x : Subject) (seen : Seen) where
       apart true e quiet = absurd (known (subst (λ (b : Bool). OwnerIn b s.clients k stream) e (h.owned.owned.stream k stream is).owner).0)
       apart false e quiet = ne_eqb stream.client x.client (λ same.
           known (phase_waiting k x.stream stream.part.remote
-          (subst (λ (b : Bool). PhaseFor (phase_for k stream.part.remote) x.stream b) quiet (shown_client heard x seen k stream s w is e same h))))
+          (subst (λ (b : Bool). PhaseFor (phase_for k stream.part.remote) x.stream b) quiet
+          (shown_client heard x seen k stream s w is e same h))))
 
       out : (b : Bool) → heard ≡ b → (next : State) → Steps x s next → ShownOut b x seen s (owed_to x.client w)
           → ShownOut b x seen next (owed_to x.client (w ++ due_to_client stream.client payload ∷ []))
@@ -114,12 +125,16 @@ module _ (heard : Bool) (x : Subject) (seen : Seen) where
             may = more.may;
             told = more.told;
           }
-      out false e next steps h = out_steps x seen false s next (owed_to x.client w) (owed_to x.client (w ++ due_to_client stream.client payload ∷ [])) steps
-          (none_more false x seen w (due_to_client stream.client payload ∷ []) (owed_other x.client stream.client payload (apart stream.part.orphan refl e))) h
+      out false e next steps h = out_steps x seen false s next (owed_to x.client w)
+          (owed_to x.client (w ++ due_to_client stream.client payload ∷ [])) steps
+          (none_more false x seen w (due_to_client stream.client payload ∷ [])
+          (owed_other x.client stream.client payload (apart stream.part.orphan refl e))) h
 
   -- ---- a client fails
   none_row : (k : ℕ) (streams : Rows (Option Stream)) → k ≡ x.stream → change_row k (option_and_then none_kept) streams x.stream ≡ None
-  none_row k streams here = ap (λ (b : Bool). cond b (option_and_then none_kept (streams x.stream)) (streams x.stream)) (eq-eqb k x.stream here)
+  none_row k streams here =
+      ap (λ (b : Bool). cond b (option_and_then none_kept (streams x.stream)) (streams x.stream))
+      (eq-eqb k x.stream here)
       ∙ go (streams x.stream)
     where
       go : (o : Option Stream) → option_and_then none_kept o ≡ None
@@ -128,7 +143,8 @@ module _ (heard : Bool) (x : Subject) (seen : Seen) where
 
   other_row : (k : ℕ) (f : Stream → Option Stream) (streams : Rows (Option Stream)) → k ≢ x.stream
       → change_row k (option_and_then f) streams x.stream ≡ streams x.stream
-  other_row k f streams apart = ap (λ (b : Bool). cond b (option_and_then f (streams x.stream)) (streams x.stream)) (ne_eqb k x.stream apart)
+  other_row k f streams apart = ap (λ (b : Bool). cond b (option_and_then f (streams x.stream)) (streams x.stream))
+      (ne_eqb k x.stream apart)
 
   -- the client of a stream that is this one
   fails_client : (n k : ℕ) (client : Client) (stream : Stream) (s : State) (w : List Event) → s.clients n ≡ Some client
@@ -148,7 +164,8 @@ module _ (heard : Bool) (x : Subject) (seen : Seen) where
 
       go : (b : Bool) → eqb k x.stream ≡ b → W (to_stream k none_kept s) w
       go false e = shown_quietly heard x seen s (to_stream k none_kept s) w
-          (steps_same x s (to_stream k none_kept s) (other_row k none_kept s.streams (eqb-false k x.stream e)) (λ e. e)) owned h.row (omega arith) h
+          (steps_same x s (to_stream k none_kept s) (other_row k none_kept s.streams (eqb-false k x.stream e))
+          (λ e. e)) owned h.row (omega arith) h
       go true e =
           let same : k ≡ x.stream = eqb-true k x.stream e in
           subst (λ (v : List Event). W (to_stream k none_kept s) v) (append-nil w)
@@ -183,17 +200,22 @@ module _ (heard : Bool) (x : Subject) (seen : Seen) where
             let phase : PhaseFor (Streaming k) x.stream heard = subst (λ (p : Phase). PhaseFor p x.stream heard) at.1 served.phase in
             phase.1
 
-        go : (b : Bool) → eqb k x.stream ≡ b → W (to_stream k none_kept (to_client n none_kept s)) (w ++ ended k (ClientFailed failing.cause) ∷ [])
-        go false e = shown_steps heard x seen s (to_stream k none_kept (to_client n none_kept s)) w (ended k (ClientFailed failing.cause) ∷ [])
-            (steps_same x s (to_stream k none_kept (to_client n none_kept s)) (other_row k none_kept s.streams (eqb-false k x.stream e)) (λ e. e)) owned row
+        go : (b : Bool) → eqb k x.stream ≡ b → W (to_stream k none_kept (to_client n none_kept s))
+            (w ++ ended k (ClientFailed failing.cause) ∷ [])
+        go false e = shown_steps heard x seen s (to_stream k none_kept (to_client n none_kept s)) w
+            (ended k (ClientFailed failing.cause) ∷ [])
+            (steps_same x s (to_stream k none_kept (to_client n none_kept s))
+            (other_row k none_kept s.streams (eqb-false k x.stream e)) (λ e. e)) owned row
             (omega arith, refl) h
-        go true e = shown_gone heard x seen s (to_stream k none_kept (to_client n none_kept s)) w (ended k (ClientFailed failing.cause) ∷ []) owned row
+        go true e = shown_gone heard x seen s (to_stream k none_kept (to_client n none_kept s)) w
+            (ended k (ClientFailed failing.cause) ∷ []) owned row
             (none_row k s.streams (eqb-true k x.stream e))
             (λ quiet. absurd (let clash : true ≡ false = sym (hears (eqb-true k x.stream e)) ∙ quiet in cc)) (omega arith, refl) h
 
     asked_shown : (n k : ℕ) (failing : Failing) (s : State) (w : List Event) → (n ≡ x.client → x.failed ≡ true)
         → (s.clients n ≡ Some failing.client) × (failing.client.about.phase ≡ Opening k) × (s.streams k ≡ Some failing.stream) → W s w
-        → W (to_stream k (with_stream_part (orphaned failing.stream.part)) (to_client n none_kept s)) (w ++ ended k (ClientFailed failing.cause) ∷ [])
+        → W (to_stream k (with_stream_part (orphaned failing.stream.part)) (to_client n none_kept s))
+        (w ++ ended k (ClientFailed failing.cause) ∷ [])
     asked_shown n k failing s w may at h = go (eqb k x.stream) refl
       where
         next : State
@@ -214,11 +236,15 @@ module _ (heard : Bool) (x : Subject) (seen : Seen) where
         orphan_row : k ≡ x.stream → change_row k (option_and_then (with_stream_part (orphaned failing.stream.part))) s.streams x.stream
             ≡ Some (record failing.stream { part = orphaned failing.stream.part })
         orphan_row same =
-            ap (λ (b : Bool). cond b (option_and_then (with_stream_part (orphaned failing.stream.part)) (s.streams x.stream)) (s.streams x.stream))
+            ap (λ (b : Bool). cond b
+            (option_and_then (with_stream_part (orphaned failing.stream.part)) (s.streams x.stream))
+            (s.streams x.stream))
             (eq-eqb k x.stream same)
             ∙ ap (option_and_then (with_stream_part (orphaned failing.stream.part))) (ap s.streams (sym same) ∙ at.2)
 
-        orphan_is : k ≡ x.stream → (y : Stream) → (to_stream k (with_stream_part (orphaned failing.stream.part)) (to_client n none_kept s)).streams x.stream
+        orphan_is : k ≡ x.stream → (y : Stream)
+            → (to_stream k (with_stream_part (orphaned failing.stream.part)) (to_client n none_kept s)).streams
+            x.stream
             ≡ Some y → record failing.stream { part = orphaned failing.stream.part } ≡ y
         orphan_is same y is =
             let both : Some (record failing.stream { part = orphaned failing.stream.part }) ≡ Some y = sym (orphan_row same) ∙ is in cc
@@ -241,11 +267,13 @@ module _ (heard : Bool) (x : Subject) (seen : Seen) where
         }
 
         go : (b : Bool) → eqb k x.stream ≡ b
-            → W (to_stream k (with_stream_part (orphaned failing.stream.part)) (to_client n none_kept s)) (w ++ ended k (ClientFailed failing.cause) ∷ [])
+            → W (to_stream k (with_stream_part (orphaned failing.stream.part)) (to_client n none_kept s))
+            (w ++ ended k (ClientFailed failing.cause) ∷ [])
         go false e = shown_steps heard x seen s (to_stream k (with_stream_part (orphaned failing.stream.part)) (to_client n none_kept s)) w
             (ended k (ClientFailed failing.cause) ∷ [])
             (steps_same x s (to_stream k (with_stream_part (orphaned failing.stream.part)) (to_client n none_kept s))
-            (other_row k (with_stream_part (orphaned failing.stream.part)) s.streams (eqb-false k x.stream e)) (λ e. e)) owned row (omega arith, refl) h
+            (other_row k (with_stream_part (orphaned failing.stream.part)) s.streams (eqb-false k x.stream e))
+            (λ e. e)) owned row (omega arith, refl) h
         go true e =
             let same : k ≡ x.stream = eqb-true k x.stream e in
             let was = h.own failing.stream (ap s.streams (sym same) ∙ at.2) in
@@ -267,8 +295,10 @@ module _ (heard : Bool) (x : Subject) (seen : Seen) where
     -- A stream and its client are as the packets of its link say, through each move that does not concern them.
     pub shown_turns : Turns (aside x) asker (λ s w. IsShown heard x seen s w)
     shown_turns = record {
-      owes = λ t p check s w of h. shown_steps heard x seen s (to_link t (with_link_due (spelling p check)) s) w (due_to_link t p check ∷ [])
-          (steps_same x s (to_link t (with_link_due (spelling p check)) s) refl (λ e. link_stays t x.link (with_link_due (spelling p check)) s.links e))
+      owes = λ t p check s w of h. shown_steps heard x seen s (to_link t (with_link_due (spelling p check)) s) w
+          (due_to_link t p check ∷ [])
+          (steps_same x s (to_link t (with_link_due (spelling p check)) s) refl
+          (λ e. link_stays t x.link (with_link_due (spelling p check)) s.links e))
           (owned_moves.owes t p check s w of h.owned) h.row (omega arith, refl) h;
       replies = λ bytes s w h. shown_steps heard x seen s (to_client asker (with_due bytes) s) w (due_to_client asker bytes ∷ [])
           (steps_same x s (to_client asker (with_due bytes) s) refl (λ e. e)) (owned_moves.due asker bytes s w h.owned)
@@ -285,7 +315,8 @@ module _ (heard : Bool) (x : Subject) (seen : Seen) where
       draws = λ t y s w is asking ready h. shown_quietly heard x seen s (draws_now asker t s) w
           (steps_same x s (draws_now asker t s)
           (ap (λ (b : Bool). cond b (Some (new_stream (s.drawn + 1) asker t (new_flow (is_credit t s.devices)))) (s.streams x.stream))
-          (ne_eqb (s.drawn + 1) x.stream (λ e. omega (arith, e, h.drawn)))) (λ e. e)) (owned_moves.draws asker t y s w is asking ready h.owned)
+          (ne_eqb (s.drawn + 1) x.stream (λ e. omega (arith, e, h.drawn)))) (λ e. e))
+          (owned_moves.draws asker t y s w is asking ready h.owned)
           (at_apart (steady x.stream heard) x.client asker (in_phase (Opening (s.drawn + 1))) s.clients apart h.row) (omega arith) h;
       stops = λ y s w may is asking h. shown_gone heard x seen s (stops asker s).state w (all_stop s.drawn s.streams)
           (owned_moves.stops asker y s w is asking h.owned)
@@ -293,19 +324,25 @@ module _ (heard : Bool) (x : Subject) (seen : Seen) where
           (λ quiet. inr (inl (may, refl))) (omega arith, all_stop_owed x.client s.drawn s.streams) h;
       closes = λ n y s w is free h. shown_quietly heard x seen s (closes n s) w (steps_same x s (closes n s) refl (λ e. e))
           (owned_moves.closes n y s w is free h.owned) (at_closing (steady x.stream heard) x.client n s.clients h.row) (omega arith) h;
-      drops = λ n y s w is none h. shown_quietly heard x seen s (to_client n none_kept s) w (steps_same x s (to_client n none_kept s) refl (λ e. e))
+      drops = λ n y s w is none h. shown_quietly heard x seen s (to_client n none_kept s) w
+          (steps_same x s (to_client n none_kept s) refl (λ e. e))
           (owned_moves.drops n y s w is none h.owned) (at_none (steady x.stream heard) x.client n s.clients h.row) (omega arith) h;
       holds = λ n y bytes s w is has h. shown_quietly heard x seen s (to_client n (with_held bytes) s) w
           (steps_same x s (to_client n (with_held bytes) s) refl (λ e. e)) (owned_moves.holds n y bytes s w is has h.owned)
-          (at_like (steady x.stream heard) x.client n (λ z. record z { held = bytes }) s.clients (λ z. refl) (λ z. refl) h.row) (omega arith) h;
-      input_ended = λ n s w h. shown_quietly heard x seen s (to_client n input_ended s) w (steps_same x s (to_client n input_ended s) refl (λ e. e))
+          (at_like (steady x.stream heard) x.client n (λ z. record z { held = bytes }) s.clients (λ z. refl)
+          (λ z. refl) h.row) (omega arith) h;
+      input_ended = λ n s w h. shown_quietly heard x seen s (to_client n input_ended s) w
+          (steps_same x s (to_client n input_ended s) refl (λ e. e))
           (owned_moves.input_ended n s w h.owned)
-          (at_like (steady x.stream heard) x.client n (λ z. record z { about = record z.about { ended = true } }) s.clients (λ z. refl) (λ z. refl) h.row)
+          (at_like (steady x.stream heard) x.client n (λ z. record z { about = record z.about { ended = true } })
+          s.clients (λ z. refl) (λ z. refl) h.row)
           (omega arith) h;
-      hands = λ n k y s w is fits h. shown_quietly heard x seen s (to_client n (hands k) s) w (steps_same x s (to_client n (hands k) s) refl (λ e. e))
+      hands = λ n k y s w is fits h. shown_quietly heard x seen s (to_client n (hands k) s) w
+          (steps_same x s (to_client n (hands k) s) refl (λ e. e))
           (owned_moves.hands n k y s w is fits h.owned) (at_hands (steady x.stream heard) x.client n k s.clients h.row) (omega arith) h;
       flows = λ k stream flow s w is like h. shown_quietly heard x seen s (to_stream k (with_stream_part (with_flow flow stream.part)) s) w
-          (steps_part x s (to_stream k (with_stream_part (with_flow flow stream.part)) s) k stream (with_flow flow stream.part) is (refl, refl) refl (λ e. e))
+          (steps_part x s (to_stream k (with_stream_part (with_flow flow stream.part)) s) k stream
+          (with_flow flow stream.part) is (refl, refl) refl (λ e. e))
           (owned_moves.flows k stream flow s w is like h.owned) h.row (omega arith) h;
       accepts = λ k payload stream s w is known turn h. accepts_shown k payload stream s w is known turn h;
       opened = λ k remote word stream s w is by may h. opened_apart k remote word stream s w is by may h;
@@ -317,10 +354,12 @@ module _ (heard : Bool) (x : Subject) (seen : Seen) where
           (steps_same x s (to_link t (λ link. Some (f link)) s) refl (λ e. link_stays t x.link (λ link. Some (f link)) s.links e))
           (owned_moves.links t f s w h.owned) h.row (omega arith) h;
       link_ends = λ t ending s w told h. (link_ends_cut heard x seen t ending s w (λ same. inl (told.1 same)) h).0;
-      online = λ t version maxdata identity s w may h. online_shown heard x seen t version maxdata identity s w (λ same. absurd (may same)) h;
+      online = λ t version maxdata identity s w may h. online_shown heard x seen t version maxdata identity s w
+          (λ same. absurd (may same)) h;
       unauthorized = λ t row s w is offline h. shown_quietly heard x seen s (unauthorized_from t Offline s) w
           (steps_same x s (unauthorized_from t Offline s) refl (λ e. e)) (owned_moves.unauthorized t row s w is offline h.owned)
           (at_marked (steady x.stream heard) x.client s.clients h.row) (omega arith) h;
       forwards = λ forwards s w led h. shown_quietly heard x seen s (record s { forwards = forwards }) w
-          (steps_same x s (record s { forwards = forwards }) refl (λ e. e)) (owned_moves.forwards forwards s w led h.owned) h.row (omega arith) h;
+          (steps_same x s (record s { forwards = forwards }) refl (λ e. e))
+          (owned_moves.forwards forwards s w led h.owned) h.row (omega arith) h;
     }

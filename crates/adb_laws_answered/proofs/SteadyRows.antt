@@ -1,5 +1,6 @@
 -- What holds of a client's row, whatever becomes of what it holds and of what is due to it.
-use Rattle.std.proofs.Common.{◌≡◌, ◌≢◌, ℕ, Bool, true, false, cond, List, [], ◌∷◌, ◌++◌, drop, Option, Some, None, refl, sym, ap, subst, ◌∙◌, eqb}
+use Rattle.std.proofs.Common.{◌≡◌, ◌≢◌, ℕ, Bool, true, false, cond, List, [], ◌∷◌, ◌++◌, drop, Option, Some, None, refl, sym, ap, subst}
+use Rattle.std.proofs.Common.{◌∙◌, eqb}
 use Rattle.std.specs.Prelude.{codes, option_and_then, option_map}
 use Rattle.std.proofs.lemmas.Bool.{eqb-true}
 use Rattle.adb_outside.specs.Tables.{Rows, change_row}
@@ -19,7 +20,8 @@ pub record IsSteady (Q : Client → Type 0) : Type 0 where
   pub like : (x y : Client) → y.about.phase ≡ x.about.phase → y.about.forwarded ≡ x.about.forwarded → Q x → Q y
 
 -- ---- what is left of a row
-pub closed_about : (due : List ℕ) (x y : Client) → closing_with due x ≡ Some y → (y.about.phase ≡ Closing) × (y.about.forwarded ≡ x.about.forwarded)
+pub closed_about : (due : List ℕ) (x y : Client) → closing_with due x ≡ Some y
+    → (y.about.phase ≡ Closing) × (y.about.forwarded ≡ x.about.forwarded)
 closed_about [] x y e = absurd (let clash : None ≡ Some y = e in cc)
 closed_about (b ∷ due) x y e = (ap phase_of (sym e), ap forwarded_of (sym e))
   where
@@ -31,7 +33,8 @@ closed_about (b ∷ due) x y e = (ap phase_of (sym e), ap forwarded_of (sym e))
     forwarded_of None = x.about.forwarded
     forwarded_of (Some z) = z.about.forwarded
 
-marked_about : (p : Phase) (x : Client) → ((marked_in p x).about.phase ≡ x.about.phase) × ((marked_in p x).about.forwarded ≡ x.about.forwarded)
+marked_about : (p : Phase) (x : Client) → ((marked_in p x).about.phase ≡ x.about.phase)
+    × ((marked_in p x).about.forwarded ≡ x.about.forwarded)
 marked_about Tracking x = (refl, refl)
 marked_about _ x = (refl, refl)
 
@@ -52,7 +55,8 @@ module _ {Q : Client → Type 0} (steady : IsSteady Q) where
     abbrev pub At : Rows (Option Client) → Type 0
     At clients = (client : Client) → clients c ≡ Some client → Q client
 
-    pub at_change : (n : ℕ) (f : Client → Option Client) (clients : Rows (Option Client)) → ((x y : Client) → n ≡ c → f x ≡ Some y → Q x → Q y)
+    pub at_change : (n : ℕ) (f : Client → Option Client) (clients : Rows (Option Client))
+        → ((x y : Client) → n ≡ c → f x ≡ Some y → Q x → Q y)
         → At clients → At (change_row n (option_and_then f) clients)
     at_change n f clients keeps h y is = go (eqb n c) refl (clients c) refl is
       where
@@ -77,7 +81,8 @@ module _ {Q : Client → Type 0} (steady : IsSteady Q) where
     pub at_closing : (n : ℕ) (clients : Rows (Option Client)) → At clients → At (change_row n (option_and_then closing) clients)
     at_closing n clients h = at_change n closing clients (λ x y same e was. steady_closed x.due x y e was) h
 
-    pub at_due : (n : ℕ) (bytes : List ℕ) (clients : Rows (Option Client)) → At clients → At (change_row n (option_and_then (with_due bytes)) clients)
+    pub at_due : (n : ℕ) (bytes : List ℕ) (clients : Rows (Option Client)) → At clients
+        → At (change_row n (option_and_then (with_due bytes)) clients)
     at_due n bytes clients h = at_like n (λ x. record x { due = x.due ++ bytes }) clients (λ x. refl) (λ x. refl) h
 
     pub at_hands : (n k : ℕ) (clients : Rows (Option Client)) → At clients → At (change_row n (option_and_then (hands k)) clients)

@@ -1,5 +1,6 @@
 -- What rules tell other clients is nothing to a client; what they leave of the devices; and that clients and streams keep each other.
-use Rattle.std.proofs.Common.{◌≡◌, ℕ, zero, suc, Bool, true, false, cond, List, [], ◌∷◌, ◌++◌, Option, Some, None, refl, sym, ap, subst, ◌∙◌, eqb}
+use Rattle.std.proofs.Common.{◌≡◌, ℕ, zero, suc, Bool, true, false, cond, List, [], ◌∷◌, ◌++◌, Option, Some, None, refl, sym, ap, subst}
+use Rattle.std.proofs.Common.{◌∙◌, eqb}
 use Rattle.std.specs.Prelude.{codes, option_and_then}
 use Rattle.std.proofs.lemmas.List.{append-nil}
 use Rattle.adb_outside.specs.Tables.{Rows, change_row}
@@ -76,7 +77,8 @@ stopped_none asker c clients e = go (eqb asker c) e
 
 -- ---- clients and streams
 -- clients and streams keep each other when a stream opens
-pub owned_opened : (l remote : ℕ) (word : Option ℕ) (stream : Stream) (s : State) → s.streams l ≡ Some stream → IsOpenedBy remote stream → IsOwned s
+pub owned_opened : (l remote : ℕ) (word : Option ℕ) (stream : Stream) (s : State) → s.streams l ≡ Some stream
+    → IsOpenedBy remote stream → IsOwned s
     → IsOwned (opened l remote word stream s).state
 owned_opened l remote word stream s is by h = go (s.clients stream.client)
   where
@@ -98,7 +100,8 @@ forgets_owned t s h = record {
 }
 
 -- ---- the devices stay
-pub opened_devices : (l remote : ℕ) (word : Option ℕ) (stream : Stream) (s : State) → (opened l remote word stream s).state.devices ≡ s.devices
+pub opened_devices : (l remote : ℕ) (word : Option ℕ) (stream : Stream) (s : State)
+    → (opened l remote word stream s).state.devices ≡ s.devices
 opened_devices l remote word stream s = go (s.clients stream.client)
   where
     due : (b : Bool) → (cond b (quietly s) (owe_client stream.client (codes "OKAY") s)).state.devices ≡ s.devices
@@ -111,4 +114,6 @@ opened_devices l remote word stream s = go (s.clients stream.client)
 
 pub ends_devices : (l : ℕ) (ending : Ending) (stream : Stream) (s : State) → (ends_row l ending stream s).state.devices ≡ s.devices
 ends_devices l ending stream s =
-    ap (λ (x : State). x.devices) (ends_state l ending stream s ∙ client_loses_frame (s.clients stream.client) stream.client (to_stream l none_kept s))
+    ap (λ (x : State). x.devices)
+    (ends_state l ending stream s ∙ client_loses_frame (s.clients stream.client) stream.client
+    (to_stream l none_kept s))

@@ -16,7 +16,8 @@ use Rattle.adb_history.specs.Book.{asked, bound_reply}
 use Rattle.adb_history.specs.Answered.{lists_of, last_list}
 use Rattle.adb_history.specs.Owned.{IsOwned}
 
--- What the entries say of a client: what follows its last request, the replies to its requests, what it was told of its listener, the lists that it was
+-- What the entries say of a client: what follows its last request, the replies to its requests, what it was told of
+-- its listener, the lists that it was
 -- handed if it tracks, and the last of them.
 pub record Heard : Type 0 where
   pub next : Option Next

@@ -98,10 +98,12 @@ pub record IsEntered (c : ℕ) (h : History) : Type 0 where
   pub forwarded : birth.forwarded ≡ true
 
 -- ---- what a client is handed of its stream
--- What became due to the client of a stream is what its device told, up to the stream's end: behind the replies and `OKAY`, where the client came by itself;
+-- What became due to the client of a stream is what its device told, up to the stream's end: behind the replies and
+-- `OKAY`, where the client came by itself;
 -- and alone, where it came through a forward.
 pub record IsHeardAsTold (h : History) (l : ℕ) (b : Birth) : Type 0 where
-  pub behind : b.forwarded ≡ false → (bytes : List ℕ) → output_of b.client h ≡ (asked b.client h).replies ++ (okay ++ bytes) → FollowsTold h l b bytes
+  pub behind : b.forwarded ≡ false → (bytes : List ℕ) → output_of b.client h
+      ≡ (asked b.client h).replies ++ (okay ++ bytes) → FollowsTold h l b bytes
   pub alone : b.forwarded ≡ true → FollowsTold h l b (output_of b.client h)
 
 abbrev pub HearsAsTold : History → Type 0

@@ -1,5 +1,6 @@
 -- Whether the client of a stream heard that it is open, against what the packets of its link say.
-use Rattle.std.specs.Prelude.{ℕ, ◌≡◌, ◌≢◌, ◌≤◌, ◌⊎◌, ◌==◌, Bool, true, false, if◌then◌else◌, ◌&&◌, not, nat_eq, List, [], ◌∷◌, ◌++◌, Option, Some, None}
+use Rattle.std.specs.Prelude.{ℕ, ◌≡◌, ◌≢◌, ◌≤◌, ◌⊎◌, ◌==◌, Bool, true, false, if◌then◌else◌, ◌&&◌, not, nat_eq, List, [], ◌∷◌, ◌++◌, Option}
+use Rattle.std.specs.Prelude.{Some, None}
 use Rattle.adb_wire.specs.declared.command.Command.{Command}
 use Rattle.adb_wire.specs.declared.command.Command.TheVariants.{Cnxn, Okay, Clse}
 use Rattle.adb_wire.specs.declared.packets.Packet.{Packet}
@@ -34,7 +35,8 @@ abbrev pub seen : ℕ → List Packet → Seen
 seen l packets = record { remote = remote_in (opening_in l packets); sealed = sealed_in l packets }
 
 -- ---- a stream and its client
--- A stream that a client asked for, its link, the replies before; whether its client may hear that it opens, whether its client failed, and whether its link
+-- A stream that a client asked for, its link, the replies before; whether its client may hear that it opens, whether
+-- its client failed, and whether its link
 -- may be gone.
 pub record Subject : Type 0 where
   pub stream : ℕ
@@ -89,7 +91,8 @@ pub record IsShown (heard : Bool) (x : Subject) (seen : Seen) (s : State) (event
   pub drawn : x.stream ≤ s.drawn
   pub out : ShownOut heard x seen s (owed_to x.client events)
 
--- what does not concern a stream: packets that do not name it, and other links; and where it is said, that its client fails, or its link is gone
+-- what does not concern a stream: packets that do not name it, and other links; and where it is said, that its client
+-- fails, or its link is gone
 abbrev pub aside : Subject → Scope
 aside x = record {
   reaches = λ l. l ≢ x.stream;

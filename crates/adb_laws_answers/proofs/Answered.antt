@@ -44,13 +44,18 @@ use Rattle.adb_laws_answers.proofs.Ends.{IsByLink, ends_by_link, unfailed, rest_
 -- what holds of a server and its model device
 pub record Laws : Type 0 where
   pub put_all : (history : History) → IsLegal history → PutsAllOfClosed history
-  pub in_turn : (setting : Setting) (history : History) → setting.most < 2 ^ 32 → setting.credit ≡ false → IsLegal history → IsJoined setting history
+  pub in_turn : (setting : Setting) (history : History) → setting.most < 2 ^ 32 → setting.credit ≡ false
+      → IsLegal history → IsJoined setting history
       → AllInTurn history
-  pub closed : (setting : Setting) (history : History) → setting.most < 2 ^ 32 → IsLegal history → IsJoined setting history → ClosedGaveAll setting history
-  pub settled : (setting : Setting) (history : History) → setting.most < 2 ^ 32 → 0 < setting.most → setting.credit ≡ false → IsLegal history
+  pub closed : (setting : Setting) (history : History) → setting.most < 2 ^ 32 → IsLegal history
+      → IsJoined setting history → ClosedGaveAll setting history
+  pub settled : (setting : Setting) (history : History) → setting.most < 2 ^ 32 → 0 < setting.most
+      → setting.credit ≡ false → IsLegal history
       → IsJoined setting history → HasOneDevice history → AllHaveSettled setting history
-  pub opened : (setting : Setting) (history : History) → setting.most < 2 ^ 32 → IsLegal history → IsJoined setting history → KnownAreOpened setting history
-  pub outlive : (setting : Setting) (history : History) → setting.most < 2 ^ 32 → IsLegal history → IsJoined setting history → AllOutliveLink history
+  pub opened : (setting : Setting) (history : History) → setting.most < 2 ^ 32 → IsLegal history
+      → IsJoined setting history → KnownAreOpened setting history
+  pub outlive : (setting : Setting) (history : History) → setting.most < 2 ^ 32 → IsLegal history
+      → IsJoined setting history → AllOutliveLink history
 
 -- all of a text came, whether its service has ended or not
 all_came : (ended : Bool) (came text : List ℕ) → came ≡ text → CameOf ended came text
@@ -75,7 +80,8 @@ StreamIsAnswered setting h b =
     IsAnswered (serving_of setting h) h b.client b.service (drop b.head (bytes_read b.client h))
     ((asked b.client h).replies ++ codes "OKAY") (bytes_put b.client h)
 
-module _ (laws : Laws) (setting : Setting) (short : setting.most < 2 ^ 32) (some : 0 < setting.most) (plain : setting.credit ≡ false) (h : History)
+module _ (laws : Laws) (setting : Setting) (short : setting.most < 2 ^ 32) (some : 0 < setting.most)
+    (plain : setting.credit ≡ false) (h : History)
     (legal : IsLegal h) (tied : IsJoined setting h) (one : HasOneDevice h) (rest : IsAtRest setting h) (here : is_lost 1 h ≡ false)
     (killed : is_killed h ≡ false) where
   -- ---- a stream that its device closed
@@ -119,7 +125,8 @@ module _ (laws : Laws) (setting : Setting) (short : setting.most < 2 ^ 32) (some
         ∙ (ap (λ (x : List ℕ). x ++ codes "OKAY") f.replies
         ∙ ap (λ (t : Bool). cond t [] (asked b.client h).replies ++ codes "OKAY") alone)
 
-    output : output_of b.client h ≡ ((asked b.client h).replies ++ codes "OKAY") ++ (service_answer w.over.row.kind w.over.row.first w.over.row.past).bytes
+    output : output_of b.client h ≡ ((asked b.client h).replies ++ codes "OKAY")
+        ++ (service_answer w.over.row.kind w.over.row.first w.over.row.past).bytes
     output =
         ap (λ (v : View). v.output) f.holds.shows.1
         ∙ (was_open.output_is
@@ -134,7 +141,8 @@ module _ (laws : Laws) (setting : Setting) (short : setting.most < 2 ^ 32) (some
         go None is = laws.put_all h legal l b birth ended (unfailed b.client h open_yet) killed is
         go (Some a) is =
             sym (append-nil (bytes_put b.client h))
-            ∙ (ap (λ (x : List ℕ). bytes_put b.client h ++ x) (sym (rest.clients b.client a is)) ∙ sym (all_due_past_put h legal b.client a is))
+            ∙ (ap (λ (x : List ℕ). bytes_put b.client h ++ x) (sym (rest.clients b.client a is))
+            ∙ sym (all_due_past_put h legal b.client a is))
 
     closed_answered : StreamIsAnswered setting h b
     closed_answered = record {
@@ -147,7 +155,8 @@ module _ (laws : Laws) (setting : Setting) (short : setting.most < 2 ^ 32) (some
       asked = w.kind;
       came = front_came (service_answer w.over.row.kind w.over.row.first w.over.row.past).ended (bytes_in w.over.row.past)
           (drop b.head (bytes_read b.client h)) w.ended
-          (front_of_front (bytes_in w.over.row.past) (drop b.head (bytes_read b.client (lived l h))) (drop b.head (bytes_read b.client h)) w.came
+          (front_of_front (bytes_in w.over.row.past) (drop b.head (bytes_read b.client (lived l h)))
+          (drop b.head (bytes_read b.client h)) w.came
           (rest_front l b h));
       put_as = put ∙ output;
     }
@@ -222,7 +231,8 @@ module _ (laws : Laws) (setting : Setting) (short : setting.most < 2 ^ 32) (some
             → StreamIsAnswered setting h b
         by None is there ended = absurd (let clash : false ≡ true = there in cc)
         by (Some o) is there ended =
-            closed_answered l b birth alone o is ended gone open_yet (laws.closed setting h short legal tied rest.still l b o birth own is ended)
+            closed_answered l b birth alone o is ended gone open_yet
+            (laws.closed setting h short legal tied rest.still l b o birth own is ended)
 
         go : (y : Option Ending) → ending_of l h ≡ y → is_some y ≡ true
             → StreamIsAnswered setting h b
@@ -239,18 +249,22 @@ module _ (laws : Laws) (setting : Setting) (short : setting.most < 2 ^ 32) (some
         go (Some x) is = live_answered x is
 
 -- ---- each client
-pub all_answered : Laws → (setting : Setting) → setting.most < 2 ^ 32 → 0 < setting.most → setting.credit ≡ false → (h : History) → IsLegal h
+pub all_answered : Laws → (setting : Setting) → setting.most < 2 ^ 32 → 0 < setting.most → setting.credit ≡ false
+    → (h : History) → IsLegal h
     → IsJoined setting h → HasOneDevice h → ClientsAreAnswered setting h
 all_answered laws setting short some plain h legal tied one rest here killed ids c service asks =
     let b = born_for h c 1 service asks.next in
     let known : is_some (service_of b.birth.service) ≡ true = ap (λ (x : List ℕ). is_some (service_of x)) b.service_is ∙ asks.known in
     let open_yet : has_ended b.birth.client h ≡ false = ap (λ (n : ℕ). has_ended n h) b.client ∙ asks.here in
-    let done = stream_answered laws setting short some plain h legal tied one rest here killed (suc b.place) b.birth (born_as h b.place b.birth b.is ids)
+    let done = stream_answered laws setting short some plain h legal tied one rest here killed (suc b.place) b.birth
+    (born_as h b.place b.birth b.is ids)
     b.link b.alone known open_yet in
     subst (λ (x : List ℕ).
-    IsAnswered (serving_of setting h) h c x (drop (asked c h).used (bytes_read c h)) ((asked c h).replies ++ codes "OKAY") (bytes_put c h)) b.service_is
+    IsAnswered (serving_of setting h) h c x (drop (asked c h).used (bytes_read c h))
+    ((asked c h).replies ++ codes "OKAY") (bytes_put c h)) b.service_is
     (subst (λ (n : ℕ).
-    IsAnswered (serving_of setting h) h c b.birth.service (drop n (bytes_read c h)) ((asked c h).replies ++ codes "OKAY") (bytes_put c h)) b.head
+    IsAnswered (serving_of setting h) h c b.birth.service (drop n (bytes_read c h))
+    ((asked c h).replies ++ codes "OKAY") (bytes_put c h)) b.head
     (subst (λ (k : ℕ).
     IsAnswered (serving_of setting h) h k b.birth.service (drop b.birth.head (bytes_read k h)) ((asked k h).replies ++ codes "OKAY")
     (bytes_put k h)) b.client done))

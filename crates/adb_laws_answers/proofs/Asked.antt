@@ -41,7 +41,9 @@ asked_same (Read n bytes) older c other = go (cases_eq n c)
     go : (n ≡ c) ⊎ (n ≢ c) → asked c (Read n bytes ∷ older) ≡ asked c older
     go (inl same) = absurd (other bytes (ap (λ (m : ℕ). Read m bytes) same))
     go (inr apart) =
-        ap (λ (b : Bool). cond b (asked_with (is_asking n older (book older)) (devices older) (forwards older) bytes (asked n older)) (asked c older))
+        ap (λ (b : Bool). cond b
+        (asked_with (is_asking n older (book older)) (devices older) (forwards older) bytes (asked n older))
+        (asked c older))
         (ne_eqb n c apart)
 asked_same (Bound n port) older c other = go ((book older).waits n)
   where
@@ -91,7 +93,8 @@ module _ (bytes : List ℕ) (older : History) (c t : ℕ) (service : List ℕ) (
 
   bears : births_at (Read c bytes) older ≡ here ∷ []
   bears =
-      ap (λ (o : Option Next). birth_by c (asked c (Read c bytes ∷ older)).used older (newly o (asked c (Read c bytes ∷ older)).next)) before
+      ap (λ (o : Option Next). birth_by c (asked c (Read c bytes ∷ older)).used older
+      (newly o (asked c (Read c bytes ∷ older)).next)) before
       ∙ ap (λ (o : Option Next). birth_by c (asked c (Read c bytes ∷ older)).used older o) next
 
   born_here : IsBornFor (Read c bytes ∷ older) c t service
@@ -143,7 +146,8 @@ born_for (e ∷ older) c t service next = go (asked c older).next refl (λ befor
         later e older c t service same (before (ap (λ (q : Asked). q.next) (sym same) ∙ next))
 
 -- where an id is left for each
-pub born_as : (h : History) (place : ℕ) (b : Birth) → slice_get (births h) place ≡ Some b → length (births h) ≤ stream_ids → born (suc place) h ≡ Some b
+pub born_as : (h : History) (place : ℕ) (b : Birth) → slice_get (births h) place ≡ Some b
+    → length (births h) ≤ stream_ids → born (suc place) h ≡ Some b
 born_as h place b is ids =
     let below = slice_below (births h) place b is in
     ap (λ (t : Bool). cond t (slice_get (births h) place) None) (lt-ltb place stream_ids (omega (arith, below, ids))) ∙ is

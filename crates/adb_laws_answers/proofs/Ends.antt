@@ -1,4 +1,5 @@
--- A stream whose client neither ended nor stopped the server ends by its device or its link alone; and what was read of the client while it lived.
+-- A stream whose client neither ended nor stopped the server ends by its device or its link alone; and what was read
+-- of the client while it lived.
 use Rattle.std.proofs.Common.{◌≡◌, ℕ, zero, suc, Bool, true, false, cond, not, ◌&&◌, ◌||◌, List, [], ◌∷◌, ◌++◌, drop}
 use Rattle.std.proofs.Common.{Some, None, is_some, refl, sym, ap, subst, ◌∙◌, arith, append_assoc, ◌⊎◌, inl, inr}
 use Rattle.std.specs.Prelude.{nat_eq}
@@ -182,7 +183,8 @@ lived_front : (l c : ℕ) (h : History) → IsPrefixOf (bytes_read c (lived l h)
 lived_front l c [] = ([], refl)
 lived_front l c (e ∷ older) =
     go (is_some (ending_of l older)) (is_some (ending_in l (told_at e older)))
-    (front_of_front (bytes_read c (lived l older)) (bytes_read c older) (bytes_read c (e ∷ older)) (lived_front l c older) (read_more c e older))
+    (front_of_front (bytes_read c (lived l older)) (bytes_read c older) (bytes_read c (e ∷ older))
+    (lived_front l c older) (read_more c e older))
   where
     go : (a b : Bool) → IsPrefixOf (bytes_read c (lived l older)) (bytes_read c (e ∷ older))
         → IsPrefixOf (bytes_read c (cond a (lived l older) (cond b older (e ∷ older)))) (bytes_read c (e ∷ older))
@@ -199,5 +201,6 @@ drop_front n a b (rest, is) = subst (λ (x : List ℕ). IsPrefixOf (drop n a) (d
     go (suc n) (x ∷ a) = go n a
 
 -- what was read past its requests while it lived is a front of all that was
-pub rest_front : (l : ℕ) (b : Birth) (h : History) → IsPrefixOf (drop b.head (bytes_read b.client (lived l h))) (drop b.head (bytes_read b.client h))
+pub rest_front : (l : ℕ) (b : Birth) (h : History) → IsPrefixOf (drop b.head (bytes_read b.client (lived l h)))
+    (drop b.head (bytes_read b.client h))
 rest_front l b h = drop_front b.head (bytes_read b.client (lived l h)) (bytes_read b.client h) (lived_front l b.client h)

@@ -1,4 +1,5 @@
--- What the close of its device makes of the client of a stream: it is gone where nothing is due to it, and else it is closing; and it is told no more.
+-- What the close of its device makes of the client of a stream: it is gone where nothing is due to it, and else it is
+-- closing; and it is told no more.
 use Rattle.std.proofs.Common.{◌≡◌, ◌≢◌, ◌≤◌, ◌+◌, ℕ, Bool, true, false, cond, ◌||◌, ◌&&◌, List, [], ◌∷◌, ◌++◌, Option, Some, None, refl}
 use Rattle.std.proofs.Common.{sym, ap, subst, ◌∙◌, eqb, arith, append_assoc, ◌⊎◌, inl, inr}
 use Rattle.std.specs.Prelude.{codes, nat_eq, is_some}
@@ -48,7 +49,8 @@ module _ (c : ℕ) (out : List ℕ) where
   apart : c + 1 ≢ c
   apart e = omega (arith, e)
 
-  pub done_all : (t : ℕ) (packets : List Packet) (s : State) (w : List Event) → IsDone c out s w → After (IsDone c out) w (treat_all t packets s)
+  pub done_all : (t : ℕ) (packets : List Packet) (s : State) (w : List Event) → IsDone c out s w
+      → After (IsDone c out) w (treat_all t packets s)
   done_all t [] s w h = after_quietly (IsDone c out) w s h
   done_all t (p ∷ packets) s w h =
       after_then (IsDone c out) w (treat t p s) (treat_all t packets)
@@ -87,7 +89,8 @@ module _ (c : ℕ) (a : Client) (g : State) (here : g.clients c ≡ Some a) wher
             ∙ ap (λ (due : List ℕ). closing_with (a.due ++ due) more) (sym owed);
       }
 
-  loses_row : (forwarded : Bool) (phase : Phase) → HasOne phase → IsLeft c (a.due ++ owed_to c (loses forwarded phase c g).told) (loses forwarded phase c g)
+  loses_row : (forwarded : Bool) (phase : Phase) → HasOne phase
+      → IsLeft c (a.due ++ owed_to c (loses forwarded phase c g).told) (loses forwarded phase c g)
   loses_row true (Streaming l) has = closed_row
   loses_row false (Streaming l) has = closed_row
   loses_row true (Opening l) has = closed_row
@@ -104,7 +107,8 @@ module _ (l : ℕ) (x : Stream) (a : Client) (s : State) (owned : x.part.orphan 
     where
       row : IsLeft x.client (a.due ++ owed_to x.client (loses a.about.forwarded a.about.phase x.client (to_stream l none_kept s)).told)
           (loses a.about.forwarded a.about.phase x.client (to_stream l none_kept s))
-      row = loses_row x.client a (to_stream l none_kept s) here a.about.forwarded a.about.phase (has_stream a.about.phase l x.part.remote phase)
+      row = loses_row x.client a (to_stream l none_kept s) here a.about.forwarded a.about.phase
+          (has_stream a.about.phase l x.part.remote phase)
 
       made : ends_row l ending x s ≡ record {
         state = (loses a.about.forwarded a.about.phase x.client (to_stream l none_kept s)).state;
@@ -155,7 +159,8 @@ module _ (t l : ℕ) (x : Stream) (p : Packet) (s : State) (here : Here t l x s)
 
       by : (k : Command) → p.command ≡ k → (z : Bool) → nat_eq p.arg0 0 ≡ z → (n : Bool) → nat_eq p.arg0 x.part.remote ≡ n → (b : Bool)
           → nat_eq p.arg1 l ≡ b → (is_clse k && ((z && b) || (n && b))) ≡ true → IsCloseOf
-      by Clse k true z n m true e f = record { command = k; to = eqb-true p.arg1 l e; from = ap (λ (b : Bool). b || eqb p.arg0 x.part.remote) z }
+      by Clse k true z n m true e f =
+          record { command = k; to = eqb-true p.arg1 l e; from = ap (λ (b : Bool). b || eqb p.arg0 x.part.remote) z }
       by Clse k false z true m true e f = record {
         command = k;
         to = eqb-true p.arg1 l e;
@@ -191,7 +196,8 @@ module _ (t l : ℕ) (x : Stream) (p : Packet) (s : State) (here : Here t l x s)
           ∙ (ap (λ (b : Bool). cond b (treat_open t Clse p s) (quietly s)) here.live.connected ∙ at_row p.arg1 is_close.to)
 
 -- ---- the packets that a link brings
--- The stream of a client fell by its device's close: so much was told to the client since, and no more will; that and what was due to it is nothing, or it is
+-- The stream of a client fell by its device's close: so much was told to the client since, and no more will; that and
+-- what was due to it is nothing, or it is
 -- closing.
 pub record Fallen (c : ℕ) (a : Client) (w : List Event) (m : Made) : Type 0 where
   pub out : List ℕ
@@ -199,7 +205,8 @@ pub record Fallen (c : ℕ) (a : Client) (w : List Event) (m : Made) : Type 0 wh
   pub left : (a.due ++ out ≡ []) ⊎ IsClosing c m.state
 
 -- what is due to a client that is there before and behind a rule
-grown : (o q : Option Client) (a b : Client) (told : List ℕ) → o ≡ Some a → q ≡ Some b → RowStep ClientStays o q told → b.due ≡ a.due ++ told
+grown : (o q : Option Client) (a b : Client) (told : List ℕ) → o ≡ Some a → q ≡ Some b → RowStep ClientStays o q told
+    → b.due ≡ a.due ++ told
 grown o q a b told is now step =
     (subst (λ (r : Option Client). RowStep ClientStays (Some a) r told) now
     (subst (λ (r : Option Client). RowStep ClientStays r q told) is step)).due
@@ -208,8 +215,10 @@ or_first : (o : Option Ending) (y z : Ending) → option_or (Some y) o ≡ Some 
 or_first o y z e = (let both : Some y ≡ Some z = e in cc)
 
 module _ (came plugged t l : ℕ) (le : t ≤ plugged) where
-  pub falls : (packets : List Packet) (x : Stream) (s : State) (w : List Event) (a : Client) → Here t l x s → IsOwned s → AreWithin came plugged s.streams
-      → s.clients x.client ≡ Some a → ending_in l (treat_all t packets s).told ≡ Some PeerClosed → Fallen x.client a w (treat_all t packets s)
+  pub falls : (packets : List Packet) (x : Stream) (s : State) (w : List Event) (a : Client) → Here t l x s
+      → IsOwned s → AreWithin came plugged s.streams
+      → s.clients x.client ≡ Some a → ending_in l (treat_all t packets s).told ≡ Some PeerClosed
+      → Fallen x.client a w (treat_all t packets s)
   falls [] x s w a at owned within here closed = absurd (let clash : None ≡ Some PeerClosed = closed in cc)
   falls (p ∷ packets) x s w a at owned within here closed =
       go (treat_turn t l x p s at)
@@ -240,7 +249,8 @@ module _ (came plugged t l : ℕ) (le : t ≤ plugged) where
           → Fallen y.client b v (treat_all t packets (treat t p s).state)
 
       -- it goes on
-      passes : Passes t l x p (treat t p s) → Effect l x p pair.client (treat t p s) → Later → Fallen x.client a w (treat_all t (p ∷ packets) s)
+      passes : Passes t l x p (treat t p s) → Effect l x p pair.client (treat t p s) → Later
+          → Fallen x.client a w (treat_all t (p ∷ packets) s)
       passes a' e later =
           let same : a'.row ≡ e.row = (let both : Some a'.row ≡ Some e.row = sym a'.is ∙ e.is in cc) in
           let there : Here t l e.row (treat t p s).state = record {
@@ -252,7 +262,8 @@ module _ (came plugged t l : ℕ) (le : t ≤ plugged) where
           let none : ending_in l (treat t p s).told ≡ None =
           alive_told l (OfLink t) s (treat t p s) a'.row (treat_fate l t p s) (a'.is, a'.next.alive) in
           let told : ending_in l (treat_all t packets (treat t p s).state).told ≡ Some PeerClosed =
-          sym (ap (λ (o : Option Ending). option_or o (ending_in l (treat_all t packets (treat t p s).state).told)) none) ∙ (sym split ∙ closed) in
+          sym (ap (λ (o : Option Ending). option_or o (ending_in l (treat_all t packets (treat t p s).state).told))
+          none) ∙ (sym split ∙ closed) in
           let f = subst (λ (c : ℕ). Fallen c e.client (w ++ (treat t p s).told) (treat_all t packets (treat t p s).state)) e.of
           (later e.row e.client (w ++ (treat t p s).told) there owned_now (changes.streams within)
           (ap (treat t p s).state.clients e.of ∙ e.here) told) in
@@ -285,15 +296,18 @@ module _ (came plugged t l : ℕ) (le : t ≤ plugged) where
           let left : IsLeft x.client (a.due ++ owed_to x.client (treat t p s).told) (treat t p s) =
           subst (λ (m : Made). IsLeft x.client (a.due ++ owed_to x.client m.told) m) (sym is)
           (ends_left l x a s at.alive here (ap (λ (k : Client). k.about.phase) (sym row) ∙ pair.phase) PeerClosed) in
-          let first : IsDone x.client (owed_to x.client w ++ owed_to x.client (treat t p s).told) (treat t p s).state (w ++ (treat t p s).told) = record {
+          let first : IsDone x.client (owed_to x.client w ++ owed_to x.client (treat t p s).told) (treat t p s).state
+          (w ++ (treat t p s).told) = record {
             owned = owned_now;
             row = left_closing x.client (a.due ++ owed_to x.client (treat t p s).told) (treat t p s) left;
             told = owed_append x.client w (treat t p s).told;
           } in
           record {
             out = owed_to x.client (treat t p s).told;
-            done = after_then (IsDone x.client (owed_to x.client w ++ owed_to x.client (treat t p s).told)) w (treat t p s) (treat_all t packets) first
-                (λ v now. done_all x.client (owed_to x.client w ++ owed_to x.client (treat t p s).told) t packets (treat t p s).state v now);
+            done = after_then (IsDone x.client (owed_to x.client w ++ owed_to x.client (treat t p s).told)) w
+                (treat t p s) (treat_all t packets) first
+                (λ v now. done_all x.client (owed_to x.client w ++ owed_to x.client (treat t p s).told) t packets
+                (treat t p s).state v now);
             left = by (left_or_closing x.client (a.due ++ owed_to x.client (treat t p s).told) (treat t p s) left);
           }
         where

@@ -1,5 +1,6 @@
 -- Histories of sessions ask for services, entry by entry.
-use Rattle.std.specs.Prelude.{ℕ, ◌+◌, ◌≡◌, ◌≢◌, ◌≤◌, ◌<◌, ◌&&◌, ◌||◌, not, Bool, true, false, cond, is_some, is_none, nat_eq, List, [], ◌∷◌, ◌++◌, length, codes}
+use Rattle.std.specs.Prelude.{ℕ, ◌+◌, ◌≡◌, ◌≢◌, ◌≤◌, ◌<◌, ◌&&◌, ◌||◌, not, Bool, true, false, cond, is_some, is_none, nat_eq, List, [], ◌∷◌}
+use Rattle.std.specs.Prelude.{◌++◌, length, codes}
 use Rattle.std.specs.Prelude.{if◌then◌else◌, Option, Some, None}
 use Rattle.std.proofs.Common.{refl, sym, ◌∙◌, ap, subst, arith, ◌⊎◌, inl, inr, zero, suc, add-one, append_assoc}
 use Rattle.std.proofs.lemmas.Bool.{cases_lt, cases_eq, eq-eqb, ne_eqb}
@@ -15,7 +16,8 @@ use Rattle.adb_capture.specs.declared.entry.Entry.TheVariants.{Join, Read, End, 
 use Rattle.adb_history.specs.Asking.{Asked, nothing_asked, asks_with}
 use Rattle.adb_history.specs.Bytes.{has_joined, has_ended, bytes_read}
 use Rattle.adb_history.specs.Births.{births, births_at, birth_by}
-use Rattle.adb_history.specs.Book.{book, asked, devices, forwards, is_killed, is_asking, asked_with, newly, kills, forwards_by, led_by, devices_if}
+use Rattle.adb_history.specs.Book.{book, asked, devices, forwards, is_killed, is_asking, asked_with, newly, kills, forwards_by, led_by}
+use Rattle.adb_history.specs.Book.{devices_if}
 use Rattle.adb_history.specs.Machine.{History, IsLegal}
 use Rattle.adb_history.specs.Tied.{came_count}
 use Rattle.adb_history.proofs.Numbers.{counted, next_number}
@@ -45,11 +47,13 @@ done_put f c q zero some le = absurd (omega (arith, some, le))
 done_put f c q (suc k) some le = go (cases_eq c (suc k)) (λ below. done_put f c q k some below)
   where
     go : (c ≡ suc k) ⊎ (c ≢ suc k) → (c ≤ k → done_among (put_row c q f) k + one_if (f c).next ≡ done_among f k + one_if q.next)
-        → one_if (put_row c q f (suc k)).next + done_among (put_row c q f) k + one_if (f c).next ≡ one_if (f (suc k)).next + done_among f k + one_if q.next
+        → one_if (put_row c q f (suc k)).next + done_among (put_row c q f) k + one_if (f c).next
+        ≡ one_if (f (suc k)).next + done_among f k + one_if q.next
     go (inl is) later =
         let here : put_row c q f (suc k) ≡ q = ap (λ (b : Bool). cond b q (f (suc k))) (eq-eqb c (suc k) is) in
         let rest : done_among (put_row c q f) k ≡ done_among f k =
-        done_same f (put_row c q f) k (λ d below. ap (λ (b : Bool). cond b q (f d)) (ne_eqb c d (λ same. omega (arith, same, is, below)))) in
+        done_same f (put_row c q f) k
+        (λ d below. ap (λ (b : Bool). cond b q (f d)) (ne_eqb c d (λ same. omega (arith, same, is, below)))) in
         let old : one_if (f c).next ≡ one_if (f (suc k)).next = ap (λ (d : ℕ). one_if (f d).next) is in
         let new : one_if (put_row c q f (suc k)).next ≡ one_if q.next = ap (λ (x : Asked). one_if x.next) here in
         omega (arith, new, rest, old)
@@ -68,7 +72,8 @@ no_kill : (next : Option Next) → IsDone next → kills next ≡ false
 no_kill next (inl none) = ap kills none
 no_kill next (inr (service, is)) = ap kills is
 
-same_forwards : (next : Option Next) → IsDone next → (devices : DeviceTable) (all : List (ℕ × ForwardRow)) → forwards_by next devices all ≡ all
+same_forwards : (next : Option Next) → IsDone next → (devices : DeviceTable) (all : List (ℕ × ForwardRow))
+    → forwards_by next devices all ≡ all
 same_forwards next (inl none) devices all = ap (λ (x : Option Next). forwards_by x devices all) none
 same_forwards next (inr (service, is)) devices all = ap (λ (x : Option Next). forwards_by x devices all) is
 
@@ -95,7 +100,8 @@ some_next (Some next) some = refl
 
 module _ (spelled : SpelledIsRead) where
   -- what a front of the words of a session asks is nothing more, or its service
-  done_by : (bytes front : List ℕ) → IsOfSession bytes → IsPrefixOf front bytes → IsDone (asks_with model_devices [] front nothing_asked).next
+  done_by : (bytes front : List ℕ) → IsOfSession bytes → IsPrefixOf front bytes
+      → IsDone (asks_with model_devices [] front nothing_asked).next
   done_by bytes front session first = go (cases_lt (length front) (length (requests_for session.service)))
     where
       opens : Opens session.service front (asks_with model_devices [] front nothing_asked)
@@ -112,7 +118,8 @@ module _ (spelled : SpelledIsRead) where
 
   -- a client that read nothing asked nothing
   nothing_yet : (bytes : List ℕ) (q : Asked) → bytes ≡ [] → HasAsked bytes q → q ≡ nothing_asked
-  nothing_yet bytes q none h = h.asked ∙ ap (λ (x : List ℕ). asks_with model_devices [] x nothing_asked) (empty h.front h.first.0 (h.first.1 ∙ none))
+  nothing_yet bytes q none h = h.asked ∙ ap (λ (x : List ℕ). asks_with model_devices [] x nothing_asked)
+      (empty h.front h.first.0 (h.first.1 ∙ none))
     where
       empty : (a b : List ℕ) → a ++ b ≡ [] → a ≡ []
       empty [] b is = refl
@@ -198,7 +205,8 @@ module _ (spelled : SpelledIsRead) where
         where
           go : (c ≡ d) ⊎ (c ≢ d) → HasAsked (bytes_read d h) (asked d h)
           go (inl is) = subst (λ (k : ℕ). HasAsked (bytes_read k h) (asked k h)) is
-              (subst (λ (b : Bool). HasAsked (cond b (bytes_read c older ++ piece) (bytes_read c older)) (cond b asked_now q)) (sym here) has_now)
+              (subst (λ (b : Bool). HasAsked (cond b (bytes_read c older ++ piece) (bytes_read c older))
+              (cond b asked_now q)) (sym here) has_now)
           go (inr other) =
               subst (λ (b : Bool). HasAsked (cond b (bytes_read d older ++ piece) (bytes_read d older)) (cond b asked_now (asked d older)))
               (sym (ne_eqb c d other)) (a.clients d)
@@ -236,7 +244,8 @@ module _ (spelled : SpelledIsRead) where
           let put : done_among (λ d. asked d h) (came_count h) + one_if q.next
           ≡ done_among (λ d. asked d older) (came_count older) + one_if asked_now.next =
           done_put (λ d. asked d older) c asked_now (came_count older) some came in
-          let newer : one_if next_now + one_if q.next ≡ one_if asked_now.next = newly_one q.next asked_now.next (is_none q.next) refl kept in
+          let newer : one_if next_now + one_if q.next ≡ one_if asked_now.next =
+          newly_one q.next asked_now.next (is_none q.next) refl kept in
           let old : length (births older) ≡ done_among (λ d. asked d older) (came_count older) = a.births in
           let all : length (births h) ≡ length (births older) + length (births_at (Read c piece) older) =
           length-append (births older) (births_at (Read c piece) older) in

@@ -119,13 +119,17 @@ module _ (l : ℕ) (b : Birth) (h : History) (legal : IsLegal h) (birth : born l
   f = has_lives h legal l b birth
 
   is_closing : (a : Client) → (state h).clients b.client ≡ Some a → a.about.phase ≡ Closing
-  is_closing a is = over (seen_client a) (ap (λ (v : View). v.client) (sym f.holds.shows.1) ∙ ap (λ (o : Option Client). option_map seen_client o) is)
+  is_closing a is =
+      over (seen_client a)
+      (ap (λ (v : View). v.client) (sym f.holds.shows.1) ∙ ap (λ (o : Option Client). option_map seen_client o) is)
     where
       gone : f.holds.seen.stream ≡ None
       gone = ap (λ (v : View). v.stream) (sym f.holds.shows.1) ∙ ap (λ (o : Option Stream). option_map seen o) row_gone
 
       over : IsOver f.holds.seen.client
-      over = (subst (λ (o : Option SeenStream). LivesIn o l f.cradle (Rattle.adb_history.specs.Births.since b h) (is_shut b.link h) (heard f.holds.seen))
+      over = (subst
+          (λ (o : Option SeenStream). LivesIn o l f.cradle (Rattle.adb_history.specs.Births.since b h)
+          (is_shut b.link h) (heard f.holds.seen))
           gone f.holds.keeps.lives).0
 
   below : b.client ≤ (state h).joined
@@ -151,7 +155,8 @@ module _ (l : ℕ) (b : Birth) (e : Entry) (older : History) (legal : IsLegal (e
   goes_on = sym (stopped_after e older) ∙ ((all_books (e ∷ older) legal).killed ∙ killed)
 
   owned_then : IsOwned (rule e (state older)).state
-  owned_then = moves.rule_kept owned_moves e (state older) (told older) (begins_owned (state older) (all_owned older legal.0) e (told older) legal.2)
+  owned_then = moves.rule_kept owned_moves e (state older) (told older)
+      (begins_owned (state older) (all_owned older legal.0) e (told older) legal.2)
 
   -- a client that is closing behind the rule is there behind the entry
   stays_then : (y : Client) → (rule e (state older)).state.clients b.client ≡ Some y → y.about.phase ≡ Closing
@@ -165,7 +170,8 @@ module _ (l : ℕ) (b : Birth) (e : Entry) (older : History) (legal : IsLegal (e
       stays_then a (stays_rule b.client a (state older) (all_owned older legal.0) is phase e legal.2 goes_on spares) phase
 
 -- ---- a hand-out
-module _ (l : ℕ) (b : Birth) (bytes : List ℕ) (older : History) (legal : IsLegal (Put b.client bytes ∷ older)) (birth : born l older ≡ Some b)
+module _ (l : ℕ) (b : Birth) (bytes : List ℕ) (older : History) (legal : IsLegal (Put b.client bytes ∷ older))
+    (birth : born l older ≡ Some b)
     (closed : ending_of l older ≡ Some PeerClosed) (killed : is_killed (Put b.client bytes ∷ older) ≡ false)
     (gone : (state (Put b.client bytes ∷ older)).clients b.client ≡ None) (a : Client) (is : (state older).clients b.client ≡ Some a) where
   phase : a.about.phase ≡ Closing
@@ -188,7 +194,9 @@ module _ (l : ℕ) (b : Birth) (bytes : List ℕ) (older : History) (legal : IsL
       ∙ (ap (λ (x : List ℕ). (then_also (lists_first b.client x a (state older))
       (λ s. takes_of b.client (length bytes) (s.clients b.client) s)).state.clients b.client) due_is
       ∙ (ap (λ (o : Option Client). (takes_of b.client (length bytes) o (state older)).state.clients b.client) is
-      ∙ (ap (λ (p : Phase). (client_left p (length (drop (length bytes) a.due)) (to_client b.client (hands (length bytes)) (state older))).state.clients
+      ∙ (ap (λ (p : Phase).
+      (client_left p (length (drop (length bytes) a.due))
+      (to_client b.client (hands (length bytes)) (state older))).state.clients
       b.client) phase
       ∙ (changed_here b.client (hands (length bytes)) (state older).clients a is
       ∙ ap (λ (p : Phase). left_in p (drop (length bytes) a.due) a) phase))))
@@ -288,11 +296,14 @@ module _ (l t : ℕ) (bytes : List ℕ) (older : History) (legal : IsLegal (Recv
       struck (inl (inr e)) = absurd (let clash : PeerClosed ≡ Broken = e.0 in cc)
       struck (inr e) = absurd (cc)
 
-      all : option_or (ending_in l treated.told) (ending_in l ((faulty t cut.fault treated.state).told ++ (ups (receives t bytes (state older)).state).told))
+      all : option_or (ending_in l treated.told)
+          (ending_in l ((faulty t cut.fault treated.state).told ++ (ups (receives t bytes (state older)).state).told))
           ≡ Some PeerClosed
       all =
           sym (ending_append l treated.told ((faulty t cut.fault treated.state).told ++ (ups (receives t bytes (state older)).state).told))
-          ∙ (ap (ending_in l) (sym (append_assoc treated.told (faulty t cut.fault treated.state).told (ups (receives t bytes (state older)).state).told))
+          ∙ (ap (ending_in l)
+          (sym (append_assoc treated.told (faulty t cut.fault treated.state).told
+          (ups (receives t bytes (state older)).state).told))
           ∙ (ap (λ (m : Made). ending_in l (m.told ++ (ups (receives t bytes (state older)).state).told)) (sym received) ∙ closed))
 
       go : Run t l x cut.given treated → ending_in l treated.told ≡ Some PeerClosed
@@ -300,11 +311,13 @@ module _ (l t : ℕ) (bytes : List ℕ) (older : History) (legal : IsLegal (Recv
       go (inr struck_down) =
           let both : Some struck_down.ending ≡ Some PeerClosed =
           sym (ap (λ (o : Option Ending). option_or o
-          (ending_in l ((faulty t cut.fault treated.state).told ++ (ups (receives t bytes (state older)).state).told))) struck_down.told) ∙ all in
+          (ending_in l ((faulty t cut.fault treated.state).told
+          ++ (ups (receives t bytes (state older)).state).told))) struck_down.told) ∙ all in
           struck_down.told ∙ both
 
   fallen : Fallen x.client pair.client (told older) treated
-  fallen = falls (came_count older) (plugged_count older) t l le cut.given x s (told older) pair.client here owned (tied older legal.0).streams pair.here fell
+  fallen = falls (came_count older) (plugged_count older) t l le cut.given x s (told older) pair.client here owned
+      (tied older legal.0).streams pair.here fell
 
   abbrev so_far : List ℕ
   so_far = owed_to x.client (told older) ++ fallen.out
@@ -316,12 +329,16 @@ module _ (l t : ℕ) (bytes : List ℕ) (older : History) (legal : IsLegal (Recv
   done_rule =
       subst (λ (m : Made). IsDone x.client so_far m.state (told older ++ m.told)) (sym received)
       (after_then (IsDone x.client so_far) (told older) treated (faulty t cut.fault) fallen.done
-      (λ v now. turns.faulty_kept (serving (done_turns x.client so_far (x.client + 1) other)) treated.state v now (treated.state.links t) t cut.fault tt))
+      (λ v now. turns.faulty_kept (serving (done_turns x.client so_far (x.client + 1) other)) treated.state v now
+      (treated.state.links t) t cut.fault tt))
 
   all_told : output_of x.client (Recv t bytes ∷ older) ≡ so_far
   all_told =
-      ap (owed_to x.client) (sym (append_assoc (told older) (receives t bytes (state older)).told (ups (receives t bytes (state older)).state).told))
-      ∙ (client_ups (done_client x.client so_far) (receives t bytes (state older)).state (told older ++ (receives t bytes (state older)).told) done_rule).told
+      ap (owed_to x.client)
+      (sym (append_assoc (told older) (receives t bytes (state older)).told
+      (ups (receives t bytes (state older)).state).told))
+      ∙ (client_ups (done_client x.client so_far) (receives t bytes (state older)).state
+      (told older ++ (receives t bytes (state older)).told) done_rule).told
 
   close_put : bytes_put x.client (Recv t bytes ∷ older) ≡ output_of x.client (Recv t bytes ∷ older)
   close_put = by fallen.left
@@ -339,7 +356,8 @@ module _ (l t : ℕ) (bytes : List ℕ) (older : History) (legal : IsLegal (Recv
           let ruled : (receives t bytes (state older)).state.clients x.client ≡ Some k.row =
           ap (λ (m : Made). m.state.clients x.client) received ∙ faulted in
           let upped : (state (Recv t bytes ∷ older)).clients x.client ≡ Some k.row =
-          stays_up x.client k.row (receives t bytes (state older)).state done_rule.owned ruled k.phase (receives t bytes (state older)).state.drawn in
+          stays_up x.client k.row (receives t bytes (state older)).state done_rule.owned ruled k.phase
+          (receives t bytes (state older)).state.drawn in
           absurd (let clash : None ≡ Some k.row = sym gone ∙ upped in cc)
 
 -- ---- the entry by which it is closed
@@ -357,7 +375,8 @@ module _ (l : ℕ) (b : Birth) (e : Entry) (older : History) (legal : IsLegal (e
   closed_now : bytes_put b.client (e ∷ older) ≡ output_of b.client (e ∷ older)
   closed_now = go e legal closed gone x.why
     where
-      go : (e' : Entry) → IsLegal (e' ∷ older) → ending_in l (told_at e' older) ≡ Some PeerClosed → (state (e' ∷ older)).clients b.client ≡ None
+      go : (e' : Entry) → IsLegal (e' ∷ older) → ending_in l (told_at e' older) ≡ Some PeerClosed
+          → (state (e' ∷ older)).clients b.client ≡ None
           → WhyStep e' ((rule e' (state older)).state.stopped ≡ true) x.row.client x.row.link PeerClosed
           → bytes_put b.client (e' ∷ older) ≡ output_of b.client (e' ∷ older)
       go (Recv t bytes) legal' closed' gone' (inl on) =

@@ -1,4 +1,5 @@
--- What a front of the words of a session asks, of devices of which the request for the model device selects the first, and services are asked for there.
+-- What a front of the words of a session asks, of devices of which the request for the model device selects the
+-- first, and services are asked for there.
 use Rattle.std.specs.Prelude.{ℕ, ◌+◌, ◌/◌, ◌%◌, ◌≡◌, ◌≤◌, ◌<◌, Bool, cond, List, [], ◌∷◌, ◌++◌, length, take, drop, codes}
 use Rattle.std.specs.Prelude.{Option, Some, None}
 use Rattle.std.proofs.Common.{refl, sym, ◌∙◌, ap, subst, arith, ◌⊎◌, inl, inr, zero, suc}
@@ -111,7 +112,8 @@ module _ (devices : DeviceTable) (leads : Leads devices) (spelled : SpelledIsRea
         → reads k (selected front) ≡ selected front
     asks_more k front is less =
         still k (selected front)
-        (more_at (hex_digit (n / 4096 % 16)) (hex_digit (n / 256 % 16)) (hex_digit (n / 16 % 16)) (hex_digit (n % 16)) n (service ++ text) z value
+        (more_at (hex_digit (n / 4096 % 16)) (hex_digit (n / 256 % 16)) (hex_digit (n / 16 % 16)) (hex_digit (n % 16))
+        n (service ++ text) z value
         front is less)
 
     asks_whole : (k : ℕ) (front : List ℕ) → front ++ z ≡ (hex_digits n ++ service) ++ text → 4 + n ≤ length front

@@ -1,4 +1,5 @@
--- A client that is closing has no stream: it stays as it is through each entry that spares it, through what comes on links and what goes up.
+-- A client that is closing has no stream: it stays as it is through each entry that spares it, through what comes on
+-- links and what goes up.
 use Rattle.std.proofs.Common.{◌≡◌, ◌≢◌, ℕ, true, false, List, Option, Some, sym, ap, subst, ◌∙◌, arith, ◌⊎◌, inl, inr}
 use Rattle.std.proofs.lemmas.Bool.{cases_eq}
 use Rattle.adb_outside.specs.declared.kinds.Cause.{Cause}
@@ -55,7 +56,8 @@ module _ (c : ℕ) (x : Client) (s : State) (h : IsOwned s) (here : s.clients c 
       ∙ (ap (λ (p : Phase). (reads_in p c bytes x s).state.clients c) closes ∙ here)
 
   own_end : (cause : Cause) → is_orderly cause ≡ true → (client_ends c cause (s.clients c) s).state.clients c ≡ Some x
-  own_end Eof so = ap (λ (o : Option Client). (client_ends c Eof o s).state.clients c) here ∙ (ap (λ (p : Phase). (input_ends p c s).clients c) closes ∙ here)
+  own_end Eof so = ap (λ (o : Option Client). (client_ends c Eof o s).state.clients c) here
+      ∙ (ap (λ (p : Phase). (input_ends p c s).clients c) closes ∙ here)
   own_end _ so = absurd (let clash : false ≡ true = so in cc)
 
   pub stays_rule : (e : Entry) → May s e → (rule e s).state.stopped ≡ false → Spares c e → (rule e s).state.clients c ≡ Some x

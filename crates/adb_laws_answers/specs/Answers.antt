@@ -50,10 +50,12 @@ pub record AsksFor (h : History) (c : ℕ) (service : List ℕ) : Type 0 where
   pub known : is_some (service_of service) ≡ true
   pub here : has_ended c h ≡ false
 
--- At rest each such client was put the replies to its requests, an `OKAY`, and the answer to what it wrote behind them; where the link stays, no kill
+-- At rest each such client was put the replies to its requests, an `OKAY`, and the answer to what it wrote behind
+-- them; where the link stays, no kill
 -- stands, and an id was left for each stream.
 abbrev pub ClientsAreAnswered : Setting → History → Type 0
 ClientsAreAnswered setting h = IsAtRest setting h → is_lost 1 h ≡ false → is_killed h ≡ false → length (births h) ≤ stream_ids
     → (c : ℕ) (service : List ℕ) → AsksFor h c service
-    → IsAnswered (device_behind setting (sent 1 h)).serving h c service (drop (asked c h).used (bytes_read c h)) ((asked c h).replies ++ codes "OKAY")
+    → IsAnswered (device_behind setting (sent 1 h)).serving h c service (drop (asked c h).used (bytes_read c h))
+    ((asked c h).replies ++ codes "OKAY")
     (bytes_put c h)

@@ -7,7 +7,8 @@ use Rattle.adb_history.specs.declared.ending.Ending.TheVariants.{PeerClosed}
 use Rattle.adb_history.specs.Lives.{ending_of, output_of}
 use Rattle.adb_history.specs.Machine.{History, state}
 
--- A client whose device closed its stream is gone only when it was put all that became due to it, where its connection did not fail and no kill stands.
+-- A client whose device closed its stream is gone only when it was put all that became due to it, where its
+-- connection did not fail and no kill stands.
 abbrev pub PutsAllOfClosed : History → Type 0
 PutsAllOfClosed h = (l : ℕ) (b : Birth) → born l h ≡ Some b → ending_of l h ≡ Some PeerClosed → has_failed b.client h ≡ false
     → is_killed h ≡ false → (state h).clients b.client ≡ None → bytes_put b.client h ≡ output_of b.client h

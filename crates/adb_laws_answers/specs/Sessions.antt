@@ -12,11 +12,13 @@ use Rattle.adb_history.specs.Book.{asked, devices, forwards, is_killed}
 use Rattle.adb_laws_answers.specs.Words.{IsOfSession}
 use Rattle.adb_laws_answers.specs.Model.{model_devices}
 
--- Each client comes by itself, writes a front of the words of a session while the model device is the only one, and may end in order once it asked for its
+-- Each client comes by itself, writes a front of the words of a session while the model device is the only one, and
+-- may end in order once it asked for its
 -- service; it does nothing else, and no link is lost.
 abbrev pub IsOfSessions : History → Type 0
 IsOfSessions [] = Unit {0}
-IsOfSessions (Read c bytes ∷ older) = IsOfSessions older × (devices older ≡ model_devices) × IsOfSession (bytes_read c (Read c bytes ∷ older))
+IsOfSessions (Read c bytes ∷ older) = IsOfSessions older × (devices older ≡ model_devices)
+    × IsOfSession (bytes_read c (Read c bytes ∷ older))
 IsOfSessions (Enter c port ∷ older) = ⊥
 IsOfSessions (End c Eof ∷ older) = IsOfSessions older × (is_some (asked c older).next ≡ true)
 IsOfSessions (End c _ ∷ older) = ⊥

@@ -1,5 +1,6 @@
 -- The OPEN of each stream becomes due by the very entry by which it is born.
-use Rattle.std.proofs.Common.{◌≡◌, ℕ, ◌+◌, ◌<◌, zero, suc, Bool, true, false, cond, List, [], ◌∷◌, ◌++◌, length, Some, None, refl, sym, ap, subst}
+use Rattle.std.proofs.Common.{◌≡◌, ℕ, ◌+◌, ◌<◌, zero, suc, Bool, true, false, cond, List, [], ◌∷◌, ◌++◌, length, Some, None, refl, sym, ap}
+use Rattle.std.proofs.Common.{subst}
 use Rattle.std.proofs.Common.{◌∙◌, inl, inr, arith}
 use Rattle.std.specs.Prelude.{nat_lt, slice_get, Contains}
 use Rattle.std.proofs.lemmas.Bool.{eq-eqb}
@@ -23,7 +24,8 @@ use Rattle.adb_laws_births.proofs.Born.{goes_ups, all_born}
 use Rattle.adb_laws_births.proofs.Once.{packets_append}
 
 -- what stands in a list with one element more, and stood nowhere before, is the last one
-slice_last : {X : Type 0} (xs : List X) (y x : X) (k : ℕ) → slice_get xs k ≡ None → slice_get (xs ++ y ∷ []) k ≡ Some x → (k ≡ length xs) × (y ≡ x)
+slice_last : {X : Type 0} (xs : List X) (y x : X) (k : ℕ) → slice_get xs k ≡ None
+    → slice_get (xs ++ y ∷ []) k ≡ Some x → (k ≡ length xs) × (y ≡ x)
 slice_last {X} [] y x zero none is = (refl, cc)
 slice_last {X} [] y x (suc k) none is = absurd (let clash : None ≡ Some x = is in cc)
 slice_last {X} (z ∷ xs) y x zero none is = absurd (let clash : Some z ≡ None = none in cc)

@@ -1,5 +1,6 @@
 -- The streams of every legal history are its births.
-use Rattle.std.proofs.Common.{◌≡◌, ◌≢◌, ℕ, ◌+◌, ◌≤◌, suc, Bool, true, false, cond, List, [], ◌∷◌, ◌++◌, length, drop, Option, Some, None, refl, sym, ap}
+use Rattle.std.proofs.Common.{◌≡◌, ◌≢◌, ℕ, ◌+◌, ◌≤◌, suc, Bool, true, false, cond, List, [], ◌∷◌, ◌++◌, length, drop, Option, Some, None}
+use Rattle.std.proofs.Common.{refl, sym, ap}
 use Rattle.std.proofs.Common.{subst, ◌∙◌, inl, inr, eqb, arith}
 use Rattle.std.specs.Prelude.{min}
 use Rattle.std.proofs.lemmas.Bool.{eqb-true, eqb-false}
@@ -128,7 +129,8 @@ module _ (h : History) (t : ℕ) (ps : List Packet) (old new : ℕ → List Pack
       go false e =
           let off : t ≢ k.birth.link = λ same. eqb-false b.link t e (to ∙ sym same) in
           made (old k.birth.link) (next.0 k.birth.link off) k.before
-          (subst (λ (n : ℕ). IsHeard l n (drop k.birth.packets_before (old k.birth.link))) (sym (was.other (eqb-false b.link t e))) k.heard_of)
+          (subst (λ (n : ℕ). IsHeard l n (drop k.birth.packets_before (old k.birth.link)))
+          (sym (was.other (eqb-false b.link t e))) k.heard_of)
 
 -- ---- an entry
 module _ (e : Entry) (older : History) (b : AreBorn older) where
@@ -140,7 +142,8 @@ module _ (e : Entry) (older : History) (b : AreBorn older) where
     kept_later l stream is = let k = b.kept l stream is in one_later e older l stream k (same k.birth.link)
 
     -- no stream is born
-    pub goes_born : births_at e older ≡ [] → (state (e ∷ older)).drawn ≡ s.drawn → GoOn s.streams (state (e ∷ older)).streams → AreBorn (e ∷ older)
+    pub goes_born : births_at e older ≡ [] → (state (e ∷ older)).drawn ≡ s.drawn
+        → GoOn s.streams (state (e ∷ older)).streams → AreBorn (e ∷ older)
     goes_born none drawn go = record {
       drawn = drawn ∙ (b.drawn ∙ ap (λ (bs : List Birth). min (length bs) stream_ids)
           (sym (ap (λ (bs : List Birth). births older ++ bs) none ∙ append-nil (births older))));
@@ -172,13 +175,15 @@ module _ (e : Entry) (older : History) (b : AreBorn older) where
             credit = credit_new x.credit;
             before = omega (arith, place);
             heard_of = subst (IsHeard (s.drawn + 1) 0)
-                (sym (ap (λ (n : ℕ). drop n (brought x.link (e ∷ older))) place ∙ drop-length (brought x.link (e ∷ older)))) (λ later. refl);
+                (sym (ap (λ (n : ℕ). drop n (brought x.link (e ∷ older))) place
+                ∙ drop-length (brought x.link (e ∷ older)))) (λ later. refl);
           }
 
       pub rows_born : s.drawn ≢ stream_ids → AllBornAs (e ∷ older) (all_brought (e ∷ older)) (with_drawn s.drawn x s.streams)
       rows_born room l stream here = go (eqb (s.drawn + 1) l) refl here
         where
-          go : (c : Bool) → eqb (s.drawn + 1) l ≡ c → cond c (Some (new_stream (s.drawn + 1) x.client x.link (new_flow x.credit))) (s.streams l) ≡ Some stream
+          go : (c : Bool) → eqb (s.drawn + 1) l ≡ c → cond c
+              (Some (new_stream (s.drawn + 1) x.client x.link (new_flow x.credit))) (s.streams l) ≡ Some stream
               → IsBornAs (e ∷ older) (all_brought (e ∷ older)) l stream
           go false off there = kept_later l stream there
           go true on there =
@@ -194,7 +199,8 @@ module _ (e : Entry) (older : History) (b : AreBorn older) where
       }
       opens_born (inr some) = record {
         drawn = omega (arith, some.0, some.1.drawn_is, b.drawn, count);
-        kept = stays_born (e ∷ older) (all_brought (e ∷ older)) (with_drawn s.drawn x s.streams) (state (e ∷ older)).streams some.1.rows (rows_born some.0);
+        kept = stays_born (e ∷ older) (all_brought (e ∷ older)) (with_drawn s.drawn x s.streams)
+            (state (e ∷ older)).streams some.1.rows (rows_born some.0);
       }
 
     pub makes_born : (bs : List Birth) → births_at e older ≡ bs → Makes s.streams s.drawn bs (step s e) → AreBorn (e ∷ older)
@@ -239,11 +245,14 @@ module _ (older : History) (legal : IsLegal older) (b : AreBorn older) where
       (brought_other older legal t bytes k.birth.link (λ same. none_on older legal t bytes is l stream here (k.link ∙ sym same)))
 
   -- packets of a link
-  recv_born : (t : ℕ) (bytes : List ℕ) → IsLegal (Recv t bytes ∷ older) → (o : Option Link) → (state older).links t ≡ o → AreBorn (Recv t bytes ∷ older)
+  recv_born : (t : ℕ) (bytes : List ℕ) → IsLegal (Recv t bytes ∷ older) → (o : Option Link)
+      → (state older).links t ≡ o → AreBorn (Recv t bytes ∷ older)
   recv_born t bytes may None is = record {
     drawn = up_goes.drawn_is ∙ (quiet_drawn ∙ (b.drawn ∙ counts));
-    kept = stays_born (Recv t bytes ∷ older) (all_brought (Recv t bytes ∷ older)) (state older).streams (state (Recv t bytes ∷ older)).streams
-        (go_on_then (state older).streams (rule (Recv t bytes) (state older)).state.streams (state (Recv t bytes ∷ older)).streams quiet_rows up_goes.rows)
+    kept = stays_born (Recv t bytes ∷ older) (all_brought (Recv t bytes ∷ older)) (state older).streams
+        (state (Recv t bytes ∷ older)).streams
+        (go_on_then (state older).streams (rule (Recv t bytes) (state older)).state.streams
+        (state (Recv t bytes ∷ older)).streams quiet_rows up_goes.rows)
         (λ l stream here.
         let k = b.kept l stream here in
         one_later (Recv t bytes) older l stream k

@@ -17,7 +17,8 @@ use Rattle.adb_laws_births.proofs.Once.{count_append, all_once}
 use Rattle.adb_laws_births.proofs.Sent.{all_right, sent_packets_first}
 
 -- each packet of right events is its link's own
-own_events : (h : History) (t : ℕ) (events : List Event) → All (IsRightEvent h) events → All (λ p. IsOwn h t p.command p) (packets_to t events)
+own_events : (h : History) (t : ℕ) (events : List Event) → All (IsRightEvent h) events
+    → All (λ p. IsOwn h t p.command p) (packets_to t events)
 own_events h t [] all = All-nil (λ p. IsOwn h t p.command p)
 own_events h t (due_to_client client bytes ∷ events) all = own_events h t events (All-tail (IsRightEvent h) _ events all)
 own_events h t (ended stream ending ∷ events) all = own_events h t events (All-tail (IsRightEvent h) _ events all)

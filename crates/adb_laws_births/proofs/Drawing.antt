@@ -1,5 +1,6 @@
 -- Requests and clients that come through a forward: which stream is born by them.
-use Rattle.std.proofs.Common.{◌≡◌, ℕ, ◌+◌, zero, suc, Bool, true, false, cond, All, List, [], ◌∷◌, ◌++◌, Option, Some, None, refl, sym, ap, subst, ◌∙◌, inl}
+use Rattle.std.proofs.Common.{◌≡◌, ℕ, ◌+◌, zero, suc, Bool, true, false, cond, All, List, [], ◌∷◌, ◌++◌, Option, Some, None, refl, sym, ap}
+use Rattle.std.proofs.Common.{subst, ◌∙◌, inl}
 use Rattle.std.proofs.Common.{inr, eqb, append_assoc}
 use Rattle.std.specs.Prelude.{not, length}
 use Rattle.std.proofs.lemmas.Bool.{eqb-true, eqb-false, eq-eqb}
@@ -79,7 +80,8 @@ draws_goes streams drawn b m rule h k = record {
   told_is = ap (λ (x : List Event). x ++ (rule m.state).told) h.told_is ∙ append_assoc h.first (_ ∷ h.last) (rule m.state).told;
   before = h.before;
   after = All-append (IsFrom (with_drawn drawn b streams)) h.last (rule m.state).told h.after
-      (All-weaker (IsFrom m.state.streams) (IsFrom (with_drawn drawn b streams)) (from_before (with_drawn drawn b streams) m.state.streams h.rows)
+      (All-weaker (IsFrom m.state.streams) (IsFrom (with_drawn drawn b streams))
+      (from_before (with_drawn drawn b streams) m.state.streams h.rows)
       (rule m.state).told k.told);
 }
 
@@ -98,7 +100,8 @@ goes_no_ids false c s = goes_closes_with c (failed (codes "no stream ids left"))
 draws_asks : (b : Birth) (s : State) → b.credit ≡ is_credit b.link s.devices
     → Draws s.streams s.drawn b (asks_for (s.drawn + 1) b.client b.link b.service s)
 draws_asks b s credit =
-    subst (λ (x : Bool). Draws s.streams s.drawn (record b { credit = x }) (asks_for (s.drawn + 1) b.client b.link b.service s)) (sym credit) (record {
+    subst (λ (x : Bool). Draws s.streams s.drawn (record b { credit = x })
+    (asks_for (s.drawn + 1) b.client b.link b.service s)) (sym credit) (record {
       rows = go_on_same (asks_for (s.drawn + 1) b.client b.link b.service s).state.streams;
       drawn_is = refl;
       first = [];
@@ -131,7 +134,8 @@ tells_from l (Some stream) streams = go stream.part.orphan
 stops_from : (k : ℕ) (rows streams : Rows (Option Stream)) → All (IsFrom streams) (all_stop k rows)
 stops_from zero rows streams = All-nil (IsFrom streams)
 stops_from (suc k) rows streams =
-    All-append (IsFrom streams) (all_stop k rows) (tells_stop (suc k) (rows (suc k))) (stops_from k rows streams) (tells_from (suc k) (rows (suc k)) streams)
+    All-append (IsFrom streams) (all_stop k rows) (tells_stop (suc k) (rows (suc k))) (stops_from k rows streams)
+    (tells_from (suc k) (rows (suc k)) streams)
 
 goes_stops : (c : ℕ) (s : State) → Goes s.streams s.drawn (stops c s)
 goes_stops c s = record {
@@ -175,7 +179,9 @@ module _ (older : History) (legal : IsLegal older) where
     asked_now : (asking : Bool) → (said c older).asking ≡ asking
         → asked c (Read c bytes ∷ older) ≡ asked_with asking s.devices s.forwards bytes (asked c older)
     asked_now asking is =
-        ap (λ (b : Bool). cond b (asked_with (is_asking c older (book older)) (devices older) (forwards older) bytes (asked c older)) (asked c older))
+        ap (λ (b : Bool). cond b
+        (asked_with (is_asking c older (book older)) (devices older) (forwards older) bytes (asked c older))
+        (asked c older))
         (eq-eqb c c refl)
         ∙ (ap (λ (b : Bool). asked_with b (devices older) (forwards older) bytes (asked c older)) is
         ∙ (ap (λ (d : DeviceTable). asked_with asking d (forwards older) bytes (asked c older)) (sym books.devices)
@@ -205,12 +211,14 @@ module _ (older : History) (legal : IsLegal older) where
       asked_is = asked_now true asks_on ∙ asked_all c bytes client s (asked c older) is asking same_asked.rest same_asked.selected open_next
 
       pub asking_next : read_next ≡ asks_now_with.next
-      asking_next = ap (λ (q : Asked). newly (asked c older).next q.next) asked_is ∙ ap (λ (n : Option Next). newly n asks_now_with.next) open_next
+      asking_next = ap (λ (q : Asked). newly (asked c older).next q.next) asked_is
+          ∙ ap (λ (n : Option Next). newly n asks_now_with.next) open_next
 
     abbrev used : ℕ
     used = (asked c (Read c bytes ∷ older)).used
 
-    quiet_makes : (m : Made) → asks_now (s.clients c) ≡ false → Goes s.streams s.drawn m → Makes s.streams s.drawn (births_at (Read c bytes) older) m
+    quiet_makes : (m : Made) → asks_now (s.clients c) ≡ false → Goes s.streams s.drawn m
+        → Makes s.streams s.drawn (births_at (Read c bytes) older) m
     quiet_makes m none goes =
         subst (λ (n : Option Next). Makes s.streams s.drawn (birth_by c used older n) m) (sym (idle_next none)) goes
 
@@ -234,7 +242,8 @@ module _ (older : History) (legal : IsLegal older) where
     reads_in_makes _ client is e = quiet_makes (quietly s) (ap asks_now is ∙ ap asks_in e) (goes_quiet s)
 
     -- which stream is born by bytes that are read
-    pub reads_make : (o : Option Client) → s.clients c ≡ o → Makes s.streams s.drawn (births_at (Read c bytes) older) (reads_from o c bytes s)
+    pub reads_make : (o : Option Client) → s.clients c ≡ o → Makes s.streams s.drawn (births_at (Read c bytes) older)
+        (reads_from o c bytes s)
     reads_make None is = quiet_makes (quietly s) (ap asks_now is) (goes_quiet s)
     reads_make (Some client) is = reads_in_makes client.about.phase client is refl
 
@@ -253,7 +262,8 @@ module _ (older : History) (legal : IsLegal older) where
   through_makes : (c : ℕ) (row : ForwardRow) → Makes s.streams s.drawn (birth_through c older (Some row)) (enters_by c (Some row) s)
   through_makes c row =
       subst (λ (d : DeviceTable). Makes s.streams s.drawn (birth_through c older (Some row))
-      (cond (is_connected row.transport d) (opens true c row.transport row.remote (comes true c s)) (quietly (comes_in_vain s)))) (sym books.devices)
+      (cond (is_connected row.transport d) (opens true c row.transport row.remote (comes true c s))
+      (quietly (comes_in_vain s)))) (sym books.devices)
       (go (is_connected row.transport (devices older)) refl)
     where
       go : (b : Bool) → is_connected row.transport (devices older) ≡ b
@@ -265,7 +275,8 @@ module _ (older : History) (legal : IsLegal older) where
   -- which stream is born by a client that comes through a forward
   pub enters_make : (c port : ℕ) → Makes s.streams s.drawn (births_at (Enter c port) older) (enters_by c (at port s.forwards) s)
   enters_make c port =
-      subst (λ (f : List (ℕ × ForwardRow)). Makes s.streams s.drawn (births_at (Enter c port) older) (enters_by c (at port f) s)) (sym books.forwards)
+      subst (λ (f : List (ℕ × ForwardRow)). Makes s.streams s.drawn (births_at (Enter c port) older)
+      (enters_by c (at port f) s)) (sym books.forwards)
       (go (at port (forwards older)))
     where
       go : (o : Option ForwardRow) → Makes s.streams s.drawn (birth_through c older o) (enters_by c o s)

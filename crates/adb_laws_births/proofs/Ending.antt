@@ -1,5 +1,6 @@
 -- What was told of the ends of streams, and the rows that change beside it.
-use Rattle.std.proofs.Common.{◌≡◌, ◌≢◌, ℕ, ◌+◌, ◌<◌, Bool, true, false, cond, List, [], ◌∷◌, ◌++◌, Option, Some, None, refl, sym, ap, subst, ◌∙◌}
+use Rattle.std.proofs.Common.{◌≡◌, ◌≢◌, ℕ, ◌+◌, ◌<◌, Bool, true, false, cond, List, [], ◌∷◌, ◌++◌, Option, Some, None, refl, sym, ap, subst}
+use Rattle.std.proofs.Common.{◌∙◌}
 use Rattle.std.proofs.Common.{eqb, ◌⊎◌, inl, inr, arith}
 use Rattle.std.specs.Prelude.{nat_eq, is_some, option_and_then}
 use Rattle.std.specs.Option.{option_or}
@@ -77,8 +78,10 @@ module _ {drawn : ℕ} {streams : Rows (Option Stream)} {w : List Event} (h : En
   lives l stream is (inr above) = let clash : None ≡ Some stream = sym (h.rows.above l above) ∙ is in cc
 
   -- one row changes, and what is told is of it alone
-  module _ (n : ℕ) (stream : Stream) (v : List Event) (is : streams n ≡ Some stream) (other : (l : ℕ) → n ≢ l → ending_in l v ≡ ending_in l w) where
-    one_changes : (f : Stream → Option Stream) → HasEnding drawn n (f stream) (ending_in n v) → Ends drawn (change_row n (option_and_then f) streams) v
+  module _ (n : ℕ) (stream : Stream) (v : List Event) (is : streams n ≡ Some stream)
+      (other : (l : ℕ) → n ≢ l → ending_in l v ≡ ending_in l w) where
+    one_changes : (f : Stream → Option Stream) → HasEnding drawn n (f stream) (ending_in n v)
+        → Ends drawn (change_row n (option_and_then f) streams) v
     one_changes f here = record { rows = change_drawn drawn n f streams h.rows; has = λ l. go l (eqb n l) refl }
       where
         go : (l : ℕ) (b : Bool) → eqb n l ≡ b → HasEnding drawn l (cond b (option_and_then f (streams l)) (streams l)) (ending_in l v)
@@ -88,9 +91,11 @@ module _ {drawn : ℕ} {streams : Rows (Option Stream)} {w : List Event} (h : En
         go l false e = subst (HasEnding drawn l (streams l)) (sym (other l (eqb-false n l e))) (h.has l)
 
     -- it stays, with another part
-    pub part_changes : (part : Part) → EndsAs part.orphan (ending_in n v) → Ends drawn (change_row n (option_and_then (with_stream_part part)) streams) v
+    pub part_changes : (part : Part) → EndsAs part.orphan (ending_in n v)
+        → Ends drawn (change_row n (option_and_then (with_stream_part part)) streams) v
     part_changes part ends = one_changes (with_stream_part part) (record {
-      kept = λ x e. let one : record stream { part = part } ≡ x = cc in subst (λ (y : Stream). EndsAs y.part.orphan (ending_in n v)) one ends;
+      kept = λ x e. let one : record stream { part = part } ≡ x =
+          cc in subst (λ (y : Stream). EndsAs y.part.orphan (ending_in n v)) one ends;
       gone = λ none some within. absurd (let clash : Some (record stream { part = part }) ≡ None = none in cc);
       undrawn = λ past. absurd (lives n stream is past);
     })
@@ -117,7 +122,8 @@ module _ {drawn : ℕ} {streams : Rows (Option Stream)} {w : List Event} (h : En
           let none : ending_in l w ≡ None = (h.has l).undrawn (inr (omega (arith, next))) in
           record {
             kept = λ x f. let one : new ≡ x = cc in
-                subst (λ (y : Stream). EndsAs y.part.orphan (ending_in l w)) one (subst (λ (b : Bool). EndsAs b (ending_in l w)) (sym owned) none);
+                subst (λ (y : Stream). EndsAs y.part.orphan (ending_in l w)) one
+                (subst (λ (b : Bool). EndsAs b (ending_in l w)) (sym owned) none);
             gone = λ gone some within. absurd (let clash : Some new ≡ None = gone in cc);
             undrawn = λ past. none;
           }

@@ -1,5 +1,6 @@
 -- In every legal history a stream that is kept no more has ended, and one that is kept has not.
-use Rattle.std.proofs.Common.{◌≡◌, ◌≢◌, ℕ, ◌+◌, ◌<◌, ◌≤◌, zero, suc, Bool, true, false, cond, List, [], ◌∷◌, ◌++◌, length, Option, Some, None, refl, sym, ap, subst, ◌∙◌}
+use Rattle.std.proofs.Common.{◌≡◌, ◌≢◌, ℕ, ◌+◌, ◌<◌, ◌≤◌, zero, suc, Bool, true, false, cond, List, [], ◌∷◌, ◌++◌, length, Option, Some}
+use Rattle.std.proofs.Common.{None, refl, sym, ap, subst, ◌∙◌}
 use Rattle.std.proofs.Common.{◌⊎◌, inl, inr, arith, append_assoc}
 use Rattle.std.specs.Prelude.{codes, is_some}
 use Rattle.std.specs.Option.{option_or}
@@ -31,7 +32,8 @@ use Rattle.adb_history.proofs.StreamMoves.{EndsKept, all_end_kept}
 use Rattle.adb_history.proofs.RuleMoves.{Begins, step_kept}
 use Rattle.adb_history.proofs.Numbers.{none_drawn}
 use Rattle.adb_laws_births.specs.Ending.{EndsAs, EndingsAreRows}
-use Rattle.adb_laws_births.proofs.Ending.{told_none, told_other, told_end, some_told, orphan_told, Ends, ends_quiet, part_changes, row_goes, row_comes}
+use Rattle.adb_laws_births.proofs.Ending.{told_none, told_other, told_end, some_told, orphan_told, Ends, ends_quiet, part_changes, row_goes}
+use Rattle.adb_laws_births.proofs.Ending.{row_comes}
 
 -- what was told until then ends the streams that are gone
 abbrev P : State → List Event → Type 0
@@ -148,10 +150,12 @@ end_moves = record {
   input_ended = λ c s w h. h;
   hands = λ c n client s w is fits h. h;
   draws = λ c t client s w is asking ready h. row_comes h (new_stream (s.drawn + 1) c t (new_flow (is_credit t s.devices))) refl;
-  flows = λ l stream flow s w is like h. part_changes h l stream w is (λ k apart. refl) (with_flow flow stream.part) ((h.has l).kept stream is);
+  flows = λ l stream flow s w is like h. part_changes h l stream w is (λ k apart. refl) (with_flow flow stream.part)
+      ((h.has l).kept stream is);
   accepts = λ l payload stream s w is known turn h.
       let part = with_flow (accepted (length payload) stream.part.flow) stream.part in
-      ends_quiet (part_changes h l stream w is (λ k apart. refl) part ((h.has l).kept stream is)) (due_to_client stream.client payload ∷ []) (λ l. refl);
+      ends_quiet (part_changes h l stream w is (λ k apart. refl) part ((h.has l).kept stream is))
+      (due_to_client stream.client payload ∷ []) (λ l. refl);
   opens = λ l remote word stream s w is new h.
       let part = with_remote remote (with_flow (first_credit word stream.part.flow) stream.part) in
       part_changes h l stream w is (λ k apart. refl) part ((h.has l).kept stream is);

@@ -1,5 +1,6 @@
 -- Which clients came through a forward.
-use Rattle.std.proofs.Common.{◌≡◌, ℕ, ◌+◌, ◌<◌, drop, Bool, true, false, cond, List, [], ◌∷◌, ◌++◌, Option, Some, None, refl, sym, ap, subst, ◌∙◌, eqb, arith}
+use Rattle.std.proofs.Common.{◌≡◌, ℕ, ◌+◌, ◌<◌, drop, Bool, true, false, cond, List, [], ◌∷◌, ◌++◌, Option, Some, None, refl, sym, ap}
+use Rattle.std.proofs.Common.{subst, ◌∙◌, eqb, arith}
 use Rattle.std.specs.Prelude.{codes, option_and_then, option_map, not, ◌||◌}
 use Rattle.std.proofs.lemmas.Bool.{eqb-true, eq-eqb}
 use Rattle.adb_outside.specs.Tables.{Rows, change_row, put_row}
@@ -40,7 +41,8 @@ AsCame f clients = (c : ℕ) (client : Client) → clients c ≡ Some client →
 module _ (f : ℕ → Bool) where
   -- a change by which a client stays one that came so
   change_came : (n : ℕ) (g : Client → Option Client) (clients : Rows (Option Client))
-      → ((a b : Client) → g a ≡ Some b → b.about.forwarded ≡ a.about.forwarded) → AsCame f clients → AsCame f (change_row n (option_and_then g) clients)
+      → ((a b : Client) → g a ≡ Some b → b.about.forwarded ≡ a.about.forwarded) → AsCame f clients
+      → AsCame f (change_row n (option_and_then g) clients)
   change_came n g clients keeps h c client is = go (eqb n c) (clients c) refl is
     where
       go : (b : Bool) (o : Option Client) → clients c ≡ o → cond b (option_and_then g o) o ≡ Some client → client.about.forwarded ≡ f c
@@ -83,11 +85,13 @@ module _ (f : ℕ → Bool) where
   closes_came : (c : ℕ) (s : State) → AsCame f s.clients → AsCame f (closes c s).clients
   closes_came c s h = change_came c closing s.clients (λ a b e. closing_keeps a.due a b e) h
 
-  due_came : (c : ℕ) (bytes : List ℕ) (clients : Rows (Option Client)) → AsCame f clients → AsCame f (change_row c (option_and_then (with_due bytes)) clients)
+  due_came : (c : ℕ) (bytes : List ℕ) (clients : Rows (Option Client)) → AsCame f clients
+      → AsCame f (change_row c (option_and_then (with_due bytes)) clients)
   due_came c bytes clients h =
       change_came c (with_due bytes) clients (some_keeps (λ a. record a { due = a.due ++ bytes }) (λ a. refl)) h
 
-  loses_came : (forwarded : Bool) (phase : Phase) (c : ℕ) (s : State) → AsCame f s.clients → AsCame f (loses forwarded phase c s).state.clients
+  loses_came : (forwarded : Bool) (phase : Phase) (c : ℕ) (s : State) → AsCame f s.clients
+      → AsCame f (loses forwarded phase c s).state.clients
   loses_came forwarded (Streaming l) c s h = closes_came c s h
   loses_came true (Opening l) c s h = closes_came c s h
   loses_came false (Opening l) c s h =
@@ -126,9 +130,12 @@ module _ (f : ℕ → Bool) where
     awaits = λ c client want s w is asking h. change_came c (awaits want) s.clients
         (some_keeps (λ a. record a { about = record a.about { phase = Binding; want = Some want }; held = [] }) (λ a. refl)) h;
     drops = λ c client s w is none h. change_came c none_kept s.clients none_keeps h;
-    holds = λ c client bytes s w is has h. change_came c (with_held bytes) s.clients (some_keeps (λ a. record a { held = bytes }) (λ a. refl)) h;
-    unmarks = λ c s w h. change_came c unmarked s.clients (some_keeps (λ a. record a { about = record a.about { mark = false } }) (λ a. refl)) h;
-    input_ended = λ c s w h. change_came c input_ended s.clients (some_keeps (λ a. record a { about = record a.about { ended = true } }) (λ a. refl)) h;
+    holds = λ c client bytes s w is has h. change_came c (with_held bytes) s.clients
+        (some_keeps (λ a. record a { held = bytes }) (λ a. refl)) h;
+    unmarks = λ c s w h. change_came c unmarked s.clients
+        (some_keeps (λ a. record a { about = record a.about { mark = false } }) (λ a. refl)) h;
+    input_ended = λ c s w h. change_came c input_ended s.clients
+        (some_keeps (λ a. record a { about = record a.about { ended = true } }) (λ a. refl)) h;
     hands = λ c n client s w is fits h. change_came c (hands n) s.clients (λ a b e. left_keeps a.about.phase (drop n a.due) a b e) h;
     draws = λ c t client s w is asking ready h. change_came c (in_phase (Opening (s.drawn + 1))) s.clients
         (some_keeps (λ a. record a { about = record a.about { phase = Opening (s.drawn + 1) } }) (λ a. refl)) h;
@@ -147,10 +154,12 @@ module _ (f : ℕ → Bool) where
         (first_came (is_connected t s.devices) t s h);
     unauthorized = λ t row s w is offline h. marks_came s.clients h;
     forwards = λ forwards s w led h. h;
-    stops = λ c client s w is asking h. change_came c closing (only_client c s.clients) (λ a b e. closing_keeps a.due a b e) (only_came c s.clients h);
+    stops = λ c client s w is asking h. change_came c closing (only_client c s.clients)
+        (λ a b e. closing_keeps a.due a b e) (only_came c s.clients h);
   }
 
-  asked_came : (q : Asked) (c : ℕ) (clients : Rows (Option Client)) → AsCame f clients → AsCame f (change_row c (option_and_then (has_asked q)) clients)
+  asked_came : (q : Asked) (c : ℕ) (clients : Rows (Option Client)) → AsCame f clients
+      → AsCame f (change_row c (option_and_then (has_asked q)) clients)
   asked_came q c clients h = change_came c (has_asked q) clients
       (some_keeps (λ a. record a { about = record a.about { selected = q.selected }; held = q.rest }) (λ a. refl)) h
 
@@ -172,7 +181,8 @@ entered h c = not (has_joined c h)
 begins_came : (e : Entry) (older : History) → IsLegal (e ∷ older) → AsCame (entered older) (state older).clients
     → Begins (came_moves (entered (e ∷ older))) e (state older) []
 begins_came (Join c) older legal h =
-    new_came (entered (Join c ∷ older)) false c (state older).clients (sym (ap (λ (b : Bool). not (b || has_joined c older)) (eq-eqb c c refl))) later
+    new_came (entered (Join c ∷ older)) false c (state older).clients
+    (sym (ap (λ (b : Bool). not (b || has_joined c older)) (eq-eqb c c refl))) later
   where
     later : AsCame (entered (Join c ∷ older)) (state older).clients
     later n client is = go (eqb c n) refl

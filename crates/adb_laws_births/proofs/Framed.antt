@@ -1,5 +1,6 @@
 -- What is spelled for a link is framed to the packets that became due to it.
-use Rattle.std.proofs.Common.{ℕ, ◌+◌, ◌≡◌, Bool, true, false, cond, All, List, [], ◌∷◌, ◌++◌, length, take, drop, Some, None, Ok, refl, ap, ◌∙◌, arith}
+use Rattle.std.proofs.Common.{ℕ, ◌+◌, ◌≡◌, Bool, true, false, cond, All, List, [], ◌∷◌, ◌++◌, length, take, drop, Some, None, Ok, refl, ap}
+use Rattle.std.proofs.Common.{◌∙◌, arith}
 use Rattle.std.specs.Prelude.{nat_eq}
 use Rattle.std.proofs.lemmas.List.{length-append, append_assoc, take_at, drop_at}
 use Rattle.std.proofs.lemmas.List.Elements.{All-head, All-tail}
@@ -13,7 +14,8 @@ use Rattle.adb_wire.specs.declared.format.PacketFault.TheVariants.{BadSum}
 use Rattle.adb_wire.specs.declared.format.PacketFormat.{PacketFormat}
 use Rattle.adb_wire.specs.Header.{IsHead, byte_sum_of, header_bytes, head_at}
 use Rattle.adb_wire.specs.Packet.{head_for, spelling}
-use Rattle.adb_wire.specs.Format.{may_carry, payload_at, sum_fault, whole_front, front_of, packet_under, packet_with, packet_of, format_after}
+use Rattle.adb_wire.specs.Format.{may_carry, payload_at, sum_fault, whole_front, front_of, packet_under, packet_with, packet_of}
+use Rattle.adb_wire.specs.Format.{format_after}
 use Rattle.adb_wire.specs.FormatLaws.{front_full}
 use Rattle.adb_wire.specs.Cutting.{cut_packets}
 use Rattle.adb_wire.proofs.HeaderLaws.{head_again}

@@ -1,5 +1,6 @@
 -- Rules one after another, and changes of one row: the streams go on.
-use Rattle.std.proofs.Common.{◌≡◌, ◌≢◌, ℕ, Bool, true, false, cond, All, List, [], ◌∷◌, Option, Some, None, refl, sym, ap, subst, ◌∙◌, eqb, arith}
+use Rattle.std.proofs.Common.{◌≡◌, ◌≢◌, ℕ, Bool, true, false, cond, All, List, [], ◌∷◌, Option, Some, None, refl, sym, ap, subst, ◌∙◌, eqb}
+use Rattle.std.proofs.Common.{arith}
 use Rattle.std.specs.Prelude.{option_and_then, ◌^◌, ◌≤◌, ◌<◌, length, sum}
 use Rattle.std.proofs.Math.Nat.{mod-lt}
 use Rattle.std.proofs.lemmas.Bool.{eqb-true}
@@ -62,7 +63,8 @@ go_on_part rows l stream part is same = go_on_change rows l (with_stream_part pa
     keeps a b there e =
         let row : with_part part a ≡ b = cc in
         let one : stream ≡ a = (let both : Some stream ≡ Some a = sym is ∙ there in cc) in
-        let before : IsSame stream (with_part part stream) = record { id = refl; client = refl; link = refl; remote = same.0; credit = same.1 } in
+        let before : IsSame stream (with_part part stream) =
+        record { id = refl; client = refl; link = refl; remote = same.0; credit = same.1 } in
         subst (λ (x : Stream). IsSame a x) row (subst (λ (x : Stream). IsSame x (with_part part x)) one before)
 
 pub go_on_gone : (rows : Rows (Option Stream)) (l : ℕ) → GoOn rows (change_row l (option_and_then none_kept) rows)
@@ -99,7 +101,8 @@ module _ (streams : Rows (Option Stream)) (drawn : ℕ) where
         (All-weaker (IsFrom m.state.streams) (IsFrom streams) (from_before streams m.state.streams h.rows) (rule m.state).told k.told);
   }
 
-  pub goes_if : (b : Bool) (m n : Made) → (b ≡ true → Goes streams drawn m) → (b ≡ false → Goes streams drawn n) → Goes streams drawn (cond b m n)
+  pub goes_if : (b : Bool) (m n : Made) → (b ≡ true → Goes streams drawn m) → (b ≡ false → Goes streams drawn n)
+      → Goes streams drawn (cond b m n)
   goes_if true m n one other = one refl
   goes_if false m n one other = other refl
 
@@ -147,6 +150,12 @@ pub goes_owe_link : (l : ℕ) (stream : Stream) (p : Packet) (s : State) → IsO
 goes_owe_link l stream p s at q = record {
   rows = go_on_same s.streams;
   drawn_is = refl;
-  told = one_from s.streams (due_to_link stream.link p _)
-      (of_row s.streams l stream p at q, record { size = q.size; word = check_short (cond (is_cnxn p.command) true (wants_sums (s.links stream.link))) p });
+  told = one_from s.streams (due_to_link stream.link p _) (
+    of_row s.streams l stream p at q,
+    record {
+      size = q.size;
+      word =
+          check_short (cond (is_cnxn p.command) true (wants_sums (s.links stream.link))) p;
+    },
+  );
 }

@@ -40,14 +40,16 @@ goes_client_loses None c s = goes_quiet s
 goes_client_loses (Some client) c s = goes_loses client.about.forwarded client.about.phase c s
 
 -- ---- a stream ends
-goes_tells_end : (orphan : Bool) (l : ℕ) (ending : Ending) (s : State) → Goes s.streams s.drawn (tells_end orphan l ending (to_stream l none_kept s))
+goes_tells_end : (orphan : Bool) (l : ℕ) (ending : Ending) (s : State)
+    → Goes s.streams s.drawn (tells_end orphan l ending (to_stream l none_kept s))
 goes_tells_end true l ending s = record { rows = go_on_gone s.streams l; drawn_is = refl; told = All-nil (IsFrom s.streams) }
 goes_tells_end false l ending s = record { rows = go_on_gone s.streams l; drawn_is = refl; told = one_from s.streams (ended l ending) tt }
 
 pub goes_ends_row : (l : ℕ) (ending : Ending) (stream : Stream) (s : State) → Goes s.streams s.drawn (ends_row l ending stream s)
 goes_ends_row l ending stream s =
     let told : Made = tells_end stream.part.orphan l ending (to_stream l none_kept s) in
-    goes_then s.streams s.drawn told (λ s. client_loses (s.clients stream.client) stream.client s) (goes_tells_end stream.part.orphan l ending s)
+    goes_then s.streams s.drawn told (λ s. client_loses (s.clients stream.client) stream.client s)
+    (goes_tells_end stream.part.orphan l ending s)
     (goes_client_loses (told.state.clients stream.client) stream.client told.state)
 
 -- a row that is gone
@@ -70,7 +72,8 @@ pub goes_ends_telling : (l : ℕ) (ending : Ending) (stream : Stream) (s : State
 goes_ends_telling l ending stream s is known =
     let told : Made = owe_link stream.link (close_packet l stream.part.remote) s in
     goes_then s.streams s.drawn told (ends_row l ending stream)
-    (goes_owe_link l stream (close_packet l stream.part.remote) s (record { row = stream; is = is; link = refl; remote = refl; known = known })
+    (goes_owe_link l stream (close_packet l stream.part.remote) s
+    (record { row = stream; is = is; link = refl; remote = refl; known = known })
     (record { from = refl; to = refl; of = tt; size = omega arith }))
     (goes_ends_row l ending stream told.state)
 
@@ -78,7 +81,8 @@ goes_ends_telling l ending stream s is known =
 goes_ends_if_of : (t l : ℕ) (ending : Ending) (o : Option Stream) (s : State) → Goes s.streams s.drawn (ends_if_of t l ending o s)
 goes_ends_if_of t l ending None s = goes_quiet s
 goes_ends_if_of t l ending (Some stream) s =
-    goes_if s.streams s.drawn (nat_eq stream.link t) (ends_row l ending stream s) (quietly s) (λ e. goes_ends_row l ending stream s) (λ e. goes_quiet s)
+    goes_if s.streams s.drawn (nat_eq stream.link t) (ends_row l ending stream s) (quietly s)
+    (λ e. goes_ends_row l ending stream s) (λ e. goes_quiet s)
 
 goes_ends_of : (t n : ℕ) (ending : Ending) (s : State) → Goes s.streams s.drawn (ends_of t n ending s)
 goes_ends_of t zero ending s = goes_quiet s

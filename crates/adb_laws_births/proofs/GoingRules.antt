@@ -1,5 +1,6 @@
 -- The up rule, hand-outs, and what clients and links do that are there: the streams that are left go on.
-use Rattle.std.proofs.Common.{◌≡◌, ◌≢◌, ℕ, zero, suc, Bool, true, false, List, [], ◌∷◌, length, drop, Option, Some, None, refl, sym, ap, subst, ◌∙◌, arith}
+use Rattle.std.proofs.Common.{◌≡◌, ◌≢◌, ℕ, zero, suc, Bool, true, false, List, [], ◌∷◌, length, drop, Option, Some, None, refl, sym, ap}
+use Rattle.std.proofs.Common.{subst, ◌∙◌, arith}
 use Rattle.std.proofs.Common.{◌≤◌, ◌-◌, cond}
 use Rattle.std.specs.Prelude.{nat_eq, min, option_and_then}
 use Rattle.std.proofs.lemmas.Bool.{eqb-true}
@@ -45,7 +46,8 @@ use Rattle.adb_history.proofs.GrowingRules.{keeps_up_all}
 use Rattle.adb_history.proofs.StreamMoves.{like_after, up_all_kept}
 use Rattle.adb_history.proofs.OwnedStep.{owned_moves}
 use Rattle.adb_laws_births.specs.Going.{IsFrom, Goes, GoOn}
-use Rattle.adb_laws_births.proofs.Going.{go_on_same, go_on_gone, go_on_part, goes_quiet, goes_then, goes_if, one_from, check_short, IsOpenAt, of_row}
+use Rattle.adb_laws_births.proofs.Going.{go_on_same, go_on_gone, go_on_part, goes_quiet, goes_then, goes_if, one_from, check_short}
+use Rattle.adb_laws_births.proofs.Going.{IsOpenAt, of_row}
 use Rattle.adb_laws_births.proofs.Going.{goes_owe_client, goes_owe_link}
 use Rattle.adb_laws_births.proofs.GoingEnds.{goes_ends_telling, goes_link_ends}
 
@@ -136,7 +138,8 @@ goes_sends_up l stream client payloads s is known =
     let rows : GoOn s.streams now.streams =
     go_on_part s.streams l stream (with_flow flow stream.part) is (refl, (like_after payloads stream.part.flow).credit) in
     let first : Goes s.streams s.drawn (quietly now) = record { rows = rows; drawn_is = refl; told = All-nil (IsFrom s.streams) } in
-    goes_then s.streams s.drawn sent (λ s. closes_if over l (s.streams l) s) (goes_then s.streams s.drawn (quietly now) (λ _. sent) first up)
+    goes_then s.streams s.drawn sent (λ s. closes_if over l (s.streams l) s)
+    (goes_then s.streams s.drawn (quietly now) (λ _. sent) first up)
     (goes_closes_if over l (sent.state.streams l) sent.state refl (λ x there. still x there at up))
   where
     still : (x : Stream) → (all_go_up l stream payloads (noted l stream client.held payloads s)).state.streams l ≡ Some x
@@ -172,7 +175,8 @@ goes_up_client l stream (Some client) s h is here =
     ))
     (λ e. goes_quiet s)
 
-goes_up_stream : (l : ℕ) (o : Option Stream) (s : State) → IsOwned s × AllSmall s.devices → s.streams l ≡ o → Goes s.streams s.drawn (up_stream l o s)
+goes_up_stream : (l : ℕ) (o : Option Stream) (s : State) → IsOwned s × AllSmall s.devices → s.streams l ≡ o
+    → Goes s.streams s.drawn (up_stream l o s)
 goes_up_stream l None s h is = goes_quiet s
 goes_up_stream l (Some stream) s h is = goes_up_client l stream (s.clients stream.client) s h is refl
 
@@ -186,10 +190,12 @@ goes_up_all (suc n) s h =
     (up_all_kept (serves owned_moves) s [] h.owned n, subst AllSmall (sym same) h.small) refl)
 
 -- ---- put
-goes_tells_credit : (back l : ℕ) (stream : Stream) (s : State) → IsOpenAt s.streams l stream → Goes s.streams s.drawn (tells_credit back l stream s)
+goes_tells_credit : (back l : ℕ) (stream : Stream) (s : State) → IsOpenAt s.streams l stream
+    → Goes s.streams s.drawn (tells_credit back l stream s)
 goes_tells_credit zero l stream s at = goes_quiet s
 goes_tells_credit (suc n) l stream s at =
-    goes_owe_link l stream (credit_packet l stream.part.remote (suc n)) s at (record { from = refl; to = refl; of = tt; size = omega arith })
+    goes_owe_link l stream (credit_packet l stream.part.remote (suc n)) s at
+    (record { from = refl; to = refl; of = tt; size = omega arith })
 
 goes_tells_handed : (flow : Flow) (left l : ℕ) (stream : Stream) (s : State) → IsOpenAt s.streams l stream
     → Goes s.streams s.drawn (tells_handed flow left l stream s)
@@ -262,7 +268,8 @@ goes_fails_open l cause stream s is known =
       drawn_is = refl;
       told = one_from s.streams (due_to_link stream.link p _) (
         of_row s.streams l stream p
-            (record { row = stream; is = is; link = refl; remote = refl; known = known }) (record { from = refl; to = refl; of = tt; size = omega arith }),
+            (record { row = stream; is = is; link = refl; remote = refl; known = known })
+            (record { from = refl; to = refl; of = tt; size = omega arith }),
         record { size = omega arith; word = check_short (wants_sums (s.links stream.link)) p },
       );
     })

@@ -1,5 +1,6 @@
 -- What every entry draws, and what every stream that is there after it was before.
-use Rattle.std.proofs.Common.{◌≡◌, ◌≢◌, ℕ, ◌+◌, Bool, true, false, cond, List, [], ◌∷◌, ◌++◌, Option, Some, None, refl, sym, ap, subst, ◌∙◌, ◌⊎◌}
+use Rattle.std.proofs.Common.{◌≡◌, ◌≢◌, ℕ, ◌+◌, Bool, true, false, cond, List, [], ◌∷◌, ◌++◌, Option, Some, None, refl, sym, ap, subst, ◌∙◌}
+use Rattle.std.proofs.Common.{◌⊎◌}
 use Rattle.std.proofs.Common.{inl, inr, eqb, arith}
 use Rattle.std.proofs.lemmas.Bool.{eqb-true, eqb-false}
 use Rattle.std.proofs.lemmas.List.{append-nil}
@@ -79,14 +80,16 @@ module _ (e : Entry) (older : History) where
     heard = heard_still stream.link l (s.streams l) stream (go l stream is);
   }
 
-  goes_draws : births_at e older ≡ [] → ((t : ℕ) → brought t (e ∷ older) ≡ brought t older) → next.drawn ≡ s.drawn → GoOn s.streams next.streams
+  goes_draws : births_at e older ≡ [] → ((t : ℕ) → brought t (e ∷ older) ≡ brought t older) → next.drawn ≡ s.drawn
+      → GoOn s.streams next.streams
       → DrawsAtMostOne e older
   goes_draws none same drawn go = record {
     number = subst (DrawsBy s.drawn next.drawn) (sym none) drawn;
     rows = λ l stream is. inl (from_going same go l stream is);
   }
 
-  module _ (same : (t : ℕ) → brought t (e ∷ older) ≡ brought t older) (b : AreBorn older) (x : Birth) (at_e : births_at e older ≡ x ∷ []) where
+  module _ (same : (t : ℕ) → brought t (e ∷ older) ≡ brought t older) (b : AreBorn older) (x : Birth)
+      (at_e : births_at e older ≡ x ∷ []) where
     drawn_from : Draws s.streams s.drawn x (step s e) → (l : ℕ) (stream : Stream) → next.streams l ≡ Some stream
         → CameFrom e older l stream ⊎ CameNow e older l stream
     drawn_from d l stream is = go (eqb (s.drawn + 1) l) refl
@@ -100,7 +103,8 @@ module _ (e : Entry) (older : History) where
         go : (c : Bool) → eqb (s.drawn + 1) l ≡ c → CameFrom e older l stream ⊎ CameNow e older l stream
         go true on =
             let here : Some (new_stream (s.drawn + 1) x.client x.link (new_flow x.credit)) ≡ Some was.stream =
-            sym (ap (λ (c : Bool). cond c (Some (new_stream (s.drawn + 1) x.client x.link (new_flow x.credit))) (s.streams l)) on) ∙ was.is in
+            sym (ap (λ (c : Bool). cond c (Some (new_stream (s.drawn + 1) x.client x.link (new_flow x.credit)))
+            (s.streams l)) on) ∙ was.is in
             let row : new_stream (s.drawn + 1) x.client x.link (new_flow x.credit) ≡ was.stream = cc in
             let number : s.drawn + 1 ≡ l = eqb-true (s.drawn + 1) l on in
             inr (record {
@@ -117,7 +121,8 @@ module _ (e : Entry) (older : History) where
             })
         go false off =
             let there : s.streams l ≡ Some was.stream =
-            sym (ap (λ (c : Bool). cond c (Some (new_stream (s.drawn + 1) x.client x.link (new_flow x.credit))) (s.streams l)) off) ∙ was.is in
+            sym (ap (λ (c : Bool). cond c (Some (new_stream (s.drawn + 1) x.client x.link (new_flow x.credit)))
+            (s.streams l)) off) ∙ was.is in
             inl (record {
               packets = [];
               brought_is = same stream.link ∙ sym (append-nil (brought stream.link older));
@@ -149,7 +154,8 @@ module _ (older : History) (legal : IsLegal older) where
   rule_draws e l same h = makes_draws e older same (all_born older legal) (births_at e older) refl
       (makes_goes now.streams now.drawn (births_at e older) (rule e now) ups h (goes_ups older legal e l))
 
-  attach_draws : (t : ℕ) (kind : Kind) (serial : List ℕ) → IsLegal (Attach t kind serial ∷ older) → DrawsAtMostOne (Attach t kind serial) older
+  attach_draws : (t : ℕ) (kind : Kind) (serial : List ℕ) → IsLegal (Attach t kind serial ∷ older)
+      → DrawsAtMostOne (Attach t kind serial) older
   attach_draws t kind serial l =
       let goes = goes_ups older legal (Attach t kind serial) l in
       goes_draws (Attach t kind serial) older refl (λ k. refl) goes.drawn_is goes.rows
@@ -177,11 +183,13 @@ module _ (older : History) (legal : IsLegal older) where
     from_gone none n stream is =
         let rows : GoOn now.streams (rule (Recv t bytes) now).state.streams =
         subst (λ (o : Option Link). GoOn now.streams (receives_on o t bytes now).state.streams) (sym none) (go_on_same now.streams) in
-        let go : GoOn now.streams later.streams = go_on_then now.streams (rule (Recv t bytes) now).state.streams later.streams rows up_goes.rows in
+        let go : GoOn now.streams later.streams = go_on_then now.streams (rule (Recv t bytes) now).state.streams
+        later.streams rows up_goes.rows in
         let was = go n stream is in
         from_other go n stream is (λ same. none_on older legal t bytes none n was.stream was.is (sym was.same.link ∙ sym same))
 
-    from_cut : (link : Link) → now.links t ≡ Some link → (n : ℕ) (stream : Stream) → later.streams n ≡ Some stream → CameFrom (Recv t bytes) older n stream
+    from_cut : (link : Link) → now.links t ≡ Some link → (n : ℕ) (stream : Stream) → later.streams n ≡ Some stream
+        → CameFrom (Recv t bytes) older n stream
     from_cut link at_t n stream is = go (eqb stream.link t) refl
       where
         given : List Packet
@@ -189,7 +197,8 @@ module _ (older : History) (legal : IsLegal older) where
 
         hear : AllHear t (cut_now older legal t bytes link).given now.streams later.streams
         hear = hear_on t given now.streams (rule (Recv t bytes) now).state.streams later.streams
-            (subst (λ (o : Option Link). AllHear t given now.streams (receives_on o t bytes now).state.streams) (sym at_t) (hears_cut older legal t bytes link))
+            (subst (λ (o : Option Link). AllHear t given now.streams (receives_on o t bytes now).state.streams)
+            (sym at_t) (hears_cut older legal t bytes link))
             up_goes.rows
 
         go : (b : Bool) → eqb stream.link t ≡ b → CameFrom (Recv t bytes) older n stream
@@ -197,7 +206,8 @@ module _ (older : History) (legal : IsLegal older) where
             let on : t ≡ stream.link = sym (eqb-true stream.link t e) in
             record {
               packets = given;
-              brought_is = subst (λ (k : ℕ). brought k (Recv t bytes ∷ older) ≡ brought k older ++ given) on (brought_more older legal t bytes link at_t);
+              brought_is = subst (λ (k : ℕ). brought k (Recv t bytes ∷ older) ≡ brought k older ++ given) on
+                  (brought_more older legal t bytes link at_t);
               heard = subst (λ (k : ℕ). Heard k given n (now.streams n) stream) on (hear n stream is);
             }
         go false e =
@@ -205,7 +215,8 @@ module _ (older : History) (legal : IsLegal older) where
             let apart : stream.link ≢ t = eqb-false stream.link t e in
             record {
               packets = [];
-              brought_is = brought_other older legal t bytes stream.link (λ same. apart (sym same)) ∙ sym (append-nil (brought stream.link older));
+              brought_is = brought_other older legal t bytes stream.link (λ same. apart (sym same))
+                  ∙ sym (append-nil (brought stream.link older));
               heard = heard_still stream.link n (now.streams n) stream (record {
                 stream = h.stream;
                 is = h.is;
@@ -213,7 +224,8 @@ module _ (older : History) (legal : IsLegal older) where
               });
             }
 
-    from_recv : (o : Option Link) → now.links t ≡ o → (n : ℕ) (stream : Stream) → later.streams n ≡ Some stream → CameFrom (Recv t bytes) older n stream
+    from_recv : (o : Option Link) → now.links t ≡ o → (n : ℕ) (stream : Stream) → later.streams n ≡ Some stream
+        → CameFrom (Recv t bytes) older n stream
     from_recv None none = from_gone none
     from_recv (Some link) at_t = from_cut link at_t
 
@@ -242,7 +254,8 @@ goes_on_so e older = record {
   brings = λ t. brought_grows t e older;
   opening = λ l b o is. opening_grows l b e older o is;
   remote = λ l b known. remote_grows l b e older known;
-  ending = λ l x is. ending_append l (told older) (told_at e older) ∙ ap (λ (o : Option Ending). option_or o (ending_in l (told_at e older))) is;
+  ending = λ l x is. ending_append l (told older) (told_at e older)
+      ∙ ap (λ (o : Option Ending). option_or o (ending_in l (told_at e older))) is;
   owes = λ t. packets_append t (told older) (told_at e older);
   sends = λ t. sent_grows t e older;
 }

@@ -1,5 +1,6 @@
 -- A stream is asked for once.
-use Rattle.std.proofs.Common.{ℕ, ◌+◌, ◌≡◌, ◌≢◌, ◌<◌, ◌≤◌, Bool, true, false, cond, All, List, [], ◌∷◌, ◌++◌, Option, Some, None, refl, sym, ap, ◌∙◌}
+use Rattle.std.proofs.Common.{ℕ, ◌+◌, ◌≡◌, ◌≢◌, ◌<◌, ◌≤◌, Bool, true, false, cond, All, List, [], ◌∷◌, ◌++◌, Option, Some, None, refl, sym}
+use Rattle.std.proofs.Common.{ap, ◌∙◌}
 use Rattle.std.proofs.Common.{◌⊎◌, inl, inr, arith}
 use Rattle.std.specs.Prelude.{nat_eq, ◌&&◌}
 use Rattle.std.proofs.lemmas.Bool.{ne_eqb, cases_eq}
@@ -77,7 +78,8 @@ none_asked t l (due_to_link link p check ∷ events) all =
     more : ℕ
     more = count_from is_open l (packets_to t events)
 
-    go : (b : Bool) → is_open p.command ≡ false → more ≡ 0 → count_from is_open l (cond b (p ∷ packets_to t events) (packets_to t events)) ≡ 0
+    go : (b : Bool) → is_open p.command ≡ false → more ≡ 0 → count_from is_open l
+        (cond b (p ∷ packets_to t events) (packets_to t events)) ≡ 0
     go true none e = ap (λ (c : Bool). cond (c && nat_eq p.arg0 l) (1 + more) more) none ∙ e
     go false none e = e
 
@@ -126,7 +128,8 @@ asks_none drawn next events same all = record {
   once = λ t l. omega (arith, none_asked t l events all);
 }
 
-asks_drawn : (streams : Rows (Option Stream)) (drawn : ℕ) (b : Birth) (m : Made) → Draws streams drawn b m → AsksNext drawn m.state.drawn m.told
+asks_drawn : (streams : Rows (Option Stream)) (drawn : ℕ) (b : Birth) (m : Made) → Draws streams drawn b m
+    → AsksNext drawn m.state.drawn m.told
 asks_drawn streams drawn b m d = record {
   steps = inr d.drawn_is;
   none = λ same t l. absurd (omega (arith, same, d.drawn_is));
@@ -171,7 +174,8 @@ asks_drawn streams drawn b m d = record {
         go true = one (nat_eq (drawn + 1) l)
         go false = omega arith
 
-asks_made : (streams : Rows (Option Stream)) (drawn : ℕ) (bs : List Birth) (m : Made) → Makes streams drawn bs m → AsksNext drawn m.state.drawn m.told
+asks_made : (streams : Rows (Option Stream)) (drawn : ℕ) (bs : List Birth) (m : Made) → Makes streams drawn bs m
+    → AsksNext drawn m.state.drawn m.told
 asks_made streams drawn [] m goes = asks_none drawn m.state.drawn m.told goes.drawn_is (goes_none streams drawn m goes)
 asks_made streams drawn (b ∷ []) m (inl full) = asks_none drawn m.state.drawn m.told full.1.drawn_is (goes_none streams drawn m full.1)
 asks_made streams drawn (b ∷ []) m (inr some) = asks_drawn streams drawn b m some.1
@@ -218,7 +222,8 @@ pub record AsksOnce (h : History) : Type 0 where
   pub once : (t l : ℕ) → opens_to t l (told h) ≤ 1
   pub above : (t l : ℕ) → (state h).drawn < l → opens_to t l (told h) ≡ 0
 
-asks_step : (e : Entry) (older : History) → AsksOnce older → AsksNext (state older).drawn (state (e ∷ older)).drawn (told_at e older) → AsksOnce (e ∷ older)
+asks_step : (e : Entry) (older : History) → AsksOnce older → AsksNext (state older).drawn (state (e ∷ older)).drawn
+    (told_at e older) → AsksOnce (e ∷ older)
 asks_step e older before now = record { once = λ t l. once t l (cases_eq l next) now.steps; above = λ t l lt. above t l lt now.steps }
   where
     drawn : ℕ
@@ -231,13 +236,15 @@ asks_step e older before now = record { once = λ t l. once t l (cases_eq l next
     both t l = opens_append t l (told older) (told_at e older)
 
     once : (t l : ℕ) → (l ≡ (state (e ∷ older)).drawn) ⊎ (l ≡ (state (e ∷ older)).drawn → ⊥)
-        → ((state (e ∷ older)).drawn ≡ (state older).drawn) ⊎ ((state (e ∷ older)).drawn ≡ (state older).drawn + 1) → opens_to t l (told (e ∷ older)) ≤ 1
+        → ((state (e ∷ older)).drawn ≡ (state older).drawn) ⊎ ((state (e ∷ older)).drawn ≡ (state older).drawn + 1)
+        → opens_to t l (told (e ∷ older)) ≤ 1
     once t l (inr apart) steps = omega (arith, both t l, now.other t l apart, before.once t l)
     once t l (inl same) (inl still) = omega (arith, both t l, now.none still t l, before.once t l)
     once t l (inl same) (inr more) = omega (arith, both t l, now.once t l, before.above t l (omega (arith, same, more)))
 
     above : (t l : ℕ) → (state (e ∷ older)).drawn < l
-        → ((state (e ∷ older)).drawn ≡ (state older).drawn) ⊎ ((state (e ∷ older)).drawn ≡ (state older).drawn + 1) → opens_to t l (told (e ∷ older)) ≡ 0
+        → ((state (e ∷ older)).drawn ≡ (state older).drawn) ⊎ ((state (e ∷ older)).drawn ≡ (state older).drawn + 1)
+        → opens_to t l (told (e ∷ older)) ≡ 0
     above t l lt (inl still) =
         omega (arith, both t l, before.above t l (omega (arith, lt, still)), now.other t l (λ same. past same lt))
       where

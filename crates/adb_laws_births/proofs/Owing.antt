@@ -1,5 +1,6 @@
 -- What every entry tells is right.
-use Rattle.std.proofs.Common.{◌≡◌, ◌≢◌, ℕ, ◌+◌, ◌^◌, ◌<◌, ◌≤◌, All, List, [], ◌∷◌, length, Option, Some, None, refl, sym, subst, ◌∙◌, inl, inr, arith}
+use Rattle.std.proofs.Common.{◌≡◌, ◌≢◌, ℕ, ◌+◌, ◌^◌, ◌<◌, ◌≤◌, All, List, [], ◌∷◌, length, Option, Some, None, refl, sym, subst, ◌∙◌, inl}
+use Rattle.std.proofs.Common.{inr, arith}
 use Rattle.std.specs.Prelude.{sum, Contains, ◌%◌}
 use Rattle.std.proofs.Math.Nat.{mod-lt}
 use Rattle.std.proofs.lemmas.List.{length-append}
@@ -58,7 +59,14 @@ module _ (e : Entry) (older : History) where
       }
 
   pub own_later : (t : ℕ) (command : Command) (p : Packet) → IsOwn older t command p → IsOwn (e ∷ older) t command p
-  own_later t Open p own = record { birth = own.birth; is = born_stays p.arg0 e older own.birth own.is; link = own.link; packet = own.packet }
+  own_later t Open p own =
+      record {
+        birth = own.birth;
+        is = born_stays p.arg0 e older own.birth own.is;
+        link = own.link;
+        packet =
+            own.packet;
+      }
   own_later t Okay p own = of_later t p own
   own_later t Wrte p own = of_later t p own
   own_later t Clse p (inl own) = inl (of_later t p own)
@@ -102,13 +110,15 @@ module _ (e : Entry) (older : History) (b : AreBorn older) (same : (t : ℕ) →
         (right_from h (all_brought h) (with_drawn s.drawn x s.streams) rows (ahead_same h)) d.last d.after in
         record {
           told = subst (λ (events : List Event). All (IsRightEvent h) events) (sym d.told_is)
-              (All-append (IsRightEvent h) d.first (opening ∷ d.last) first (All-cons (IsRightEvent h) opening d.last (right_open d.check d.word) last));
+              (All-append (IsRightEvent h) d.first (opening ∷ d.last) first
+              (All-cons (IsRightEvent h) opening d.last (right_open d.check d.word) last));
           heard = all_brought h;
           born_as = stays_born h (all_brought h) (with_drawn s.drawn x s.streams) m.state.streams d.rows rows;
           ahead = ahead_same h;
         }
 
-  makes_right : (bs : List Birth) (m : Made) → births_at e older ≡ bs → All HasShortService bs → Makes s.streams s.drawn bs m → TellsRight (e ∷ older) m
+  makes_right : (bs : List Birth) (m : Made) → births_at e older ≡ bs → All HasShortService bs
+      → Makes s.streams s.drawn bs m → TellsRight (e ∷ older) m
   makes_right [] m is short h = goes_right m h
   makes_right (x ∷ []) m is short (inl full) = goes_right m full.1
   makes_right (x ∷ []) m is short (inr some) =
@@ -163,5 +173,6 @@ module _ (older : History) (legal : IsLegal older) (b : AreBorn older) where
   entry_right e l short = rule_right e (λ t. refl) short (entry_makes older legal e l.2 tt)
 
   -- what an entry tells is right
-  pub told_right : (e : Entry) → IsLegal (e ∷ older) → All HasShortService (births_at e older) → All (IsRightEvent (e ∷ older)) (told_at e older)
+  pub told_right : (e : Entry) → IsLegal (e ∷ older) → All HasShortService (births_at e older)
+      → All (IsRightEvent (e ∷ older)) (told_at e older)
   told_right e l short = (tells_goes_then (e ∷ older) (rule e now) ups (entry_right e l short) (goes_ups older legal e l)).told

@@ -59,7 +59,9 @@ module _ (older : History) (legal : IsLegal older) (t : ℕ) (bytes : List ℕ) 
   s = state older
 
   pub brought_other : (k : ℕ) → t ≢ k → brought k (Recv t bytes ∷ older) ≡ brought k older
-  brought_other k apart = ap (λ (b : Bool). (framed (cond (b && not (is_lost k older)) (bytes_received k older ++ bytes) (bytes_received k older))).given)
+  brought_other k apart =
+      ap (λ (b : Bool).
+      (framed (cond (b && not (is_lost k older)) (bytes_received k older ++ bytes) (bytes_received k older))).given)
       (ne_eqb t k apart)
 
   -- what the bytes of a link that lives are cut to
@@ -70,7 +72,9 @@ module _ (older : History) (legal : IsLegal older) (t : ℕ) (bytes : List ℕ) 
   brought_more link is =
       let tie : ReadTie (is_lost t older) (Some link) (bytes_received t older) =
       subst (λ (o : Option Link). ReadTie (is_lost t older) o (bytes_received t older)) is ((received older legal).links t) in
-      ap (λ (b : Bool). (framed (cond (b && not (is_lost t older)) (bytes_received t older ++ bytes) (bytes_received t older))).given) (eq-eqb t t refl)
+      ap (λ (b : Bool).
+      (framed (cond (b && not (is_lost t older)) (bytes_received t older ++ bytes)
+      (bytes_received t older))).given) (eq-eqb t t refl)
       ∙ (ap (λ (b : Bool). (framed (cond (not b) (bytes_received t older ++ bytes) (bytes_received t older))).given) tie.1
       ∙ ap (λ (c : Cutting). c.given) (framed_piece (bytes_received t older) bytes link tie.0))
 
@@ -80,7 +84,8 @@ module _ (older : History) (legal : IsLegal older) (t : ℕ) (bytes : List ℕ) 
   -- a link of a stream lives
   pub none_on : s.links t ≡ None → (l : ℕ) (stream : Stream) → s.streams l ≡ Some stream → stream.link ≢ t
   none_on none l stream is on =
-      let connected : is_connected t s.devices ≡ true = ap (λ (n : ℕ). is_connected n s.devices) (sym on) ∙ (linked.on l stream is).connected in
+      let connected : is_connected t s.devices ≡ true = ap (λ (n : ℕ). is_connected n s.devices) (sym on)
+      ∙ (linked.on l stream is).connected in
       let some : is_some (s.links t) ≡ true = linked.rows.linked t ∙ connected_is (at t s.devices.rows) connected in
       let clash : true ≡ false = sym some ∙ ap is_some none in
       cc
@@ -104,4 +109,5 @@ module _ (older : History) (legal : IsLegal older) (t : ℕ) (bytes : List ℕ) 
   cut_drawn link =
       let c : Cutting = cut_now link in
       let treated : Made = treat_all t c.given (rested link) in
-      (goes_faulty (treated.state.links t) t c.fault treated.state).drawn_is ∙ all_treated_drawn t c.given (rested link) (rested_linked link)
+      (goes_faulty (treated.state.links t) t c.fault treated.state).drawn_is
+      ∙ all_treated_drawn t c.given (rested link) (rested_linked link)

@@ -20,7 +20,8 @@ pub entry_makes : (older : History) → IsLegal older → (e : Entry) → May (s
     → Makes (state older).streams (state older).drawn (births_at e older) (rule e (state older))
 entry_makes older legal (Enter c port) may quiet = enters_make older legal c port
 entry_makes older legal (Read c bytes) may quiet = reads_make older legal c bytes may ((state older).clients c) refl
-entry_makes older legal (End c cause) may quiet = goes_client_ends c cause ((state older).clients c) (state older) (all_owned older legal) refl
+entry_makes older legal (End c cause) may quiet = goes_client_ends c cause ((state older).clients c) (state older)
+    (all_owned older legal) refl
 entry_makes older legal (Bound c port) may quiet = goes_bound ((state older).clients c) c port (state older)
 entry_makes older legal (Attach t kind serial) may quiet = absurd quiet
 entry_makes older legal (Recv t bytes) may quiet = absurd quiet

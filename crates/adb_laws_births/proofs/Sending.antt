@@ -46,11 +46,13 @@ not_cnxn _ of e = of
 abbrev pub IsAhead : History → (ℕ → List Packet) → Type 0
 IsAhead h heard = (t : ℕ) → ComeFirst (heard t) (brought t h)
 
-module _ (h : History) (heard : ℕ → List Packet) (rows : Rows (Option Stream)) (all : AllBornAs h heard rows) (ahead : IsAhead h heard) where
+module _ (h : History) (heard : ℕ → List Packet) (rows : Rows (Option Stream)) (all : AllBornAs h heard rows)
+    (ahead : IsAhead h heard) where
   own_row : (t : ℕ) (p : Packet) → IsOfRow rows t p → IsOf h t p
   own_row t p of =
       let k = all p.arg0 of.stream of.is in
-      let told : remote_of p.arg0 k.birth h ≡ of.stream.part.remote = remote_told h heard p.arg0 of.stream k (ahead k.birth.link) of.known in
+      let told : remote_of p.arg0 k.birth h ≡ of.stream.part.remote =
+      remote_told h heard p.arg0 of.stream k (ahead k.birth.link) of.known in
       record {
         birth = k.birth;
         is = k.is;
@@ -111,7 +113,8 @@ module _ (h : History) (t : ℕ) (p : Packet) (xs more : List Packet) (whole : x
             let fresh : IsHeard p.arg1 0 before = subst (λ (n : ℕ). IsHeard p.arg1 n before) x.fresh k.heard_of in
             let opened : IsHeard p.arg1 (suc remote) (before ++ p ∷ []) =
             hears_opening p.arg1 p remote (record { okay = x.okay; to = refl; from = e }) before fresh in
-            let later : IsHeard p.arg1 (suc remote) ((before ++ p ∷ []) ++ more) = hears_open p.arg1 more remote (before ++ p ∷ []) opened in
+            let later : IsHeard p.arg1 (suc remote) ((before ++ p ∷ []) ++ more) =
+            hears_open p.arg1 more remote (before ++ p ∷ []) opened in
             let since_is : drop k.birth.packets_before (brought k.birth.link h) ≡ (before ++ p ∷ []) ++ more =
             ap (drop k.birth.packets_before) brought_is
             ∙ (drop-append-le k.birth.packets_before (heard k.birth.link) (p ∷ more) k.before ∙ sym (append_assoc before (p ∷ []) more)) in
@@ -159,7 +162,8 @@ tells_goes h heard s m all ahead goes = record {
   ahead = ahead;
 }
 
-pub tells_then : (h : History) (m : Made) (rule : State → Made) → TellsRight h m → TellsRight h (rule m.state) → TellsRight h (then_also m rule)
+pub tells_then : (h : History) (m : Made) (rule : State → Made) → TellsRight h m → TellsRight h (rule m.state)
+    → TellsRight h (then_also m rule)
 tells_then h m rule first second = record {
   told = All-append (IsRightEvent h) m.told (rule m.state).told first.told second.told;
   heard = second.heard;
@@ -169,7 +173,8 @@ tells_then h m rule first second = record {
 
 pub tells_goes_then : (h : History) (m : Made) (rule : State → Made) → TellsRight h m → Goes m.state.streams m.state.drawn (rule m.state)
     → TellsRight h (then_also m rule)
-tells_goes_then h m rule first goes = tells_then h m rule first (tells_goes h first.heard m.state (rule m.state) first.born_as first.ahead goes)
+tells_goes_then h m rule first goes = tells_then h m rule first
+    (tells_goes h first.heard m.state (rule m.state) first.born_as first.ahead goes)
 
 -- ---- the packets of a link
 module _ (h : History) (t : ℕ) where
@@ -183,7 +188,8 @@ module _ (h : History) (t : ℕ) where
   more_other : (heard : ℕ → List Packet) (p : Packet) (k : ℕ) → t ≢ k → more_heard heard p k ≡ heard k
   more_other heard p k apart = ap (λ (b : Bool). cond b (heard t ++ p ∷ []) (heard k)) (ne_eqb t k apart)
 
-  more_ahead : (heard : ℕ → List Packet) (p : Packet) (ps : List Packet) → heard t ++ p ∷ ps ≡ brought t h → IsAhead h heard → IsAhead h (more_heard heard p)
+  more_ahead : (heard : ℕ → List Packet) (p : Packet) (ps : List Packet) → heard t ++ p ∷ ps ≡ brought t h
+      → IsAhead h heard → IsAhead h (more_heard heard p)
   more_ahead heard p ps whole ahead k = go (eqb t k) refl
     where
       go : (b : Bool) → eqb t k ≡ b → ComeFirst (cond b (heard t ++ p ∷ []) (heard k)) (brought k h)
@@ -196,11 +202,13 @@ module _ (h : History) (t : ℕ) where
   tells_all (p ∷ ps) heard s linked all ahead whole =
       let m : Made = treat t p s in
       let now = treats t p s linked in
-      let next : AllBornAs h (more_heard heard p) m.state.streams = hears_born h t (p ∷ []) heard (more_heard heard p) s.streams m.state.streams now.hear
+      let next : AllBornAs h (more_heard heard p) m.state.streams =
+      hears_born h t (p ∷ []) heard (more_heard heard p) s.streams m.state.streams now.hear
       (λ k apart. more_other heard p k apart, more_here heard p) all in
       let later : IsAhead h (more_heard heard p) = more_ahead heard p ps whole ahead in
       let first : TellsRight h m = record {
-        told = All-weaker (IsAnswer s.streams t p) (IsRightEvent h) (right_answer h t p (heard t) ps whole heard s.streams all refl ahead) m.told now.told;
+        told = All-weaker (IsAnswer s.streams t p) (IsRightEvent h)
+            (right_answer h t p (heard t) ps whole heard s.streams all refl ahead) m.told now.told;
         heard = more_heard heard p;
         born_as = next;
         ahead = later;

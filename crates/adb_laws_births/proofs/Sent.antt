@@ -1,5 +1,6 @@
 -- What is sent to each link is a front of what became due to it, in packets.
-use Rattle.std.proofs.Common.{ℕ, ◌^◌, ◌≡◌, ◌<◌, ◌≤◌, zero, suc, Bool, true, false, cond, All, List, [], ◌∷◌, ◌++◌, Option, Some, None, refl, sym, ap, subst}
+use Rattle.std.proofs.Common.{ℕ, ◌^◌, ◌≡◌, ◌<◌, ◌≤◌, zero, suc, Bool, true, false, cond, All, List, [], ◌∷◌, ◌++◌, Option, Some, None, refl}
+use Rattle.std.proofs.Common.{sym, ap, subst}
 use Rattle.std.proofs.Common.{◌∙◌, inl, inr}
 use Rattle.std.proofs.Common.{arith, eqb, append_assoc}
 use Rattle.std.specs.Prelude.{nat_lt, slice_get, ◌==◌, ◌||◌}
@@ -78,7 +79,8 @@ module _ (h : History) (legal : IsLegal h) (t : ℕ) (p : Packet) (check : ℕ) 
       let maxdata : p.arg1 ≡ server_cnxn.arg1 = ap (λ (q : Packet). q.arg1) is in
       record {
         head = record { arg0 = omega (arith, version); arg1 = omega (arith, maxdata); size = right.short.size; check = right.short.word };
-        carries = ap (λ (n : ℕ). may_carry false p.command n (byte_sum_of p.payload)) (right.sum cnxn) ∙ own_sum p.command (byte_sum_of p.payload);
+        carries = ap (λ (n : ℕ). may_carry false p.command n (byte_sum_of p.payload)) (right.sum cnxn)
+            ∙ own_sum p.command (byte_sum_of p.payload);
         after = ap (format_after plain) is;
       }
     where
@@ -141,7 +143,8 @@ sends_more : (t : ℕ) (bytes : List ℕ) (older : History) (e : Entry) → IsLe
     → IsPrefixOf (bytes_sent t older ++ bytes) (spelled_to t (told (e ∷ older)))
 sends_more t bytes older e legal may = go ((state older).links t) refl may
   where
-    go : (o : Option Link) → (state older).links t ≡ o → MaySend o bytes → IsPrefixOf (bytes_sent t older ++ bytes) (spelled_to t (told (e ∷ older)))
+    go : (o : Option Link) → (state older).links t ≡ o → MaySend o bytes
+        → IsPrefixOf (bytes_sent t older ++ bytes) (spelled_to t (told (e ∷ older)))
     go None is may = absurd may
     go (Some link) is may =
         let due : spelled_to t (told older) ≡ bytes_sent t older ++ link.due = all_due_past_sent older legal t link is in
@@ -159,7 +162,8 @@ sent_first (Send n bytes ∷ older) legal t = go (eqb n t) refl (more_spelled t 
   where
     go : (b : Bool) → eqb n t ≡ b → IsPrefixOf (bytes_sent t older) (spelled_to t (told (Send n bytes ∷ older)))
         → IsPrefixOf (cond b (bytes_sent t older ++ bytes) (bytes_sent t older)) (spelled_to t (told (Send n bytes ∷ older)))
-    go true e first = sends_more t bytes older (Send n bytes) legal.0 (subst (λ (k : ℕ). MaySend ((state older).links k) bytes) (eqb-true n t e) legal.2)
+    go true e first = sends_more t bytes older (Send n bytes) legal.0
+        (subst (λ (k : ℕ). MaySend ((state older).links k) bytes) (eqb-true n t e) legal.2)
     go false e first = first
 sent_first (e ∷ older) legal t = more_spelled t e older (sent_first older legal.0 t)
 
@@ -184,6 +188,7 @@ all_packets h legal t = go (framed (bytes_sent t h)).fault refl
     go None sound = sound
     go (Some fault) broken =
         let stays = framed_fault (bytes_sent t h) (sent_first h legal t).0 fault broken in
-        let none : (framed (spelled_to t (told h))).fault ≡ None = ap (λ (c : Cut PacketFormat Packet PacketFault). c.fault) (framed_told h legal t) in
+        let none : (framed (spelled_to t (told h))).fault ≡ None =
+        ap (λ (c : Cut PacketFormat Packet PacketFault). c.fault) (framed_told h legal t) in
         let clash : Some fault ≡ None = sym stays ∙ (ap (λ (x : List ℕ). (framed x).fault) (sent_first h legal t).1 ∙ none) in
         absurd cc

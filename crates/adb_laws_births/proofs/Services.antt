@@ -1,5 +1,6 @@
 -- A service that is asked for fits into a packet with its NUL.
-use Rattle.std.proofs.Common.{ℕ, ◌≡◌, ◌+◌, ◌≤◌, Bool, true, false, cond, All, List, [], ◌∷◌, ◌++◌, length, take, drop, codes, Option, Some, None, is_some}
+use Rattle.std.proofs.Common.{ℕ, ◌≡◌, ◌+◌, ◌≤◌, Bool, true, false, cond, All, List, [], ◌∷◌, ◌++◌, length, take, drop, codes, Option, Some}
+use Rattle.std.proofs.Common.{None, is_some}
 use Rattle.std.proofs.Common.{refl, subst, arith, zero, suc, eqb}
 use Rattle.std.specs.Prelude.{is_none, option_map, unwrap_or}
 use Rattle.std.specs.Ordering.{is_eq, nat_cmp}
@@ -31,7 +32,8 @@ use Rattle.adb_history.specs.Links.{is_connected, is_credit}
 use Rattle.adb_history.specs.Forwarding.{Binding, forwards_with, put_forward, told_port, is_unbound, bound_by}
 use Rattle.adb_history.specs.Asking.{Asked, replied, after_next, after_found, reads_on, asks_with}
 use Rattle.adb_history.specs.Machine.{History, IsLegal}
-use Rattle.adb_history.specs.Book.{Book, book, newly, forwards_by, wanted_by, asked_with, is_asking, bound_turn, turn, devices_if, devices, forwards, asked}
+use Rattle.adb_history.specs.Book.{Book, book, newly, forwards_by, wanted_by, asked_with, is_asking, bound_turn, turn, devices_if, devices}
+use Rattle.adb_history.specs.Book.{forwards, asked}
 use Rattle.adb_history.specs.Births.{Birth, birth_by, birth_through, births_at}
 use Rattle.adb_history.proofs.Books.{all_books}
 use Rattle.adb_laws_births.specs.Sending.{HasShortService}
@@ -47,13 +49,15 @@ EachNext (Some next) = IsShortNext MAX_PAYLOAD next
 
 -- ---- what a client asks
 module _ (devices : DeviceTable) (small : AreSmall MAX_PAYLOAD devices.rows) where
-  next_short : (next : Next) (reply : List ℕ) (size : ℕ) (others : Asked → Asked) (q : Asked) → ((q : Asked) → EachNext q.next → EachNext (others q).next)
+  next_short : (next : Next) (reply : List ℕ) (size : ℕ) (others : Asked → Asked) (q : Asked)
+      → ((q : Asked) → EachNext q.next → EachNext (others q).next)
       → IsShortNext MAX_PAYLOAD next → EachNext q.next → EachNext (after_next next reply size others q).next
   next_short (what.Select id) reply size others q later right h = later (record (replied reply size q) { selected = Some id }) h
   next_short _ reply size others q later right h = right
 
   found_short : (forwards : List (ℕ × ForwardRow)) (f : Found) (others : Asked → Asked) (q : Asked)
-      → ((q : Asked) → EachNext q.next → EachNext (others q).next) → EachNext q.next → EachNext (after_found devices forwards f others q).next
+      → ((q : Asked) → EachNext q.next → EachNext (others q).next) → EachNext q.next
+      → EachNext (after_found devices forwards f others q).next
   found_short forwards More others q later h = h
   found_short forwards Malformed others q later h = tt
   found_short forwards (Whole len) others q later h =
@@ -64,9 +68,11 @@ module _ (devices : DeviceTable) (small : AreSmall MAX_PAYLOAD devices.rows) whe
 
   reads_short : (forwards : List (ℕ × ForwardRow)) (n : ℕ) (q : Asked) → EachNext q.next → EachNext (reads_on devices forwards n q).next
   reads_short forwards zero q h = h
-  reads_short forwards (suc n) q h = found_short forwards (request_at q.rest) (reads_on devices forwards n) q (λ r g. reads_short forwards n r g) h
+  reads_short forwards (suc n) q h = found_short forwards (request_at q.rest) (reads_on devices forwards n) q
+      (λ r g. reads_short forwards n r g) h
 
-  asks_short : (forwards : List (ℕ × ForwardRow)) (bytes : List ℕ) (q : Asked) → EachNext q.next → EachNext (asks_with devices forwards bytes q).next
+  asks_short : (forwards : List (ℕ × ForwardRow)) (bytes : List ℕ) (q : Asked) → EachNext q.next
+      → EachNext (asks_with devices forwards bytes q).next
   asks_short forwards bytes q h = reads_short forwards (length (q.rest ++ bytes)) (record q { rest = q.rest ++ bytes }) h
 
   asked_short : (b : Bool) (forwards : List (ℕ × ForwardRow)) (bytes : List ℕ) (q : Asked) → EachNext q.next
@@ -138,7 +144,8 @@ put_each {A} P n x rows here all k = go (eqb n k)
 no_want : (c : ℕ) (b : Book) → IsShortBook b → (k : ℕ) → FitsWant (put_row c None b.waits k)
 no_want c b h k = put_each FitsWant c None b.waits tt h.wants k
 
-bound_book : (c port : ℕ) (devices : DeviceTable) (o : Option Want) (b : Book) → FitsWant o → IsShortBook b → IsShortBook (bound_turn c port devices o b)
+bound_book : (c port : ℕ) (devices : DeviceTable) (o : Option Want) (b : Book) → FitsWant o → IsShortBook b
+    → IsShortBook (bound_turn c port devices o b)
 bound_book c port devices None b short h = h
 bound_book c port devices (Some want) b short h = record {
   nexts = h.nexts;
@@ -187,7 +194,8 @@ birth_short c head older (Some (what.Open t service)) short = All-cons HasShortS
 birth_short c head older _ short = All-nil HasShortService
 
 -- the row of a port is one of the table
-row_short : (port : ℕ) (forwards : List (ℕ × ForwardRow)) (row : ForwardRow) → All FitsRow forwards → at port forwards ≡ Some row → Fits row.remote
+row_short : (port : ℕ) (forwards : List (ℕ × ForwardRow)) (row : ForwardRow) → All FitsRow forwards
+    → at port forwards ≡ Some row → Fits row.remote
 row_short port [] row all is = absurd (let clash : None ≡ Some row = is in cc)
 row_short port (e ∷ es) row all is = go (is_eq (nat_cmp port e.0)) (row_short port es row (All-tail FitsRow e es all)) is
   where

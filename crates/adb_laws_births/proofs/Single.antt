@@ -1,5 +1,6 @@
 -- A client has one stream at most: it is asked no more after it asked for one, and one that came through a forward asks for none.
-use Rattle.std.proofs.Common.{◌≡◌, ◌≢◌, ℕ, ◌+◌, ◌≤◌, zero, suc, Bool, true, false, cond, List, [], ◌∷◌, ◌++◌, length, Option, Some, None, refl}
+use Rattle.std.proofs.Common.{◌≡◌, ◌≢◌, ℕ, ◌+◌, ◌≤◌, zero, suc, Bool, true, false, cond, List, [], ◌∷◌, ◌++◌, length, Option, Some, None}
+use Rattle.std.proofs.Common.{refl}
 use Rattle.std.proofs.Common.{sym, ap, subst, ◌∙◌, ◌⊎◌, inl, inr, eqb, arith}
 use Rattle.std.specs.Prelude.{◌&&◌, ◌||◌, not, is_some, is_none, nat_lt, slice_get}
 use Rattle.std.proofs.lemmas.Bool.{eqb-true, eq-eqb, ne_eqb}
@@ -43,13 +44,16 @@ asked_stays c (Read n bytes) older done = go (eqb n c) refl
     d = devices_if (book older).killed older
 
     go : (b : Bool) → eqb n c ≡ b
-        → cond b (asked_with (is_asking n older (book older)) (devices_if (book older).killed older) (book older).forwards bytes (asked n older))
+        → cond b (asked_with (is_asking n older (book older)) (devices_if (book older).killed older)
+        (book older).forwards bytes (asked n older))
         (asked c older) ≡ asked c older
     go true same =
         let one : n ≡ c = eqb-true n c same in
-        let off : still_asks (asked n older) ≡ false = ap (λ (k : ℕ). still_asks (asked k older)) one ∙ none_off (asked c older).next done in
+        let off : still_asks (asked n older) ≡ false = ap (λ (k : ℕ). still_asks (asked k older)) one
+        ∙ none_off (asked c older).next done in
         let asks : is_asking n older (book older) ≡ false =
-        ap (λ (b : Bool). has_joined n older && not (has_ended n older) && b) off ∙ not_both (has_joined n older) (not (has_ended n older)) in
+        ap (λ (b : Bool). has_joined n older && not (has_ended n older) && b) off
+        ∙ not_both (has_joined n older) (not (has_ended n older)) in
         ap (λ (b : Bool). asked_with b (devices_if (book older).killed older) (book older).forwards bytes (asked n older)) asks
         ∙ ap (λ (k : ℕ). asked k older) one
     go false apart = refl
@@ -58,7 +62,8 @@ asked_stays c (Bound n port) older done =
 asked_stays c _ older done = refl
 
 -- ---- what a birth says of its client
-joined_stays : (c : ℕ) (e : Entry) (older : History) → IsLegal (e ∷ older) → c ≤ came_count older → has_joined c (e ∷ older) ≡ has_joined c older
+joined_stays : (c : ℕ) (e : Entry) (older : History) → IsLegal (e ∷ older) → c ≤ came_count older
+    → has_joined c (e ∷ older) ≡ has_joined c older
 joined_stays c (Join n) older legal came =
     ap (λ (b : Bool). b || has_joined c older) (ne_eqb n c (λ same. omega (arith, same, came, next_number (Join n) older legal.2)))
 joined_stays c _ older legal came = refl
@@ -77,7 +82,8 @@ birth_stays e older b legal h = record {
     joined : has_joined b.client (e ∷ older) ≡ has_joined b.client older
     joined = joined_stays b.client e older legal h.came
 
-    same_head : (forwarded : Bool) → ByClient forwarded b.client older → head_by forwarded b.client (e ∷ older) ≡ head_by forwarded b.client older
+    same_head : (forwarded : Bool) → ByClient forwarded b.client older
+        → head_by forwarded b.client (e ∷ older) ≡ head_by forwarded b.client older
     same_head true none = refl
     same_head false by = ap (λ (q : Asked). q.used) (asked_stays b.client e older by.1)
 
@@ -110,7 +116,9 @@ module _ (c : ℕ) (bytes : List ℕ) (older : History) (legal : IsLegal (Read c
         go true e = refl
         go false e =
             let same : asked c (Read c bytes ∷ older) ≡ asked c older =
-            ap (λ (x : Bool). cond x (asked_with (is_asking c older (book older)) (devices older) (forwards older) bytes (asked c older)) (asked c older))
+            ap (λ (x : Bool). cond x
+            (asked_with (is_asking c older (book older)) (devices older) (forwards older) bytes (asked c older))
+            (asked c older))
             (eq-eqb c c refl)
             ∙ ap (λ (b : Bool). asked_with b (devices older) (forwards older) bytes (asked c older)) e in
             let clash : true ≡ false = sym parts.1 ∙ (ap (λ (q : Asked). is_some q.next) same ∙ ap is_some parts.0) in
@@ -156,7 +164,8 @@ module _ (c : ℕ) (bytes : List ℕ) (older : History) (legal : IsLegal (Read c
       (ap (λ (x : Birth). x.client) (sym same), ap (λ (x : Birth). x.forwarded) (sym same), ap (λ (x : Birth). x.head) (sym same))
   by_first _ b new is = absurd (let clash : [] ≡ b ∷ [] = is in cc)
 
-through_first : (c port : ℕ) (older : History) (o : Option ForwardRow) (b : Birth) → IsLegal (Enter c port ∷ older) → birth_through c older o ≡ b ∷ []
+through_first : (c port : ℕ) (older : History) (o : Option ForwardRow) (b : Birth) → IsLegal (Enter c port ∷ older)
+    → birth_through c older o ≡ b ∷ []
     → IsFirstOf (Enter c port) older b
 through_first c port older None b legal is = absurd (let clash : [] ≡ b ∷ [] = is in cc)
 through_first c port older (Some row) b legal is = go (is_connected row.transport (devices older)) is
@@ -252,7 +261,8 @@ all_apart [] legal = record {
   each = λ i b is. absurd (let clash : None ≡ Some b = is in cc);
   apart = λ i j b c is at same. absurd (let clash : None ≡ Some b = is in cc);
 }
-all_apart (e ∷ older) legal = by_count e older legal (all_apart older legal.0) (births_at e older) refl (draws_at_most_one e older legal).number
+all_apart (e ∷ older) legal = by_count e older legal (all_apart older legal.0) (births_at e older) refl
+    (draws_at_most_one e older legal).number
 
 -- the place of a birth
 born_place : (l : ℕ) (h : History) (b : Birth) → born l h ≡ Some b → (k : ℕ) × (l ≡ suc k) × (slice_get (births h) k ≡ Some b)

@@ -33,7 +33,8 @@ row_with_takes : (who : Option Identity) (p : Packet) (row : Row) → row.maxdat
 row_with_takes None p row none = omega (arith, none)
 row_with_takes (Some identity) p row none = omega arith
 
-row_by_takes : (last : Option Packet) (packets : List Packet) (row : Row) → row.maxdata ≡ 0 → (row_by last packets row).maxdata ≤ MAX_PAYLOAD
+row_by_takes : (last : Option Packet) (packets : List Packet) (row : Row) → row.maxdata ≡ 0
+    → (row_by last packets row).maxdata ≤ MAX_PAYLOAD
 row_by_takes (Some p) packets row none = row_with_takes (identity_of p.payload) p row none
 row_by_takes None packets row none = go (list_any (λ p. is_login p.command) packets)
   where

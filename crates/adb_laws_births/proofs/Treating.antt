@@ -1,5 +1,6 @@
 -- One packet of a link: what it makes of the streams.
-use Rattle.std.proofs.Common.{◌≡◌, ◌≢◌, ℕ, zero, suc, Bool, true, false, cond, List, [], ◌∷◌, ◌++◌, Option, Some, None, refl, sym, ap, subst, ◌∙◌, ◌⊎◌, inl}
+use Rattle.std.proofs.Common.{◌≡◌, ◌≢◌, ℕ, zero, suc, Bool, true, false, cond, List, [], ◌∷◌, ◌++◌, Option, Some, None, refl, sym, ap}
+use Rattle.std.proofs.Common.{subst, ◌∙◌, ◌⊎◌, inl}
 use Rattle.std.proofs.Common.{inr, eqb, arith}
 use Rattle.std.specs.Prelude.{codes, nat_eq, nat_lt, not, ◌||◌, ◌&&◌, ◌==◌, length, is_some, option_and_then}
 use Rattle.std.proofs.lemmas.Bool.{eqb-true, eqb-false, ne_eqb}
@@ -28,7 +29,8 @@ use Rattle.adb_history.specs.Clients.{owe_client}
 use Rattle.adb_history.specs.Streams.{ends_row, ends_telling}
 use Rattle.adb_history.specs.Flow.{with_flow}
 use Rattle.adb_history.specs.Losing.{forgets, link_ends}
-use Rattle.adb_history.specs.Packets.{least_version, least_maxdata, streams_end_first, goes_online, connects, cnxn, unauthorized_from, unauthorized}
+use Rattle.adb_history.specs.Packets.{least_version, least_maxdata, streams_end_first, goes_online, connects, cnxn, unauthorized_from}
+use Rattle.adb_history.specs.Packets.{unauthorized}
 use Rattle.adb_history.specs.Packets.{refuses_open}
 use Rattle.adb_history.specs.Packets.{at_stream, with_remote, hears_okay, opened, orphan_opened, okay_open, okay_first, takes_okay}
 use Rattle.adb_history.specs.Packets.{accepts_none, accepts, takes_write, takes_close, treat_any, treat_on, treat}
@@ -41,7 +43,8 @@ use Rattle.adb_history.proofs.LinkMoves.{all_cleared, first_cleared}
 use Rattle.adb_laws_births.specs.Going.{Was, GoOn, IsShort, IsFrom, Goes}
 use Rattle.adb_laws_births.specs.Openings.{Skips, Hears, hears_nothing, hears_then, hears_open, hears_other, hears_opening}
 use Rattle.adb_laws_births.specs.Hearing.{Heard, AllHear, ClosesLate, IsAnswer, Treats}
-use Rattle.adb_laws_births.proofs.Going.{go_on_same, go_on_gone, go_on_part, goes_quiet, goes_then, goes_if, one_from, check_short, goes_owe_client, goes_owe_link}
+use Rattle.adb_laws_births.proofs.Going.{go_on_same, go_on_gone, go_on_part, goes_quiet, goes_then, goes_if, one_from, check_short}
+use Rattle.adb_laws_births.proofs.Going.{goes_owe_client, goes_owe_link}
 use Rattle.adb_laws_births.proofs.GoingEnds.{gone_not, ends_row_gone, goes_ends_row, goes_ends_telling, goes_all_end, goes_link_ends}
 
 -- ---- streams and packets
@@ -61,7 +64,8 @@ heard_still t l before b was = record {
 pub hear_going : (t : ℕ) (x y : Rows (Option Stream)) → GoOn x y → AllHear t [] x y
 hear_going t x y go l b is = heard_still t l (x l) b (go l b is)
 
-pub hear_then : (t : ℕ) (ps qs : List Packet) (x y z : Rows (Option Stream)) → AllHear t ps x y → AllHear t qs y z → AllHear t (ps ++ qs) x z
+pub hear_then : (t : ℕ) (ps qs : List Packet) (x y z : Rows (Option Stream)) → AllHear t ps x y → AllHear t qs y z
+    → AllHear t (ps ++ qs) x z
 hear_then t ps qs x y z h k l b is =
     let later = k l b is in
     let first = h l later.stream later.is in
@@ -72,12 +76,14 @@ hear_then t ps qs x y z h k l b is =
       client = later.client ∙ first.client;
       link = later.link ∙ first.link;
       credit = later.credit ∙ first.credit;
-      here = λ on. hears_then l ps qs first.stream.part.remote later.stream.part.remote b.part.remote (first.here (sym later.link ∙ on)) (later.here on);
+      here = λ on. hears_then l ps qs first.stream.part.remote later.stream.part.remote b.part.remote
+          (first.here (sym later.link ∙ on)) (later.here on);
       other = λ off. later.other off ∙ first.other (λ on. off (later.link ∙ on));
     }
 
 -- a packet that says nothing of the opening of a stream of the link, unless that is open
-heard_skipping : (t : ℕ) (p : Packet) (l : ℕ) (before : Option Stream) (b : Stream) → Was before b → (b.link ≡ t → Skips l p ⊎ (b.part.remote ≢ 0))
+heard_skipping : (t : ℕ) (p : Packet) (l : ℕ) (before : Option Stream) (b : Stream) → Was before b
+    → (b.link ≡ t → Skips l p ⊎ (b.part.remote ≢ 0))
     → Heard t (p ∷ []) l before b
 heard_skipping t p l before b was skips = record {
   stream = was.stream;
@@ -181,7 +187,8 @@ module _ (t : ℕ) (p : Packet) (s : State) (h : IsLinked s) where
       go false = treats_connects version maxdata (identity_of banner)
 
   -- ---- AUTH, STLS and OPEN
-  treats_same : (next : State) → next.streams ≡ s.streams → next.drawn ≡ s.drawn → ((l : ℕ) → Skips l p) → Treats t p s.streams s.drawn (quietly next)
+  treats_same : (next : State) → next.streams ≡ s.streams → next.drawn ≡ s.drawn → ((l : ℕ) → Skips l p)
+      → Treats t p s.streams s.drawn (quietly next)
   treats_same next same drawn skips = treats_goes t p s.streams s.drawn (quietly next)
       (record {
         rows = subst (λ (x : Rows (Option Stream)). GoOn s.streams x) (sym same) (go_on_same s.streams);
@@ -190,7 +197,8 @@ module _ (t : ℕ) (p : Packet) (s : State) (h : IsLinked s) where
       })
       (λ l b is on. inl (skips l))
 
-  treats_quiet : ((l : ℕ) (b : Stream) → s.streams l ≡ Some b → b.link ≡ t → Skips l p ⊎ (b.part.remote ≢ 0)) → Treats t p s.streams s.drawn (quietly s)
+  treats_quiet : ((l : ℕ) (b : Stream) → s.streams l ≡ Some b → b.link ≡ t → Skips l p ⊎ (b.part.remote ≢ 0))
+      → Treats t p s.streams s.drawn (quietly s)
   treats_quiet skips = treats_goes t p s.streams s.drawn (quietly s) (goes_quiet s) skips
 
   treats_login : (o : Option Row) → ((l : ℕ) → Skips l p) → Treats t p s.streams s.drawn (unauthorized t o s)
@@ -212,8 +220,11 @@ module _ (t : ℕ) (p : Packet) (s : State) (h : IsLinked s) where
       go false = record {
         hear = hear_skipping t p s.streams s.streams (go_on_same s.streams) (λ l b there on. inl (skips l));
         drawn_is = refl;
-        told = All-cons (IsAnswer s.streams t p) (due_to_link t (close_packet 0 p.arg0) _) []
-            (inr (inl (record { on = refl; asks = is; packet = refl })), short_close 0 p.arg0 (wants_sums (s.links t))) (All-nil (IsAnswer s.streams t p));
+        told = All-cons (IsAnswer s.streams t p) (due_to_link t (close_packet 0 p.arg0) _) [] (
+          inr (inl (record { on = refl; asks = is; packet = refl })),
+          short_close 0 p.arg0
+              (wants_sums (s.links t)),
+        ) (All-nil (IsAnswer s.streams t p));
       }
 
   -- ---- what concerns one stream of the link
@@ -248,7 +259,8 @@ module _ (t : ℕ) (p : Packet) (s : State) (h : IsLinked s) where
     goes_accepts_none : (flow : Flow) → stream.part.remote ≢ 0 → Goes s.streams s.drawn (accepts_none flow p.arg1 stream s)
     goes_accepts_none (One window) known =
         goes_owe_link p.arg1 stream (okay_packet p.arg1 stream.part.remote) s
-        (record { row = stream; is = is; link = refl; remote = refl; known = known }) (record { from = refl; to = refl; of = tt; size = omega arith })
+        (record { row = stream; is = is; link = refl; remote = refl; known = known })
+        (record { from = refl; to = refl; of = tt; size = omega arith })
     goes_accepts_none (Credit credit) known = goes_quiet s
 
     credit_accepted : (n : ℕ) (flow : Flow) → has_credit (accepted n flow) ≡ has_credit flow
@@ -277,7 +289,8 @@ module _ (t : ℕ) (p : Packet) (s : State) (h : IsLinked s) where
         let out : Bool = is_out_of_turn stream.part.flow (length payload) in
         let late : Made = ends_telling p.arg1 OutOfTurn stream s in
         let taken : Made = accepts p.arg1 payload stream s in
-        goes_if s.streams s.drawn (eqb remote 0 || not (eqb remote stream.part.remote)) (quietly s) (cond out late taken) (λ e. goes_quiet s)
+        goes_if s.streams s.drawn (eqb remote 0 || not (eqb remote stream.part.remote)) (quietly s)
+        (cond out late taken) (λ e. goes_quiet s)
         (λ known. goes_if s.streams s.drawn out late taken
         (λ e. goes_ends_telling p.arg1 OutOfTurn stream s is (written_to remote stream.part.remote known))
         (λ e. goes_accepts payload (written_to remote stream.part.remote known)))
@@ -298,8 +311,10 @@ module _ (t : ℕ) (p : Packet) (s : State) (h : IsLinked s) where
 
         go : (a b : Bool) → eqb p.arg0 0 ≡ a
             → Treats t p s.streams s.drawn (cond (a || b) (ends_row p.arg1 PeerClosed stream s) (quietly s))
-        go true b e = gone_apart (ends_row p.arg1 PeerClosed stream s) gone (goes_ends_row p.arg1 PeerClosed stream s) (λ l. close_apart l p close)
-        go false true e = gone_apart (ends_row p.arg1 PeerClosed stream s) gone (goes_ends_row p.arg1 PeerClosed stream s) (λ l. close_apart l p close)
+        go true b e = gone_apart (ends_row p.arg1 PeerClosed stream s) gone (goes_ends_row p.arg1 PeerClosed stream s)
+            (λ l. close_apart l p close)
+        go false true e = gone_apart (ends_row p.arg1 PeerClosed stream s) gone
+            (goes_ends_row p.arg1 PeerClosed stream s) (λ l. close_apart l p close)
         go false false e = treats_goes_at (quietly s) (goes_quiet s) (skips e)
 
     -- ---- OKAY
@@ -307,13 +322,15 @@ module _ (t : ℕ) (p : Packet) (s : State) (h : IsLinked s) where
     closes_late okay known fresh =
         record { stream = stream; is = is; own = on_t; on = on_t; fresh = fresh; okay = okay; known = known; packet = refl }
 
-    fresh_orphan : p.command ≡ Okay → p.arg0 ≢ 0 → stream.part.remote ≡ 0 → Treats t p s.streams s.drawn (orphan_opened p.arg1 p.arg0 stream s)
+    fresh_orphan : p.command ≡ Okay → p.arg0 ≢ 0 → stream.part.remote ≡ 0
+        → Treats t p s.streams s.drawn (orphan_opened p.arg1 p.arg0 stream s)
     fresh_orphan okay known fresh = record {
       hear = hear_skipping t p s.streams (to_stream p.arg1 none_kept s).streams (go_on_gone s.streams p.arg1)
           (λ l b there on. inl (okay_apart l p okay (gone_not s.streams p.arg1 l b there)));
       drawn_is = refl;
       told = All-cons (IsAnswer s.streams t p) (due_to_link stream.link (close_packet p.arg1 p.arg0) _) []
-          (inr (inr (closes_late okay known fresh)), short_close p.arg1 p.arg0 (wants_sums (s.links stream.link))) (All-nil (IsAnswer s.streams t p));
+          (inr (inr (closes_late okay known fresh)), short_close p.arg1 p.arg0 (wants_sums (s.links stream.link)))
+          (All-nil (IsAnswer s.streams t p));
     }
 
     credit_first : (word : Option ℕ) (flow : Flow) → has_credit (first_credit word flow) ≡ has_credit flow
@@ -336,7 +353,8 @@ module _ (t : ℕ) (p : Packet) (s : State) (h : IsLinked s) where
           client = refl;
           link = refl;
           credit = credit_first (credit_word p.payload) stream.part.flow ∙ ap (λ (x : Stream). has_credit x.part.flow) one;
-          here = λ on. subst (λ (n : ℕ). Hears l (p ∷ []) n p.arg0) (sym fresh ∙ ap (λ (x : Stream). x.part.remote) one) (heard p.arg0 refl);
+          here = λ on. subst (λ (n : ℕ). Hears l (p ∷ []) n p.arg0)
+              (sym fresh ∙ ap (λ (x : Stream). x.part.remote) one) (heard p.arg0 refl);
           other = λ off. absurd (off (ap (λ (x : Stream). x.link) (sym one) ∙ on_t));
         })
       where
@@ -348,7 +366,8 @@ module _ (t : ℕ) (p : Packet) (s : State) (h : IsLinked s) where
         → AllHear t (p ∷ []) s.streams (change_row p.arg1 (option_and_then (with_stream_part open_part)) s.streams)
     opens_hear okay known fresh l b there = go (eqb p.arg1 l) refl (s.streams l) refl there
       where
-        go : (c : Bool) → eqb p.arg1 l ≡ c → (o : Option Stream) → s.streams l ≡ o → cond c (option_and_then (with_stream_part open_part) o) o ≡ Some b
+        go : (c : Bool) → eqb p.arg1 l ≡ c → (o : Option Stream) → s.streams l ≡ o
+            → cond c (option_and_then (with_stream_part open_part) o) o ≡ Some b
             → Heard t (p ∷ []) l (s.streams l) b
         go true e None was now = absurd (let clash : None ≡ Some b = now in cc)
         go true e (Some a) was now = opens_row okay known fresh l a b was (eqb-true p.arg1 l e) now
@@ -367,11 +386,13 @@ module _ (t : ℕ) (p : Packet) (s : State) (h : IsLinked s) where
         let heard : Made = hears_okay (s.clients stream.client) stream.client s in
         let goes : Goes s.streams s.drawn heard = goes_hears_okay (s.clients stream.client) stream.client in
         record {
-          hear = subst (λ (x : Rows (Option Stream)). AllHear t (p ∷ []) s.streams (change_row p.arg1 (option_and_then (with_stream_part open_part)) x))
+          hear = subst (λ (x : Rows (Option Stream)). AllHear t (p ∷ []) s.streams
+              (change_row p.arg1 (option_and_then (with_stream_part open_part)) x))
               (sym (hears_streams (s.clients stream.client) stream.client s)) (opens_hear okay known fresh);
           drawn_is = goes.drawn_is;
           told = All-append (IsAnswer s.streams t p) heard.told []
-              (All-weaker (IsFrom s.streams) (IsAnswer s.streams t p) (answers s.streams t p) heard.told goes.told) (All-nil (IsAnswer s.streams t p));
+              (All-weaker (IsFrom s.streams) (IsAnswer s.streams t p) (answers s.streams t p) heard.told goes.told)
+              (All-nil (IsAnswer s.streams t p));
         }
 
     opens_first : (orphan : Bool) → p.command ≡ Okay → p.arg0 ≢ 0 → stream.part.remote ≡ 0
@@ -409,8 +430,10 @@ module _ (t : ℕ) (p : Packet) (s : State) (h : IsLinked s) where
         word : Option ℕ
         word = credit_word p.payload
 
-        again : (b : Bool) → stream.part.remote ≢ 0 → Treats t p s.streams s.drawn (cond b (okay_open p.arg1 (credit_word p.payload) stream s) (quietly s))
-        again true known = treats_open_row (okay_open p.arg1 (credit_word p.payload) stream s) okay known (goes_okay_open (credit_word p.payload))
+        again : (b : Bool) → stream.part.remote ≢ 0 → Treats t p s.streams s.drawn
+            (cond b (okay_open p.arg1 (credit_word p.payload) stream s) (quietly s))
+        again true known = treats_open_row (okay_open p.arg1 (credit_word p.payload) stream s) okay known
+            (goes_okay_open (credit_word p.payload))
         again false known = treats_open_row (quietly s) okay known (goes_quiet s)
 
         later : (b : Bool) → eqb stream.part.remote 0 ≡ b → p.arg0 ≢ 0
@@ -446,7 +469,8 @@ module _ (t : ℕ) (p : Packet) (s : State) (h : IsLinked s) where
       (λ stream at_l on. treats_okay stream at_l on is))
   treats_any Wrte is = if_connected (at_stream t (s.streams p.arg1) (takes_write p.arg1 p.arg0 p.payload) s)
       (treats_at (s.streams p.arg1) (takes_write p.arg1 p.arg0 p.payload) refl (λ l apart. skips_by l p Wrte is (λ later others. refl))
-      (λ stream at_l on. treats_goes_at stream at_l on (takes_write p.arg1 p.arg0 p.payload stream s) (goes_write stream at_l on p.arg0 p.payload)
+      (λ stream at_l on. treats_goes_at stream at_l on (takes_write p.arg1 p.arg0 p.payload stream s)
+      (goes_write stream at_l on p.arg0 p.payload)
       (λ l. skips_by l p Wrte is (λ later others. refl))))
   treats_any Clse is = if_connected (at_stream t (s.streams p.arg1) (takes_close p.arg1 p.arg0) s)
       (treats_at (s.streams p.arg1) (takes_close p.arg1 p.arg0) refl (λ l. close_apart l p is)

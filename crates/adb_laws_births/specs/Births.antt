@@ -1,5 +1,6 @@
 -- Births in their order: those that came stay, and the next one has the next number.
-use Rattle.std.proofs.Common.{◌≡◌, ℕ, ◌<◌, zero, suc, Bool, true, false, cond, List, [], ◌∷◌, ◌++◌, length, Option, Some, None, refl, ap, subst, ◌∙◌}
+use Rattle.std.proofs.Common.{◌≡◌, ℕ, ◌<◌, zero, suc, Bool, true, false, cond, List, [], ◌∷◌, ◌++◌, length, Option, Some, None, refl, ap}
+use Rattle.std.proofs.Common.{subst, ◌∙◌}
 use Rattle.std.specs.Prelude.{nat_lt, slice_get}
 use Rattle.std.proofs.lemmas.Bool.{lt-ltb}
 use Rattle.adb_forward.specs.declared.row.ForwardRow.{ForwardRow}
@@ -29,7 +30,8 @@ pub born_stays : (l : ℕ) (e : Entry) (older : History) (b : Birth) → born l 
 born_stays zero e older b is = absurd (let clash : None ≡ Some b = is in cc)
 born_stays (suc k) e older b is = go (nat_lt k stream_ids) is
   where
-    go : (in_ : Bool) → cond in_ (slice_get (births older) k) None ≡ Some b → cond in_ (slice_get (births older ++ births_at e older) k) None ≡ Some b
+    go : (in_ : Bool) → cond in_ (slice_get (births older) k) None ≡ Some b
+        → cond in_ (slice_get (births older ++ births_at e older) k) None ≡ Some b
     go true e_is = slice_front (births older) (births_at e older) k b e_is
     go false e_is = absurd (let clash : None ≡ Some b = e_is in cc)
 
@@ -37,7 +39,8 @@ born_stays (suc k) e older b is = go (nat_lt k stream_ids) is
 pub born_next : (e : Entry) (older : History) (b : Birth) → births_at e older ≡ b ∷ [] → length (births older) < stream_ids
     → born (suc (length (births older))) (e ∷ older) ≡ Some b
 born_next e older b is room =
-    ap (λ (x : Bool). cond x (slice_get (births older ++ births_at e older) (length (births older))) None) (lt-ltb (length (births older)) stream_ids room)
+    ap (λ (x : Bool). cond x (slice_get (births older ++ births_at e older) (length (births older))) None)
+    (lt-ltb (length (births older)) stream_ids room)
     ∙ (ap (λ (bs : List Birth). slice_get (births older ++ bs) (length (births older))) is ∙ slice_next (births older) b)
 
 -- ---- where a birth stands

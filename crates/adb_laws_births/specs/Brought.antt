@@ -1,5 +1,6 @@
 -- What a link brought, when more comes: packets stay, and so does what they opened.
-use Rattle.std.proofs.Common.{◌≡◌, ◌≢◌, ℕ, ◌^◌, ◌<◌, ◌≤◌, Bool, true, false, cond, All, List, [], ◌∷◌, ◌++◌, length, drop, Option, Some, None, refl, sym}
+use Rattle.std.proofs.Common.{◌≡◌, ◌≢◌, ℕ, ◌^◌, ◌<◌, ◌≤◌, Bool, true, false, cond, All, List, [], ◌∷◌, ◌++◌, length, drop, Option, Some}
+use Rattle.std.proofs.Common.{None, refl, sym}
 use Rattle.std.proofs.Common.{ap, ◌∙◌, ◌⊎◌, inl, inr, arith, eqb}
 use Rattle.std.specs.Prelude.{not, ◌&&◌, ◌==◌, nat_eq}
 use Rattle.std.proofs.lemmas.Bool.{cases_lt}
@@ -47,11 +48,13 @@ framed_front x y = go (framed x).fault refl
     go None sound =
         let more : Cutting = cut_packets (framed x).reading ((framed x).rest ++ y) in
         let whole : framed (x ++ y) ≡ joined (framed x).given more =
-        cut_piece front_of (λ _ frame. packet_of frame) (λ format frame. format_after format (packet_of frame)) packets_are_framed (length x)
+        cut_piece front_of (λ _ frame. packet_of frame) (λ format frame. format_after format (packet_of frame))
+        packets_are_framed (length x)
         (record { sums = false }) x y (omega arith) sound in
         (more.given, sym (ap (λ (c : Cutting). c.given) whole))
     go (Some fault) broken =
-        let stays = fault_stays front_of (λ _ frame. packet_of frame) (λ format frame. format_after format (packet_of frame)) packets_are_framed
+        let stays = fault_stays front_of (λ _ frame. packet_of frame)
+        (λ format frame. format_after format (packet_of frame)) packets_are_framed
         (length x) (record { sums = false }) x y fault (omega arith) broken in
         ([], append-nil (framed x).given ∙ sym stays.0)
 
@@ -105,11 +108,13 @@ pub remote_first : (l n : ℕ) (front all : List Packet) → ComeFirst front all
     → remote_in (opening_in l (drop n all)) ≡ remote_in (opening_in l (drop n front))
 remote_first l n front all first known = go (opening_in l (drop n front)) refl
   where
-    go : (o : Option Opening) → opening_in l (drop n front) ≡ o → remote_in (opening_in l (drop n all)) ≡ remote_in (opening_in l (drop n front))
+    go : (o : Option Opening) → opening_in l (drop n front) ≡ o
+        → remote_in (opening_in l (drop n all)) ≡ remote_in (opening_in l (drop n front))
     go None is = absurd (known (ap remote_in is))
     go (Some o) is = let later = opening_first l n front all o first is in ap remote_in later.1 ∙ sym (ap remote_in is)
 
-pub remote_grows : (l : ℕ) (b : Birth) (e : Entry) (older : History) → remote_of l b older ≢ 0 → remote_of l b (e ∷ older) ≡ remote_of l b older
+pub remote_grows : (l : ℕ) (b : Birth) (e : Entry) (older : History) → remote_of l b older ≢ 0
+    → remote_of l b (e ∷ older) ≡ remote_of l b older
 remote_grows l b e older known =
     remote_first l b.packets_before (brought b.link older) (brought b.link (e ∷ older)) (brought_grows b.link e older) known
 

@@ -12,7 +12,8 @@ abbrev pub EndsAs : Bool → Option Ending → Type 0
 EndsAs false ending = ending ≡ None
 EndsAs true ending = (cause : Cause) × (ending ≡ Some (ClientFailed cause))
 
--- A stream that was drawn and is kept no more has ended; one that is kept has not, unless it is an orphan; and none ends that was not drawn.
+-- A stream that was drawn and is kept no more has ended; one that is kept has not, unless it is an orphan; and none
+-- ends that was not drawn.
 pub record HasEnding (drawn l : ℕ) (row : Option Stream) (ending : Option Ending) : Type 0 where
   pub kept : (stream : Stream) → row ≡ Some stream → EndsAs stream.part.orphan ending
   pub gone : row ≡ None → 0 < l → l ≤ drawn → is_some ending ≡ true

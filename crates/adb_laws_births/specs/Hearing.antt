@@ -44,7 +44,8 @@ pub record ClosesLate (streams : Rows (Option Stream)) (t : ℕ) (p : Packet) (l
 -- what becomes due by a packet
 abbrev pub IsAnswer : Rows (Option Stream) → ℕ → Packet → Event → Type 0
 IsAnswer streams t p (due_to_client client bytes) = Unit {0}
-IsAnswer streams t p (due_to_link link q check) = (IsOfRow streams link q ⊎ (Refuses t p link q ⊎ ClosesLate streams t p link q)) × IsShort q check
+IsAnswer streams t p (due_to_link link q check) =
+    (IsOfRow streams link q ⊎ (Refuses t p link q ⊎ ClosesLate streams t p link q)) × IsShort q check
 IsAnswer streams t p (ended stream ending) = Unit {0}
 
 -- What a packet of a link makes of these streams.

@@ -1,5 +1,6 @@
 -- The opening of a stream, when more packets come.
-use Rattle.std.proofs.Common.{◌≡◌, ℕ, zero, suc, Bool, true, false, cond, List, [], ◌∷◌, ◌++◌, Option, Some, None, sym, ap, subst, ◌∙◌, append_assoc, arith}
+use Rattle.std.proofs.Common.{◌≡◌, ℕ, zero, suc, Bool, true, false, cond, List, [], ◌∷◌, ◌++◌, Option, Some, None, sym, ap, subst, ◌∙◌}
+use Rattle.std.proofs.Common.{append_assoc, arith}
 use Rattle.std.proofs.lemmas.Bool.{eq-eqb, ne_eqb}
 use Rattle.std.specs.Prelude.{nat_eq, ◌==◌, not, ◌&&◌}
 use Rattle.std.proofs.lemmas.List.{append-nil}
@@ -14,21 +15,25 @@ abbrev pub opened_with : List Packet → Opening → Opening
 opened_with more o = record o { later = o.later ++ more }
 
 -- What opens a stream stays its opening, whatever comes.
-pub opening_stays : (l : ℕ) (ps more : List Packet) (o : Opening) → opening_in l ps ≡ Some o → opening_in l (ps ++ more) ≡ Some (opened_with more o)
+pub opening_stays : (l : ℕ) (ps more : List Packet) (o : Opening) → opening_in l ps ≡ Some o
+    → opening_in l (ps ++ more) ≡ Some (opened_with more o)
 opening_stays l [] more o is = absurd (let clash : None ≡ Some o = is in cc)
 opening_stays l (p ∷ ps) more o is = by p.command is (λ e. opening_stays l ps more o e)
   where
     Later : Type 0
     Later = opening_in l ps ≡ Some o → opening_in l (ps ++ more) ≡ Some (opened_with more o)
 
-    okay : (b : Bool) → cond b (Some (record { remote = p.arg0; word = credit_word p.payload; later = ps })) (opening_in l ps) ≡ Some o → Later
-        → cond b (Some (record { remote = p.arg0; word = credit_word p.payload; later = ps ++ more })) (opening_in l (ps ++ more)) ≡ Some (opened_with more o)
+    okay : (b : Bool) → cond b (Some (record { remote = p.arg0; word = credit_word p.payload; later = ps }))
+        (opening_in l ps) ≡ Some o → Later
+        → cond b (Some (record { remote = p.arg0; word = credit_word p.payload; later = ps ++ more }))
+        (opening_in l (ps ++ more)) ≡ Some (opened_with more o)
     okay true e later =
         let same : record { remote = p.arg0; word = credit_word p.payload; later = ps } ≡ o = cc in
         ap (λ (x : Opening). Some (opened_with more x)) same
     okay false e later = later e
 
-    closed : (b : Bool) → cond b None (opening_in l ps) ≡ Some o → Later → cond b None (opening_in l (ps ++ more)) ≡ Some (opened_with more o)
+    closed : (b : Bool) → cond b None (opening_in l ps) ≡ Some o → Later
+        → cond b None (opening_in l (ps ++ more)) ≡ Some (opened_with more o)
     closed true e later = absurd (let clash : None ≡ Some o = e in cc)
     closed false e later = later e
 

@@ -1,5 +1,6 @@
 -- Clients that ask: they came by themselves, their input goes on, and all that became due to them are the replies.
-use Rattle.std.proofs.Common.{◌≡◌, ◌≢◌, ℕ, Bool, true, false, cond, not, ◌||◌, List, ◌∷◌, ◌++◌, length, Option, Some, None, refl, sym, ap, subst, ◌∙◌}
+use Rattle.std.proofs.Common.{◌≡◌, ◌≢◌, ℕ, Bool, true, false, cond, not, ◌||◌, List, ◌∷◌, ◌++◌, length, Option, Some, None, refl, sym, ap}
+use Rattle.std.proofs.Common.{subst, ◌∙◌}
 use Rattle.std.specs.Prelude.{nat_eq}
 use Rattle.std.proofs.lemmas.Bool.{eq-eqb, ne_eqb}
 use Rattle.adb_client.specs.declared.phase.Phase.{Phase}
@@ -34,7 +35,8 @@ AllAsk h = (c : ℕ) (k : Client) → (state h).clients c ≡ Some k → k.about
 
 -- ---- what asks was asking before
 -- the book says of a client that asks that it does
-pub is_said : (h : History) → IsLegal h → (c : ℕ) (k : Client) → (state h).clients c ≡ Some k → k.about.phase ≡ Asking → (said c h).asking ≡ true
+pub is_said : (h : History) → IsLegal h → (c : ℕ) (k : Client) → (state h).clients c ≡ Some k → k.about.phase ≡ Asking
+    → (said c h).asking ≡ true
 is_said h legal c k here asks = go (state h).stopped refl
   where
     go : (b : Bool) → (state h).stopped ≡ b → (said c h).asking ≡ true
@@ -103,7 +105,9 @@ module _ (c : ℕ) (bytes : List ℕ) (older : History) (legal : IsLegal (Read c
     pub asked_now : asked c (Read c bytes ∷ older) ≡ behind (asked c older) now_said
     asked_now =
         let books = all_books older legal.0 in
-        ap (λ b. cond b (asked_with (is_asking c older (book older)) (devices_if (book older).killed older) (book older).forwards bytes ((book older).asked c))
+        ap (λ b. cond b
+        (asked_with (is_asking c older (book older)) (devices_if (book older).killed older)
+        (book older).forwards bytes ((book older).asked c))
         ((book older).asked c)) (eq-eqb c c refl)
         ∙ (ap (λ b. asked_with b (devices_if (book older).killed older) (book older).forwards bytes ((book older).asked c)) was_said
         ∙ (ap (λ (d : DeviceTable). asks_with d (book older).forwards bytes (asked c older)) (sym books.devices)
@@ -115,5 +119,7 @@ module _ (c : ℕ) (bytes : List ℕ) (older : History) (legal : IsLegal (Read c
     unused_now =
         let books = all_books older legal.0 in
         subst (Unused (bytes_asked c older ++ bytes))
-        (sym (asked_now ∙ sym (asked_all c bytes k (state older) (asked c older) here asking same_said.rest same_said.selected open_before)))
+        (sym (asked_now
+        ∙ sym (asked_all c bytes k (state older) (asked c older) here asking same_said.rest same_said.selected
+        open_before)))
         (asks_unused (state older).devices (state older).forwards (bytes_asked c older) bytes (asked c older) same_said.unused)

@@ -1,5 +1,6 @@
 -- Every client that asks is as it is told.
-use Rattle.std.proofs.Common.{◌≡◌, ◌≢◌, ◌<◌, ◌+◌, ℕ, zero, suc, Bool, true, false, cond, not, ◌&&◌, ◌||◌, List, [], ◌∷◌, ◌++◌, length, drop, Option}
+use Rattle.std.proofs.Common.{◌≡◌, ◌≢◌, ◌<◌, ◌+◌, ℕ, zero, suc, Bool, true, false, cond, not, ◌&&◌, ◌||◌, List, [], ◌∷◌, ◌++◌, length, drop}
+use Rattle.std.proofs.Common.{Option}
 use Rattle.std.proofs.Common.{Some, None, refl, sym, ap, subst, ◌∙◌, eqb, arith, ◌⊎◌, inl, inr, length-append}
 use Rattle.std.specs.Prelude.{is_some}
 use Rattle.std.proofs.lemmas.Bool.{eq-eqb, cases_eq}
@@ -43,11 +44,13 @@ use Rattle.adb_outside.specs.Tables.{change_row}
 use Rattle.adb_history.specs.Clients.{owe_client}
 use Rattle.adb_history.specs.Reading.{has_asked}
 use Rattle.adb_laws_causes.proofs.StreamSteps.{rule_owned}
-use Rattle.adb_laws_causes.proofs.Asks.{AsksAsTold, AllAsk, is_said, AskingRow, asking_row, joined_before, not_ended_before, asked_before_is, now_said}
+use Rattle.adb_laws_causes.proofs.Asks.{AsksAsTold, AllAsk, is_said, AskingRow, asking_row, joined_before, not_ended_before}
+use Rattle.adb_laws_causes.proofs.Asks.{asked_before_is, now_said}
 use Rattle.adb_laws_causes.proofs.Asks.{same_said, open_before, asked_now}
 
 -- ---- before the entry
-still_before : (e : Entry) (older : History) (c : ℕ) → (has_joined c older ≡ true) × (not (has_ended c older) ≡ true) → still_asks (asked c (e ∷ older)) ≡ true
+still_before : (e : Entry) (older : History) (c : ℕ) → (has_joined c older ≡ true) × (not (has_ended c older) ≡ true)
+    → still_asks (asked c (e ∷ older)) ≡ true
     → still_asks (asked c older) ≡ true
 still_before (Read n bytes) older c known on = go (cases_eq n c)
   where
@@ -60,13 +63,19 @@ still_before (Read n bytes) older c known on = go (cases_eq n c)
     own : n ≡ c → asked c (Read n bytes ∷ older)
         ≡ asked_with (is_asking c older (book older)) (devices_if (book older).killed older) (book older).forwards bytes (asked c older)
     own same = subst (λ (i : ℕ). asked c (Read i bytes ∷ older)
-        ≡ asked_with (is_asking c older (book older)) (devices_if (book older).killed older) (book older).forwards bytes (asked c older)) (sym same)
-        (ap (λ b. cond b (asked_with (is_asking c older (book older)) (devices_if (book older).killed older) (book older).forwards bytes ((book older).asked c))
+        ≡ asked_with (is_asking c older (book older)) (devices_if (book older).killed older) (book older).forwards
+        bytes (asked c older)) (sym same)
+        (ap (λ b. cond b
+        (asked_with (is_asking c older (book older)) (devices_if (book older).killed older)
+        (book older).forwards bytes ((book older).asked c))
         ((book older).asked c)) (eq-eqb c c refl))
 
     go : (n ≡ c) ⊎ (n ≡ c → ⊥) → still_asks (asked c older) ≡ true
     go (inl same) = mine (is_asking c older (book older)) refl (ap still_asks (sym (own same)) ∙ on)
-    go (inr far) = ap still_asks (sym (asked_before_is (Read n bytes) older c (λ other f. far (let same : Read n bytes ≡ Read c other = f in cc)))) ∙ on
+    go (inr far) =
+        ap still_asks
+        (sym (asked_before_is (Read n bytes) older c
+        (λ other f. far (let same : Read n bytes ≡ Read c other = f in cc)))) ∙ on
 still_before (Bound n port) older c known on =
     ap still_asks (sym (asked_before_is (Bound n port) older c (λ other f. let clash : Bound n port ≡ Read c other = f in cc))) ∙ on
 still_before _ older c known on = on
@@ -114,7 +123,8 @@ module _ (e : Entry) (older : History) (c : ℕ) (k : Client) (legal : IsLegal (
       (is_said (e ∷ older) legal c k here asks)).2
 
 -- ---- the up rule
-none_change : (n c : ℕ) (f : Client → Option Client) (rows : ℕ → Option Client) → rows c ≡ None → change_row n (option_and_then f) rows c ≡ None
+none_change : (n c : ℕ) (f : Client → Option Client) (rows : ℕ → Option Client) → rows c ≡ None
+    → change_row n (option_and_then f) rows c ≡ None
 none_change n c f rows is = go (eqb n c)
   where
     go : (b : Bool) → cond b (option_and_then f (rows c)) (rows c) ≡ None
@@ -144,7 +154,8 @@ record AskRuled (e : Entry) (older : History) (c : ℕ) : Type 0 where
   ended : client.about.ended ≡ false
   output : length (output_of c older) + length (owed_to c (rule e (state older)).told) ≡ length (asked c (e ∷ older)).replies
 
-after_up : (e : Entry) (older : History) (c : ℕ) (k : Client) → IsLegal (e ∷ older) → (state (e ∷ older)).clients c ≡ Some k → AskRuled e older c
+after_up : (e : Entry) (older : History) (c : ℕ) (k : Client) → IsLegal (e ∷ older)
+    → (state (e ∷ older)).clients c ≡ Some k → AskRuled e older c
     → AsksAsTold (e ∷ older) c k
 after_up e older c k legal here r =
     let m = rule e (state older) in
@@ -153,13 +164,15 @@ after_up e older c k legal here r =
     let now = u.client r.client r.here (subst Still (sym r.asks) tt) in
     let row : r.client ≡ k = (let both : Some r.client ≡ Some k = sym now ∙ here in cc) in
     let all : length (output_of c (e ∷ older)) ≡ length (output_of c older) + length (owed_to c (m.told ++ (ups m.state).told)) =
-    ap length (owed_append c (told older) (m.told ++ (ups m.state).told)) ∙ length-append (output_of c older) (owed_to c (m.told ++ (ups m.state).told)) in
+    ap length (owed_append c (told older) (m.told ++ (ups m.state).told))
+    ∙ length-append (output_of c older) (owed_to c (m.told ++ (ups m.state).told)) in
     let own : length (owed_to c (m.told ++ (ups m.state).told)) ≡ length (owed_to c m.told) =
     ap length (owed_append c m.told (ups m.state).told ∙ (ap (λ w. owed_to c m.told ++ w) u.owed ∙ append-nil (owed_to c m.told))) in
     subst (AsksAsTold (e ∷ older) c) row (record { forwarded = r.forwarded; ended = r.ended; output = omega (arith, all, own, r.output) })
 
 -- ---- by entries of others
-module _ (e : Entry) (older : History) (c : ℕ) (k0 : Client) (legal : IsLegal (e ∷ older)) (row : ((state older).clients c ≡ Some k0) × (k0.about.phase
+module _ (e : Entry) (older : History) (c : ℕ) (k0 : Client) (legal : IsLegal (e ∷ older))
+    (row : ((state older).clients c ≡ Some k0) × (k0.about.phase
     ≡ Asking)) where
   others_ask : AsksAsTold older c k0 → IsOthers c e → ((bytes : List ℕ) → e ≢ Read c bytes)
       → is_some ((rule e (state older)).state.clients c) ≡ true → AskRuled e older c
@@ -197,9 +210,11 @@ module _ (older : History) (c : ℕ) (bytes : List ℕ) (k0 : Client) where
       let replies : length (asked c (Read c bytes ∷ older)).replies ≡ length (asked c older).replies + length p.replies =
       ap (λ (q : Asked). length q.replies) all ∙ length-append (asked c older).replies p.replies in
       record {
-        client = replied_row c bytes k0 (state older) (asked c older) here asks q.rest q.selected (open_before c bytes older legal k0 here asks);
+        client = replied_row c bytes k0 (state older) (asked c older) here asks q.rest q.selected
+            (open_before c bytes older legal k0 here asks);
         here = ap (λ (m : Made). m.state.clients c) made
-            ∙ replied_is c bytes k0 (state older) (asked c older) here asks q.rest q.selected (open_before c bytes older legal k0 here asks);
+            ∙ replied_is c bytes k0 (state older) (asked c older) here asks q.rest q.selected
+            (open_before c bytes older legal k0 here asks);
         asks = asks;
         forwarded = t.forwarded;
         ended = t.ended;
@@ -223,7 +238,9 @@ put_asks older c bytes k0 legal row t = go k0.due refl
       where
         one : (b : Bool) → k0.about.mark ≡ b → b ≡ false
         one false e = refl
-        one true e = absurd (let clash : Asking ≡ Tracking = sym row.1 ∙ ((all_linked older legal.0).owned.owned.client c k0 row.0).mark e in cc)
+        one true e = absurd
+            (let clash : Asking ≡ Tracking =
+            sym row.1 ∙ ((all_linked older legal.0).owned.owned.client c k0 row.0).mark e in cc)
 
     may : IsSomeOf bytes (offered (state older).devices k0)
     may = subst (λ (o : Option Client). MayPut (state older) o bytes) row.0 legal.2
@@ -240,12 +257,15 @@ put_asks older c bytes k0 legal row t = go k0.due refl
         ap (λ o. puts_to o c (length bytes) s) row.0
         ∙ (ap (λ d. then_also (lists_first c d k0 s) (λ r. takes_of c (length bytes) (r.clients c) r)) e
         ∙ (ap (λ o. then_also (quietly s) (λ r. takes_of c (length bytes) o s)) row.0
-        ∙ ap (λ phase. then_also (quietly s) (λ r. client_left phase (length (drop (length bytes) k0.due)) (to_client c (hands (length bytes)) s))) row.1)) in
+        ∙ ap (λ phase. then_also (quietly s)
+        (λ r. client_left phase (length (drop (length bytes) k0.due)) (to_client c (hands (length bytes)) s)))
+        row.1)) in
         let none : length (owed_to c (puts c (length bytes) s).told) ≡ 0 = ap (λ (m : Made). length (owed_to c m.told)) made in
         record {
           client = record k0 { due = drop (length bytes) k0.due };
           here = ap (λ (m : Made). m.state.clients c) made
-              ∙ (changed_here c (hands (length bytes)) s.clients k0 row.0 ∙ ap (λ phase. left_in phase (drop (length bytes) k0.due) k0) row.1);
+              ∙ (changed_here c (hands (length bytes)) s.clients k0 row.0
+              ∙ ap (λ phase. left_in phase (drop (length bytes) k0.due) k0) row.1);
           asks = row.1;
           forwarded = t.forwarded;
           ended = t.ended;
@@ -258,7 +278,8 @@ join_asks older c legal =
     let t = tied older legal.0 in
     let fresh : came_count older < c = omega (arith, legal.2.1, t.joined) in
     let none : length (output_of c older) ≡ 0 = ap length (t.told.clients c fresh) in
-    let asked_none : length (asked c (Join c ∷ older)).replies ≡ 0 = ap (λ (q : Asked). length q.replies) (all_unheard older legal.0 c fresh).asked in
+    let asked_none : length (asked c (Join c ∷ older)).replies ≡ 0 =
+    ap (λ (q : Asked). length q.replies) (all_unheard older legal.0 c fresh).asked in
     record {
       client = new_client false c;
       here = ap (λ b. cond b (Some (new_client false c)) ((state older).clients c)) (eq-eqb c c refl);
@@ -281,15 +302,20 @@ module _ (older : History) (c : ℕ) (k : Client) (all : AllAsk older) where
     where
       on : (o : Option Client) → (rule e (state older)).state.clients c ≡ o → is_some ((rule e (state older)).state.clients c) ≡ true
       on (Some y) f = ap is_some f
-      on None f = absurd (let clash : None ≡ Some k = sym (up_none c (rule e (state older)).state.drawn (rule e (state older)).state f) ∙ here in cc)
+      on None f = absurd
+          (let clash : None ≡ Some k =
+          sym (up_none c (rule e (state older)).state.drawn (rule e (state older)).state f) ∙ here in cc)
 
-  pub ask_step : (e : Entry) → IsLegal (e ∷ older) → (state (e ∷ older)).clients c ≡ Some k → k.about.phase ≡ Asking → AsksAsTold (e ∷ older) c k
+  pub ask_step : (e : Entry) → IsLegal (e ∷ older) → (state (e ∷ older)).clients c ≡ Some k → k.about.phase ≡ Asking
+      → AsksAsTold (e ∷ older) c k
   ask_step (Join n) legal here asks = go (cases_eq n c)
     where
       go : (n ≡ c) ⊎ (n ≡ c → ⊥) → AsksAsTold (Join n ∷ older) c k
-      go (inl same) = after_up (Join n) older c k legal here (subst (λ (i : ℕ). IsLegal (Join i ∷ older) → AskRuled (Join i) older c) (sym same)
+      go (inl same) = after_up (Join n) older c k legal here
+          (subst (λ (i : ℕ). IsLegal (Join i ∷ older) → AskRuled (Join i) older c) (sym same)
           (join_asks older c) legal)
-      go (inr far) = other_step (Join n) legal here asks (λ f. far (let same : Join n ≡ Join c = f in cc)) (λ b f. let clash : Join n ≡ Read c b = f in cc)
+      go (inr far) = other_step (Join n) legal here asks (λ f. far (let same : Join n ≡ Join c = f in cc))
+          (λ b f. let clash : Join n ≡ Read c b = f in cc)
           tt
   ask_step (Read n bytes) legal here asks = go (cases_eq n c)
     where
@@ -301,7 +327,8 @@ module _ (older : History) (c : ℕ) (k : Client) (all : AllAsk older) where
           let r = asked_row (Read n bytes) older c k legal here asks not_join in
           let still = still_now (Read n bytes) older c k legal here asks in
           after_up (Read n bytes) older c k legal here
-          (subst (λ (i : ℕ). IsLegal (Read i bytes ∷ older) → still_asks (asked c (Read i bytes ∷ older)) ≡ true → AskRuled (Read i bytes) older c) (sym same)
+          (subst (λ (i : ℕ). IsLegal (Read i bytes ∷ older) → still_asks (asked c (Read i bytes ∷ older)) ≡ true
+          → AskRuled (Read i bytes) older c) (sym same)
           (λ l f. reads_ask older c bytes r.client l r.is r.asks (all c r.client r.is r.asks) f) legal still)
       go (inr far) = other_step (Read n bytes) legal here asks not_join (λ b f. far (let same : Read n bytes ≡ Read c b = f in cc)) far
   ask_step (End n cause) legal here asks = go (cases_eq n c)
@@ -331,7 +358,8 @@ module _ (older : History) (c : ℕ) (k : Client) (all : AllAsk older) where
       (λ f. let clash : Attach t kind serial ≡ Join c = f in cc) (λ b f. let clash : Attach t kind serial ≡ Read c b = f in cc) tt
   ask_step (Recv t bytes) legal here asks = other_step (Recv t bytes) legal here asks (λ f. let clash : Recv t bytes ≡ Join c = f in cc)
       (λ b f. let clash : Recv t bytes ≡ Read c b = f in cc) tt
-  ask_step (Detach t cause) legal here asks = other_step (Detach t cause) legal here asks (λ f. let clash : Detach t cause ≡ Join c = f in cc)
+  ask_step (Detach t cause) legal here asks = other_step (Detach t cause) legal here asks
+      (λ f. let clash : Detach t cause ≡ Join c = f in cc)
       (λ b f. let clash : Detach t cause ≡ Read c b = f in cc) tt
   ask_step (Send t bytes) legal here asks = other_step (Send t bytes) legal here asks (λ f. let clash : Send t bytes ≡ Join c = f in cc)
       (λ b f. let clash : Send t bytes ≡ Read c b = f in cc) tt

@@ -47,7 +47,8 @@ pub record ClosesAt (e : Entry) (older : History) (l : ℕ) : Type 0 where
   pub alive : lives ((rule e (state older)).state.streams l) ≡ true
   pub up_told : ending_in l (ups (rule e (state older)).state).told ≡ Some ClientClosed
 
-pub closes_at : (e : Entry) (older : History) (l : ℕ) (x : Stream) → IsLegal (e ∷ older) → ((state older).streams l ≡ Some x) × (x.part.orphan ≡ false)
+pub closes_at : (e : Entry) (older : History) (l : ℕ) (x : Stream) → IsLegal (e ∷ older)
+    → ((state older).streams l ≡ Some x) × (x.part.orphan ≡ false)
     → ending_in l (told_at e older) ≡ Some ClientClosed → ClosesAt e older l
 closes_at e older l x legal is told = go (ending_in l m.told) refl (sym (ending_append l m.told (ups m.state).told) ∙ told)
   where
@@ -61,7 +62,8 @@ closes_at e older l x legal is told = go (ending_in l m.told) refl (sym (ending_
     fate = rule_fate l (state older) owned e
         (λ d. λ next. omega (arith, next, (drawn_row (state older).drawn l (state older).streams owned.rows.streams x is.0).1))
 
-    go : (o : Option Ending) → ending_in l (rule e (state older)).told ≡ o → option_or o (ending_in l (ups (rule e (state older)).state).told)
+    go : (o : Option Ending) → ending_in l (rule e (state older)).told ≡ o
+        → option_or o (ending_in l (ups (rule e (state older)).state).told)
         ≡ Some ClientClosed
         → ClosesAt e older l
     go None f g = record { rule_told = f; alive = fate.stays f ∙ row_lives ((state older).streams l) x is.0 is.1; up_told = g }
@@ -73,7 +75,8 @@ closes_at e older l x legal is told = go (ending_in l m.told) refl (sym (ending_
 
 -- a stream that goes on does not end
 pub not_going : (e : Entry) (older : History) (l : ℕ) → ClosesAt e older l → GoesOn l (rule e (state older)).state → ⊥
-not_going e older l c on = ((goes_fate l (rule e (state older)).state on (rule e (state older)).state.drawn).ends ClientClosed c.up_told).why
+not_going e older l c on =
+    ((goes_fate l (rule e (state older)).state on (rule e (state older)).state.drawn).ends ClientClosed c.up_told).why
 
 -- ---- an entry by which it may be done
 module _ (e : Entry) (older : History) (l : ℕ) (b : Birth) (x : Stream) (legal : IsLegal (e ∷ older)) where
@@ -87,24 +90,31 @@ module _ (e : Entry) (older : History) (l : ℕ) (b : Birth) (x : Stream) (legal
     pub link : y.link ≡ b.link
     pub credit : has_credit y.part.flow ≡ b.credit
 
-  pub finished : (y : Stream) (k : Client) → Finishing y k → ClosesAt e older l → (ending_of l older ≡ None) × (ending_in l (told_at e older)
+  pub finished : (y : Stream) (k : Client) → Finishing y k → ClosesAt e older l
+      → (ending_of l older ≡ None) × (ending_in l (told_at e older)
       ≡ Some ClientClosed)
-      × (bytes_read b.client (e ∷ older) ≡ bytes_read b.client older) → (has_closed_since l b.client (e ∷ older) ≡ true) × IsDone b.credit l b (e ∷ older)
+      × (bytes_read b.client (e ∷ older) ≡ bytes_read b.client older)
+      → (has_closed_since l b.client (e ∷ older) ≡ true) × IsDone b.credit l b (e ∷ older)
   finished y k f c at = go (up_run l y m.state f.pair f.apart m.state.drawn f.within)
     where
       m : Made
       m = rule e (state older)
 
-      go : UpEffect l y f.pair.client (ups (rule e (state older)).state) → (has_closed_since l b.client (e ∷ older) ≡ true) × IsDone b.credit l b (e ∷ older)
+      go : UpEffect l y f.pair.client (ups (rule e (state older)).state)
+          → (has_closed_since l b.client (e ∷ older) ≡ true) × IsDone b.credit l b (e ∷ older)
       go u = kind u.after
         where
-          kind : GoesOnWith l y f.pair.client u.sent (ups (rule e (state older)).state).state ⊎ EndsWith l y f.pair.client u.sent (ups (rule e
+          kind : GoesOnWith l y f.pair.client u.sent (ups (rule e (state older)).state).state
+              ⊎ EndsWith l y f.pair.client u.sent (ups (rule e
               (state older)).state)
               → (has_closed_since l b.client (e ∷ older) ≡ true) × IsDone b.credit l b (e ∷ older)
           kind (inl goes) = absurd (
               let fate = up_all_fate l (λ client link z. Unit {0}) m.state.drawn m.state (λ client link. tt) in
               let over = (fate.ends ClientClosed c.up_told).over in
-              let clash : true ≡ false = sym (row_lives ((ups m.state).state.streams l) (record y { part = with_flow (flow_after u.sent y.part.flow) y.part })
+              let clash : true ≡ false =
+              sym (row_lives ((ups m.state).state.streams l)
+              (record y { part = with_flow (flow_after u.sent y.part.flow) y.part })
               goes.0 f.pair.alive) ∙ over in cc)
-          kind (inr ends) = done_at e older l b y f.pair.client (subst (AfterRule e older l b y) (sym f.client) f.after) (f.link, f.credit) u ends.0
+          kind (inr ends) = done_at e older l b y f.pair.client
+              (subst (AfterRule e older l b y) (sym f.client) f.after) (f.link, f.credit) u ends.0
               (at.0, ap is_some at.1, at.2)

@@ -74,7 +74,8 @@ same_flow flow = record { payloads = λ m held. refl; over = λ ended held. refl
 
 -- ---- entries of others
 -- a link that a stream stands on was not plugged in just now
-far_closed : (e : Entry) (older : History) (l : ℕ) (b : Birth) (x : Stream) → IsFar x.client x.link e → LeavesLink x.link e → Closed e older l b x
+far_closed : (e : Entry) (older : History) (l : ℕ) (b : Birth) (x : Stream) → IsFar x.client x.link e
+    → LeavesLink x.link e → Closed e older l b x
 far_closed e older l b x far leaves c = absurd (not_going e older l c.closes on)
   where
     owned : IsOwned (state older)
@@ -85,7 +86,8 @@ far_closed e older l b x far leaves c = absurd (not_going e older l c.closes on)
         let p = c.standing.pair in
         let u = far_rule l x (state older) owned p e c.standing.legal.2 far (ap is_some (is_row (live_row ((rule e
         (state older)).state.streams l) c.closes.alive))) in
-        stays_on e older l x x.part.flow [] p p.client (c.standing.legal, refl, refl, sym (append-nil p.client.held)) (same_flow x.part.flow, inl refl)
+        stays_on e older l x x.part.flow [] p p.client (c.standing.legal, refl, refl, sym (append-nil p.client.held))
+        (same_flow x.part.flow, inl refl)
         (leaves, (far_bytes e older x.client x.link far).received)
         (record { row = u.row ∙ p.is; here = u.client p.client p.here (has_still p.client.about.phase l x.part.remote p.phase) })
       where
@@ -118,9 +120,12 @@ detach_closed older l b x cause c =
     let there = there_at x.link l x older c.standing.legal.0 (p.is, p.alive, refl) in
     let told : ending_in l (unplugs_on (Some there.link) x.link (state older)).told ≡ Some Lost =
     link_ends_told x.link l x (state older) (here_at x.link l x older c.standing.legal.0 (p.is, p.alive, refl)) Lost in
-    absurd (none_some Lost (sym (ap (λ o. ending_in l (unplugs_on o x.link (state older)).told) (sym there.is) ∙ c.closes.rule_told) ∙ told))
+    absurd (none_some Lost
+    (sym (ap (λ o. ending_in l (unplugs_on o x.link (state older)).told) (sym there.is) ∙ c.closes.rule_told)
+    ∙ told))
 
-fail_closed : (older : History) (l : ℕ) (b : Birth) (x : Stream) (cause : Cause) → is_orderly cause ≡ false → Closed (End x.client cause) older l b x
+fail_closed : (older : History) (l : ℕ) (b : Birth) (x : Stream) (cause : Cause) → is_orderly cause ≡ false
+    → Closed (End x.client cause) older l b x
 fail_closed older l b x cause bad c =
     let p = c.standing.pair in
     let k = client_of (state older) l x p.is p.alive (all_linked older c.standing.legal.0).owned in
@@ -145,10 +150,12 @@ end_closed older l b x c =
       pair = record { is = r.1.row; alive = p.alive; client = with_end p.client; here = r.1.here; phase = p.phase };
       client = refl;
       apart = apart_fate l x.client (WhyBy e ((rule e (state older)).state.stopped ≡ true)) (state older) (rule e (state older))
-          (λ n. rule_fate n (state older) owned e (λ d. absurd (let clash : false ≡ true = d in cc))) (pair_apart l x (state older) owned p);
+          (λ n. rule_fate n (state older) owned e (λ d. absurd (let clash : false ≡ true = d in cc)))
+          (pair_apart l x (state older) owned p);
       within = (within.0, omega (arith, within.1, drawn));
       link = t.link;
-      credit = flow_credit x.part.flow b.credit (length (joined (told_to l b older))) (length (handed_to l b older)) (given_to l b older) t.holds.flow;
+      credit = flow_credit x.part.flow b.credit (length (joined (told_to l b older))) (length (handed_to l b older))
+          (given_to l b older) t.holds.flow;
     }) c.closes (c.lived, c.told, refl) in
     record { entry = ap (λ d. d && true) (eq-eqb b.client b.client refl); closed = done.0; done = done.1 }
 

@@ -1,5 +1,6 @@
 -- What a packet to a stream makes of it and of its client, where it goes on.
-use Rattle.std.proofs.Common.{◌≡◌, ◌≤◌, ◌+◌, ℕ, zero, suc, Bool, true, false, cond, not, ◌&&◌, List, [], ◌∷◌, ◌++◌, length, Option, Some, None, refl}
+use Rattle.std.proofs.Common.{◌≡◌, ◌≤◌, ◌+◌, ℕ, zero, suc, Bool, true, false, cond, not, ◌&&◌, List, [], ◌∷◌, ◌++◌, length, Option, Some}
+use Rattle.std.proofs.Common.{None, refl}
 use Rattle.std.proofs.Common.{sym, ap, subst, ◌∙◌, eqb}
 use Rattle.std.proofs.Common.{arith, ◌⊎◌}
 use Rattle.std.specs.Prelude.{nat_eq, codes}
@@ -75,7 +76,8 @@ no_middle true b = refl
 no_middle false b = refl
 
 -- ---- a packet that changes nothing of them
-pub nothing_done : (l : ℕ) (x : Stream) (p : Packet) (s : State) (h : Pair l x s) (m : Made) → Untouched l x.client s m → counts x.part.remote l p ≡ false
+pub nothing_done : (l : ℕ) (x : Stream) (p : Packet) (s : State) (h : Pair l x s) (m : Made)
+    → Untouched l x.client s m → counts x.part.remote l p ≡ false
     → is_again x.part.remote l p ≡ false
     → Effect l x p h.client m
 nothing_done l x p s h m u none never = record {
@@ -89,12 +91,15 @@ nothing_done l x p s h m u none never = record {
   same = same_client h.client;
   owed = λ written nil.
       let none_owed : length (owed_to x.client m.told) ≡ 0 = ap length u.owed in
-      let same : hears x.part.remote h.client.about.forwarded (written_after x.part.remote l p written) ≡ hears x.part.remote h.client.about.forwarded written =
+      let same : hears x.part.remote h.client.about.forwarded (written_after x.part.remote l p written)
+      ≡ hears x.part.remote h.client.about.forwarded written =
       ap (λ b. hears x.part.remote h.client.about.forwarded (cond b (written + length p.payload) written)) none in
       omega (arith, none_owed, same);
   silent = u.silent;
   okays = λ n. more (is_again x.part.remote l p) n;
-  answers = λ n o was late. (let same : okays_after_one x.part.remote l p n ≡ n = ap (λ b. cond b (1 + n) n) never in omega (arith, was, same));
+  answers = λ n o was late.
+      (let same : okays_after_one x.part.remote l p n ≡ n = ap (λ b. cond b (1 + n) n) never
+      in omega (arith, was, same));
 }
   where
     more : (b : Bool) (n : ℕ) → n + waiting x.part.flow ≤ cond b (1 + n) n + waiting x.part.flow
@@ -105,7 +110,8 @@ hears_nil : (remote : ℕ) (forwarded : Bool) (written : ℕ) → eqb remote 0 �
 hears_nil zero forwarded written e = refl
 hears_nil (suc n) forwarded written e = absurd (let nil : suc n ≡ 0 = eqb-true (suc n) 0 e in omega (arith, nil))
 
-hears_some : (remote : ℕ) (forwarded : Bool) (written : ℕ) → eqb remote 0 ≡ false → hears remote forwarded written ≡ cond forwarded 0 4 + written
+hears_some : (remote : ℕ) (forwarded : Bool) (written : ℕ) → eqb remote 0 ≡ false
+    → hears remote forwarded written ≡ cond forwarded 0 4 + written
 hears_some zero forwarded written e = absurd (eqb-false zero 0 e refl)
 hears_some (suc n) forwarded written e = refl
 
@@ -138,9 +144,13 @@ module _ (l : ℕ) (x : Stream) (p : Packet) (s : State) (h : Pair l x s) where
   opened_effect word at =
       let part = with_remote p.arg0 (with_flow (first_credit word x.part.flow) x.part) in
       let heard = hears_okay (s.clients x.client) x.client s in
-      let told = subst (λ (o : Option Client). length (owed_to x.client (hears_okay o x.client s).told) ≡ cond h.client.about.forwarded 0 4) (sym h.here)
+      let told = subst
+      (λ (o : Option Client). length (owed_to x.client (hears_okay o x.client s).told)
+      ≡ cond h.client.about.forwarded 0 4) (sym h.here)
       (heard_owed h.client.about.forwarded x.client s) in
-      let k = subst (λ (o : Option Client). (k' : Client) × ((hears_okay o x.client s).state.clients x.client ≡ Some k') × SameClient h.client k') (sym h.here)
+      let k = subst
+      (λ (o : Option Client). (k' : Client) × ((hears_okay o x.client s).state.clients x.client ≡ Some k')
+      × SameClient h.client k') (sym h.here)
       (heard_client h.client.about.forwarded x.client s h.client h.here) in
       let before : heard.state.streams l ≡ Some x = ap (λ streams. streams l) (hears_streams (s.clients x.client) x.client s) ∙ h.is in
       record {
@@ -161,7 +171,8 @@ module _ (l : ℕ) (x : Stream) (p : Packet) (s : State) (h : Pair l x s) where
       }
     where
       never : is_again x.part.remote l p ≡ false
-      never = ap (λ b. is_okay p.command && not b && is_between x.part.remote l p) at.2 ∙ no_middle (is_okay p.command) (is_between x.part.remote l p)
+      never = ap (λ b. is_okay p.command && not b && is_between x.part.remote l p) at.2
+          ∙ no_middle (is_okay p.command) (is_between x.part.remote l p)
 
       waits : (flow : Flow) → waiting (first_credit word flow) ≡ waiting flow
       waits (One window) = refl
@@ -177,11 +188,13 @@ module _ (l : ℕ) (x : Stream) (p : Packet) (s : State) (h : Pair l x s) where
           → length (owed_to x.client (hears_okay (s.clients x.client) x.client s).told) ≡ cond h.client.about.forwarded 0 4
           → owed_to x.client ((hears_okay (s.clients x.client) x.client s).told ++ [])
           ≡ owed_to x.client (hears_okay (s.clients x.client) x.client s).told ++ []
-          → length (owed_to x.client ((hears_okay (s.clients x.client) x.client s).told ++ [])) + hears x.part.remote h.client.about.forwarded written
+          → length (owed_to x.client ((hears_okay (s.clients x.client) x.client s).told ++ []))
+          + hears x.part.remote h.client.about.forwarded written
           ≡ hears p.arg0 h.client.about.forwarded (written_after x.part.remote l p written)
       owed written nil told all =
           let none : written ≡ 0 = nil (eqb-true x.part.remote 0 at.2) in
-          let was : hears x.part.remote h.client.about.forwarded written ≡ 0 = hears_nil x.part.remote h.client.about.forwarded written at.2 in
+          let was : hears x.part.remote h.client.about.forwarded written ≡ 0 =
+          hears_nil x.part.remote h.client.about.forwarded written at.2 in
           let after : written_after x.part.remote l p written ≡ written = ap (λ b. cond b (written + length p.payload) written) at.0 in
           let now : hears p.arg0 h.client.about.forwarded (written_after x.part.remote l p written) ≡ cond h.client.about.forwarded 0 4
           + written_after x.part.remote l p written =
@@ -191,7 +204,8 @@ module _ (l : ℕ) (x : Stream) (p : Packet) (s : State) (h : Pair l x s) where
           ap length (all ∙ append-nil (owed_to x.client (hears_okay (s.clients x.client) x.client s).told)) in
           omega (arith, none, was, after, now, len, told)
 
-  pub again_effect : (word : Option ℕ) → (counts x.part.remote l p ≡ false) × (is_again x.part.remote l p ≡ true) → Effect l x p h.client (okay_open l word x s)
+  pub again_effect : (word : Option ℕ) → (counts x.part.remote l p ≡ false) × (is_again x.part.remote l p ≡ true)
+      → Effect l x p h.client (okay_open l word x s)
   again_effect word at =
       let part = with_flow (acknowledged word x.part.flow) x.part in
       record {
@@ -260,7 +274,9 @@ module _ (l : ℕ) (x : Stream) (p : Packet) (s : State) (h : Pair l x s) where
             omega (arith, none_owed, same);
         silent = u.silent;
         okays = λ n. more (is_again x.part.remote l p) n;
-        answers = λ n o was late. (let same : okays_after_one x.part.remote l p n ≡ n = ap (λ b. cond b (1 + n) n) at.2 in omega (arith, was, same));
+        answers = λ n o was late.
+            (let same : okays_after_one x.part.remote l p n ≡ n =
+            ap (λ b. cond b (1 + n) n) at.2 in omega (arith, was, same));
       }
     where
       more : (b : Bool) (n : ℕ) → n + waiting x.part.flow ≤ cond b (1 + n) n + waiting x.part.flow

@@ -1,5 +1,6 @@
 -- A stream that ends by an entry was born before it, and did not end before.
-use Rattle.std.proofs.Common.{◌≡◌, ◌≢◌, ◌+◌, ℕ, zero, suc, true, false, cond, [], ◌∷◌, ◌++◌, Option, Some, None, refl, sym, ap, subst, ◌∙◌, ◌⊎◌, inl}
+use Rattle.std.proofs.Common.{◌≡◌, ◌≢◌, ◌+◌, ℕ, zero, suc, true, false, cond, [], ◌∷◌, ◌++◌, Option, Some, None, refl, sym, ap, subst, ◌∙◌}
+use Rattle.std.proofs.Common.{◌⊎◌, inl}
 use Rattle.std.proofs.Common.{inr, ◌&&◌, not}
 use Rattle.std.proofs.lemmas.Bool.{eq-eqb}
 use Rattle.adb_outside.specs.declared.kinds.Cause.{Cause}
@@ -68,7 +69,8 @@ ends_at l e older ending time told = go (kinds e l (state older).drawn)
           why = x.why;
         }
 
-pub ends_for : (Cause : ℕ → Birth → Entry → History → Type 0) (l : ℕ) (e : Entry) (older : History) (ending : Ending) (x : EndsAt l e older ending)
+pub ends_for : (Cause : ℕ → Birth → Entry → History → Type 0) (l : ℕ) (e : Entry) (older : History) (ending : Ending)
+    (x : EndsAt l e older ending)
     → Cause l x.kept.birth e older → EndsFor Cause l e older
 ends_for Cause l e older ending x cause = record { birth = x.kept.birth; is = x.kept.is; lived = x.lived; cause = cause }
 

@@ -129,7 +129,8 @@ module _ (l : ℕ) (Why : Reason) where
             why = subst (λ (n : ℕ). Why w.old.client n y) w.link (subst (λ (n : ℕ). Why n x.row.link y) w.client x.why);
           }
 
-  pub then_fate : (s : State) (m : Made) (rule : State → Made) → FateOf l Why s m → FateOf l Why m.state (rule m.state) → FateOf l Why s (then_also m rule)
+  pub then_fate : (s : State) (m : Made) (rule : State → Made) → FateOf l Why s m
+      → FateOf l Why m.state (rule m.state) → FateOf l Why s (then_also m rule)
   then_fate s m rule h k = fate_then (s.streams l) (m.state.streams l) ((rule m.state).state.streams l) m.told (rule m.state).told h k
 
   -- ---- one row changes
@@ -138,7 +139,8 @@ module _ (l : ℕ) (Why : Reason) where
       → Fate l Why (s.streams l) ((to_stream n (with_stream_part part) s).streams l) []
   fate_part n x part s is same = go (eqb n l) refl
     where
-      go : (b : Bool) → eqb n l ≡ b → Fate l Why (s.streams l) (cond b (option_and_then (with_stream_part part) (s.streams l)) (s.streams l)) []
+      go : (b : Bool) → eqb n l ≡ b → Fate l Why (s.streams l)
+          (cond b (option_and_then (with_stream_part part) (s.streams l)) (s.streams l)) []
       go false e = fate_same (s.streams l) [] refl
       go true e =
           let here : s.streams l ≡ Some x = ap s.streams (sym (eqb-true n l e)) ∙ is in
@@ -170,7 +172,8 @@ module _ (l : ℕ) (Why : Reason) where
       → Fate l Why (s.streams l) ((to_stream n none_kept s).streams l) (ended n ending ∷ [])
   fate_goes n ending x s is why = go (eqb n l) refl
     where
-      go : (b : Bool) → eqb n l ≡ b → Fate l Why (s.streams l) (cond b (option_and_then none_kept (s.streams l)) (s.streams l)) (ended n ending ∷ [])
+      go : (b : Bool) → eqb n l ≡ b → Fate l Why (s.streams l)
+          (cond b (option_and_then none_kept (s.streams l)) (s.streams l)) (ended n ending ∷ [])
       go false e = fate_same (s.streams l) (ended n ending ∷ []) (ap (λ b. cond b (Some ending) None) e)
       go true e =
           let here : s.streams l ≡ Some x = ap s.streams (sym (eqb-true n l e)) ∙ is.0 in
@@ -184,17 +187,21 @@ module _ (l : ℕ) (Why : Reason) where
           })
 
   -- a stream that its client left stays as an orphan, and its end is told
-  pub fate_left : (n : ℕ) (ending : Ending) (x : Stream) (s : State) → (s.streams n ≡ Some x) × (x.part.orphan ≡ false) → Why x.client x.link ending
+  pub fate_left : (n : ℕ) (ending : Ending) (x : Stream) (s : State)
+      → (s.streams n ≡ Some x) × (x.part.orphan ≡ false) → Why x.client x.link ending
       → Fate l Why (s.streams l) ((to_stream n (with_stream_part (orphaned x.part)) s).streams l) (ended n ending ∷ [])
   fate_left n ending x s is why = go (eqb n l) refl
     where
       go : (b : Bool) → eqb n l ≡ b
-          → Fate l Why (s.streams l) (cond b (option_and_then (with_stream_part (orphaned x.part)) (s.streams l)) (s.streams l)) (ended n ending ∷ [])
+          → Fate l Why (s.streams l)
+          (cond b (option_and_then (with_stream_part (orphaned x.part)) (s.streams l)) (s.streams l))
+          (ended n ending ∷ [])
       go false e = fate_same (s.streams l) (ended n ending ∷ []) (ap (λ b. cond b (Some ending) None) e)
       go true e =
           let here : s.streams l ≡ Some x = ap s.streams (sym (eqb-true n l e)) ∙ is.0 in
           let told : ending_in l (ended n ending ∷ []) ≡ Some ending = ap (λ b. cond b (Some ending) None) e in
-          subst (λ (o : Option Stream). Fate l Why o (option_and_then (with_stream_part (orphaned x.part)) o) (ended n ending ∷ [])) (sym here) (record {
+          subst (λ (o : Option Stream). Fate l Why o (option_and_then (with_stream_part (orphaned x.part)) o)
+          (ended n ending ∷ [])) (sym here) (record {
             was = λ y f. (let row : record x { part = orphaned x.part } ≡ y = cc in
                 subst (Was (Some x)) row (record { old = x; is = refl; client = refl; link = refl }));
             stays = λ f. absurd (none_some ending (sym f ∙ told));

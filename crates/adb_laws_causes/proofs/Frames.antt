@@ -1,5 +1,6 @@
 -- What the packets to a stream leave as it was: the devices, the links that are there, and the other streams.
-use Rattle.std.proofs.Common.{◌≡◌, ◌≢◌, ℕ, Bool, true, false, cond, not, ◌||◌, List, [], ◌∷◌, length, Option, Some, None, refl, ap, ◌∙◌, eqb}
+use Rattle.std.proofs.Common.{◌≡◌, ◌≢◌, ℕ, Bool, true, false, cond, not, ◌||◌, List, [], ◌∷◌, length, Option, Some, None, refl, ap, ◌∙◌}
+use Rattle.std.proofs.Common.{eqb}
 use Rattle.std.specs.Prelude.{codes, is_some, option_and_then}
 use Rattle.adb_outside.specs.Tables.{Rows}
 use Rattle.adb_wire.specs.declared.packets.Packet.{Packet}
@@ -39,7 +40,8 @@ due_link t k bytes links true = go (links t)
     go (Some x) = refl
 
 module _ (n l t : ℕ) where
-  pub frame_then : (s : State) (m : Made) (rule : State → Made) → Frame n l t s m → Frame n l t m.state (rule m.state) → Frame n l t s (then_also m rule)
+  pub frame_then : (s : State) (m : Made) (rule : State → Made) → Frame n l t s m → Frame n l t m.state (rule m.state)
+      → Frame n l t s (then_also m rule)
   frame_then s m rule h k = record {
     devices = k.devices ∙ h.devices;
     link = k.link ∙ h.link;
@@ -105,7 +107,8 @@ module _ (n l t : ℕ) where
       let owed = frame_owe x.link (close_packet n remote) gone in
       record { devices = refl; link = owed.link; drawn = refl; row = λ apart. changed_other n l none_kept s.streams apart }
 
-  pub frame_first : (orphan : Bool) (remote : ℕ) (word : Option ℕ) (x : Stream) (s : State) → Frame n l t s (okay_first orphan n remote word x s)
+  pub frame_first : (orphan : Bool) (remote : ℕ) (word : Option ℕ) (x : Stream) (s : State)
+      → Frame n l t s (okay_first orphan n remote word x s)
   frame_first true remote word x s = frame_orphan remote x s
   frame_first false remote word x s = frame_opened remote word x s
 
@@ -141,4 +144,5 @@ module _ (n l t : ℕ) where
   -- ---- CLSE
   pub frame_close : (remote : ℕ) (x : Stream) (s : State) → Frame n l t s (takes_close n remote x s)
   frame_close remote x s =
-      frame_if s (eqb remote 0 || eqb remote x.part.remote) (ends_row n PeerClosed x s) (quietly s) (frame_ends PeerClosed x s) (frame_quiet s)
+      frame_if s (eqb remote 0 || eqb remote x.part.remote) (ends_row n PeerClosed x s) (quietly s)
+      (frame_ends PeerClosed x s) (frame_quiet s)

@@ -60,10 +60,13 @@ module _ (l : ℕ) where
       new : Stream
       new = new_stream (s.drawn + 1) c t (new_flow (is_credit t s.devices))
 
-      there : (asks_for (s.drawn + 1) c t service s).state.streams l ≡ Some (new_stream (s.drawn + 1) c t (new_flow (is_credit t s.devices)))
-      there = ap (λ b. cond b (Some (new_stream (s.drawn + 1) c t (new_flow (is_credit t s.devices)))) (s.streams l)) (eq-eqb (s.drawn + 1) l (sym next))
+      there : (asks_for (s.drawn + 1) c t service s).state.streams l
+          ≡ Some (new_stream (s.drawn + 1) c t (new_flow (is_credit t s.devices)))
+      there = ap (λ b. cond b (Some (new_stream (s.drawn + 1) c t (new_flow (is_credit t s.devices)))) (s.streams l))
+          (eq-eqb (s.drawn + 1) l (sym next))
 
-      row : (o : Option Client) (x : Client) → option_and_then (in_phase (Opening (s.drawn + 1))) o ≡ Some x → is_streaming l x.about.phase ≡ true → ⊥
+      row : (o : Option Client) (x : Client) → option_and_then (in_phase (Opening (s.drawn + 1))) o ≡ Some x
+          → is_streaming l x.about.phase ≡ true → ⊥
       row None x e f = let clash : None ≡ Some x = e in cc
       row (Some y) x e f =
           let same : record y { about = record y.about { phase = Opening (s.drawn + 1) } } ≡ x = cc in
@@ -84,7 +87,8 @@ module _ (l : ℕ) where
 
     opens_fresh : (forwarded : Bool) (c t : ℕ) (service : List ℕ) → Fresh l (opens forwarded c t service s)
     opens_fresh forwarded c t service =
-        fresh_if (eqb s.drawn stream_ids) (no_ids_left forwarded c s) (asks_for (s.drawn + 1) c t service s) (ids forwarded) (asked_fresh c t service s next)
+        fresh_if (eqb s.drawn stream_ids) (no_ids_left forwarded c s) (asks_for (s.drawn + 1) c t service s)
+        (ids forwarded) (asked_fresh c t service s next)
       where
         ids : (b : Bool) → Fresh l (no_ids_left b c s)
         ids true = same_fresh (no_ids_left true c s) refl refl refl
@@ -103,7 +107,8 @@ module _ (l : ℕ) where
     goes_on_fresh (Some (Select id)) c = same_fresh (quietly s) refl refl refl
     goes_on_fresh (Some (Track long)) c = same_fresh (goes_on (Some (Track long)) c s) refl refl refl
     goes_on_fresh (Some (Open t service)) c = opens_fresh false c t service
-    goes_on_fresh (Some (Bind transport local remote chosen)) c = same_fresh (goes_on (Some (Bind transport local remote chosen)) c s) refl refl refl
+    goes_on_fresh (Some (Bind transport local remote chosen)) c =
+        same_fresh (goes_on (Some (Bind transport local remote chosen)) c s) refl refl refl
     goes_on_fresh (Some (Rebind transport local remote)) c = same_fresh (goes_on (Some (Rebind transport local remote)) c s) refl refl refl
     goes_on_fresh (Some (Unbind local)) c = same_fresh (goes_on (Some (Unbind local)) c s) refl refl refl
     goes_on_fresh (Some UnbindAll) c = same_fresh (goes_on (Some UnbindAll) c s) refl refl refl
@@ -129,7 +134,8 @@ module _ (l : ℕ) where
     enters_fresh c None = same_fresh s next none (quietly (comes_in_vain s)) refl refl refl
     enters_fresh c (Some row) =
         fresh_if (is_connected row.transport s.devices) (opens true c row.transport row.remote (comes true c s)) (quietly (comes_in_vain s))
-        (opens_fresh (comes true c s) next none true c row.transport row.remote) (same_fresh s next none (quietly (comes_in_vain s)) refl refl refl)
+        (opens_fresh (comes true c s) next none true c row.transport row.remote)
+        (same_fresh s next none (quietly (comes_in_vain s)) refl refl refl)
 
     pub rule_fresh : (e : Entry) → draws e ≡ true → Fresh l (rule e s)
     rule_fresh (Enter c port) yes_draws = enters_fresh c (at port s.forwards)

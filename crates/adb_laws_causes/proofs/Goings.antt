@@ -25,7 +25,8 @@ pub calm_goes : (l : ℕ) (s : State) → IsCalmAt l s → GoesOn l s
 calm_goes l s h = record {
   goes = λ x.
       let c = h.calm x in
-      ap (λ (ps : List (List ℕ)). is_over x.client.about.ended (drop (total ps) x.client.held) (flow_after ps x.stream.part.flow)) c.nothing ∙ c.goes_on;
+      ap (λ (ps : List (List ℕ)). is_over x.client.about.ended (drop (total ps) x.client.held)
+      (flow_after ps x.stream.part.flow)) c.nothing ∙ c.goes_on;
 }
 
 -- ---- another stream sends
@@ -42,13 +43,15 @@ module _ (l m : ℕ) (s : State) (apart : l ≢ m) (h : GoesOn m s) where
       here : (left l s x).clients x.stream.client ≡ Some (record x.client { held = drop (total (sent l s x)) x.client.held })
       here = changed_here x.stream.client (with_held (drop (total (sent l s x)) x.client.held)) s.clients x.client x.here
 
-      go : (y : Sending m (record (left l s x) { links = links })) → (x.stream.client ≡ y.stream.client) ⊎ (x.stream.client ≡ y.stream.client → ⊥)
+      go : (y : Sending m (record (left l s x) { links = links }))
+          → (x.stream.client ≡ y.stream.client) ⊎ (x.stream.client ≡ y.stream.client → ⊥)
           → over m (record (left l s x) { links = links }) y ≡ false
       go y (inl same) =
           let row : record x.client { held = drop (total (sent l s x)) x.client.held } ≡ y.client =
           (let both : Some (record x.client { held = drop (total (sent l s x)) x.client.held }) ≡ Some y.client = sym here ∙
           (ap (left l s x).clients same ∙ y.here) in cc) in
-          absurd (other_phase l m x.client.about.phase apart x.streaming (ap (λ (k : Client). is_streaming m k.about.phase) row ∙ y.streaming))
+          absurd (other_phase l m x.client.about.phase apart x.streaming
+          (ap (λ (k : Client). is_streaming m k.about.phase) row ∙ y.streaming))
       go y (inr other) = h.goes (record {
         stream = y.stream;
         client = y.client;
@@ -85,7 +88,8 @@ module _ (l m : ℕ) (s : State) (apart : l ≢ m) (h : GoesOn m s) where
       go y (inr other) = h.goes (record {
         stream = y.stream;
         client = y.client;
-        there = sym (changed_other l m (with_stream_part part) s.streams apart) ∙ (sym (changed_other l m none_kept (left l s x).streams apart) ∙ y.there);
+        there = sym (changed_other l m (with_stream_part part) s.streams apart)
+            ∙ (sym (changed_other l m none_kept (left l s x).streams apart) ∙ y.there);
         here = sym (changed_other x.stream.client y.stream.client (with_held held) s.clients other)
             ∙ (sym (changed_other x.stream.client y.stream.client closing (left l s x).clients other) ∙ y.here);
         streaming = y.streaming;
@@ -116,7 +120,8 @@ module _ (l : ℕ) (s : State) (h : GoesOn l s) where
       then_fate l (λ c t y. ⊥) s m (up (suc k)) (goes_fate k)
       (up_fate l (λ c t y. ⊥) (suc k) m.state (λ y e same c t. never y e same (goes_all k)))
     where
-      never : (y : Sending (suc k) (up_all k s).state) → over (suc k) (up_all k s).state y ≡ true → suc k ≡ l → GoesOn l (up_all k s).state → ⊥
+      never : (y : Sending (suc k) (up_all k s).state) → over (suc k) (up_all k s).state y ≡ true → suc k ≡ l
+          → GoesOn l (up_all k s).state → ⊥
       never y e same goes =
           let h = subst (λ (n : ℕ). GoesOn n (up_all k s).state) (sym same) goes in
           let clash : false ≡ true = sym (h.goes y) ∙ e in

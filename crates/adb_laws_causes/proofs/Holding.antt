@@ -7,7 +7,8 @@ use Rattle.adb_history.specs.Fifo.{HasBirths}
 use Rattle.std.specs.Prelude.{slice_get}
 use Rattle.adb_laws_births.proofs.Born.{all_births}
 use Rattle.adb_laws_causes.proofs.StreamSteps.{ups_hold}
-use Rattle.std.proofs.Common.{◌≡◌, ◌≢◌, ◌≤◌, ◌<◌, ◌+◌, ℕ, suc, true, false, [], ◌∷◌, Option, Some, None, refl, sym, ap, subst, ◌∙◌, arith, ◌⊎◌, inl, inr}
+use Rattle.std.proofs.Common.{◌≡◌, ◌≢◌, ◌≤◌, ◌<◌, ◌+◌, ℕ, suc, true, false, [], ◌∷◌, Option, Some, None, refl, sym, ap, subst, ◌∙◌, arith}
+use Rattle.std.proofs.Common.{◌⊎◌, inl, inr}
 use Rattle.adb_stream.specs.declared.row.Stream.{Stream}
 use Rattle.adb_capture.specs.declared.entry.Entry.{Entry}
 use Rattle.adb_capture.specs.declared.entry.Entry.TheVariants.{Enter, Read}
@@ -96,7 +97,8 @@ born_by _ older l b legal new birth z is = absurd (let clash : false ≡ true = 
 
 module _ (e : Entry) (older : History) (legal : IsLegal (e ∷ older)) where
   newborn_holds : HasBirths older → (l : ℕ) (b : Birth) (y : Stream) (k : Client) → (draws e ≡ true) × (l ≡ (state older).drawn + 1)
-      → born l (e ∷ older) ≡ Some b → ((state (e ∷ older)).streams l ≡ Some y) × (y.part.orphan ≡ false) × ((state (e ∷ older)).clients y.client ≡ Some k)
+      → born l (e ∷ older) ≡ Some b → ((state (e ∷ older)).streams l ≡ Some y) × (y.part.orphan ≡ false)
+      × ((state (e ∷ older)).clients y.client ≡ Some k)
       → (0 < l) × (l ≤ (state (e ∷ older)).drawn) → IsAsTold (e ∷ older) l b y k
   newborn_holds has l b y k new birth is within =
       let m = rule e (state older) in

@@ -24,7 +24,8 @@ use Rattle.adb_laws_causes.proofs.Endings.{time_of, EndsAt, ends_at, ends_for}
 use Rattle.adb_laws_causes.proofs.Receiving.{recv_ends}
 
 -- what ends a stream by the bytes of its link: the cut of the bytes is that of the link of its birth
-pub record ByCut (t : ℕ) (bytes : List ℕ) (older : History) (l : ℕ) (ending : Ending) (x : EndsAt l (Recv t bytes) older ending) : Type 0 where
+pub record ByCut (t : ℕ) (bytes : List ℕ) (older : History) (l : ℕ) (ending : Ending)
+    (x : EndsAt l (Recv t bytes) older ending) : Type 0 where
   pub cut : Cutting
   pub link : x.kept.birth.link ≡ t
   pub given : brings x.kept.birth.link (Recv t bytes) older ≡ cut.given
@@ -33,7 +34,8 @@ pub record ByCut (t : ℕ) (bytes : List ℕ) (older : History) (l : ℕ) (endin
   pub why : StruckBy l x.row cut ending ⊎ (ending ≡ ClientClosed)
 
 pub by_cut : (t : ℕ) (bytes : List ℕ) (older : History) (l : ℕ) (ending : Ending) (x : EndsAt l (Recv t bytes) older ending)
-    → IsLegal (Recv t bytes ∷ older) × (x.row.link ≡ t) × (ending_in l (told_at (Recv t bytes) older) ≡ Some ending) → ByCut t bytes older l ending x
+    → IsLegal (Recv t bytes ∷ older) × (x.row.link ≡ t) × (ending_in l (told_at (Recv t bytes) older) ≡ Some ending)
+    → ByCut t bytes older l ending x
 by_cut t bytes older l ending x at =
     let ends = recv_ends t l bytes x.row older at.0 (x.is, x.alive, at.1) ending at.2 in
     let same : x.kept.birth.link ≡ t = sym x.kept.link ∙ at.1 in
@@ -47,7 +49,8 @@ by_cut t bytes older l ending x at =
     }
 
 -- ---- the device closed
-peer_struck : (l : ℕ) (t : ℕ) (bytes : List ℕ) (older : History) (x : EndsAt l (Recv t bytes) older PeerClosed) → (c : ByCut t bytes older l PeerClosed x)
+peer_struck : (l : ℕ) (t : ℕ) (bytes : List ℕ) (older : History) (x : EndsAt l (Recv t bytes) older PeerClosed)
+    → (c : ByCut t bytes older l PeerClosed x)
     → StruckBy l x.row c.cut PeerClosed ⊎ (PeerClosed ≡ ClientClosed) → peer_closes l x.kept.birth (Recv t bytes) older ≡ true
 peer_struck l t bytes older x c (inl (inl closes)) =
     ap (λ ps. closes_in (remote_of l x.kept.birth older) l ps) c.given ∙ (ap (λ n. closes_in n l c.cut.given) (sym x.kept.remote) ∙ closes)
@@ -55,7 +58,8 @@ peer_struck l t bytes older x c (inl (inr fault)) = absurd (let clash : PeerClos
 peer_struck l t bytes older x c (inr closed) = absurd (let clash : PeerClosed ≡ ClientClosed = closed in cc)
 
 -- an entry that ends a stream of which its device is told by packets alone
-peer_cause : (l : ℕ) (e : Entry) (older : History) (x : EndsAt l e older PeerClosed) → IsLegal (e ∷ older) → ending_in l (told_at e older) ≡ Some PeerClosed
+peer_cause : (l : ℕ) (e : Entry) (older : History) (x : EndsAt l e older PeerClosed) → IsLegal (e ∷ older)
+    → ending_in l (told_at e older) ≡ Some PeerClosed
     → WhyStep e ((rule e (state older)).state.stopped ≡ true) x.row.client x.row.link PeerClosed → peer_closes l x.kept.birth e older ≡ true
 peer_cause l (Recv t bytes) older x time told (inl why) =
     let c = by_cut t bytes older l PeerClosed x (time, why, told) in
@@ -73,8 +77,10 @@ all_by_peer h legal l e older moment told =
     ends_for (λ l b e older. peer_closes l b e older ≡ true) l e older PeerClosed x (peer_cause l e older x time told x.why)
 
 -- ---- the device wrote out of turn
-turn_struck : (l : ℕ) (t : ℕ) (bytes : List ℕ) (older : History) (x : EndsAt l (Recv t bytes) older OutOfTurn) → (c : ByCut t bytes older l OutOfTurn x)
-    → HasFlows older → StruckBy l x.row c.cut OutOfTurn ⊎ (OutOfTurn ≡ ClientClosed) → writes_early l x.kept.birth (Recv t bytes) older ≡ true
+turn_struck : (l : ℕ) (t : ℕ) (bytes : List ℕ) (older : History) (x : EndsAt l (Recv t bytes) older OutOfTurn)
+    → (c : ByCut t bytes older l OutOfTurn x)
+    → HasFlows older → StruckBy l x.row c.cut OutOfTurn ⊎ (OutOfTurn ≡ ClientClosed)
+    → writes_early l x.kept.birth (Recv t bytes) older ≡ true
 turn_struck l t bytes older x c flows (inl (inl early)) =
     let b = x.kept.birth in
     let written = length (joined (told_to l b older)) in
@@ -87,7 +93,8 @@ turn_struck l t bytes older x c flows (inl (inr fault)) = absurd (let clash : Ou
 turn_struck l t bytes older x c flows (inr closed) = absurd (let clash : OutOfTurn ≡ ClientClosed = closed in cc)
 
 turn_cause : (l : ℕ) (e : Entry) (older : History) (x : EndsAt l e older OutOfTurn) → IsLegal (e ∷ older) × HasFlows older
-    × (ending_in l (told_at e older) ≡ Some OutOfTurn) → WhyStep e ((rule e (state older)).state.stopped ≡ true) x.row.client x.row.link OutOfTurn
+    × (ending_in l (told_at e older) ≡ Some OutOfTurn) → WhyStep e ((rule e (state older)).state.stopped ≡ true)
+    x.row.client x.row.link OutOfTurn
     → writes_early l x.kept.birth e older ≡ true
 turn_cause l (Recv t bytes) older x at (inl why) =
     let c = by_cut t bytes older l OutOfTurn x (at.0, why, at.2) in
@@ -106,13 +113,15 @@ all_out_of_turn holds h legal l e older moment told =
     (turn_cause l e older x (time, holds_flows older time.0 (holds older time.0), told) x.why)
 
 -- ---- its link was lost
-lost_struck : (l : ℕ) (t : ℕ) (bytes : List ℕ) (older : History) (x : EndsAt l (Recv t bytes) older Lost) → (c : ByCut t bytes older l Lost x)
+lost_struck : (l : ℕ) (t : ℕ) (bytes : List ℕ) (older : History) (x : EndsAt l (Recv t bytes) older Lost)
+    → (c : ByCut t bytes older l Lost x)
     → StruckBy l x.row c.cut Lost ⊎ (Lost ≡ ClientClosed) → loses_link x.kept.birth (Recv t bytes) older ≡ true
 lost_struck l t bytes older x c (inl (inl anew)) = ap (λ ps. list_any says_anew ps) c.given ∙ anew
 lost_struck l t bytes older x c (inl (inr fault)) = absurd (let clash : Lost ≡ Broken = fault.0 in cc)
 lost_struck l t bytes older x c (inr closed) = absurd (let clash : Lost ≡ ClientClosed = closed in cc)
 
-lost_cause : (l : ℕ) (e : Entry) (older : History) (x : EndsAt l e older Lost) → IsLegal (e ∷ older) → ending_in l (told_at e older) ≡ Some Lost
+lost_cause : (l : ℕ) (e : Entry) (older : History) (x : EndsAt l e older Lost) → IsLegal (e ∷ older)
+    → ending_in l (told_at e older) ≡ Some Lost
     → WhyStep e ((rule e (state older)).state.stopped ≡ true) x.row.client x.row.link Lost → loses_link x.kept.birth e older ≡ true
 lost_cause l (Recv t bytes) older x time told (inl why) =
     let c = by_cut t bytes older l Lost x (time, why, told) in
@@ -132,11 +141,13 @@ all_by_loss h legal l e older moment told =
     ends_for (λ l b e older. loses_link b e older ≡ true) l e older Lost x (lost_cause l e older x time told x.why)
 
 -- ---- its link was broken
-broken_struck : (l : ℕ) (t : ℕ) (bytes : List ℕ) (older : History) (x : EndsAt l (Recv t bytes) older Broken) → (c : ByCut t bytes older l Broken x)
+broken_struck : (l : ℕ) (t : ℕ) (bytes : List ℕ) (older : History) (x : EndsAt l (Recv t bytes) older Broken)
+    → (c : ByCut t bytes older l Broken x)
     → StruckBy l x.row c.cut Broken ⊎ (Broken ≡ ClientClosed) → breaks_link x.kept.birth (Recv t bytes) older ≡ true
 broken_struck l t bytes older x c (inl (inl refused)) =
     let b = x.kept.birth in
-    let had = is_some (framed (bytes_received b.link (Recv t bytes ∷ older))).fault && not (is_some (framed (bytes_received b.link older)).fault) in
+    let had = is_some (framed (bytes_received b.link (Recv t bytes ∷ older))).fault
+    && not (is_some (framed (bytes_received b.link older)).fault) in
     ap (λ ps. had || list_any is_refused ps) c.given ∙ (ap (λ a. had || a) refused ∙ or-true had)
 broken_struck l t bytes older x c (inl (inr fault)) =
     let b = x.kept.birth in
@@ -146,7 +157,8 @@ broken_struck l t bytes older x c (inl (inr fault)) =
     ∙ ap (λ a. (a && true) || rest) fault.1)
 broken_struck l t bytes older x c (inr closed) = absurd (let clash : Broken ≡ ClientClosed = closed in cc)
 
-broken_cause : (l : ℕ) (e : Entry) (older : History) (x : EndsAt l e older Broken) → IsLegal (e ∷ older) → ending_in l (told_at e older) ≡ Some Broken
+broken_cause : (l : ℕ) (e : Entry) (older : History) (x : EndsAt l e older Broken) → IsLegal (e ∷ older)
+    → ending_in l (told_at e older) ≡ Some Broken
     → WhyStep e ((rule e (state older)).state.stopped ≡ true) x.row.client x.row.link Broken → breaks_link x.kept.birth e older ≡ true
 broken_cause l (Recv t bytes) older x time told (inl why) =
     let c = by_cut t bytes older l Broken x (time, why, told) in

@@ -1,5 +1,6 @@
 -- A stream that was drawn lives until its end is told.
-use Rattle.std.proofs.Common.{◌≡◌, ◌≢◌, ◌≤◌, ◌<◌, ◌+◌, ℕ, Bool, true, false, cond, List, [], ◌∷◌, length, min, Option, Some, None, refl, sym, ap, subst, ◌∙◌}
+use Rattle.std.proofs.Common.{◌≡◌, ◌≢◌, ◌≤◌, ◌<◌, ◌+◌, ℕ, Bool, true, false, cond, List, [], ◌∷◌, length, min, Option, Some, None, refl}
+use Rattle.std.proofs.Common.{sym, ap, subst, ◌∙◌}
 use Rattle.std.proofs.Common.{arith, ◌⊎◌, inl, inr, length-append}
 use Rattle.std.specs.Option.{option_or}
 use Rattle.std.proofs.lemmas.Bool.{cases_eq}
@@ -57,9 +58,11 @@ pub record DrawnBy (e : Entry) (before after : ℕ) : Type 0 where
   pub grows : before ≤ after
   pub few : after ≤ before + cond (draws e) 1 0
 
-pub drawn_grows : (e : Entry) (older : History) → HasBirths (e ∷ older) → HasBirths older → DrawnBy e (state older).drawn (state (e ∷ older)).drawn
+pub drawn_grows : (e : Entry) (older : History) → HasBirths (e ∷ older) → HasBirths older
+    → DrawnBy e (state older).drawn (state (e ∷ older)).drawn
 drawn_grows e older new old =
-    let all : length (births (e ∷ older)) ≡ length (births older) + length (births_at e older) = length-append (births older) (births_at e older) in
+    let all : length (births (e ∷ older)) ≡ length (births older) + length (births_at e older) =
+    length-append (births older) (births_at e older) in
     let now : (state (e ∷ older)).drawn ≡ min (length (births older) + length (births_at e older)) stream_ids =
     new.drawn ∙ ap (λ n. min n stream_ids) all in
     let bounds = min_grows (length (births older)) (length (births_at e older)) stream_ids in
@@ -109,11 +112,13 @@ module _ (l : ℕ) (e : Entry) (older : History) (legal : IsLegal (e ∷ older))
       ∙ (ap (λ o. option_or o (ending_in l (ups m.state).told)) fresh.told ∙ none (ending_in l (ups m.state).told) refl up)
     where
       none : (o : Option Ending) → ending_in l (ups (rule e (state older)).state).told ≡ o
-          → FateOf l (λ c t y. ⊥) (rule e (state older)).state (ups (rule e (state older)).state) → ending_in l (ups (rule e (state older)).state).told ≡ None
+          → FateOf l (λ c t y. ⊥) (rule e (state older)).state (ups (rule e (state older)).state)
+          → ending_in l (ups (rule e (state older)).state).told ≡ None
       none None e f = e
       none (Some y) e f = absurd (f.ends y e).why
 
-  fresh_lives : (draws e ≡ true) × (l ≡ (state older).drawn + 1) → l ≤ (state (e ∷ older)).drawn → lives ((state (e ∷ older)).streams l) ≡ true
+  fresh_lives : (draws e ≡ true) × (l ≡ (state older).drawn + 1) → l ≤ (state (e ∷ older)).drawn
+      → lives ((state (e ∷ older)).streams l) ≡ true
   fresh_lives is within =
       let m = rule e s in
       let rows = (all_linked older legal.0).owned.rows.streams in
@@ -138,12 +143,14 @@ pub record IsLived (h : History) (l : ℕ) : Type 0 where
 pub kinds : (e : Entry) (l drawn : ℕ) → ((draws e ≡ true) × (l ≡ drawn + 1)) ⊎ (draws e ≡ true → l ≢ drawn + 1)
 kinds e l drawn = go (draws e) refl (cases_eq l (drawn + 1))
   where
-    go : (b : Bool) → draws e ≡ b → (l ≡ drawn + 1) ⊎ (l ≡ drawn + 1 → ⊥) → ((draws e ≡ true) × (l ≡ drawn + 1)) ⊎ (draws e ≡ true → l ≢ drawn + 1)
+    go : (b : Bool) → draws e ≡ b → (l ≡ drawn + 1) ⊎ (l ≡ drawn + 1 → ⊥)
+        → ((draws e ≡ true) × (l ≡ drawn + 1)) ⊎ (draws e ≡ true → l ≢ drawn + 1)
     go true is (inl same) = inl (is, same)
     go b is (inr apart) = inr (λ f. apart)
     go false is (inl same) = inr (λ f. absurd (let clash : false ≡ true = sym is ∙ f in cc))
 
-module _ (l : ℕ) (e : Entry) (older : History) (legal : IsLegal (e ∷ older)) (drawn : DrawnBy e (state older).drawn (state (e ∷ older)).drawn)
+module _ (l : ℕ) (e : Entry) (older : History) (legal : IsLegal (e ∷ older))
+    (drawn : DrawnBy e (state older).drawn (state (e ∷ older)).drawn)
     (before : IsLived older l) where
   new_lived : (draws e ≡ true) × (l ≡ (state older).drawn + 1) → IsLived (e ∷ older) l
   new_lived is = record {
@@ -175,7 +182,8 @@ module _ (l : ℕ) (e : Entry) (older : History) (legal : IsLegal (e ∷ older))
           let few = subst (λ (b : Bool). (state (e ∷ older)).drawn ≤ (state older).drawn + cond b 1 0) f drawn.few in
           omega (arith, few, within)
 
-      dead : lives ((state older).streams l) ≡ false → (o : Option Ending) → ending_in l (told_at e older) ≡ o → lives ((state (e ∷ older)).streams l) ≡ false
+      dead : lives ((state older).streams l) ≡ false → (o : Option Ending) → ending_in l (told_at e older) ≡ o
+          → lives ((state (e ∷ older)).streams l) ≡ false
       dead gone None f = fate.stays f ∙ gone
       dead gone (Some y) f =
           let x = fate.ends y f in
@@ -199,6 +207,9 @@ lived [] legal l = record {
 lived (e ∷ older) legal l =
     go (kinds e l (state older).drawn) (lived older legal.0 l)
   where
-    go : ((draws e ≡ true) × (l ≡ (state older).drawn + 1)) ⊎ (draws e ≡ true → l ≢ (state older).drawn + 1) → IsLived older l → IsLived (e ∷ older) l
+    go : ((draws e ≡ true) × (l ≡ (state older).drawn + 1)) ⊎ (draws e ≡ true → l ≢ (state older).drawn + 1)
+        → IsLived older l → IsLived (e ∷ older) l
     go (inl is) before = new_lived l e older legal (drawn_grows e older (all_births (e ∷ older) legal) (all_births older legal.0)) before is
-    go (inr other) before = old_lived l e older legal (drawn_grows e older (all_births (e ∷ older) legal) (all_births older legal.0)) before other
+    go (inr other) before =
+        old_lived l e older legal (drawn_grows e older (all_births (e ∷ older) legal) (all_births older legal.0))
+        before other

@@ -1,5 +1,6 @@
 -- A stream and its client after the rule of an entry, and after the up rule.
-use Rattle.std.proofs.Common.{◌≡◌, ◌≤◌, ◌+◌, ℕ, Bool, true, false, cond, List, [], ◌∷◌, ◌++◌, length, take, drop, None, refl, sym, ap, subst, ◌∙◌}
+use Rattle.std.proofs.Common.{◌≡◌, ◌≤◌, ◌+◌, ℕ, Bool, true, false, cond, List, [], ◌∷◌, ◌++◌, length, take, drop, None, refl, sym, ap}
+use Rattle.std.proofs.Common.{subst, ◌∙◌}
 use Rattle.std.proofs.Common.{arith, length-append, append_assoc}
 use Rattle.std.proofs.lemmas.List.{take-append-drop, append-nil}
 use Rattle.std.specs.Prelude.{is_some, not}
@@ -40,13 +41,15 @@ pub record AfterRule (e : Entry) (older : History) (l : ℕ) (b : Birth) (x : St
   pub before : b.packets_before ≤ length (brought b.link (e ∷ older))
   pub waits : x.part.remote ≡ 0 → (packets : List Packet) → opening_in l (since b (e ∷ older) ++ packets) ≡ opening_in l packets
   pub forwarded : k.about.forwarded ≡ b.forwarded
-  pub flow : FlowIs x.part.flow b.credit (length (joined (told_to l b (e ∷ older)))) (length (handed_to l b (e ∷ older))) (given_to l b older + credits)
+  pub flow : FlowIs x.part.flow b.credit (length (joined (told_to l b (e ∷ older))))
+      (length (handed_to l b (e ∷ older))) (given_to l b older + credits)
   pub output : length (output_of b.client older) + length (owed_to b.client (rule e (state older)).told)
       ≡ start_of b (e ∷ older) + hears x.part.remote b.forwarded (length (joined (told_to l b (e ∷ older))))
   pub head : b.head ≤ length (bytes_read b.client (e ∷ older))
   pub up : carried_in l (packets_of b.link older) ++ k.held ≡ drop b.head (bytes_read b.client (e ∷ older))
   pub writes : b.credit ≡ false → count_from is_wrte l (packets_of b.link older) ≤ okays_after l b (e ∷ older) + waiting x.part.flow
-  pub exact : b.credit ≡ false → IsTimely l b (e ∷ older) → okays_after l b (e ∷ older) + waiting x.part.flow ≤ count_from is_wrte l (packets_of b.link older)
+  pub exact : b.credit ≡ false → IsTimely l b (e ∷ older) → okays_after l b (e ∷ older) + waiting x.part.flow
+      ≤ count_from is_wrte l (packets_of b.link older)
   pub closed : k.about.ended ≡ true → has_closed_since l b.client (e ∷ older) ≡ true
 
 module _ (e : Entry) (older : History) (l : ℕ) (b : Birth) (x : Stream) (k : Client) where
@@ -54,9 +57,11 @@ module _ (e : Entry) (older : History) (l : ℕ) (b : Birth) (x : Stream) (k : C
   m = rule e (state older)
 
   -- all that was told until then, by the entry and before it
-  all_tally : (sent : List (List ℕ)) (credits : ℕ) → Tally l b.link m.told [] 0 credits → Tally l b.link (ups m.state).told (joined sent) (length sent) 0
+  all_tally : (sent : List (List ℕ)) (credits : ℕ) → Tally l b.link m.told [] 0 credits
+      → Tally l b.link (ups m.state).told (joined sent) (length sent) 0
       → Tally l b.link (told (e ∷ older)) (carried_in l (packets_of b.link older) ++ joined sent)
-      (count_from is_wrte l (packets_of b.link older) + (0 + length sent)) (credit_of (okays_of l (packets_of b.link older)) + (credits + 0))
+      (count_from is_wrte l (packets_of b.link older) + (0 + length sent))
+      (credit_of (okays_of l (packets_of b.link older)) + (credits + 0))
   all_tally sent credits one two =
       tally_append l b.link (told older) (m.told ++ (ups m.state).told) (carried_in l (packets_of b.link older)) (joined sent)
       (count_from is_wrte l (packets_of b.link older)) (0 + length sent) (credit_of (okays_of l (packets_of b.link older))) (credits + 0)
@@ -66,16 +71,20 @@ module _ (e : Entry) (older : History) (l : ℕ) (b : Birth) (x : Stream) (k : C
   -- the stream goes on with what is left of it
   pub after_ups : (r : AfterRule e older l b x k) → (x.client ≡ b.client) × (x.link ≡ b.link) × (has_credit x.part.flow ≡ b.credit)
       → (u : UpEffect l x k (ups (rule e (state older)).state))
-      → IsAsTold (e ∷ older) l b (record x { part = with_flow (flow_after u.sent x.part.flow) x.part }) (record k { held = drop (total u.sent) k.held })
+      → IsAsTold (e ∷ older) l b (record x { part = with_flow (flow_after u.sent x.part.flow) x.part })
+      (record k { held = drop (total u.sent) k.held })
   after_ups r own u =
-      let t = all_tally u.sent r.credits r.tally (subst (λ (n : ℕ). Tally l n (ups m.state).told (joined u.sent) (length u.sent) 0) own.1 u.tally) in
+      let t = all_tally u.sent r.credits r.tally
+      (subst (λ (n : ℕ). Tally l n (ups m.state).told (joined u.sent) (length u.sent) 0) own.1 u.tally) in
       record {
         before = r.before;
         waits = r.waits;
         forwarded = r.forwarded;
-        flow = flow_wrote u.sent x.part.flow b.credit (length (joined (told_to l b (e ∷ older)))) (length (handed_to l b (e ∷ older))) (given_to l b
+        flow = flow_wrote u.sent x.part.flow b.credit (length (joined (told_to l b (e ∷ older))))
+            (length (handed_to l b (e ∷ older))) (given_to l b
             (e ∷ older))
-            (subst (λ (n : ℕ). FlowIs x.part.flow b.credit (length (joined (told_to l b (e ∷ older)))) (length (handed_to l b (e ∷ older))) n)
+            (subst (λ (n : ℕ). FlowIs x.part.flow b.credit (length (joined (told_to l b (e ∷ older))))
+            (length (handed_to l b (e ∷ older))) n)
             (omega (arith, t.given)) r.flow);
         output = output (subst (λ (n : ℕ). owed_to n (ups m.state).told ≡ []) own.0 u.owed);
         head = r.head;
@@ -89,18 +98,22 @@ module _ (e : Entry) (older : History) (l : ℕ) (b : Birth) (x : Stream) (k : C
       }
     where
       output : owed_to b.client (ups (rule e (state older)).state).told ≡ []
-          → length (output_of b.client (e ∷ older)) ≡ start_of b (e ∷ older) + hears x.part.remote b.forwarded (length (joined (told_to l b (e ∷ older))))
+          → length (output_of b.client (e ∷ older)) ≡ start_of b (e ∷ older)
+          + hears x.part.remote b.forwarded (length (joined (told_to l b (e ∷ older))))
       output none =
-          let all : length (output_of b.client (e ∷ older)) ≡ length (output_of b.client older) + length (owed_to b.client (m.told ++ (ups m.state).told)) =
+          let all : length (output_of b.client (e ∷ older)) ≡ length (output_of b.client older)
+          + length (owed_to b.client (m.told ++ (ups m.state).told)) =
           ap length (owed_append b.client (told older) (m.told ++ (ups m.state).told))
           ∙ length-append (output_of b.client older) (owed_to b.client (m.told ++ (ups m.state).told)) in
           let own : length (owed_to b.client (m.told ++ (ups m.state).told)) ≡ length (owed_to b.client m.told) =
-          ap length (owed_append b.client m.told (ups m.state).told ∙ (ap (λ w. owed_to b.client m.told ++ w) none ∙ append-nil (owed_to b.client m.told))) in
+          ap length (owed_append b.client m.told (ups m.state).told
+          ∙ (ap (λ w. owed_to b.client m.told ++ w) none ∙ append-nil (owed_to b.client m.told))) in
           omega (arith, all, own, r.output)
 
   -- ---- or it ends, and all went up
   -- what a stream that is over has left: nothing
-  over_left : (ended : Bool) (held : List ℕ) (flow : Flow) → is_over ended held flow ≡ true → (ended ≡ true) × (held ≡ []) × (is_idle flow ≡ true)
+  over_left : (ended : Bool) (held : List ℕ) (flow : Flow) → is_over ended held flow ≡ true
+      → (ended ≡ true) × (held ≡ []) × (is_idle flow ≡ true)
   over_left true [] flow e = (refl, refl, e)
   over_left false [] flow e = absurd (let clash : false ≡ true = e in cc)
   over_left ended (c ∷ held) flow e = absurd (let clash : false ≡ true = e in cc)
@@ -114,25 +127,34 @@ module _ (e : Entry) (older : History) (l : ℕ) (b : Birth) (x : Stream) (k : C
       go true is f = absurd (let clash : false ≡ true = f in cc)
 
   -- the rest of a stream that ends by this entry
-  rest_at : ending_of l older ≡ None → is_some (ending_in l (told_at e older)) ≡ true → rest_of l b (e ∷ older) ≡ drop b.head (bytes_read b.client older)
+  rest_at : ending_of l older ≡ None → is_some (ending_in l (told_at e older)) ≡ true
+      → rest_of l b (e ∷ older) ≡ drop b.head (bytes_read b.client older)
   rest_at none ends =
-      ap (λ o. drop b.head (bytes_read b.client (cond (is_some o) (lived l older) (cond (is_some (ending_in l (told_at e older))) older (e ∷ older))))) none
+      ap (λ o. drop b.head
+      (bytes_read b.client
+      (cond (is_some o) (lived l older) (cond (is_some (ending_in l (told_at e older))) older (e ∷ older)))))
+      none
       ∙ ap (λ c. drop b.head (bytes_read b.client (cond c older (e ∷ older)))) ends
 
   pub done_at : (r : AfterRule e older l b x k) → (x.link ≡ b.link) × (has_credit x.part.flow ≡ b.credit)
-      → (u : UpEffect l x k (ups (rule e (state older)).state)) → is_over k.about.ended (drop (total u.sent) k.held) (flow_after u.sent x.part.flow) ≡ true
-      → (ending_of l older ≡ None) × (is_some (ending_in l (told_at e older)) ≡ true) × (bytes_read b.client (e ∷ older) ≡ bytes_read b.client older)
+      → (u : UpEffect l x k (ups (rule e (state older)).state))
+      → is_over k.about.ended (drop (total u.sent) k.held) (flow_after u.sent x.part.flow) ≡ true
+      → (ending_of l older ≡ None) × (is_some (ending_in l (told_at e older)) ≡ true)
+      × (bytes_read b.client (e ∷ older) ≡ bytes_read b.client older)
       → (has_closed_since l b.client (e ∷ older) ≡ true) × IsDone b.credit l b (e ∷ older)
   done_at r own u over at =
       let left = over_left k.about.ended (drop (total u.sent) k.held) (flow_after u.sent x.part.flow) over in
       (r.closed left.0, go b.credit refl left)
     where
       t : Tally l b.link (told (e ∷ older)) (carried_in l (packets_of b.link older) ++ joined u.sent)
-          (count_from is_wrte l (packets_of b.link older) + (0 + length u.sent)) (credit_of (okays_of l (packets_of b.link older)) + (r.credits + 0))
-      t = all_tally u.sent r.credits r.tally (subst (λ (n : ℕ). Tally l n (ups m.state).told (joined u.sent) (length u.sent) 0) own.0 u.tally)
+          (count_from is_wrte l (packets_of b.link older) + (0 + length u.sent))
+          (credit_of (okays_of l (packets_of b.link older)) + (r.credits + 0))
+      t = all_tally u.sent r.credits r.tally
+          (subst (λ (n : ℕ). Tally l n (ups m.state).told (joined u.sent) (length u.sent) 0) own.0 u.tally)
 
       go : (c : Bool) → b.credit ≡ c
-          → (k.about.ended ≡ true) × (drop (total u.sent) k.held ≡ []) × (is_idle (flow_after u.sent x.part.flow) ≡ true) → IsDone c l b (e ∷ older)
+          → (k.about.ended ≡ true) × (drop (total u.sent) k.held ≡ [])
+          × (is_idle (flow_after u.sent x.part.flow) ≡ true) → IsDone c l b (e ∷ older)
       go false one left =
           let was = r.writes one in
           let sent = u.sends.waits (own.1 ∙ one) in

@@ -5,7 +5,8 @@ use Rattle.adb_history.specs.Rows.{Client}
 use Rattle.adb_history.specs.Events.{Event, due_to_client, due_to_link, ended, owed_to}
 use Rattle.adb_history.specs.Links.{credit_word}
 use Rattle.adb_history.specs.Streams.{stream_ids}
-use Rattle.adb_history.specs.Births.{births_at, births, born, since, opening_in, told_to, joined, handed_to, remote_in, is_okay, Birth, told_after, is_wrte}
+use Rattle.adb_history.specs.Births.{births_at, births, born, since, opening_in, told_to, joined, handed_to, remote_in, is_okay, Birth}
+use Rattle.adb_history.specs.Births.{told_after, is_wrte}
 use Rattle.adb_history.specs.Fifo.{HasBirths}
 use Rattle.adb_history.specs.Order.{IsOfBorn}
 use Rattle.adb_history.proofs.Births.{told_of_born}
@@ -19,7 +20,8 @@ use Rattle.std.specs.Prelude.{All, unwrap_or, nat_lt, slice_get, nat_eq, min}
 use Rattle.adb_laws_causes.proofs.Silent.{IsSilent, AreSilent, tally_silent, Tally}
 use Rattle.adb_laws_causes.proofs.StreamSteps.{Ruled}
 use Rattle.adb_laws_causes.proofs.Unchanged.{handed_is}
-use Rattle.std.proofs.Common.{◌≡◌, ◌≢◌, ◌≤◌, ◌<◌, ◌+◌, ℕ, zero, suc, Bool, true, false, cond, ◌&&◌, List, [], ◌∷◌, ◌++◌, length, drop, Some, None}
+use Rattle.std.proofs.Common.{◌≡◌, ◌≢◌, ◌≤◌, ◌<◌, ◌+◌, ℕ, zero, suc, Bool, true, false, cond, ◌&&◌, List, [], ◌∷◌, ◌++◌, length, drop, Some}
+use Rattle.std.proofs.Common.{None}
 use Rattle.std.proofs.Common.{refl, sym, ap, ◌∙◌, arith}
 use Rattle.std.proofs.lemmas.Bool.{ne_eqb}
 use Rattle.adb_capture.specs.declared.entry.Entry.{Entry}
@@ -49,12 +51,14 @@ pub born_stays : (l : ℕ) (e : Entry) (older : History) (b : Birth) → born l 
 born_stays zero e older b is = is
 born_stays (suc k) e older b is = go (nat_lt k stream_ids) is
   where
-    go : (c : Bool) → cond c (slice_get (births older) k) None ≡ Some b → cond c (slice_get (births older ++ births_at e older) k) None ≡ Some b
+    go : (c : Bool) → cond c (slice_get (births older) k) None ≡ Some b
+        → cond c (slice_get (births older ++ births_at e older) k) None ≡ Some b
     go true f = slice_front (births older) (births_at e older) k b f
     go false f = f
 
 -- the next stream is born by this entry
-pub born_new : (k : ℕ) (e : Entry) (older : History) (b : Birth) → HasBirths older → (state older).drawn ≡ k → born (suc k) (e ∷ older) ≡ Some b
+pub born_new : (k : ℕ) (e : Entry) (older : History) (b : Birth) → HasBirths older → (state older).drawn ≡ k
+    → born (suc k) (e ∷ older) ≡ Some b
     → slice_get (births_at e older) 0 ≡ Some b
 born_new k e older b has drawn is = go (nat_lt k stream_ids) refl is
   where
@@ -105,7 +109,8 @@ silent_born : (l drawn : ℕ) (w : List Event) → drawn < l → All (IsOfBorn d
 silent_born l drawn [] above all = tt
 silent_born l drawn (due_to_client client bytes ∷ w) above all =
     silent_born l drawn w above (All-tail (IsOfBorn drawn) (due_to_client client bytes) w all)
-silent_born l drawn (ended stream ending ∷ w) above all = silent_born l drawn w above (All-tail (IsOfBorn drawn) (ended stream ending) w all)
+silent_born l drawn (ended stream ending ∷ w) above all = silent_born l drawn w above
+    (All-tail (IsOfBorn drawn) (ended stream ending) w all)
 silent_born l drawn (due_to_link link p check ∷ w) above all = (
   silent_packet l drawn p above (All-head (IsOfBorn drawn) (due_to_link link p check) w all),
   silent_born l drawn w above (All-tail (IsOfBorn drawn) (due_to_link link p check) w all),
@@ -176,7 +181,8 @@ newborn_ruled e older l b legal n = record {
     handed : length (handed_to l b (e ∷ older)) ≡ 0
     handed = handed_is l b (e ∷ older) 0 (ap (λ ps. remote_in (opening_in l ps)) none_since)
 
-    flow : (credit : Bool) → FlowIs (new_flow credit) credit (length (joined (told_to l b (e ∷ older)))) (length (handed_to l b (e ∷ older)))
+    flow : (credit : Bool) → FlowIs (new_flow credit) credit (length (joined (told_to l b (e ∷ older))))
+        (length (handed_to l b (e ∷ older)))
         (given_to l b older + 0)
     flow true = (refl, omega (arith, written, none.given))
     flow false = (refl, omega (arith, written, handed))

@@ -15,7 +15,8 @@ use Rattle.std.specs.Prelude.{slice_get, nat_eq}
 use Rattle.adb_outside.specs.Tables.{at}
 use Rattle.adb_laws_causes.proofs.Silent.{AreSilent}
 use Rattle.adb_laws_causes.proofs.AsksSteps.{all_ask}
-use Rattle.std.proofs.Common.{◌≡◌, ◌<◌, ◌+◌, ℕ, Bool, true, false, cond, not, ◌&&◌, ◌||◌, List, [], ◌∷◌, ◌++◌, length, drop, Option, Some, None, refl}
+use Rattle.std.proofs.Common.{◌≡◌, ◌<◌, ◌+◌, ℕ, Bool, true, false, cond, not, ◌&&◌, ◌||◌, List, [], ◌∷◌, ◌++◌, length, drop, Option, Some}
+use Rattle.std.proofs.Common.{None, refl}
 use Rattle.std.proofs.Common.{sym, ap, subst, ◌∙◌, eqb, arith, length-append}
 use Rattle.std.proofs.lemmas.Bool.{eq-eqb}
 use Rattle.adb_client.specs.declared.phase.Phase.{Phase}
@@ -70,10 +71,12 @@ module _ (l : ℕ) (s : State) (none : s.streams l ≡ None) where
   drew_next (Some what.Close) n y is = absurd (still_none (goes_on (Some what.Close) n s) y refl is)
   drew_next (Some (what.Select id)) n y is = absurd (still_none (goes_on (Some (what.Select id)) n s) y refl is)
   drew_next (Some (what.Track long)) n y is = absurd (still_none (goes_on (Some (what.Track long)) n s) y refl is)
-  drew_next (Some (what.Open t service)) n y is = record { transport = t; service = service; is = refl; made = opens_drew false n t service y is }
+  drew_next (Some (what.Open t service)) n y is =
+      record { transport = t; service = service; is = refl; made = opens_drew false n t service y is }
   drew_next (Some (what.Bind transport local remote chosen)) n y is =
       absurd (still_none (goes_on (Some (what.Bind transport local remote chosen)) n s) y refl is)
-  drew_next (Some (what.Rebind transport local remote)) n y is = absurd (still_none (goes_on (Some (what.Rebind transport local remote)) n s) y refl is)
+  drew_next (Some (what.Rebind transport local remote)) n y is =
+      absurd (still_none (goes_on (Some (what.Rebind transport local remote)) n s) y refl is)
   drew_next (Some (what.Unbind local)) n y is = absurd (still_none (goes_on (Some (what.Unbind local)) n s) y refl is)
   drew_next (Some what.UnbindAll) n y is = absurd (still_none (goes_on (Some what.UnbindAll) n s) y refl is)
   drew_next (Some what.Stop) n y is = absurd (let clash : None ≡ Some y = is in cc)
@@ -82,7 +85,8 @@ module _ (l : ℕ) (s : State) (none : s.streams l ≡ None) where
 drawn_row_is : (l n t : ℕ) (service : List ℕ) (s : State) → l ≡ s.drawn + 1
     → (asks_for (s.drawn + 1) n t service s).state.streams l ≡ Some (new_stream l n t (new_flow (is_credit t s.devices)))
 drawn_row_is l n t service s next =
-    ap (λ b. cond b (Some (new_stream (s.drawn + 1) n t (new_flow (is_credit t s.devices)))) (s.streams l)) (eq-eqb (s.drawn + 1) l (sym next))
+    ap (λ b. cond b (Some (new_stream (s.drawn + 1) n t (new_flow (is_credit t s.devices)))) (s.streams l))
+    (eq-eqb (s.drawn + 1) l (sym next))
     ∙ ap (λ i. Some (new_stream i n t (new_flow (is_credit t s.devices)))) (sym next)
 
 drawn_client_is : (n t : ℕ) (service : List ℕ) (s : State) (k : Client) → s.clients n ≡ Some k
@@ -95,7 +99,8 @@ asked_read c [] on = refl
 asked_read c (Read n bytes ∷ older) on = go (nat_eq n c) (asked_read c older on)
   where
     go : (b : Bool) → bytes_asked c older ≡ bytes_read c older
-        → cond (b && not (has_ended c older)) (bytes_asked c older ++ bytes) (bytes_asked c older) ≡ cond b (bytes_read c older ++ bytes) (bytes_read c older)
+        → cond (b && not (has_ended c older)) (bytes_asked c older ++ bytes) (bytes_asked c older)
+        ≡ cond b (bytes_read c older ++ bytes) (bytes_read c older)
     go true e = ap (λ x. cond (not x) (bytes_asked c older ++ bytes) (bytes_asked c older)) on ∙ ap (λ w. w ++ bytes) e
     go false e = e
 asked_read c (End n cause ∷ older) on = asked_read c older (right (nat_eq n c) (has_ended c older) on)
@@ -106,7 +111,8 @@ asked_read c (End n cause ∷ older) on = asked_read c older (right (nat_eq n c)
 asked_read c (_ ∷ older) on = asked_read c older on
 
 -- ---- by a request
-module _ (c : ℕ) (bytes : List ℕ) (older : History) (legal : IsLegal (Read c bytes ∷ older)) (l : ℕ) (next : l ≡ (state older).drawn + 1) where
+module _ (c : ℕ) (bytes : List ℕ) (older : History) (legal : IsLegal (Read c bytes ∷ older)) (l : ℕ)
+    (next : l ≡ (state older).drawn + 1) where
   module _ (k0 : Client) (here : (state older).clients c ≡ Some k0) (asks : k0.about.phase ≡ Asking) where
     abbrev p : Asked
     p = now_said c bytes older legal k0 here asks
@@ -121,7 +127,8 @@ module _ (c : ℕ) (bytes : List ℕ) (older : History) (legal : IsLegal (Read c
     row0 = replied_row c bytes k0 (state older) (asked c older) here asks q.rest q.selected (open_before c bytes older legal k0 here asks)
 
     row_here : s1.clients c ≡ Some row0
-    row_here = replied_is c bytes k0 (state older) (asked c older) here asks q.rest q.selected (open_before c bytes older legal k0 here asks)
+    row_here = replied_is c bytes k0 (state older) (asked c older) here asks q.rest q.selected
+        (open_before c bytes older legal k0 here asks)
 
     -- its birth
     birth_is : (b : Birth) (d : Drew c p.next s1) → slice_get (births_at (Read c bytes) older) 0 ≡ Some b
@@ -160,7 +167,8 @@ module _ (c : ℕ) (bytes : List ℕ) (older : History) (legal : IsLegal (Read c
     request_newborn b t d is = subst (Newborn (Read c bytes) older l) (birth_is b d is) (record {
       client = record row0 { about = record row0.about { phase = Opening ((state older).drawn + 1) } };
       is = ap (λ (m : Made). m.state.streams l) made ∙ (drawn_row_is l c d.transport d.service s1 next
-          ∙ ap (λ (x : DeviceTable). Some (new_stream l c d.transport (new_flow (is_credit d.transport x)))) (all_books older legal.0).devices);
+          ∙ ap (λ (x : DeviceTable). Some (new_stream l c d.transport (new_flow (is_credit d.transport x))))
+          (all_books older legal.0).devices);
       here = ap (λ (m : Made). m.state.clients c) made ∙ drawn_client_is c d.transport d.service s1 row0 row_here;
       silent = subst (λ (m : Made). AreSilent l m.told) (sym made) (record { write = refl; credit = refl }, tt);
       output =
@@ -168,7 +176,8 @@ module _ (c : ℕ) (bytes : List ℕ) (older : History) (legal : IsLegal (Read c
           ap (λ (m : Made). length (owed_to c m.told)) made
           ∙ (ap (λ b. length (cond b p.replies [] ++ [])) (eq-eqb c c refl) ∙ ap length (append-nil p.replies)) in
           let replies : length (asked c (Read c bytes ∷ older)).replies ≡ length (asked c older).replies + length p.replies =
-          ap (λ (a : Asked). length a.replies) (asked_now c bytes older legal k0 here asks) ∙ length-append (asked c older).replies p.replies in
+          ap (λ (a : Asked). length a.replies) (asked_now c bytes older legal k0 here asks)
+          ∙ length-append (asked c older).replies p.replies in
           omega (arith, told, replies, t.output);
       forwarded = t.forwarded;
       input = t.ended;
@@ -208,7 +217,8 @@ module _ (c : ℕ) (bytes : List ℕ) (older : History) (legal : IsLegal (Read c
       phases k0 here Closing e f = absurd (still (reads_in Closing c bytes k0 (state older)) refl f)
       phases k0 here Gone e f = absurd (still (reads_in Gone c bytes k0 (state older)) refl f)
 
-      go : (o : Option Client) → (state older).clients c ≡ o → (reads_from o c bytes (state older)).state.streams l ≡ Some y → Newborn (Read c bytes) older l b
+      go : (o : Option Client) → (state older).clients c ≡ o
+          → (reads_from o c bytes (state older)).state.streams l ≡ Some y → Newborn (Read c bytes) older l b
       go None e f = absurd (still (quietly (state older)) refl f)
       go (Some k0) e f = phases k0 e k0.about.phase refl f
 
@@ -218,7 +228,8 @@ module _ (n port : ℕ) (older : History) (legal : IsLegal (Enter n port ∷ old
   came = comes true n (state older)
 
   -- its birth
-  through_is : (b : Birth) (row : ForwardRow) → at port (state older).forwards ≡ Some row → is_connected row.transport (state older).devices ≡ true
+  through_is : (b : Birth) (row : ForwardRow) → at port (state older).forwards ≡ Some row
+      → is_connected row.transport (state older).devices ≡ true
       → slice_get (births_at (Enter n port) older) 0 ≡ Some b
       → record {
         client = n;
@@ -247,7 +258,8 @@ module _ (n port : ℕ) (older : History) (legal : IsLegal (Enter n port ∷ old
       sym (ap (λ xs. slice_get xs 0) same ∙ ap (λ c. slice_get (cond c (b0 ∷ []) []) 0) connected) ∙ is in
       cc
 
-  through_newborn : (b : Birth) (row : ForwardRow) → at port (state older).forwards ≡ Some row → is_connected row.transport (state older).devices ≡ true
+  through_newborn : (b : Birth) (row : ForwardRow) → at port (state older).forwards ≡ Some row
+      → is_connected row.transport (state older).devices ≡ true
       → slice_get (births_at (Enter n port) older) 0 ≡ Some b
       → enters n port (state older) ≡ asks_for ((state older).drawn + 1) n row.transport row.remote (comes true n (state older))
       → Newborn (Enter n port) older l b
@@ -263,7 +275,8 @@ module _ (n port : ℕ) (older : History) (legal : IsLegal (Enter n port ∷ old
       subst (Newborn (Enter n port) older l) (through_is b row found on birth) (record {
         client = record (new_client true n) { about = record (new_client true n).about { phase = Opening ((state older).drawn + 1) } };
         is = ap (λ (m : Made). m.state.streams l) made ∙ (drawn_row_is l n row.transport row.remote came next
-            ∙ ap (λ (x : DeviceTable). Some (new_stream l n row.transport (new_flow (is_credit row.transport x)))) (all_books older legal.0).devices);
+            ∙ ap (λ (x : DeviceTable). Some (new_stream l n row.transport (new_flow (is_credit row.transport x))))
+            (all_books older legal.0).devices);
         here = ap (λ (m : Made). m.state.clients n) made ∙ drawn_client_is n row.transport row.remote came (new_client true n) here;
         silent = subst (λ (m : Made). AreSilent l m.told) (sym made) (record { write = refl; credit = refl }, tt);
         output = omega (arith, silent_out, silent_now);
@@ -283,7 +296,8 @@ module _ (n port : ℕ) (older : History) (legal : IsLegal (Enter n port ∷ old
       still : (m : Made) → m.state.streams l ≡ (state older).streams l → m.state.streams l ≡ Some y → ⊥
       still m same f = let clash : None ≡ Some y = sym none ∙ (sym same ∙ f) in cc
 
-      joined_row : (row : ForwardRow) → at port (state older).forwards ≡ Some row → (c : Bool) → is_connected row.transport (state older).devices ≡ c
+      joined_row : (row : ForwardRow) → at port (state older).forwards ≡ Some row → (c : Bool)
+          → is_connected row.transport (state older).devices ≡ c
           → (cond c (opens true n row.transport row.remote came) (quietly (comes_in_vain (state older)))).state.streams l ≡ Some y
           → Newborn (Enter n port) older l b
       joined_row row found false e f = absurd (still (quietly (comes_in_vain (state older))) refl f)

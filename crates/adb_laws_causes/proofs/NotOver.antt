@@ -1,5 +1,6 @@
 -- By which entries a stream that its client has open is not over.
-use Rattle.std.proofs.Common.{◌≡◌, ◌≢◌, ◌-◌, ℕ, zero, suc, Bool, true, false, cond, ◌||◌, List, [], ◌∷◌, ◌++◌, length, take, drop, Option, Some, None}
+use Rattle.std.proofs.Common.{◌≡◌, ◌≢◌, ◌-◌, ℕ, zero, suc, Bool, true, false, cond, ◌||◌, List, [], ◌∷◌, ◌++◌, length, take, drop, Option}
+use Rattle.std.proofs.Common.{Some, None}
 use Rattle.std.proofs.Common.{refl, sym, ap, subst, ◌∙◌}
 use Rattle.std.proofs.Common.{arith, ◌⊎◌, inl, inr}
 use Rattle.std.specs.Prelude.{is_some}
@@ -58,10 +59,13 @@ no_write zero held others e = refl
 no_write (suc n) held others e = absurd (let clash : take (suc n) held ∷ others ≡ [] = e in cc)
 
 -- more is held, of which nothing may be sent either; or it goes up in a write that waits
-read_goes : (flow : Flow) (maxdata : ℕ) (ended : Bool) (held bytes : List ℕ) → payloads flow maxdata held ≡ [] → is_over ended held flow ≡ false
-    → is_over ended (drop (total (payloads flow maxdata (held ++ bytes))) (held ++ bytes)) (flow_after (payloads flow maxdata (held ++ bytes)) flow) ≡ false
+read_goes : (flow : Flow) (maxdata : ℕ) (ended : Bool) (held bytes : List ℕ) → payloads flow maxdata held ≡ []
+    → is_over ended held flow ≡ false
+    → is_over ended (drop (total (payloads flow maxdata (held ++ bytes))) (held ++ bytes))
+    (flow_after (payloads flow maxdata (held ++ bytes)) flow) ≡ false
 read_goes flow maxdata false held bytes none on =
-    not_ended (drop (total (payloads flow maxdata (held ++ bytes))) (held ++ bytes)) (flow_after (payloads flow maxdata (held ++ bytes)) flow)
+    not_ended (drop (total (payloads flow maxdata (held ++ bytes))) (held ++ bytes))
+    (flow_after (payloads flow maxdata (held ++ bytes)) flow)
 read_goes (One window) maxdata true held bytes none on = go window.outstanding refl
   where
     -- a write that goes up waits
@@ -69,10 +73,12 @@ read_goes (One window) maxdata true held bytes none on = go window.outstanding r
     busy [] w e = e
     busy (c ∷ rest) w e = refl
 
-    free : (n : ℕ) → is_over true (drop (total (write_before n (held ++ bytes) [])) (held ++ bytes)) (flow_after (write_before n (held ++ bytes) [])
+    free : (n : ℕ) → is_over true (drop (total (write_before n (held ++ bytes) [])) (held ++ bytes))
+        (flow_after (write_before n (held ++ bytes) [])
         (One window)) ≡ false
     free zero = held_on true held bytes (One window) on
-    free (suc n) = busy (drop (total (write_before (suc n) (held ++ bytes) [])) (held ++ bytes)) (One (record window { outstanding = true })) refl
+    free (suc n) = busy (drop (total (write_before (suc n) (held ++ bytes) [])) (held ++ bytes))
+        (One (record window { outstanding = true })) refl
 
     go : (b : Bool) → window.outstanding ≡ b
         → is_over true (drop (total (cond b [] (writes 1 maxdata maxdata (held ++ bytes)))) (held ++ bytes))
@@ -88,7 +94,8 @@ read_goes (Credit credit) maxdata true held bytes none on = go held none on
     go (c ∷ held) e f =
         let nil : write_len maxdata credit.to_send (c ∷ held) ≡ 0 =
         no_write (write_len maxdata credit.to_send (c ∷ held)) (c ∷ held)
-        (writes (length held) maxdata (credit.to_send - write_len maxdata credit.to_send (c ∷ held)) (drop (write_len maxdata credit.to_send (c ∷ held))
+        (writes (length held) maxdata (credit.to_send - write_len maxdata credit.to_send (c ∷ held))
+        (drop (write_len maxdata credit.to_send (c ∷ held))
         (c ∷ held)))
         e in
         let still : write_len maxdata credit.to_send (c ∷ held ++ bytes) ≡ 0 = small nil in
@@ -99,7 +106,8 @@ read_goes (Credit credit) maxdata true held bytes none on = go held none on
         ap (λ (ps : List (List ℕ)). is_over true (drop (total ps) (c ∷ held ++ bytes)) (flow_after ps (Credit credit))) stops
       where
         small : write_len maxdata credit.to_send (c ∷ held) ≡ 0 → write_len maxdata credit.to_send (c ∷ held ++ bytes) ≡ 0
-        small nil = (let some : length (c ∷ held) ≡ suc (length held) = refl in let more : length (c ∷ held ++ bytes) ≡ suc (length (held ++ bytes)) = refl in
+        small nil = (let some : length (c ∷ held) ≡ suc (length held) = refl in let more : length (c ∷ held ++ bytes)
+            ≡ suc (length (held ++ bytes)) = refl in
             omega (arith, nil, some, more))
 
 -- ---- the device of its link
@@ -152,7 +160,8 @@ rule_on : (e : Entry) (older : History) (l : ℕ) → IsLegal (e ∷ older) → 
     → (rule e (state older)).state.stopped ≡ (state older).stopped
 rule_on (Read c bytes) older l legal on = go (reads_kills l ((state older).clients c) c bytes (state older))
   where
-    go : Kills l (state older) (rule (Read c bytes) (state older)) → (rule (Read c bytes) (state older)).state.stopped ≡ (state older).stopped
+    go : Kills l (state older) (rule (Read c bytes) (state older))
+        → (rule (Read c bytes) (state older)).state.stopped ≡ (state older).stopped
     go (inl same) = same
     go (inr gone) = absurd (let clash : false ≡ true = sym (ap lives gone) ∙ on in cc)
 rule_on (Bound c port) older l legal on = same_kill (Bound c port) older legal (bound_killed c port older ((book older).waits c))
@@ -176,20 +185,25 @@ maxdata_same e older l x legal on far =
     (state older)).state in
     ap (maxdata_of x.link) (sym ruled)
     ∙ ap (λ (o : Option Row). unwrap_or (option_map (λ row. row.maxdata) o) 0)
-    ((shows_devices (e ∷ older) legal).rows after x.link ∙ (same_device x.link e older far.0 far.1 ∙ sym ((shows_devices older legal.0).rows before x.link)))
+    ((shows_devices (e ∷ older) legal).rows after x.link
+    ∙ (same_device x.link e older far.0 far.1 ∙ sym ((shows_devices older legal.0).rows before x.link)))
 
 -- ---- it goes on
 -- what a stream may send, told of the stream and the client that are left
 goes_as : (l : ℕ) (x : Stream) (k : Client) (s : State) → Becomes l x k s
-    → (is_streaming l k.about.phase ≡ true → is_over k.about.ended (drop (total (payloads x.part.flow (maxdata_of x.link s.devices) k.held)) k.held)
+    → (is_streaming l k.about.phase ≡ true → is_over k.about.ended
+    (drop (total (payloads x.part.flow (maxdata_of x.link s.devices) k.held)) k.held)
     (flow_after (payloads x.part.flow (maxdata_of x.link s.devices) k.held) x.part.flow) ≡ false) → GoesOn l s
 goes_as l x k s is on = record { goes = λ y. go y }
   where
     go : (y : Sending l s) → over l s y ≡ false
     go y =
         let row : x ≡ y.stream = (let both : Some x ≡ Some y.stream = sym is.row ∙ y.there in cc) in
-        let client : k ≡ y.client = (let both : Some k ≡ Some y.client = sym is.here ∙ (ap (λ (z : Stream). s.clients z.client) row ∙ y.here) in cc) in
-        subst (λ (z : Client). is_over z.about.ended (drop (total (payloads y.stream.part.flow (maxdata_of y.stream.link s.devices) z.held)) z.held)
+        let client : k ≡ y.client =
+        (let both : Some k ≡ Some y.client = sym is.here
+        ∙ (ap (λ (z : Stream). s.clients z.client) row ∙ y.here) in cc) in
+        subst (λ (z : Client). is_over z.about.ended
+        (drop (total (payloads y.stream.part.flow (maxdata_of y.stream.link s.devices) z.held)) z.held)
         (flow_after (payloads y.stream.part.flow (maxdata_of y.stream.link s.devices) z.held) y.stream.part.flow) ≡ false) client
         (subst (λ (z : Stream). is_over k.about.ended (drop (total (payloads z.part.flow (maxdata_of z.link s.devices) k.held)) k.held)
         (flow_after (payloads z.part.flow (maxdata_of z.link s.devices) k.held) z.part.flow) ≡ false) row
@@ -199,7 +213,9 @@ goes_as l x k s is on = record { goes = λ y. go y }
 calm_pair : (older : History) (l : ℕ) (x : Stream) (p : Pair l x (state older)) → IsLegal older → is_streaming l p.client.about.phase ≡ true
     → IsCalm (state older).devices p.client x
 calm_pair older l x p legal streaming =
-    (rests_calm older legal l (drawn_row (state older).drawn l (state older).streams (all_linked older legal).owned.rows.streams x p.is).0).calm
+    (rests_calm older legal l
+    (drawn_row (state older).drawn l (state older).streams (all_linked older legal).owned.rows.streams x
+    p.is).0).calm
     (record { stream = x; client = p.client; there = p.is; here = p.here; streaming = streaming })
 
 module _ (e : Entry) (older : History) (l : ℕ) (x : Stream) (flow : Flow) (bytes : List ℕ) where
@@ -209,7 +225,8 @@ module _ (e : Entry) (older : History) (l : ℕ) (x : Stream) (flow : Flow) (byt
       → LeavesLink x.link e × (bytes_received x.link (e ∷ older) ≡ bytes_received x.link older)
       → Becomes l (record x { part = with_flow flow x.part }) k (rule e (state older)).state → GoesOn l (rule e (state older)).state
   stays_on p k at lets far is =
-      goes_as l y k (rule e (state older)).state is (λ streaming. over_is (calm_pair older l x p at.0.0 (ap (is_streaming l) (sym at.1) ∙ streaming)) lets.1)
+      goes_as l y k (rule e (state older)).state is
+      (λ streaming. over_is (calm_pair older l x p at.0.0 (ap (is_streaming l) (sym at.1) ∙ streaming)) lets.1)
     where
       y : Stream
       y = record x { part = with_flow flow x.part }
@@ -231,12 +248,16 @@ module _ (e : Entry) (older : History) (l : ℕ) (x : Stream) (flow : Flow) (byt
           ap (λ (f : Flow). is_over k.about.ended (drop (total (payloads f md k.held)) k.held) (flow_after (payloads f md k.held) f)) own
           ∙ (ap (λ (m : ℕ). is_over k.about.ended (drop (total (payloads x.part.flow m k.held)) k.held) (flow_after
           (payloads x.part.flow m k.held) x.part.flow)) same
-          ∙ (ap (λ (held : List ℕ). is_over k.about.ended (drop (total (payloads x.part.flow (maxdata_of x.link (state older).devices) held)) held)
+          ∙ (ap (λ (held : List ℕ). is_over k.about.ended
+          (drop (total (payloads x.part.flow (maxdata_of x.link (state older).devices) held)) held)
           (flow_after (payloads x.part.flow (maxdata_of x.link (state older).devices) held) x.part.flow)) at.3
-          ∙ (ap (λ ended. is_over ended (drop (total (payloads x.part.flow (maxdata_of x.link (state older).devices) (p.client.held ++ bytes)))
+          ∙ (ap (λ ended. is_over ended
+          (drop (total (payloads x.part.flow (maxdata_of x.link (state older).devices)
+          (p.client.held ++ bytes)))
           (p.client.held ++ bytes))
           (flow_after (payloads x.part.flow (maxdata_of x.link (state older).devices) (p.client.held ++ bytes)) x.part.flow)) at.2
-          ∙ read_goes x.part.flow (maxdata_of x.link (state older).devices) p.client.about.ended p.client.held bytes calm.nothing calm.goes_on)))
+          ∙ read_goes x.part.flow (maxdata_of x.link (state older).devices) p.client.about.ended p.client.held bytes
+          calm.nothing calm.goes_on)))
       over_is calm (inl none) =
           let held : k.held ≡ p.client.held = at.3 ∙ (ap (λ w. p.client.held ++ w) none ∙ append-nil p.client.held) in
           let nothing : payloads flow md k.held ≡ [] =

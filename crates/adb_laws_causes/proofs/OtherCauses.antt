@@ -1,5 +1,6 @@
 -- A stream that lives on had no failing client, and no kill.
-use Rattle.std.proofs.Common.{◌≡◌, ◌+◌, ℕ, zero, suc, Bool, true, false, cond, not, ◌&&◌, ◌||◌, List, ◌∷◌, Option, Some, None, refl, sym, ap}
+use Rattle.std.proofs.Common.{◌≡◌, ◌+◌, ℕ, zero, suc, Bool, true, false, cond, not, ◌&&◌, ◌||◌, List, ◌∷◌, Option, Some, None, refl, sym}
+use Rattle.std.proofs.Common.{ap}
 use Rattle.std.proofs.Common.{◌∙◌, ◌⊎◌, inl, inr, arith, eqb}
 use Rattle.std.specs.Prelude.{is_some}
 use Rattle.std.specs.List.{list_any}
@@ -58,7 +59,8 @@ module _ (phase : Phase) (c l : ℕ) where
       ∙ (ap (λ o. ending_in l (stream_fails (Streaming l) cause o (to_client c none_kept s)).told) is
       ∙ ap (λ b. cond b (Some (ClientFailed cause)) None) (eq-eqb l l refl))
 
-pub end_told : (c l : ℕ) (cause : Cause) (s : State) (x : Stream) → s.streams l ≡ Some x → (k : ClientOf s.clients l x) → s.clients c ≡ Some k.client
+pub end_told : (c l : ℕ) (cause : Cause) (s : State) (x : Stream) → s.streams l ≡ Some x
+    → (k : ClientOf s.clients l x) → s.clients c ≡ Some k.client
     → is_orderly cause ≡ false → ending_in l (client_ends c cause (Some k.client) s).told ≡ Some (ClientFailed cause)
 end_told c l Fault s x is k here e = fails_told k.client.about.phase c l x.part.remote Fault s x is k.phase
 end_told c l Starved s x is k here e = fails_told k.client.about.phase c l x.part.remote Starved s x is k.phase
@@ -75,9 +77,11 @@ module _ (l : ℕ) (b : Birth) (older : History) (a : Alive l b older) (legal : 
           let here : (state older).clients n ≡ Some k.client = ap (state older).clients (same ∙ sym a.client) ∙ k.is in
           let told = end_told n l cause (state older) a.row a.is k here bad in
           none_some (ClientFailed cause)
-          (sym (ap (λ o. ending_in l (client_ends n cause o (state older)).told) (sym here) ∙ rule_none l b older a (End n cause) none) ∙ told)
+          (sym (ap (λ o. ending_in l (client_ends n cause o (state older)).told) (sym here)
+          ∙ rule_none l b older a (End n cause) none) ∙ told)
 
-      go : (c orderly : Bool) → eqb n b.client ≡ c → is_orderly cause ≡ orderly → is_some (cond (c && not orderly) (Some cause) None) ≡ false
+      go : (c orderly : Bool) → eqb n b.client ≡ c → is_orderly cause ≡ orderly
+          → is_some (cond (c && not orderly) (Some cause) None) ≡ false
       go true false e f = absurd (falls (eqb-true n b.client e) f)
       go true true e f = refl
       go false orderly e f = refl

@@ -1,5 +1,6 @@
 -- At an entry that leaves a stream alive nothing stands that ends one, but its client's orderly end.
-use Rattle.std.proofs.Common.{◌≡◌, ◌≤◌, ◌<◌, ℕ, zero, suc, Bool, true, false, cond, not, ◌&&◌, ◌||◌, List, [], ◌∷◌, ◌++◌, length, drop, min, Some}
+use Rattle.std.proofs.Common.{◌≡◌, ◌≤◌, ◌<◌, ℕ, zero, suc, Bool, true, false, cond, not, ◌&&◌, ◌||◌, List, [], ◌∷◌, ◌++◌, length, drop, min}
+use Rattle.std.proofs.Common.{Some}
 use Rattle.std.proofs.Common.{None, refl, sym, ap, ◌∙◌, inl, inr, arith, eqb}
 use Rattle.std.specs.Prelude.{is_some, nat_lt, slice_get}
 use Rattle.std.specs.List.{list_any}
@@ -22,7 +23,8 @@ use Rattle.adb_history.specs.Bytes.{is_lost, bytes_received, brought}
 use Rattle.adb_history.specs.Book.{is_refused}
 use Rattle.adb_history.specs.Births.{Birth, births, born, remote_of, told_to, joined, handed_to}
 use Rattle.adb_history.specs.Lives.{ending_of}
-use Rattle.adb_history.specs.Causes.{brings, closes_in, peer_closes, writes_early_in, given_to, writes_early, detaches, loses_link, breaks_link, failure_of}
+use Rattle.adb_history.specs.Causes.{brings, closes_in, peer_closes, writes_early_in, given_to, writes_early, detaches, loses_link}
+use Rattle.adb_history.specs.Causes.{breaks_link, failure_of}
 use Rattle.adb_history.specs.Causes.{stops_now, is_struck}
 use Rattle.adb_laws_births.proofs.Born.{all_births}
 use Rattle.adb_laws_causes.specs.Flows.{HasFlows}
@@ -40,7 +42,8 @@ born_within (suc k) h b is = go (nat_lt k stream_ids) refl is
     below : nat_lt k stream_ids ≡ true → k < stream_ids
     below e = grind (arith, nat_tests)
 
-    go : (c : Bool) → nat_lt k stream_ids ≡ c → cond c (slice_get (births h) k) None ≡ Some b → (0 < suc k) × (suc k ≤ min (length (births h)) stream_ids)
+    go : (c : Bool) → nat_lt k stream_ids ≡ c → cond c (slice_get (births h) k) None ≡ Some b
+        → (0 < suc k) × (suc k ≤ min (length (births h)) stream_ids)
     go true e f =
         let within = slice_get_within (births h) k b f in
         let ids = below e in
@@ -84,7 +87,8 @@ pub record Unstruck (l : ℕ) (b : Birth) (e : Entry) (older : History) : Type 0
 
 pub unstruck : (l : ℕ) (b : Birth) (e : Entry) (older : History) → Unstruck l b e older → is_struck l b e older ≡ false
 unstruck l b e older u =
-    ap (λ a. a || writes_early l b e older || loses_link b e older || breaks_link b e older || is_some (failure_of b.client e) || stops_now e older) u.peer
+    ap (λ a. a || writes_early l b e older || loses_link b e older || breaks_link b e older
+    || is_some (failure_of b.client e) || stops_now e older) u.peer
     ∙ (ap (λ a. false || a || loses_link b e older || breaks_link b e older || is_some (failure_of b.client e) || stops_now e older) u.turn
     ∙ (ap (λ a. false || false || a || breaks_link b e older || is_some (failure_of b.client e) || stops_now e older) u.lost
     ∙ (ap (λ a. false || false || false || a || is_some (failure_of b.client e) || stops_now e older) u.broken
@@ -99,7 +103,8 @@ pub record LinkQuiet (l : ℕ) (b : Birth) (e : Entry) (older : History) : Type 
   pub broken : breaks_link b e older ≡ false
 
 -- where it brings nothing
-nothing_brought : (l : ℕ) (b : Birth) (e : Entry) (older : History) → bytes_received b.link (e ∷ older) ≡ bytes_received b.link older → LinkQuiet l b e older
+nothing_brought : (l : ℕ) (b : Birth) (e : Entry) (older : History)
+    → bytes_received b.link (e ∷ older) ≡ bytes_received b.link older → LinkQuiet l b e older
 nothing_brought l b e older same =
     let none : brings b.link e older ≡ [] =
     ap (λ bytes. drop (length (brought b.link older)) (framed bytes).given) same ∙ drop-length (brought b.link older) in
@@ -109,7 +114,8 @@ nothing_brought l b e older same =
           (given_to l b older) ps) none;
       anew = ap (λ ps. list_any says_anew ps) none;
       broken =
-          ap (λ ps. (is_some (framed (bytes_received b.link (e ∷ older))).fault && not (is_some (framed (bytes_received b.link older)).fault))
+          ap (λ ps. (is_some (framed (bytes_received b.link (e ∷ older))).fault
+          && not (is_some (framed (bytes_received b.link older)).fault))
           || list_any is_refused ps) none
           ∙ (ap (λ bytes. (is_some (framed bytes).fault && not (is_some (framed (bytes_received b.link older)).fault)) || false) same
           ∙ ap (λ a. a || false) (and-not_self (is_some (framed (bytes_received b.link older)).fault)));
@@ -174,7 +180,8 @@ module _ (l : ℕ) (b : Birth) (older : History) (a : Alive l b older) where
       go false e = nothing_brought l b (Recv t bytes) older
           (ap (λ c. cond (c && not (is_lost b.link older)) (bytes_received b.link older ++ bytes) (bytes_received b.link older)) e)
 
-  pub link_quiet : (e : Entry) → IsLegal (e ∷ older) × HasFlows older × (born l older ≡ Some b) → ending_in l (told_at e older) ≡ None → LinkQuiet l b e older
+  pub link_quiet : (e : Entry) → IsLegal (e ∷ older) × HasFlows older × (born l older ≡ Some b)
+      → ending_in l (told_at e older) ≡ None → LinkQuiet l b e older
   link_quiet (Recv t bytes) at none = recv_quiet t bytes at none
   link_quiet e at none = nothing_brought l b e older refl
 
@@ -184,11 +191,14 @@ module _ (l : ℕ) (b : Birth) (older : History) (a : Alive l b older) where
     where
       falls : t ≡ b.link → ⊥
       falls same =
-          let on : ((state older).streams l ≡ Some a.row) × (a.row.part.orphan ≡ false) × (a.row.link ≡ t) = (a.is, a.alive, a.link ∙ sym same) in
+          let on : ((state older).streams l ≡ Some a.row) × (a.row.part.orphan ≡ false) × (a.row.link ≡ t) =
+          (a.is, a.alive, a.link ∙ sym same) in
           let there = there_at t l a.row older legal on in
           let told : ending_in l (unplugs_on (Some there.link) t (state older)).told ≡ Some Lost =
           link_ends_told t l a.row (state older) (here_at t l a.row older legal on) Lost in
-          none_some Lost (sym (ap (λ o. ending_in l (unplugs_on o t (state older)).told) (sym there.is) ∙ rule_none (Detach t cause) none) ∙ told)
+          none_some Lost
+          (sym (ap (λ o. ending_in l (unplugs_on o t (state older)).told) (sym there.is)
+          ∙ rule_none (Detach t cause) none) ∙ told)
 
       go : (c : Bool) → eqb t b.link ≡ c → eqb t b.link ≡ false
       go false e = e

@@ -1,5 +1,6 @@
 -- What each packet of its link makes of a stream and its client, where the stream goes on.
-use Rattle.std.proofs.Common.{◌≡◌, ◌≢◌, ℕ, Bool, true, false, cond, not, ◌||◌, ◌&&◌, length, Option, Some, None, refl, sym, ap, subst, ◌∙◌, eqb}
+use Rattle.std.proofs.Common.{◌≡◌, ◌≢◌, ℕ, Bool, true, false, cond, not, ◌||◌, ◌&&◌, length, Option, Some, None, refl, sym, ap, subst, ◌∙◌}
+use Rattle.std.proofs.Common.{eqb}
 use Rattle.std.proofs.Common.{◌⊎◌, inl, inr}
 use Rattle.std.specs.Prelude.{nat_eq, is_some}
 use Rattle.std.proofs.lemmas.Bool.{eq-eqb, ne_eqb, eqb-true, eqb-false, cases_eq}
@@ -59,7 +60,8 @@ module _ (t : ℕ) (x : Stream) (p : Packet) (s : State) (h : Pair p.arg1 x s) w
       go true e on = effect
       go false e on = absurd (let clash : true ≡ false = sym on ∙ e in cc)
 
-  counts_is : p.command ≡ Wrte → counts x.part.remote p.arg1 p ≡ (true && not (nat_eq x.part.remote 0) && (nat_eq p.arg0 x.part.remote && true))
+  counts_is : p.command ≡ Wrte → counts x.part.remote p.arg1 p
+      ≡ (true && not (nat_eq x.part.remote 0) && (nat_eq p.arg0 x.part.remote && true))
   counts_is c =
       ap (λ k. is_wrte k && not (nat_eq x.part.remote 0) && (nat_eq p.arg0 x.part.remote && nat_eq p.arg1 p.arg1)) c
       ∙ ap (λ b. true && not (nat_eq x.part.remote 0) && (nat_eq p.arg0 x.part.remote && b)) (eq-eqb p.arg1 p.arg1 refl)
@@ -105,7 +107,9 @@ module _ (t : ℕ) (x : Stream) (p : Packet) (s : State) (h : Pair p.arg1 x s) w
       at_first false e some = known (eqb p.arg0 x.part.remote) refl e
 
       at_zero : (b : Bool) → eqb p.arg0 0 ≡ b
-          → Effect p.arg1 x p h.client (cond b (quietly s) (cond (eqb x.part.remote 0) (okay_first x.part.orphan p.arg1 p.arg0 word x s) later))
+          → Effect p.arg1 x p h.client
+          (cond b (quietly s)
+          (cond (eqb x.part.remote 0) (okay_first x.part.orphan p.arg1 p.arg0 word x s) later))
       at_zero true e = still (from_nobody e)
       at_zero false e = at_first (eqb x.part.remote 0) refl e
 
@@ -119,14 +123,17 @@ module _ (t : ℕ) (x : Stream) (p : Packet) (s : State) (h : Pair p.arg1 x s) w
           → (counts x.part.remote p.arg1 p ≡ true) × (eqb x.part.remote 0 ≡ false) × (is_again x.part.remote p.arg1 p ≡ false)
       some e = ((counts_is c) ∙ a_write p.arg0 x.part.remote e, counts_open x.part.remote p.arg0 (a_write p.arg0 x.part.remote e), never)
 
-      taken : (b : Bool) → (counts x.part.remote p.arg1 p ≡ true) × (eqb x.part.remote 0 ≡ false) × (is_again x.part.remote p.arg1 p ≡ false)
+      taken : (b : Bool) → (counts x.part.remote p.arg1 p ≡ true) × (eqb x.part.remote 0 ≡ false)
+          × (is_again x.part.remote p.arg1 p ≡ false)
           → EffectOr p.arg1 x p h.client (cond b (ends_telling p.arg1 OutOfTurn x s) (accepts p.arg1 p.payload x s))
       taken true e = inr (gone_here p.arg1 p.arg1 OutOfTurn x (owe_link x.link (close_packet p.arg1 x.part.remote) s).state h.is refl)
       taken false e = inl (takes_effect p.arg1 x p s h p.payload refl e)
 
       go : (b : Bool) → (eqb p.arg0 0 || not (eqb p.arg0 x.part.remote)) ≡ b → EffectOr p.arg1 x p h.client (cond b (quietly s)
           (cond (is_out_of_turn x.part.flow (length p.payload)) (ends_telling p.arg1 OutOfTurn x s) (accepts p.arg1 p.payload x s)))
-      go true e = inl (nothing_done p.arg1 x p s h (quietly s) (u_quiet p.arg1 x.client s) ((counts_is c) ∙ no_write p.arg0 x.part.remote e) never)
+      go true e = inl
+          (nothing_done p.arg1 x p s h (quietly s) (u_quiet p.arg1 x.client s)
+          ((counts_is c) ∙ no_write p.arg0 x.part.remote e) never)
       go false e = taken (is_out_of_turn x.part.flow (length p.payload)) (some e)
 
   close_effect : p.command ≡ Clse → EffectOr p.arg1 x p h.client (takes_close p.arg1 p.arg0 x s)
@@ -141,7 +148,9 @@ module _ (t : ℕ) (x : Stream) (p : Packet) (s : State) (h : Pair p.arg1 x s) w
 module _ (t l : ℕ) (x : Stream) (p : Packet) (s : State) (h : Pair l x s) where
   -- a packet of another kind
   kind_effect : (m : Made) → Untouched l x.client s m → is_wrte p.command ≡ false → is_okay p.command ≡ false → EffectOr l x p h.client m
-  kind_effect m u none never = inl (nothing_done l x p s h m u (ap (λ b. b && not (nat_eq x.part.remote 0) && is_between x.part.remote l p) none)
+  kind_effect m u none never =
+      inl (nothing_done l x p s h m u
+      (ap (λ b. b && not (nat_eq x.part.remote 0) && is_between x.part.remote l p) none)
       (ap (λ b. b && not (nat_eq x.part.remote 0) && is_between x.part.remote l p) never))
 
   -- to another stream
@@ -149,7 +158,8 @@ module _ (t l : ℕ) (x : Stream) (p : Packet) (s : State) (h : Pair l x s) wher
       → ((z : Stream) → (p.arg1 ≢ l) × (z.client ≢ x.client) → Untouched l x.client s (rule z s))
       → EffectOr l x p h.client (at_stream t (s.streams p.arg1) rule s)
   else_effect rule other not_cnxn apart u =
-      inl (nothing_done l x p s h (at_stream t (s.streams p.arg1) rule s) (look (s.streams p.arg1) refl) (other_stream l x p other not_cnxn).counts never)
+      inl (nothing_done l x p s h (at_stream t (s.streams p.arg1) rule s) (look (s.streams p.arg1) refl)
+      (other_stream l x p other not_cnxn).counts never)
     where
       never : is_again x.part.remote l p ≡ false
       never = ap (λ b. is_okay p.command && not (nat_eq x.part.remote 0) && (nat_eq p.arg0 x.part.remote && b)) (ne_eqb p.arg1 l other)
@@ -164,7 +174,8 @@ module _ (t l : ℕ) (x : Stream) (p : Packet) (s : State) (h : Pair l x s) wher
           go false = u_quiet l x.client s
 
   -- to this one or to another
-  this_or : (m : Made) → ((k : Pair p.arg1 x s) → k.client ≡ h.client → EffectOr p.arg1 x p k.client m) → (p.arg1 ≢ l → EffectOr l x p h.client m)
+  this_or : (m : Made) → ((k : Pair p.arg1 x s) → k.client ≡ h.client → EffectOr p.arg1 x p k.client m)
+      → (p.arg1 ≢ l → EffectOr l x p h.client m)
       → EffectOr l x p h.client m
   this_or m own other = go (cases_eq p.arg1 l)
     where
@@ -205,7 +216,8 @@ module _ (t l : ℕ) (x : Stream) (p : Packet) (s : State) (h : Pair l x s) wher
   if_effect : (command : Command) → p.command ≡ command → is_cnxn command ≡ false → (x.link ≡ t) × Apart l x.client s
       → (is_connected t s.devices ≡ true) → EffectOr l x p h.client (cond (is_connected t s.devices) (treat_open t command p s) (quietly s))
   if_effect command c e on_t on =
-      subst (λ (b : Bool). EffectOr l x p h.client (cond b (treat_open t command p s) (quietly s))) (sym on) (command_effect command c e on_t)
+      subst (λ (b : Bool). EffectOr l x p h.client (cond b (treat_open t command p s) (quietly s))) (sym on)
+      (command_effect command c e on_t)
 
   any_effect : (command : Command) → p.command ≡ command → is_cnxn command ≡ false → (x.link ≡ t) × Apart l x.client s
       → (is_connected t s.devices ≡ true) → EffectOr l x p h.client (treat_any t command p s)

@@ -1,5 +1,6 @@
 -- What the packets of a device make of the stream of a number: it may end, where it is one of their link.
-use Rattle.std.proofs.Common.{◌≡◌, ℕ, Bool, true, false, cond, not, ◌||◌, List, [], ◌∷◌, ◌++◌, length, Option, Some, None, refl, ap, ◌∙◌, eqb}
+use Rattle.std.proofs.Common.{◌≡◌, ℕ, Bool, true, false, cond, not, ◌||◌, List, [], ◌∷◌, ◌++◌, length, Option, Some, None, refl, ap, ◌∙◌}
+use Rattle.std.proofs.Common.{eqb}
 use Rattle.std.specs.Prelude.{codes, nat_eq, nat_lt}
 use Rattle.std.proofs.lemmas.Bool.{eqb-true}
 use Rattle.adb_outside.specs.Tables.{at}
@@ -28,7 +29,8 @@ use Rattle.adb_history.specs.Clients.{owe_client}
 use Rattle.adb_history.specs.Streams.{ends_row, ends_telling}
 use Rattle.adb_history.specs.Flow.{with_flow}
 use Rattle.adb_history.specs.Losing.{link_ends}
-use Rattle.adb_history.specs.Packets.{least_version, least_maxdata, goes_online, streams_end_first, connects, cnxn, unauthorized_from, unauthorized}
+use Rattle.adb_history.specs.Packets.{least_version, least_maxdata, goes_online, streams_end_first, connects, cnxn, unauthorized_from}
+use Rattle.adb_history.specs.Packets.{unauthorized}
 use Rattle.adb_history.specs.Packets.{refuses_open, at_stream, with_remote, hears_okay, okay_open}
 use Rattle.adb_history.specs.Packets.{okay_first, takes_okay, accepts_none, accepts, takes_write, takes_close, treat_open, treat_any}
 use Rattle.adb_history.specs.Packets.{treat_on, treat, treat_all, faulty_on, faulty, with_rest, receives_cut, receives_on, receives}
@@ -103,7 +105,8 @@ module _ (l t : ℕ) where
       (fate_part l (OfLink t) n x (with_remote remote (with_flow (first_credit word x.part.flow) x.part)) heard.state
       (ap (λ streams. streams n) (hears_streams (s.clients x.client) x.client s) ∙ is) refl)
 
-  okay_fate : (n remote : ℕ) (word : Option ℕ) (x : Stream) (s : State) → s.streams n ≡ Some x → FateOf l (OfLink t) s (takes_okay n remote word x s)
+  okay_fate : (n remote : ℕ) (word : Option ℕ) (x : Stream) (s : State) → s.streams n ≡ Some x
+      → FateOf l (OfLink t) s (takes_okay n remote word x s)
   okay_fate n remote word x s is =
       let again = okay_open n word x s in
       let later = cond (eqb remote x.part.remote) again (quietly s) in
@@ -122,7 +125,8 @@ module _ (l t : ℕ) where
   accepts_fate n [] x s is = none_fate x.part.flow n x s
   accepts_fate n (b ∷ payload) x s is =
       let part = with_flow (accepted (length (b ∷ payload)) x.part.flow) x.part in
-      fate_retold l (OfLink t) (s.streams l) ((to_stream n (with_stream_part part) s).streams l) [] _ refl (fate_part l (OfLink t) n x part s is refl)
+      fate_retold l (OfLink t) (s.streams l) ((to_stream n (with_stream_part part) s).streams l) [] _ refl
+      (fate_part l (OfLink t) n x part s is refl)
 
   write_fate : (n remote : ℕ) (payload : List ℕ) (x : Stream) (s : State) → s.streams n ≡ Some x → x.link ≡ t
       → FateOf l (OfLink t) s (takes_write n remote payload x s)
@@ -135,7 +139,8 @@ module _ (l t : ℕ) where
       (λ turn. accepts_fate n payload x s is))
 
   -- ---- CLSE
-  close_fate : (n remote : ℕ) (x : Stream) (s : State) → s.streams n ≡ Some x → x.link ≡ t → FateOf l (OfLink t) s (takes_close n remote x s)
+  close_fate : (n remote : ℕ) (x : Stream) (s : State) → s.streams n ≡ Some x → x.link ≡ t
+      → FateOf l (OfLink t) s (takes_close n remote x s)
   close_fate n remote x s is here =
       if_fate l (OfLink t) s (eqb remote 0 || eqb remote x.part.remote) (ends_row n PeerClosed x s) (quietly s)
       (λ e. ends_fate l (OfLink t) n PeerClosed x s is (λ same. here)) (λ e. quiet l (OfLink t) s)
@@ -147,14 +152,17 @@ module _ (l t : ℕ) where
       at_stream_fate p.arg1 (s.streams p.arg1) (takes_okay p.arg1 p.arg0 (credit_word p.payload)) s refl
       (λ x is here. okay_fate p.arg1 p.arg0 (credit_word p.payload) x s is)
   open_fate Wrte p s =
-      at_stream_fate p.arg1 (s.streams p.arg1) (takes_write p.arg1 p.arg0 p.payload) s refl (λ x is here. write_fate p.arg1 p.arg0 p.payload x s is here)
-  open_fate Clse p s = at_stream_fate p.arg1 (s.streams p.arg1) (takes_close p.arg1 p.arg0) s refl (λ x is here. close_fate p.arg1 p.arg0 x s is here)
+      at_stream_fate p.arg1 (s.streams p.arg1) (takes_write p.arg1 p.arg0 p.payload) s refl
+      (λ x is here. write_fate p.arg1 p.arg0 p.payload x s is here)
+  open_fate Clse p s = at_stream_fate p.arg1 (s.streams p.arg1) (takes_close p.arg1 p.arg0) s refl
+      (λ x is here. close_fate p.arg1 p.arg0 x s is here)
   open_fate _ p s = quiet l (OfLink t) s
 
   if_connected_fate : (command : Command) (p : Packet) (s : State)
       → FateOf l (OfLink t) s (cond (is_connected t s.devices) (treat_open t command p s) (quietly s))
   if_connected_fate command p s =
-      if_fate l (OfLink t) s (is_connected t s.devices) (treat_open t command p s) (quietly s) (λ e. open_fate command p s) (λ e. quiet l (OfLink t) s)
+      if_fate l (OfLink t) s (is_connected t s.devices) (treat_open t command p s) (quietly s)
+      (λ e. open_fate command p s) (λ e. quiet l (OfLink t) s)
 
   any_fate : (command : Command) (p : Packet) (s : State) → FateOf l (OfLink t) s (treat_any t command p s)
   any_fate Cnxn p s = cnxn_fate p.arg0 p.arg1 p.payload s

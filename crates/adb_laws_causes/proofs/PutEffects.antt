@@ -1,5 +1,6 @@
 -- What handing out to its client makes of a stream.
-use Rattle.std.proofs.Common.{◌≡◌, ◌≢◌, ◌≤◌, ◌<◌, ◌+◌, ◌-◌, ◌^◌, ℕ, zero, suc, Bool, true, false, cond, List, [], ◌∷◌, ◌++◌, length, drop, min}
+use Rattle.std.proofs.Common.{◌≡◌, ◌≢◌, ◌≤◌, ◌<◌, ◌+◌, ◌-◌, ◌^◌, ℕ, zero, suc, Bool, true, false, cond, List, [], ◌∷◌, ◌++◌, length, drop}
+use Rattle.std.proofs.Common.{min}
 use Rattle.std.proofs.Common.{Option, Some, refl, sym, ap, subst, ◌∙◌, eqb}
 use Rattle.std.proofs.Common.{arith}
 use Rattle.std.specs.Prelude.{nat_le, unwrap_or, ◌||◌, ◌&&◌}
@@ -53,7 +54,8 @@ pub record PutEffect (l : ℕ) (x : Stream) (k : Client) (n : ℕ) (m : Made) : 
 credit_told : (n : ℕ) → n < 2 ^ 32 → unwrap_or (credit_word (little_bytes 4 n)) 0 ≡ n
 credit_told n small = little_number-reads_back 4 n [] small
 
-credit_tally : (l : ℕ) (x : Stream) (n : ℕ) (s : State) → n < 2 ^ 32 → Tally l x.link (owe_link x.link (credit_packet l x.part.remote n) s).told [] 0 n
+credit_tally : (l : ℕ) (x : Stream) (n : ℕ) (s : State) → n < 2 ^ 32
+    → Tally l x.link (owe_link x.link (credit_packet l x.part.remote n) s).told [] 0 n
 credit_tally l x n s small = record {
   bytes = ap (λ b. carried_in l (cond b (credit_packet l x.part.remote n ∷ []) [])) (eq-eqb x.link x.link refl);
   count = ap (λ b. count_from is_wrte l (cond b (credit_packet l x.part.remote n ∷ []) [])) (eq-eqb x.link x.link refl);
@@ -106,7 +108,10 @@ module _ (l : ℕ) (x : Stream) (k : Client) (n : ℕ) (s : State) (h : (s.strea
     abbrev less : State
     less = to_stream l (with_stream_part (with_flow (handed_to (min (to_hand x.part.flow) (length (drop n k.due))) x.part.flow) x.part)) s
 
-    row_less : (to_stream l (with_stream_part (with_flow (handed_to (min (to_hand x.part.flow) (length (drop n k.due))) x.part.flow) x.part)) s).streams l
+    row_less : (to_stream l
+        (with_stream_part
+        (with_flow (handed_to (min (to_hand x.part.flow) (length (drop n k.due))) x.part.flow) x.part)) s).streams
+        l
         ≡ Some (record x { part = with_flow (handed_to (min (to_hand x.part.flow) (length (drop n k.due))) x.part.flow) x.part })
     row_less = changed_here l (with_stream_part (with_flow (handed_to left x.part.flow) x.part)) s.streams x h.0
 
@@ -120,7 +125,8 @@ module _ (l : ℕ) (x : Stream) (k : Client) (n : ℕ) (s : State) (h : (s.strea
             let was : FlowIs (One window) credit written handed given = subst (λ (g : Flow). FlowIs g credit written handed given) e f in
             subst (λ (g : Flow). FlowIs (handed_to left g) credit written now (given + 0)) (sym e) (was.0, sum open_now (ap has_credit e))
 
-        effect : (m : Made) → m.state.streams l ≡ less.streams l → m.state.clients x.client ≡ s.clients x.client → owed_to x.client m.told ≡ []
+        effect : (m : Made) → m.state.streams l ≡ less.streams l → m.state.clients x.client ≡ s.clients x.client
+            → owed_to x.client m.told ≡ []
             → AreSilent l m.told → PutEffect l x k n m
         effect m rows clients owed silent = record {
           flow = handed_to left x.part.flow;
@@ -134,7 +140,8 @@ module _ (l : ℕ) (x : Stream) (k : Client) (n : ℕ) (s : State) (h : (s.strea
           flows = λ credit written handed now given opening sum f. flows credit written handed now given sum f;
         }
 
-        go : (rest : ℕ) → min (to_hand x.part.flow) (length (drop n k.due)) ≡ rest → PutEffect l x k n (tells_handed (One window) rest l x less)
+        go : (rest : ℕ) → min (to_hand x.part.flow) (length (drop n k.due)) ≡ rest
+            → PutEffect l x k n (tells_handed (One window) rest l x less)
         go zero f = effect (owe_link x.link (okay_packet l x.part.remote) less) refl refl refl (okay_silent l l x.part.remote, tt)
         go (suc m) f = effect (quietly less) refl refl refl tt
     fewer (Credit c) e sound = go (credit_back left c) refl
@@ -142,7 +149,8 @@ module _ (l : ℕ) (x : Stream) (k : Client) (n : ℕ) (s : State) (h : (s.strea
         small : credit_back (min (to_hand x.part.flow) (length (drop n k.due))) c < 2 ^ 32
         small = back_small left c sound (let own : to_hand x.part.flow ≡ c.to_hand = ap to_hand e in omega (arith, own))
 
-        effect : (m : Made) → m.state.streams l ≡ less.streams l → m.state.clients x.client ≡ s.clients x.client → owed_to x.client m.told ≡ []
+        effect : (m : Made) → m.state.streams l ≡ less.streams l → m.state.clients x.client ≡ s.clients x.client
+            → owed_to x.client m.told ≡ []
             → Tally l x.link m.told [] 0 (credit_back left c) → PutEffect l x k n m
         effect m rows clients owed tally = record {
           flow = handed_to left x.part.flow;
@@ -169,14 +177,16 @@ module _ (l : ℕ) (x : Stream) (k : Client) (n : ℕ) (s : State) (h : (s.strea
     hands_effect : PutEffect l x k n (stream_hands left l x s)
     hands_effect = go (eqb left (to_hand x.part.flow)) refl
       where
-        go : (b : Bool) → eqb left (to_hand x.part.flow) ≡ b → PutEffect l x k n (cond b (quietly s) (tells_handed x.part.flow left l x less))
+        go : (b : Bool) → eqb left (to_hand x.part.flow) ≡ b
+            → PutEffect l x k n (cond b (quietly s) (tells_handed x.part.flow left l x less))
         go true e = all_left open_now (eqb-true left (to_hand x.part.flow) e)
         go false e = fewer x.part.flow refl sound
 
 -- ---- the whole rule
 module _ (l remote : ℕ) (k : Client) (devices : DeviceTable) where
   -- what may be put to the client of a stream is due to it
-  due_some : (bytes : List ℕ) → (k.about.mark ≡ true → k.about.phase ≡ Tracking) → k.about.phase ≡ phase_for l remote → IsSomeOf bytes (offered devices k)
+  due_some : (bytes : List ℕ) → (k.about.mark ≡ true → k.about.phase ≡ Tracking) → k.about.phase ≡ phase_for l remote
+      → IsSomeOf bytes (offered devices k)
       → (due : List ℕ) → k.due ≡ due → due ≢ []
   due_some bytes mark phase may due is none = unmarked k.about.mark refl
     where
@@ -196,7 +206,8 @@ module _ (l remote : ℕ) (k : Client) (devices : DeviceTable) where
       unmarked true e = tracking remote (sym (mark e) ∙ phase)
       unmarked false e =
           let offers : offered devices k ≡ [] =
-          ap (λ d. due_or d (list_if_stale devices k.about.mark k.about.long)) (is ∙ none) ∙ ap (λ b. list_if_stale devices b k.about.long) e in
+          ap (λ d. due_or d (list_if_stale devices k.about.mark k.about.long)) (is ∙ none)
+          ∙ ap (λ b. list_if_stale devices b k.about.long) e in
           no_front may.some (subst (IsPrefixOf bytes) offers may.front)
 
 -- the rest of what is due to a client with a stream
@@ -207,14 +218,16 @@ hands_own l remote n k phase = ap (λ p. left_in p (drop n k.due) k) phase ∙ g
     go zero = refl
     go (suc m) = refl
 
-module _ (l : ℕ) (x : Stream) (s : State) (h : IsOwned s) (p : Pair l x s) (bytes : List ℕ) (may : MayPut s (s.clients x.client) bytes) where
+module _ (l : ℕ) (x : Stream) (s : State) (h : IsOwned s) (p : Pair l x s) (bytes : List ℕ)
+    (may : MayPut s (s.clients x.client) bytes) where
   abbrev n : ℕ
   n = length bytes
 
   abbrev handed : State
   handed = to_client x.client (hands (length bytes)) s
 
-  handed_client : (to_client x.client (hands (length bytes)) s).clients x.client ≡ Some (record p.client { due = drop (length bytes) p.client.due })
+  handed_client : (to_client x.client (hands (length bytes)) s).clients x.client
+      ≡ Some (record p.client { due = drop (length bytes) p.client.due })
   handed_client = changed_here x.client (hands n) s.clients p.client p.here ∙ hands_own l x.part.remote n p.client p.phase
 
   -- one that waits for its device
@@ -236,7 +249,8 @@ module _ (l : ℕ) (x : Stream) (s : State) (h : IsOwned s) (p : Pair l x s) (by
       flows (One window) credit written before now given same f = (f.0, omega (arith, same, f.1))
       flows (Credit c) credit written before now given same f = (f.0, omega (arith, f.1))
 
-  left_effect : (remote : ℕ) → x.part.remote ≡ remote → PutEffect l x p.client (length bytes) (client_left (phase_for l remote) (length (drop
+  left_effect : (remote : ℕ) → x.part.remote ≡ remote → PutEffect l x p.client (length bytes)
+      (client_left (phase_for l remote) (length (drop
       (length bytes) p.client.due)) handed)
   left_effect zero e = waiting_effect e
   left_effect (suc m) e =
@@ -263,4 +277,15 @@ module _ (l : ℕ) (x : Stream) (s : State) (h : IsOwned s) (p : Pair l x s) (by
       go [] e = absurd (some [] e refl)
       go (c ∷ due) e =
           let r = takes_effect in
-          record { flow = r.flow; back = r.back; is = r.is; here = r.here; owed = r.owed; tally = r.tally; waits = r.waits; lets = r.lets; flows = r.flows }
+          record {
+            flow = r.flow;
+            back = r.back;
+            is = r.is;
+            here = r.here;
+            owed = r.owed;
+            tally = r.tally;
+            waits =
+                r.waits;
+            lets = r.lets;
+            flows = r.flows;
+          }

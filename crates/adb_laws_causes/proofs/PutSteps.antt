@@ -1,5 +1,6 @@
 -- A stream that lives holds what is told after each entry too.
-use Rattle.std.proofs.Common.{◌≡◌, ◌≢◌, ◌≤◌, ◌+◌, ◌-◌, ℕ, zero, suc, Bool, true, false, cond, List, [], ◌∷◌, ◌++◌, length, drop, Option, refl, sym}
+use Rattle.std.proofs.Common.{◌≡◌, ◌≢◌, ◌≤◌, ◌+◌, ◌-◌, ℕ, zero, suc, Bool, true, false, cond, List, [], ◌∷◌, ◌++◌, length, drop, Option}
+use Rattle.std.proofs.Common.{refl, sym}
 use Rattle.std.proofs.Common.{ap, subst, ◌∙◌, arith, length-append, length-drop}
 use Rattle.std.specs.Prelude.{nat_eq, min}
 use Rattle.std.proofs.lemmas.Bool.{eq-eqb, ne_eqb}
@@ -102,13 +103,15 @@ module _ (older : History) (l : ℕ) (b : Birth) (x : Stream) (bytes : List ℕ)
       let known : nat_eq x.part.remote 0 ≡ false = ne_eqb x.part.remote 0 some in
       let new = handed_is l b (e ∷ older) x.part.remote (same_remote e older l b x t refl)
       ∙ ap (λ c. cond c 0 (length (bytes_put b.client (e ∷ older)) - lead_of b (e ∷ older))) known in
-      let old = handed_is l b older x.part.remote t.remote ∙ ap (λ c. cond c 0 (length (bytes_put b.client older) - lead_of b older)) known in
+      let old = handed_is l b older x.part.remote t.remote ∙ ap
+      (λ c. cond c 0 (length (bytes_put b.client older) - lead_of b older)) known in
       let put : length (bytes_put b.client (e ∷ older)) ≡ length (bytes_put b.client older) + length bytes =
       ap length put_more ∙ length-append (bytes_put b.client older) bytes in
       let due : length (output_of b.client older) ≡ length (bytes_put b.client older) + length t.pair.client.due =
       ap length (all_due_past_put older t.legal.0 b.client t.pair.client (client_here e older l b x t))
       ∙ length-append (bytes_put b.client older) t.pair.client.due in
-      let was = one_flow x.part.flow b.credit (length (joined (told_to l b older))) (length (handed_to l b older)) (given_to l b older) one t.holds.flow in
+      let was = one_flow x.part.flow b.credit (length (joined (told_to l b older))) (length (handed_to l b older))
+      (given_to l b older) one t.holds.flow in
       let hear = hears_open x.part.remote b.forwarded (length (joined (told_to l b older))) some in
       omega (
         arith,
@@ -129,7 +132,8 @@ module _ (older : History) (l : ℕ) (b : Birth) (x : Stream) (bytes : List ℕ)
       (record t.pair.client { due = drop (length bytes) t.pair.client.due })
   put_after =
       let r = put_effect in
-      let none : length (owed_to b.client (rule e (state older)).told) ≡ 0 = ap length (subst (λ (c : ℕ). owed_to c (rule e (state older)).told
+      let none : length (owed_to b.client (rule e (state older)).told) ≡ 0 =
+      ap length (subst (λ (c : ℕ). owed_to c (rule e (state older)).told
       ≡ []) t.client r.owed) in
       record {
         credits = r.back;
@@ -137,7 +141,8 @@ module _ (older : History) (l : ℕ) (b : Birth) (x : Stream) (bytes : List ℕ)
         before = t.holds.before;
         waits = t.holds.waits;
         forwarded = t.holds.forwarded;
-        flow = r.flows b.credit (length (joined (told_to l b older))) (length (handed_to l b older)) (length (handed_to l b (e ∷ older))) (given_to l b older)
+        flow = r.flows b.credit (length (joined (told_to l b older))) (length (handed_to l b older))
+            (length (handed_to l b (e ∷ older))) (given_to l b older)
             closed_now one_left t.holds.flow;
         output = omega (arith, none, t.holds.output, same_start e older l b x t);
         head = t.holds.head;
@@ -152,4 +157,5 @@ module _ (older : History) (l : ℕ) (b : Birth) (x : Stream) (bytes : List ℕ)
           let known : nat_eq x.part.remote 0 ≡ true = eq-eqb x.part.remote 0 nil in
           handed_is l b (e ∷ older) x.part.remote (same_remote e older l b x t refl)
           ∙ (ap (λ c. cond c 0 (length (bytes_put b.client (e ∷ older)) - lead_of b (e ∷ older))) known
-          ∙ sym (handed_is l b older x.part.remote t.remote ∙ ap (λ c. cond c 0 (length (bytes_put b.client older) - lead_of b older)) known))
+          ∙ sym (handed_is l b older x.part.remote t.remote ∙ ap
+          (λ c. cond c 0 (length (bytes_put b.client older) - lead_of b older)) known))

@@ -1,5 +1,6 @@
 -- The bytes that come on a link, in the words of the history: the packets that they make whole, and their fault.
-use Rattle.std.proofs.Common.{◌≡◌, ℕ, true, false, cond, not, ◌&&◌, List, ◌∷◌, ◌++◌, length, drop, Option, Some, None, refl, sym, ap, subst, ◌∙◌, ◌⊎◌, inl, inr}
+use Rattle.std.proofs.Common.{◌≡◌, ℕ, true, false, cond, not, ◌&&◌, List, ◌∷◌, ◌++◌, length, drop, Option, Some, None, refl, sym, ap, subst}
+use Rattle.std.proofs.Common.{◌∙◌, ◌⊎◌, inl, inr}
 use Rattle.std.specs.Prelude.{is_some}
 use Rattle.std.specs.Option.{option_or}
 use Rattle.std.proofs.Math.Seq.{drop-append_seam}
@@ -102,7 +103,8 @@ pub record RecvEnds (t : ℕ) (bytes : List ℕ) (older : History) (l : ℕ) (x 
 
 module _ (t l : ℕ) (bytes : List ℕ) (x : Stream) (older : History) (legal : IsLegal (Recv t bytes ∷ older)) where
   -- the stream goes on with what its link brings, or falls
-  pub recv_run : (is : ((state older).streams l ≡ Some x) × (x.part.orphan ≡ false) × (x.link ≡ t)) → (link : Link) → (state older).links t ≡ Some link
+  pub recv_run : (is : ((state older).streams l ≡ Some x) × (x.part.orphan ≡ false) × (x.link ≡ t)) → (link : Link)
+      → (state older).links t ≡ Some link
       → CutRun t l x (cut_packets (record { sums = link.sums }) (link.rest ++ bytes)) (receives t bytes (state older))
   recv_run is link there =
       let c = cut_packets (record { sums = link.sums }) (link.rest ++ bytes) in
@@ -127,7 +129,8 @@ module _ (t l : ℕ) (bytes : List ℕ) (x : Stream) (older : History) (legal : 
       m : Made
       m = receives t bytes (state older)
 
-      all : option_or (ending_in l (receives t bytes (state older)).told) (ending_in l (ups (receives t bytes (state older)).state).told) ≡ Some ending
+      all : option_or (ending_in l (receives t bytes (state older)).told)
+          (ending_in l (ups (receives t bytes (state older)).state).told) ≡ Some ending
       all = sym (ending_append l m.told (ups m.state).told) ∙ told
 
       go : CutRun t l x c (receives t bytes (state older)) → StruckBy l x c ending ⊎ (ending ≡ ClientClosed)

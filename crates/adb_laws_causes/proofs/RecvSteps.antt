@@ -1,5 +1,6 @@
 -- A stream and its client after what its link brings.
-use Rattle.std.proofs.Common.{◌≡◌, ◌≤◌, ◌<◌, ◌+◌, ◌-◌, ℕ, Bool, true, false, cond, not, ◌&&◌, ◌||◌, List, [], ◌∷◌, ◌++◌, length, drop, Option, Some}
+use Rattle.std.proofs.Common.{◌≡◌, ◌≤◌, ◌<◌, ◌+◌, ◌-◌, ℕ, Bool, true, false, cond, not, ◌&&◌, ◌||◌, List, [], ◌∷◌, ◌++◌, length, drop}
+use Rattle.std.proofs.Common.{Option, Some}
 use Rattle.std.proofs.Common.{None, refl, sym, ap, subst, ◌∙◌}
 use Rattle.std.proofs.Common.{arith, inl, inr, length-append}
 use Rattle.std.specs.Prelude.{nat_eq}
@@ -13,7 +14,8 @@ use Rattle.adb_history.specs.Events.{Made, owed_to}
 use Rattle.adb_history.specs.Machine.{rule, History, state}
 use Rattle.adb_history.specs.Bytes.{bytes_put, brought}
 use Rattle.adb_history.specs.Book.{asked}
-use Rattle.adb_history.specs.Births.{Birth, Opening as FirstOkay, opening_in, opening_of, remote_in, remote_of, since, told_after, told_to, joined}
+use Rattle.adb_history.specs.Births.{Birth, Opening as FirstOkay, opening_in, opening_of, remote_in, remote_of, since, told_after, told_to}
+use Rattle.adb_history.specs.Births.{joined}
 use Rattle.adb_history.specs.Births.{lead_of, handed_to}
 use Rattle.adb_history.specs.Births.{carried_in, count_from, is_wrte}
 use Rattle.adb_history.specs.Lives.{output_of, packets_of}
@@ -45,12 +47,14 @@ use Rattle.adb_laws_causes.proofs.Unchanged.{opened_some}
 use Rattle.adb_laws_causes.proofs.RuleSteps.{Standing, flow_at, client_here, same_start, same_lead, Becomes}
 
 -- packets that do not say who the device is
-no_cnxn : (packets : List Packet) → list_any says_anew packets ≡ false → list_any is_refused packets ≡ false → list_any (λ p. is_cnxn p.command) packets ≡ false
+no_cnxn : (packets : List Packet) → list_any says_anew packets ≡ false → list_any is_refused packets ≡ false
+    → list_any (λ p. is_cnxn p.command) packets ≡ false
 no_cnxn [] a b = refl
 no_cnxn (p ∷ packets) a b =
     let one = neither (says_anew p) (list_any says_anew packets) a in
     let two = neither (is_refused p) (list_any is_refused packets) b in
-    ap (λ c. c || list_any (λ p. is_cnxn p.command) packets) (cnxn (is_cnxn p.command) (is_refused p) one.0 two.0 refl) ∙ no_cnxn packets one.1 two.1
+    ap (λ c. c || list_any (λ p. is_cnxn p.command) packets)
+    (cnxn (is_cnxn p.command) (is_refused p) one.0 two.0 refl) ∙ no_cnxn packets one.1 two.1
   where
     cnxn : (c r : Bool) → (c && not r) ≡ false → r ≡ false → is_cnxn p.command ≡ c → c ≡ false
     cnxn false r e f g = refl
@@ -118,7 +122,9 @@ module _ (older : History) (l : ℕ) (b : Birth) (x : Stream) (bytes : List ℕ)
     where
       go : CutRun b.link l x cut_now (receives b.link bytes (state older)) → Received older l b x t.pair.client bytes
       go (inl runs) = runs_received runs.0 runs.1 alive
-      go (inr fell) = absurd (let clash : true ≡ false = sym alive ∙ ((receives_fate l b.link bytes (state older)).ends fell.ending fell.told).over in cc)
+      go (inr fell) =
+          absurd (let clash : true ≡ false =
+          sym alive ∙ ((receives_fate l b.link bytes (state older)).ends fell.ending fell.told).over in cc)
 
 -- ---- the stream as it is told then
 module _ (older : History) (l : ℕ) (b : Birth) (x : Stream) (bytes : List ℕ) (t : Standing (Recv b.link bytes) older l b x) where
@@ -130,9 +136,11 @@ module _ (older : History) (l : ℕ) (b : Birth) (x : Stream) (bytes : List ℕ)
     more_since = ap (drop b.packets_before) r.all ∙ drop-append-le b.packets_before (brought b.link older) r.given t.holds.before
 
     told_more : SaidMore l x.part.remote (since b older) r.given
-    told_more = said_more l x.part.remote (since b older) r.given t.remote (λ nil packets. t.holds.waits nil packets) r.shut r.silent_of_device
+    told_more = said_more l x.part.remote (since b older) r.given t.remote (λ nil packets. t.holds.waits nil packets)
+        r.shut r.silent_of_device
 
-    now_written : length (joined (told_to l b (Recv b.link bytes ∷ older))) ≡ written_all x.part.remote l r.given (length (joined (told_to l b older)))
+    now_written : length (joined (told_to l b (Recv b.link bytes ∷ older)))
+        ≡ written_all x.part.remote l r.given (length (joined (told_to l b older)))
     now_written = ap (written_in l) more_since ∙ told_more.told
 
     now_remote : remote_of l b (Recv b.link bytes ∷ older) ≡ r.effect.row.part.remote
@@ -168,8 +176,10 @@ module _ (older : History) (l : ℕ) (b : Birth) (x : Stream) (bytes : List ℕ)
         lead true g =
             let s : start_of b older ≡ 0 = ap (λ c. cond c 0 (length (asked b.client older).replies)) g in omega (arith, s)
         lead false g =
-            let s : start_of b older ≡ length (asked b.client older).replies = ap (λ c. cond c 0 (length (asked b.client older).replies)) g in
-            let d : lead_of b older ≡ length (asked b.client older).replies + 4 = ap (λ c. cond c 0 (length (asked b.client older).replies + 4)) g in
+            let s : start_of b older ≡ length (asked b.client older).replies =
+            ap (λ c. cond c 0 (length (asked b.client older).replies)) g in
+            let d : lead_of b older ≡ length (asked b.client older).replies + 4 =
+            ap (λ c. cond c 0 (length (asked b.client older).replies + 4)) g in
             omega (arith, s, d)
 
         go : (a c : Bool) → nat_eq x.part.remote 0 ≡ a → nat_eq r.effect.row.part.remote 0 ≡ c
@@ -187,7 +197,9 @@ module _ (older : History) (l : ℕ) (b : Birth) (x : Stream) (bytes : List ℕ)
             omega (arith, n, o, nil, d, put_within, t.holds.output, same_lead e older l b x t)
         go false c f g =
             let same : r.effect.row.part.remote ≡ x.part.remote = r.effect.remote ∙ remote_known x.part.remote l f r.given in
-            let n = new ∙ ap (λ c. cond c 0 (length (bytes_put b.client older) - lead_of b (Recv b.link bytes ∷ older))) (ap (λ n. nat_eq n 0) same ∙ f) in
+            let n = new ∙ ap
+            (λ c. cond c 0 (length (bytes_put b.client older) - lead_of b (Recv b.link bytes ∷ older)))
+            (ap (λ n. nat_eq n 0) same ∙ f) in
             let o = old ∙ ap (λ c. cond c 0 (length (bytes_put b.client older) - lead_of b older)) f in
             omega (arith, n, o, same_lead e older l b x t)
 
@@ -214,7 +226,8 @@ module _ (older : History) (l : ℕ) (b : Birth) (x : Stream) (bytes : List ℕ)
               ap length r.all ∙ length-append (brought b.link older) r.given in omega (arith, n, t.holds.before));
           waits = λ nil packets. ap (λ ps. opening_in l (ps ++ packets)) more_since ∙ told_more.waits (sym r.effect.remote ∙ nil) packets;
           forwarded = r.effect.same.forwarded ∙ t.holds.forwarded;
-          flow = flow_at r.effect.row.part.flow b.credit (written_all x.part.remote l r.given w) (length (handed_to l b older)) (given_to l b older)
+          flow = flow_at r.effect.row.part.flow b.credit (written_all x.part.remote l r.given w)
+              (length (handed_to l b older)) (given_to l b older)
               (length (joined (told_to l b (e ∷ older)))) (length (handed_to l b (e ∷ older))) (given_to l b older + 0)
               (sym now_written, sym now_handed, omega arith)
               (r.effect.flow b.credit w (length (handed_to l b older)) (given_to l b older) t.holds.flow);
@@ -224,12 +237,14 @@ module _ (older : History) (l : ℕ) (b : Birth) (x : Stream) (bytes : List ℕ)
           writes = λ one.
               let was = t.holds.writes one in
               let more = r.effect.okays (okays_after l b older) in
-              let same : okays_after l b (e ∷ older) ≡ okays_all x.part.remote l r.given (okays_after l b older) = ap (okays_behind_in l) more_since
+              let same : okays_after l b (e ∷ older) ≡ okays_all x.part.remote l r.given (okays_after l b older) =
+              ap (okays_behind_in l) more_since
               ∙ told_more.okays in
               omega (arith, was, more, same);
           exact = λ one timely.
               let was = t.holds.exact one timely.0 in
-              let same : okays_after l b (e ∷ older) ≡ okays_all x.part.remote l r.given (okays_after l b older) = ap (okays_behind_in l) more_since
+              let same : okays_after l b (e ∷ older) ≡ okays_all x.part.remote l r.given (okays_after l b older) =
+              ap (okays_behind_in l) more_since
               ∙ told_more.okays in
               let more = r.effect.answers (okays_after l b older) (count_from is_wrte l (packets_of b.link older)) was
               (let late = timely.1 in omega (arith, late, same)) in

@@ -1,5 +1,6 @@
 -- What the rule of each entry makes of the stream of a number that was drawn before.
-use Rattle.std.proofs.Common.{◌≡◌, ◌≢◌, ◌≤◌, ◌<◌, ◌+◌, ℕ, zero, suc, Bool, true, false, cond, not, List, [], ◌∷◌, length, drop, min, Option, Some}
+use Rattle.std.proofs.Common.{◌≡◌, ◌≢◌, ◌≤◌, ◌<◌, ◌+◌, ℕ, zero, suc, Bool, true, false, cond, not, List, [], ◌∷◌, length, drop, min, Option}
+use Rattle.std.proofs.Common.{Some}
 use Rattle.std.proofs.Common.{None, refl, sym, ap, subst, ◌∙◌, eqb}
 use Rattle.std.proofs.Common.{arith, ◌⊎◌, inl, inr}
 use Rattle.std.specs.Prelude.{nat_eq}
@@ -59,7 +60,8 @@ draws (Read c bytes) = true
 draws _ = false
 
 -- a stream that is there was drawn
-pub drawn_row : (drawn l : ℕ) (streams : Rows (Option Stream)) → IsDrawnOnly drawn streams → (x : Stream) → streams l ≡ Some x → (0 < l) × (l ≤ drawn)
+pub drawn_row : (drawn l : ℕ) (streams : Rows (Option Stream)) → IsDrawnOnly drawn streams → (x : Stream)
+    → streams l ≡ Some x → (0 < l) × (l ≤ drawn)
 drawn_row drawn l streams rows x is = (some (cases_eq 0 l), below (order l drawn))
   where
     order : (a b : ℕ) → (a ≤ b) ⊎ (b < a)
@@ -88,7 +90,8 @@ module _ (l : ℕ) (streams : Rows (Option Stream)) where
       both true = refl
       both false = refl
 
-      go : (orphan : Bool) → ending_in l (cond orphan [] (ended k Stopped ∷ [])) ≡ cond (eqb k l) (cond (not orphan) (Some Stopped) None) None
+      go : (orphan : Bool) → ending_in l (cond orphan [] (ended k Stopped ∷ []))
+          ≡ cond (eqb k l) (cond (not orphan) (Some Stopped) None) None
       go true = both (eqb k l)
       go false = refl
 
@@ -98,13 +101,15 @@ module _ (l : ℕ) (streams : Rows (Option Stream)) where
       go (ending_in l (all_stop k streams)) refl (stops_some k y)
       (sym (ending_append l (all_stop k streams) (tells_stop (suc k) (streams (suc k)))) ∙ e)
     where
-      here : (same live : Bool) → eqb (suc k) l ≡ same → lives (streams (suc k)) ≡ live → cond same (cond live (Some Stopped) None) None ≡ Some y
+      here : (same live : Bool) → eqb (suc k) l ≡ same → lives (streams (suc k)) ≡ live
+          → cond same (cond live (Some Stopped) None) None ≡ Some y
           → (y ≡ Stopped) × (lives (streams l) ≡ true)
       here true true e f g = (let both : Some Stopped ≡ Some y = g in cc, ap (λ n. lives (streams n)) (sym (eqb-true (suc k) l e)) ∙ f)
       here true false e f g = absurd (none_some y g)
       here false live e f g = absurd (none_some y g)
 
-      go : (o : Option Ending) → ending_in l (all_stop k streams) ≡ o → (ending_in l (all_stop k streams) ≡ Some y → (y ≡ Stopped) × (lives (streams l) ≡ true))
+      go : (o : Option Ending) → ending_in l (all_stop k streams) ≡ o
+          → (ending_in l (all_stop k streams) ≡ Some y → (y ≡ Stopped) × (lives (streams l) ≡ true))
           → option_or o (ending_in l (tells_stop (suc k) (streams (suc k)))) ≡ Some y → (y ≡ Stopped) × (lives (streams l) ≡ true)
       go (Some z) is ih e = ih (is ∙ e)
       go None is ih e = here (eqb (suc k) l) (lives (streams (suc k))) refl refl (sym (tells_one (suc k) (streams (suc k))) ∙ e)
@@ -122,7 +127,8 @@ module _ (l : ℕ) (streams : Rows (Option Stream)) where
       here false live e f g = absurd (let clash : false ≡ true = e in cc)
 
       go : (suc k ≡ l) ⊎ (suc k ≡ l → ⊥) → (l ≤ k → ending_in l (all_stop k streams) ≡ None → lives (streams l) ≡ false)
-          → (ending_in l (all_stop k streams) ≡ None) × (ending_in l (tells_stop (suc k) (streams (suc k))) ≡ None) → lives (streams l) ≡ false
+          → (ending_in l (all_stop k streams) ≡ None) × (ending_in l (tells_stop (suc k) (streams (suc k))) ≡ None)
+          → lives (streams l) ≡ false
       go (inl same) ih none =
           ap (λ n. lives (streams n)) (sym same)
           ∙ here (eqb (suc k) l) (lives (streams (suc k))) (eq-eqb (suc k) l same) refl (sym (tells_one (suc k) (streams (suc k))) ∙ none.1)
@@ -136,7 +142,14 @@ module _ (l : ℕ) (Why : Reason) where
     ends = λ y e.
         let h = stops_some l s.streams s.drawn y e in
         let x = live_row (s.streams l) h.1 in
-        record { row = x.row; is = x.is; alive = x.alive; over = refl; why = subst (Why x.row.client x.row.link) (sym h.0) (why x.row.client x.row.link) };
+        record {
+          row = x.row;
+          is = x.is;
+          alive = x.alive;
+          over = refl;
+          why =
+              subst (Why x.row.client x.row.link) (sym h.0) (why x.row.client x.row.link);
+        };
   }
     where
       dead : ending_in l (all_stop s.drawn s.streams) ≡ None → (b : Bool) → lives (s.streams l) ≡ b → lives (s.streams l) ≡ false
@@ -155,7 +168,8 @@ module _ (l : ℕ) (Why : Reason) where
       new : Option Stream
       new = (draw (is_credit t s.devices) c t s).streams (s.drawn + 1)
 
-      go : (b : Bool) → b ≡ false → Fate l Why (s.streams l) (cond b (Some (new_stream (s.drawn + 1) c t (new_flow (is_credit t s.devices))))
+      go : (b : Bool) → b ≡ false → Fate l Why (s.streams l)
+          (cond b (Some (new_stream (s.drawn + 1) c t (new_flow (is_credit t s.devices))))
           (s.streams l)) told
       go false e = fate_same l Why (s.streams l) told refl
       go true e = absurd (let clash : true ≡ false = e in cc)
@@ -164,7 +178,8 @@ module _ (l : ℕ) (Why : Reason) where
   no_ids_fate true c s = fate_same l Why (s.streams l) [] refl
   no_ids_fate false c s = fate_same l Why (s.streams l) _ refl
 
-  opens_fate : (forwarded : Bool) (c t : ℕ) (service : List ℕ) (s : State) → l ≢ s.drawn + 1 → FateOf l Why s (opens forwarded c t service s)
+  opens_fate : (forwarded : Bool) (c t : ℕ) (service : List ℕ) (s : State) → l ≢ s.drawn + 1
+      → FateOf l Why s (opens forwarded c t service s)
   opens_fate forwarded c t service s other =
       if_fate l Why s (eqb s.drawn stream_ids) (no_ids_left forwarded c s) (asks_for (s.drawn + 1) c t service s)
       (λ e. no_ids_fate forwarded c s) (λ e. drawn_fate c t service s other)
@@ -172,7 +187,8 @@ module _ (l : ℕ) (Why : Reason) where
   enters_fate : (c : ℕ) (o : Option ForwardRow) (s : State) → l ≢ s.drawn + 1 → FateOf l Why s (enters_by c o s)
   enters_fate c None s other = fate_same l Why (s.streams l) [] refl
   enters_fate c (Some row) s other =
-      if_fate l Why s (is_connected row.transport s.devices) (opens true c row.transport row.remote (comes true c s)) (quietly (comes_in_vain s))
+      if_fate l Why s (is_connected row.transport s.devices) (opens true c row.transport row.remote (comes true c s))
+      (quietly (comes_in_vain s))
       (λ e. opens_fate true c row.transport row.remote (comes true c s) other) (λ e. fate_same l Why (s.streams l) [] refl)
 
   -- ---- read
@@ -191,8 +207,10 @@ module _ (l : ℕ) (Why : Reason) where
       then_fate l Why s owed (goes_on q.next c) (fate_same l Why (s.streams l) _ refl) (goes_on_fate q.next c owed.state other rows why)
 
   reads_in_fate : (phase : Phase) (c : ℕ) (bytes : List ℕ) (client : Client) (s : State) → l ≢ s.drawn + 1 → IsDrawnOnly s.drawn s.streams
-      → ((reads_in phase c bytes client s).state.stopped ≡ true → (n t : ℕ) → Why n t Stopped) → FateOf l Why s (reads_in phase c bytes client s)
-  reads_in_fate Asking c bytes client s other rows why = asks_fate (asks_with s.devices s.forwards bytes (asked_before client)) c s other rows why
+      → ((reads_in phase c bytes client s).state.stopped ≡ true → (n t : ℕ) → Why n t Stopped)
+      → FateOf l Why s (reads_in phase c bytes client s)
+  reads_in_fate Asking c bytes client s other rows why = asks_fate
+      (asks_with s.devices s.forwards bytes (asked_before client)) c s other rows why
   reads_in_fate (Opening k) c bytes client s other rows why = fate_same l Why (s.streams l) [] refl
   reads_in_fate (Streaming k) c bytes client s other rows why = fate_same l Why (s.streams l) [] refl
   reads_in_fate _ c bytes client s other rows why = quiet l Why s
@@ -217,7 +235,8 @@ module _ (l : ℕ) (Why : Reason) where
 
   -- ---- client end
   -- the stream of a client fails
-  stream_fails_fate : (phase : Phase) (c : ℕ) (cause : Cause) (s : State) → ((n : ℕ) (x : Stream) → s.streams n ≡ Some x → stream_of phase s.streams ≡ Some x
+  stream_fails_fate : (phase : Phase) (c : ℕ) (cause : Cause) (s : State)
+      → ((n : ℕ) (x : Stream) → s.streams n ≡ Some x → stream_of phase s.streams ≡ Some x
       → (x.part.orphan ≡ false) × Why x.client x.link (ClientFailed cause))
       → FateOf l Why s (stream_fails phase cause (stream_of phase s.streams) (to_client c none_kept s))
   stream_fails_fate (Streaming k) c cause s why = go (s.streams k) refl
@@ -283,11 +302,13 @@ module _ (l : ℕ) (Why : Reason) where
   puts_fate None c n s = quiet l Why s
   puts_fate (Some client) c n s =
       let listed = lists_first c client.due client s in
-      then_fate l Why s listed (λ s. takes_of c n (s.clients c) s) (lists_fate c client.due client s) (takes_fate c n (listed.state.clients c) listed.state)
+      then_fate l Why s listed (λ s. takes_of c n (s.clients c) s) (lists_fate c client.due client s)
+      (takes_fate c n (listed.state.clients c) listed.state)
 
 -- ---- entries
 -- the stream of a client is its own
-own_stream : (phase : Phase) (c : ℕ) (s : State) (client : Client) → HoldsIn phase s.streams c client → (x : Stream) → stream_of phase s.streams ≡ Some x
+own_stream : (phase : Phase) (c : ℕ) (s : State) (client : Client) → HoldsIn phase s.streams c client → (x : Stream)
+    → stream_of phase s.streams ≡ Some x
     → (x.part.orphan ≡ false) × (x.client ≡ c)
 own_stream (Streaming k) c s client holds x is =
     let same : holds.stream ≡ x = (let both : Some holds.stream ≡ Some x = sym holds.is ∙ is in cc) in
@@ -302,9 +323,12 @@ module _ (l : ℕ) (s : State) (h : IsOwned s) where
       → FateOf l (WhyBy (End c cause) ⊥) s (client_fails c cause client s)
   fails_fate c cause client is bad =
       stream_fails_fate l (WhyBy (End c cause) ⊥) client.about.phase c cause s
-      (λ n x at_n of. (let own = own_stream client.about.phase c s client (h.owned.client c client is).holds x of in (own.0, (refl, own.1, bad))))
+      (λ n x at_n of.
+      (let own = own_stream client.about.phase c s client (h.owned.client c client is).holds x of
+      in (own.0, (refl, own.1, bad))))
 
-  ends_client_fate : (c : ℕ) (cause : Cause) (o : Option Client) → s.clients c ≡ o → FateOf l (WhyBy (End c cause) ⊥) s (client_ends c cause o s)
+  ends_client_fate : (c : ℕ) (cause : Cause) (o : Option Client) → s.clients c ≡ o
+      → FateOf l (WhyBy (End c cause) ⊥) s (client_ends c cause o s)
   ends_client_fate c cause None is = quiet l (WhyBy (End c cause) ⊥) s
   ends_client_fate c Eof (Some client) is = input_fate l (WhyBy (End c Eof) ⊥) client.about.phase c s
   ends_client_fate c Fault (Some client) is = fails_fate c Fault client is refl

@@ -1,5 +1,6 @@
 -- A stream and its client after the rule of an entry: by entries of others, and by what its client sends and is handed.
-use Rattle.std.proofs.Common.{◌≡◌, ◌≤◌, ◌+◌, ◌-◌, ℕ, zero, suc, Bool, true, cond, ◌&&◌, ◌||◌, List, [], ◌∷◌, ◌++◌, length, drop, Some, refl, sym, ap}
+use Rattle.std.proofs.Common.{◌≡◌, ◌≤◌, ◌+◌, ◌-◌, ℕ, zero, suc, Bool, true, cond, ◌&&◌, ◌||◌, List, [], ◌∷◌, ◌++◌, length, drop, Some, refl}
+use Rattle.std.proofs.Common.{sym, ap}
 use Rattle.std.proofs.Common.{subst, ◌∙◌}
 use Rattle.std.proofs.Common.{arith, length-append, append_assoc}
 use Rattle.std.specs.Prelude.{nat_eq, is_some}
@@ -136,14 +137,16 @@ module _ (e : Entry) (older : History) (l : ℕ) (b : Birth) (x : Stream) (t : S
           ∙ sym (handed_is l b older x.part.remote t.remote)))
 
   -- ---- by others
-  pub far_after : Untouched l b.client (state older) (rule e (state older)) → SameBytes e older b.client b.link → AfterRule e older l b x t.pair.client
+  pub far_after : Untouched l b.client (state older) (rule e (state older)) → SameBytes e older b.client b.link
+      → AfterRule e older l b x t.pair.client
   far_after u same = steady t.pair.client (record {
     owed = u.owed;
     silent = u.silent;
     received = same.received;
     put = same.put;
     forwarded = refl;
-    head = (let n : length (bytes_read b.client (e ∷ older)) ≡ length (bytes_read b.client older) = ap length same.read in omega (arith, n, t.holds.head));
+    head = (let n : length (bytes_read b.client (e ∷ older)) ≡ length (bytes_read b.client older) =
+        ap length same.read in omega (arith, n, t.holds.head));
     up = t.holds.up ∙ ap (drop b.head) (sym same.read);
     closed = λ ended. closed_before l b.client e older (t.holds.closed ended);
   })
@@ -213,7 +216,8 @@ module _ (older : History) (l : ℕ) (b : Birth) (x : Stream) where
       )
 
   pub end_after : (t : Standing (End b.client Eof) older l b x)
-      → AfterRule (End b.client Eof) older l b x (with_end t.pair.client) × Becomes l x (with_end t.pair.client) (rule (End b.client Eof) (state older)).state
+      → AfterRule (End b.client Eof) older l b x (with_end t.pair.client)
+      × Becomes l x (with_end t.pair.client) (rule (End b.client Eof) (state older)).state
   end_after t =
       let e = End b.client Eof in
       let k = t.pair.client in

@@ -1,5 +1,6 @@
 -- What the packets of its link make of a stream and its client, one after another, where the stream goes on.
-use Rattle.std.proofs.Common.{◌≡◌, ◌≤◌, ◌+◌, ℕ, Bool, true, false, cond, not, ◌&&◌, List, [], ◌∷◌, ◌++◌, length, Some, None, refl, sym, ap, subst, ◌∙◌}
+use Rattle.std.proofs.Common.{◌≡◌, ◌≤◌, ◌+◌, ℕ, Bool, true, false, cond, not, ◌&&◌, List, [], ◌∷◌, ◌++◌, length, Some, None, refl, sym, ap}
+use Rattle.std.proofs.Common.{subst, ◌∙◌}
 use Rattle.std.proofs.Common.{arith, inl, inr, length-append}
 use Rattle.std.specs.Prelude.{nat_eq}
 use Rattle.std.proofs.lemmas.Bool.{eqb-true, eqb-false}
@@ -58,10 +59,12 @@ okays_grow remote l (p ∷ packets) n =
     go false = omega arith
 
 -- nothing was written to a stream that is not open
-after_nil : (remote l : ℕ) (p : Packet) (written : ℕ) → (remote ≡ 0 → written ≡ 0) → remote_after remote l p ≡ 0 → written_after remote l p written ≡ 0
+after_nil : (remote l : ℕ) (p : Packet) (written : ℕ) → (remote ≡ 0 → written ≡ 0) → remote_after remote l p ≡ 0
+    → written_after remote l p written ≡ 0
 after_nil remote l p written nil e = go (nat_eq remote 0) refl e
   where
-    none : (b : Bool) → written ≡ 0 → (is_wrte p.command && not b && is_between remote l p) ≡ false → cond (is_wrte p.command && not b && is_between remote l p)
+    none : (b : Bool) → written ≡ 0 → (is_wrte p.command && not b && is_between remote l p) ≡ false
+        → cond (is_wrte p.command && not b && is_between remote l p)
         (written + length p.payload) written ≡ 0
     none b is e = ap (λ c. cond c (written + length p.payload) written) e ∙ is
 
@@ -106,13 +109,15 @@ module _ (t l : ℕ) (x : Stream) (p : Packet) (packets : List Packet) (s : Stat
       ∙ ap (λ o. option_or o (ending_in l (treat_all t packets (treat t p s).state).told)) f.told in
       absurd (let clash : true ≡ false = sym on ∙ ((treat_all_fate l t (p ∷ packets) s).ends f.ending told).over in cc)
 
-  first_effect : (h : Pair l x s) → Passes t l x p (treat t p s) → EffectOr l x p h.client (treat t p s) → Effect l x p h.client (treat t p s)
+  first_effect : (h : Pair l x s) → Passes t l x p (treat t p s) → EffectOr l x p h.client (treat t p s)
+      → Effect l x p h.client (treat t p s)
   first_effect h a (inl e) = e
   first_effect h a (inr none) = absurd (let clash : None ≡ Some a.row = sym none ∙ a.is in cc)
 
   -- one packet, and those behind it
   effects_join : (h : Pair l x s) (a : Passes t l x p (treat t p s)) (e : Effect l x p h.client (treat t p s))
-      → RunEffect l e.row packets e.client (treat_all t packets (treat t p s).state) → RunEffect l x (p ∷ packets) h.client (treat_all t (p ∷ packets) s)
+      → RunEffect l e.row packets e.client (treat_all t packets (treat t p s).state)
+      → RunEffect l x (p ∷ packets) h.client (treat_all t (p ∷ packets) s)
   effects_join h a e r =
       let rest = treat_all t packets (treat t p s).state in
       let next = next_row in
@@ -124,7 +129,8 @@ module _ (t l : ℕ) (x : Stream) (p : Packet) (packets : List Packet) (s : Stat
         link = r.link ∙ next.link;
         remote = r.remote ∙ ap (λ n. remote_all n l packets) next.remote;
         flow = λ credit written handed given f.
-            subst (λ (n : ℕ). FlowIs r.row.part.flow credit (written_all n l packets (written_after x.part.remote l p written)) handed given) next.remote
+            subst (λ (n : ℕ). FlowIs r.row.part.flow credit
+            (written_all n l packets (written_after x.part.remote l p written)) handed given) next.remote
             (r.flow credit (written_after x.part.remote l p written) handed given (next.flow credit written handed given f));
         client = r.client;
         here = ap rest.state.clients (sym e.of) ∙ r.here;
@@ -173,8 +179,10 @@ module _ (t l : ℕ) (x : Stream) (p : Packet) (packets : List Packet) (s : Stat
           ≡ hears r.row.part.remote h.client.about.forwarded (written_all (remote_after x.part.remote l p) l packets after) =
           ap (λ f. hears r.row.part.remote f (written_all e.row.part.remote l packets after)) e.same.forwarded
           ∙ ap (λ n. hears r.row.part.remote h.client.about.forwarded (written_all n l packets after)) next_row.remote in
-          let all : length (owed_to x.client ((treat t p s).told ++ rest)) ≡ length (owed_to x.client (treat t p s).told) + length (owed_to x.client rest) =
-          ap length (owed_append x.client (treat t p s).told rest) ∙ length-append (owed_to x.client (treat t p s).told) (owed_to x.client rest) in
+          let all : length (owed_to x.client ((treat t p s).told ++ rest))
+          ≡ length (owed_to x.client (treat t p s).told) + length (owed_to x.client rest) =
+          ap length (owed_append x.client (treat t p s).told rest)
+          ∙ length-append (owed_to x.client (treat t p s).told) (owed_to x.client rest) in
           omega (arith, one, more, mine, own, end, all)
 
 pub run_effect : (t l : ℕ) (packets : List Packet) (x : Stream) (s : State) (h : Pair l x s) → Here t l x s × Apart l x.client s

@@ -1,5 +1,6 @@
 -- The packets of its link one after another, and a stream that lives.
-use Rattle.std.proofs.Common.{◌≡◌, ◌+◌, ℕ, Bool, true, false, cond, not, ◌||◌, ◌&&◌, List, [], ◌∷◌, length, Option, Some, None, refl, sym, ap, ◌∙◌, eqb}
+use Rattle.std.proofs.Common.{◌≡◌, ◌+◌, ℕ, Bool, true, false, cond, not, ◌||◌, ◌&&◌, List, [], ◌∷◌, length, Option, Some, None, refl, sym}
+use Rattle.std.proofs.Common.{ap, ◌∙◌, eqb}
 use Rattle.std.proofs.Common.{◌⊎◌, inl, inr}
 use Rattle.std.specs.Prelude.{nat_eq, nat_lt, is_some, is_none, option_and_then}
 use Rattle.std.specs.Option.{option_or}
@@ -68,7 +69,8 @@ abbrev pub Run : (t l : ℕ) → Stream → List Packet → Made → Type 0
 Run t l x packets m = RunsOn t l x packets m ⊎ Fell l x packets m
 
 -- no end of a stream that lives on was told
-pub alive_told : (l : ℕ) (Why : Reason) (s : State) (m : Made) (y : Stream) → FateOf l Why s m → (m.state.streams l ≡ Some y) × (y.part.orphan ≡ false)
+pub alive_told : (l : ℕ) (Why : Reason) (s : State) (m : Made) (y : Stream) → FateOf l Why s m
+    → (m.state.streams l ≡ Some y) × (y.part.orphan ≡ false)
     → ending_in l m.told ≡ None
 alive_told l Why s m y fate is = go (ending_in l m.told) refl
   where
@@ -138,7 +140,8 @@ module _ (t l : ℕ) (x : Stream) (p : Packet) (packets : List Packet) (s : Stat
     struck_behind (ClientFailed cause) e = absurd e
     struck_behind Stopped e = absurd e
 
-    runs_behind : RunsOn t l a.row packets (treat_all t packets (treat t p s).state) → RunsOn t l x (p ∷ packets) (treat_all t (p ∷ packets) s)
+    runs_behind : RunsOn t l a.row packets (treat_all t packets (treat t p s).state)
+        → RunsOn t l x (p ∷ packets) (treat_all t (p ∷ packets) s)
     runs_behind r = record {
       row = r.row;
       is = r.is;
@@ -179,7 +182,9 @@ run t l (p ∷ packets) x s h = go (treat_turn t l x p s h) (λ y k. run t l pac
       why = struck_behind t l x p packets s a f.ending f.why;
     })
 
-    go : Turn t l x p (treat t p s) → ((y : Stream) → Here t l y (treat t p s).state → Run t l y packets (treat_all t packets (treat t p s).state))
+    go : Turn t l x p (treat t p s)
+        → ((y : Stream) → Here t l y (treat t p s).state → Run t l y packets
+        (treat_all t packets (treat t p s).state))
         → Run t l x (p ∷ packets) (treat_all t (p ∷ packets) s)
     go (inl a) later = behind a (later a.row (record { is = a.is; alive = a.next.alive; on = a.next.link ∙ h.on; live = a.live }))
     go (inr f) later = inr (record {
@@ -225,7 +230,8 @@ module _ (t l : ℕ) (x : Stream) (s : State) (h : Here t l x s) (c : Cutting) w
       m : Made
       m = treat_all t c.given (to_link t (with_rest c.rest) s)
 
-      last : (r : RunsOn t l x c.given (treat_all t c.given (to_link t (with_rest c.rest) s))) (o : Option Link) (fault : Option PacketFault) → c.fault ≡ fault
+      last : (r : RunsOn t l x c.given (treat_all t c.given (to_link t (with_rest c.rest) s))) (o : Option Link)
+          (fault : Option PacketFault) → c.fault ≡ fault
           → is_some o ≡ true → CutRun t l x c (then_also m (λ s. faulty_on o t fault s))
       last r None fault is e = absurd (let clash : false ≡ true = e in cc)
       last r (Some lk) None is e = inl (
@@ -244,12 +250,14 @@ module _ (t l : ℕ) (x : Stream) (s : State) (h : Here t l x s) (c : Cutting) w
       )
       last r (Some lk) (Some fault) is e =
           let quiet : ending_in l m.told ≡ None =
-          alive_told l (OfLink t) (to_link t (with_rest c.rest) s) m r.row (treat_all_fate l t c.given (to_link t (with_rest c.rest) s)) (r.is, r.alive) in
+          alive_told l (OfLink t) (to_link t (with_rest c.rest) s) m r.row
+          (treat_all_fate l t c.given (to_link t (with_rest c.rest) s)) (r.is, r.alive) in
           let here : Here t l r.row m.state = record { is = r.is; alive = r.alive; on = r.link ∙ h.on; live = r.live } in
           inr (record {
             ending = Broken;
             told = ending_append l m.told (link_ends t Broken m.state).told
-                ∙ (ap (λ o. option_or o (ending_in l (link_ends t Broken m.state).told)) quiet ∙ link_ends_told t l r.row m.state here Broken);
+                ∙ (ap (λ o. option_or o (ending_in l (link_ends t Broken m.state).told)) quiet
+                ∙ link_ends_told t l r.row m.state here Broken);
             why = inr (refl, ap is_some is);
           })
 
@@ -257,6 +265,7 @@ module _ (t l : ℕ) (x : Stream) (s : State) (h : Here t l x s) (c : Cutting) w
       go (inl r) = last r (m.state.links t) c.fault refl r.live.link
       go (inr f) = inr (record {
         ending = f.ending;
-        told = ending_append l m.told (faulty t c.fault m.state).told ∙ ap (λ o. option_or o (ending_in l (faulty t c.fault m.state).told)) f.told;
+        told = ending_append l m.told (faulty t c.fault m.state).told
+            ∙ ap (λ o. option_or o (ending_in l (faulty t c.fault m.state).told)) f.told;
         why = inl f.why;
       })

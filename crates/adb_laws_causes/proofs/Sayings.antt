@@ -1,5 +1,6 @@
 -- What more packets say of a stream: its opening, the payloads that were told to it, and its OKAYs.
-use Rattle.std.proofs.Common.{◌≡◌, ◌+◌, ℕ, Bool, true, false, cond, not, ◌||◌, ◌&&◌, List, [], ◌∷◌, ◌++◌, length, Option, Some, None, refl, sym, ap, ◌∙◌, eqb}
+use Rattle.std.proofs.Common.{◌≡◌, ◌+◌, ℕ, Bool, true, false, cond, not, ◌||◌, ◌&&◌, List, [], ◌∷◌, ◌++◌, length, Option, Some, None, refl}
+use Rattle.std.proofs.Common.{sym, ap, ◌∙◌, eqb}
 use Rattle.std.proofs.Common.{arith, length-append, append_assoc}
 use Rattle.std.specs.Prelude.{nat_eq}
 use Rattle.std.specs.List.{list_any}
@@ -10,7 +11,8 @@ use Rattle.adb_wire.specs.declared.command.Command.{Command}
 use Rattle.adb_wire.specs.declared.command.Command.TheVariants.{Cnxn, Open, Okay, Wrte, Clse, Auth, Stls}
 use Rattle.adb_wire.specs.declared.packets.Packet.{Packet}
 use Rattle.adb_history.specs.Links.{credit_word}
-use Rattle.adb_history.specs.Births.{Opening, opening_by, opening_in, remote_in, told_in, told_after, joined, is_between, is_wrte, is_okay, is_clse}
+use Rattle.adb_history.specs.Births.{Opening, opening_by, opening_in, remote_in, told_in, told_after, joined, is_between, is_wrte, is_okay}
+use Rattle.adb_history.specs.Births.{is_clse}
 use Rattle.adb_history.specs.Births.{is_close_of}
 use Rattle.adb_history.specs.Fifo.{okays_in}
 use Rattle.adb_history.specs.Causes.{remote_after, closes_in, okays_behind}
@@ -24,7 +26,8 @@ told_append r l [] b = refl
 told_append r l (p ∷ a) b = go (is_wrte p.command && is_between r l p) (told_append r l a b)
   where
     go : (c : Bool) → told_in r l (a ++ b) ≡ told_in r l a ++ told_in r l b
-        → cond c (p.payload ∷ told_in r l (a ++ b)) (told_in r l (a ++ b)) ≡ cond c (p.payload ∷ told_in r l a) (told_in r l a) ++ told_in r l b
+        → cond c (p.payload ∷ told_in r l (a ++ b)) (told_in r l (a ++ b))
+        ≡ cond c (p.payload ∷ told_in r l a) (told_in r l a) ++ told_in r l b
     go true e = ap (λ (ps : List (List ℕ)). p.payload ∷ ps) e
     go false e = e
 
@@ -46,7 +49,8 @@ module _ (r l : ℕ) (some : nat_eq r 0 ≡ false) where
   known_after : (p : Packet) → remote_after r l p ≡ r
   known_after p = ap (λ b. cond (b && is_okay p.command && nat_eq p.arg1 l) p.arg0 r) some
 
-  pub written_known : (packets : List Packet) (written : ℕ) → written_all r l packets written ≡ written + length (joined (told_in r l packets))
+  pub written_known : (packets : List Packet) (written : ℕ) → written_all r l packets written
+      ≡ written + length (joined (told_in r l packets))
   written_known [] written = omega arith
   written_known (p ∷ packets) written =
       ap (λ n. written_all n l packets (written_after r l p written)) (known_after p)
@@ -63,10 +67,12 @@ module _ (r l : ℕ) (some : nat_eq r 0 ≡ false) where
   okays_known [] n = omega arith
   okays_known (p ∷ packets) n =
       ap (λ i. okays_all i l packets (okays_after_one r l p n)) (known_after p)
-      ∙ (okays_known packets (okays_after_one r l p n) ∙ (ap (λ b. cond (is_okay p.command && not b && is_between r l p) (1 + n) n + okays_in r l packets) some
+      ∙ (okays_known packets (okays_after_one r l p n)
+      ∙ (ap (λ b. cond (is_okay p.command && not b && is_between r l p) (1 + n) n + okays_in r l packets) some
       ∙ go (is_okay p.command) (is_between r l p)))
     where
-      go : (a b : Bool) → cond (a && true && b) (1 + n) n + okays_in r l packets ≡ n + cond (a && b) (1 + okays_in r l packets) (okays_in r l packets)
+      go : (a b : Bool) → cond (a && true && b) (1 + n) n + okays_in r l packets
+          ≡ n + cond (a && b) (1 + okays_in r l packets) (okays_in r l packets)
       go true true = omega arith
       go true false = refl
       go false b = refl
@@ -76,7 +82,8 @@ module _ (r l : ℕ) (some : nat_eq r 0 ≡ false) where
   remote_known (p ∷ packets) = ap (λ n. remote_all n l packets) (known_after p) ∙ remote_known packets
 
 -- an opening stays, with more packets behind it
-pub opening_more : (l : ℕ) (a b : List Packet) (o : Opening) → opening_in l a ≡ Some o → opening_in l (a ++ b) ≡ Some (record o { later = o.later ++ b })
+pub opening_more : (l : ℕ) (a b : List Packet) (o : Opening) → opening_in l a ≡ Some o
+    → opening_in l (a ++ b) ≡ Some (record o { later = o.later ++ b })
 opening_more l [] b o is = absurd (let clash : None ≡ Some o = is in cc)
 opening_more l (p ∷ a) b o is = go p.command is (opening_more l a b o)
   where
@@ -93,7 +100,8 @@ opening_more l (p ∷ a) b o is = go p.command is (opening_more l a b o)
     okay true e ih = same a e
     okay false e ih = ih e
 
-    close : (c : Bool) → cond c None (opening_in l a) ≡ Some o → (opening_in l a ≡ Some o → opening_in l (a ++ b) ≡ Some (record o { later = o.later ++ b }))
+    close : (c : Bool) → cond c None (opening_in l a) ≡ Some o
+        → (opening_in l a ≡ Some o → opening_in l (a ++ b) ≡ Some (record o { later = o.later ++ b }))
         → cond c None (opening_in l (a ++ b)) ≡ Some (record o { later = o.later ++ b })
     close true e ih = absurd (let clash : None ≡ Some o = e in cc)
     close false e ih = ih e
@@ -120,8 +128,11 @@ module _ (l : ℕ) (p : Packet) (packets : List Packet) where
   opens_said at =
       let now : opening_in l (p ∷ packets) ≡ Some (record { remote = p.arg0; word = credit_word p.payload; later = packets }) =
       ap (λ c. opening_by c l p packets (opening_in l packets)) at.0
-      ∙ (ap (λ b. cond (b && not (eqb p.arg0 0)) (Some (record { remote = p.arg0; word = credit_word p.payload; later = packets })) (opening_in l packets)) at.1
-      ∙ ap (λ b. cond (not b) (Some (record { remote = p.arg0; word = credit_word p.payload; later = packets })) (opening_in l packets)) at.2) in
+      ∙ (ap (λ b. cond (b && not (eqb p.arg0 0))
+      (Some (record { remote = p.arg0; word = credit_word p.payload; later = packets }))
+      (opening_in l packets)) at.1
+      ∙ ap (λ b. cond (not b) (Some (record { remote = p.arg0; word = credit_word p.payload; later = packets }))
+      (opening_in l packets)) at.2) in
       let after : remote_after 0 l p ≡ p.arg0 =
       ap (λ c. cond (true && is_okay c && nat_eq p.arg1 l) p.arg0 0) at.0 ∙ ap (λ b. cond b p.arg0 0) at.1 in
       let none : written_after 0 l p 0 ≡ 0 = ap (λ c. cond (is_wrte c && false && is_between 0 l p) (0 + length p.payload) 0) at.0 in
@@ -155,22 +166,27 @@ module _ (l : ℕ) (p : Packet) (packets : List Packet) where
   nothing_said : Nothing → (remote_after 0 l p ≡ 0 → Said l packets) → Said l (p ∷ packets)
   nothing_said n later = let s = later n.after in record {
     told = ap (λ o. length (joined (told_after l o))) (n.opening packets (opening_in l packets))
-        ∙ (s.told ∙ sym (ap (λ i. written_all i l packets (written_after 0 l p 0)) n.after ∙ ap (λ w. written_all 0 l packets w) n.written));
+        ∙ (s.told ∙ sym
+        (ap (λ i. written_all i l packets (written_after 0 l p 0)) n.after
+        ∙ ap (λ w. written_all 0 l packets w) n.written));
     okays = ap (okays_behind l) (n.opening packets (opening_in l packets))
         ∙ (s.okays ∙ sym (ap (λ i. okays_all i l packets (okays_after_one 0 l p 0)) n.after ∙ ap (λ w. okays_all 0 l packets w) n.again));
     remote = ap remote_in (n.opening packets (opening_in l packets)) ∙ (s.remote ∙ ap (λ i. remote_all i l packets) (sym n.after));
-    waits = λ e more. n.opening (packets ++ more) (opening_in l (packets ++ more)) ∙ s.waits (ap (λ i. remote_all i l packets) (sym n.after) ∙ e) more;
+    waits = λ e more. n.opening (packets ++ more) (opening_in l (packets ++ more))
+        ∙ s.waits (ap (λ i. remote_all i l packets) (sym n.after) ∙ e) more;
   }
 
   -- the packets behind an OKAY that says nothing
-  okay_said : (a b : Bool) → nat_eq p.arg1 l ≡ a → eqb p.arg0 0 ≡ b → p.command ≡ Okay → (remote_after 0 l p ≡ 0 → Said l packets) → Said l (p ∷ packets)
+  okay_said : (a b : Bool) → nat_eq p.arg1 l ≡ a → eqb p.arg0 0 ≡ b → p.command ≡ Okay
+      → (remote_after 0 l p ≡ 0 → Said l packets) → Said l (p ∷ packets)
   okay_said true false e f c s = opens_said (c, e, f)
   okay_said true true e f c s = nothing_said (record {
     after = ap (λ k. cond (true && is_okay k && nat_eq p.arg1 l) p.arg0 0) c ∙ (ap (λ b. cond b p.arg0 0) e ∙ eqb-true p.arg0 0 f);
     written = ap (λ k. cond (is_wrte k && false && is_between 0 l p) (0 + length p.payload) 0) c;
     again = ap (λ k. cond (is_okay k && false && is_between 0 l p) (1 + 0) 0) c;
     opening = λ later others. ap (λ k. opening_by k l p later others) c
-        ∙ (ap (λ b. cond (nat_eq p.arg1 l && not b) (Some (record { remote = p.arg0; word = credit_word p.payload; later = later })) others) f
+        ∙ (ap (λ b. cond (nat_eq p.arg1 l && not b)
+        (Some (record { remote = p.arg0; word = credit_word p.payload; later = later })) others) f
         ∙ ap (λ b. cond (b && false) (Some (record { remote = p.arg0; word = credit_word p.payload; later = later })) others) e);
   }) s
   okay_said false b e f c s = nothing_said (record {
@@ -178,21 +194,26 @@ module _ (l : ℕ) (p : Packet) (packets : List Packet) where
     written = ap (λ k. cond (is_wrte k && false && is_between 0 l p) (0 + length p.payload) 0) c;
     again = ap (λ k. cond (is_okay k && false && is_between 0 l p) (1 + 0) 0) c;
     opening = λ later others. ap (λ k. opening_by k l p later others) c
-        ∙ ap (λ b. cond (b && not (eqb p.arg0 0)) (Some (record { remote = p.arg0; word = credit_word p.payload; later = later })) others) e;
+        ∙ ap (λ b. cond (b && not (eqb p.arg0 0))
+        (Some (record { remote = p.arg0; word = credit_word p.payload; later = later })) others) e;
   }) s
 
   -- another command
-  command_said : (command : Command) → p.command ≡ command → (is_okay command ≡ false) × (is_wrte command && false && is_between 0 l p ≡ false)
+  command_said : (command : Command) → p.command ≡ command → (is_okay command ≡ false)
+      × (is_wrte command && false && is_between 0 l p ≡ false)
       × ((later : List Packet) (others : Option Opening) → opening_by command l p later others ≡ others)
       → (remote_after 0 l p ≡ 0 → Said l packets) → Said l (p ∷ packets)
   command_said command c at s = nothing_said (record {
     after = ap (λ k. cond (true && is_okay k && nat_eq p.arg1 l) p.arg0 0) c ∙ ap (λ b. cond (true && b && nat_eq p.arg1 l) p.arg0 0) at.0;
-    written = ap (λ k. cond (is_wrte k && false && is_between 0 l p) (0 + length p.payload) 0) c ∙ ap (λ b. cond b (0 + length p.payload) 0) at.1;
-    again = ap (λ k. cond (is_okay k && false && is_between 0 l p) (1 + 0) 0) c ∙ ap (λ b. cond (b && false && is_between 0 l p) (1 + 0) 0) at.0;
+    written = ap (λ k. cond (is_wrte k && false && is_between 0 l p) (0 + length p.payload) 0) c
+        ∙ ap (λ b. cond b (0 + length p.payload) 0) at.1;
+    again = ap (λ k. cond (is_okay k && false && is_between 0 l p) (1 + 0) 0) c
+        ∙ ap (λ b. cond (b && false && is_between 0 l p) (1 + 0) 0) at.0;
     opening = λ later others. ap (λ k. opening_by k l p later others) c ∙ at.2 later others;
   }) s
 
-  one_said : (command : Command) → p.command ≡ command → is_cnxn command ≡ false → is_close_of 0 l p ≡ false → (remote_after 0 l p ≡ 0 → Said l packets)
+  one_said : (command : Command) → p.command ≡ command → is_cnxn command ≡ false → is_close_of 0 l p ≡ false
+      → (remote_after 0 l p ≡ 0 → Said l packets)
       → Said l (p ∷ packets)
   one_said Okay c e f s = okay_said (nat_eq p.arg1 l) (eqb p.arg0 0) refl refl c s
   one_said Open c e f s = command_said Open c (refl, refl, λ later others. refl) s
@@ -200,7 +221,9 @@ module _ (l : ℕ) (p : Packet) (packets : List Packet) where
   one_said Auth c e f s = command_said Auth c (refl, refl, λ later others. refl) s
   one_said Stls c e f s = command_said Stls c (refl, refl, λ later others. refl) s
   one_said Cnxn c e f s = absurd (let clash : true ≡ false = e in cc)
-  one_said Clse c e f s = command_said Clse c (refl, refl, λ later others. ap (λ b. cond b None others) (open_still (is_between 0 l p) shut)) s
+  one_said Clse c e f s =
+      command_said Clse c
+      (refl, refl, λ later others. ap (λ b. cond b None others) (open_still (is_between 0 l p) shut)) s
     where
       shut : (is_between 0 l p || is_between 0 l p) ≡ false
       shut = sym (ap (λ k. is_clse k && (is_between 0 l p || is_between 0 l p)) c) ∙ f
@@ -214,7 +237,8 @@ pub neither : (a b : Bool) → (a || b) ≡ false → (a ≡ false) × (b ≡ fa
 neither true b e = absurd (let clash : true ≡ false = e in cc)
 neither false b e = (refl, e)
 
-pub all_said : (l : ℕ) (packets : List Packet) → closes_in 0 l packets ≡ false → list_any (λ p. is_cnxn p.command) packets ≡ false → Said l packets
+pub all_said : (l : ℕ) (packets : List Packet) → closes_in 0 l packets ≡ false
+    → list_any (λ p. is_cnxn p.command) packets ≡ false → Said l packets
 all_said l [] shut cnxn = record { told = refl; okays = refl; remote = refl; waits = λ e more. refl }
 all_said l (p ∷ packets) shut cnxn =
     let first = neither (is_close_of 0 l p) (closes_in (remote_after 0 l p) l packets) shut in
@@ -246,7 +270,8 @@ module _ (l r : ℕ) (packets more : List Packet) (known : remote_in (opening_in
       let own : o.remote ≡ r = sym (ap remote_in is) ∙ known in
       record {
         told =
-            let before : written_in l packets ≡ length (joined (told_in o.remote l o.later)) = ap (λ x. length (joined (told_after l x))) is in
+            let before : written_in l packets ≡ length (joined (told_in o.remote l o.later)) =
+            ap (λ x. length (joined (told_after l x))) is in
             let after : written_in l (packets ++ more) ≡ length (joined (told_in o.remote l (o.later ++ more))) = ap (λ x. length (joined
             (told_after l x))) now in
             let parts : length (joined (told_in o.remote l (o.later ++ more)))
@@ -256,12 +281,14 @@ module _ (l r : ℕ) (packets more : List Packet) (known : remote_in (opening_in
             ∙ length-append (joined (told_in o.remote l o.later)) (joined (told_in o.remote l more))) in
             let all : written_all r l more (written_in l packets) ≡ written_in l packets + length (joined (told_in r l more)) =
             written_known r l some more (written_in l packets) in
-            let same : length (joined (told_in o.remote l more)) ≡ length (joined (told_in r l more)) = ap (λ n. length (joined (told_in n l more))) own in
+            let same : length (joined (told_in o.remote l more)) ≡ length (joined (told_in r l more)) =
+            ap (λ n. length (joined (told_in n l more))) own in
             omega (arith, before, after, parts, all, same);
         okays =
             let before : okays_behind_in l packets ≡ okays_in o.remote l o.later = ap (okays_behind l) is in
             let after : okays_behind_in l (packets ++ more) ≡ okays_in o.remote l (o.later ++ more) = ap (okays_behind l) now in
-            let parts : okays_in o.remote l (o.later ++ more) ≡ okays_in o.remote l o.later + okays_in o.remote l more = okays_append o.remote l o.later more in
+            let parts : okays_in o.remote l (o.later ++ more)
+            ≡ okays_in o.remote l o.later + okays_in o.remote l more = okays_append o.remote l o.later more in
             let all : okays_all r l more (okays_behind_in l packets) ≡ okays_behind_in l packets + okays_in r l more =
             okays_known r l some more (okays_behind_in l packets) in
             let same : okays_in o.remote l more ≡ okays_in r l more = ap (λ n. okays_in n l more) own in
@@ -271,7 +298,8 @@ module _ (l r : ℕ) (packets more : List Packet) (known : remote_in (opening_in
       }
 
   -- one that waits
-  waiting_more : r ≡ 0 → ((last : List Packet) → opening_in l (packets ++ last) ≡ opening_in l last) → Said l more → SaidMore l r packets more
+  waiting_more : r ≡ 0 → ((last : List Packet) → opening_in l (packets ++ last) ≡ opening_in l last) → Said l more
+      → SaidMore l r packets more
   waiting_more nil waits s =
       let none : opening_in l packets ≡ None = ap (opening_in l) (sym (append-nil packets)) ∙ waits [] in
       record {

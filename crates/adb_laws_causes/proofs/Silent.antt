@@ -1,5 +1,6 @@
 -- Packets that are no writes of a stream and give it no credit.
-use Rattle.std.proofs.Common.{◌≡◌, ◌≢◌, ◌+◌, ℕ, Bool, true, false, cond, ◌&&◌, List, [], ◌∷◌, ◌++◌, refl, sym, ap, ◌∙◌, eqb, arith, append_assoc}
+use Rattle.std.proofs.Common.{◌≡◌, ◌≢◌, ◌+◌, ℕ, Bool, true, false, cond, ◌&&◌, List, [], ◌∷◌, ◌++◌, refl, sym, ap, ◌∙◌, eqb, arith}
+use Rattle.std.proofs.Common.{append_assoc}
 use Rattle.std.specs.Prelude.{nat_eq, unwrap_or}
 use Rattle.std.proofs.lemmas.Bool.{ne_eqb}
 use Rattle.adb_wire.specs.declared.packets.Packet.{Packet}
@@ -76,7 +77,8 @@ module _ (l t : ℕ) where
       one true e rest = omega (arith, e, rest)
       one false e rest = rest
 
-      go : (b : Bool) → credit_of (okays_of l (packets_to t w)) ≡ 0 → credit_of (okays_of l (cond b (p ∷ packets_to t w) (packets_to t w))) ≡ 0
+      go : (b : Bool) → credit_of (okays_of l (packets_to t w)) ≡ 0
+          → credit_of (okays_of l (cond b (p ∷ packets_to t w) (packets_to t w))) ≡ 0
       go true rest = one (is_okay p.command && nat_eq p.arg0 l) h.0.credit rest
       go false rest = rest
 
@@ -106,7 +108,8 @@ module _ (l : ℕ) where
   carried_append (p ∷ a) b = go (is_wrte p.command && nat_eq p.arg0 l) (carried_append a b)
     where
       go : (c : Bool) → carried_in l (a ++ b) ≡ carried_in l a ++ carried_in l b
-          → cond c (p.payload ++ carried_in l (a ++ b)) (carried_in l (a ++ b)) ≡ cond c (p.payload ++ carried_in l a) (carried_in l a) ++ carried_in l b
+          → cond c (p.payload ++ carried_in l (a ++ b)) (carried_in l (a ++ b))
+          ≡ cond c (p.payload ++ carried_in l a) (carried_in l a) ++ carried_in l b
       go true e = ap (λ bytes. p.payload ++ bytes) e ∙ sym (append_assoc p.payload (carried_in l a) (carried_in l b))
       go false e = e
 
@@ -125,7 +128,8 @@ module _ (l : ℕ) where
   credits_append (p ∷ a) b = go (is_okay p.command && nat_eq p.arg0 l) (credits_append a b)
     where
       go : (c : Bool) → credit_of (okays_of l (a ++ b)) ≡ credit_of (okays_of l a) + credit_of (okays_of l b)
-          → credit_of (cond c (p ∷ okays_of l (a ++ b)) (okays_of l (a ++ b))) ≡ credit_of (cond c (p ∷ okays_of l a) (okays_of l a)) + credit_of (okays_of l b)
+          → credit_of (cond c (p ∷ okays_of l (a ++ b)) (okays_of l (a ++ b)))
+          ≡ credit_of (cond c (p ∷ okays_of l a) (okays_of l a)) + credit_of (okays_of l b)
       go true e = omega (arith, e)
       go false e = e
 
@@ -135,11 +139,13 @@ module _ (l t : ℕ) (a b : List Event) where
     bytes = ap (carried_in l) (packets_append t a b) ∙ (carried_append l (packets_to t a) (packets_to t b)
         ∙ (ap (λ x. x ++ carried_in l (packets_to t b)) h.bytes ∙ ap (λ x. c ++ x) k.bytes));
     count =
-        let both : count_from is_wrte l (packets_to t (a ++ b)) ≡ count_from is_wrte l (packets_to t a) + count_from is_wrte l (packets_to t b) =
+        let both : count_from is_wrte l (packets_to t (a ++ b))
+        ≡ count_from is_wrte l (packets_to t a) + count_from is_wrte l (packets_to t b) =
         ap (count_from is_wrte l) (packets_append t a b) ∙ count_append l (packets_to t a) (packets_to t b) in
         omega (arith, both, h.count, k.count);
     given =
-        let both : credit_of (okays_of l (packets_to t (a ++ b))) ≡ credit_of (okays_of l (packets_to t a)) + credit_of (okays_of l (packets_to t b)) =
+        let both : credit_of (okays_of l (packets_to t (a ++ b)))
+        ≡ credit_of (okays_of l (packets_to t a)) + credit_of (okays_of l (packets_to t b)) =
         ap (λ ps. credit_of (okays_of l ps)) (packets_append t a b) ∙ credits_append l (packets_to t a) (packets_to t b) in
         omega (arith, both, h.given, k.given);
   }

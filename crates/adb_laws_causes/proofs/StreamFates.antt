@@ -1,5 +1,6 @@
 -- What the rules of streams make of the stream of a number: how it ends, with its link too, and the up rule.
-use Rattle.std.proofs.Common.{◌≡◌, ◌≢◌, ◌≤◌, ◌<◌, ℕ, zero, suc, Bool, true, false, cond, List, [], ◌∷◌, drop, Option, Some, None, refl, sym, ap, subst, ◌∙◌}
+use Rattle.std.proofs.Common.{◌≡◌, ◌≢◌, ◌≤◌, ◌<◌, ℕ, zero, suc, Bool, true, false, cond, List, [], ◌∷◌, drop, Option, Some, None, refl, sym}
+use Rattle.std.proofs.Common.{ap, subst, ◌∙◌}
 use Rattle.std.proofs.Common.{arith, ◌⊎◌, inl, inr}
 use Rattle.std.specs.Prelude.{nat_eq}
 use Rattle.std.proofs.lemmas.Bool.{eqb-true, eqb-false, cases_eq}
@@ -19,13 +20,15 @@ use Rattle.adb_history.specs.Flow.{is_streaming, up_client, up_stream, up, up_al
 use Rattle.adb_history.proofs.Following.{changed_here}
 use Rattle.adb_history.proofs.OwnedStep.{ends_state, client_loses_frame}
 use Rattle.adb_history.proofs.Sweep.{Sending, over}
-use Rattle.adb_laws_causes.proofs.Fates.{live_row, row_lives, Reason, FateOf, fate_same, fate_then, then_fate, fate_part, fate_orphan, fate_goes}
+use Rattle.adb_laws_causes.proofs.Fates.{live_row, row_lives, Reason, FateOf, fate_same, fate_then, then_fate, fate_part, fate_orphan}
+use Rattle.adb_laws_causes.proofs.Fates.{fate_goes}
 
 module _ (l : ℕ) (Why : Reason) where
   pub quiet : (s : State) → FateOf l Why s (quietly s)
   quiet s = fate_same l Why (s.streams l) [] refl
 
-  pub if_fate : (s : State) (b : Bool) (m n : Made) → (b ≡ true → FateOf l Why s m) → (b ≡ false → FateOf l Why s n) → FateOf l Why s (cond b m n)
+  pub if_fate : (s : State) (b : Bool) (m n : Made) → (b ≡ true → FateOf l Why s m) → (b ≡ false → FateOf l Why s n)
+      → FateOf l Why s (cond b m n)
   if_fate s true m n one other = one refl
   if_fate s false m n one other = other refl
 
@@ -72,7 +75,9 @@ module _ (l : ℕ) (Why : Reason) where
   if_of_fate t n ending None s is why = quiet s
   if_of_fate t n ending (Some x) s is why =
       if_fate s (nat_eq x.link t) (ends_row n ending x s) (quietly s)
-      (λ e. ends_fate n ending x s is (λ same. subst (λ (k : ℕ). Why x.client k ending) (sym (eqb-true x.link t e)) (why x.client))) (λ e. quiet s)
+      (λ e. ends_fate n ending x s is
+      (λ same. subst (λ (k : ℕ). Why x.client k ending) (sym (eqb-true x.link t e)) (why x.client)))
+      (λ e. quiet s)
 
   pub ends_of_fate : (t k : ℕ) (ending : Ending) (s : State) → ((c : ℕ) → Why c t ending) → FateOf l Why s (ends_of t k ending s)
   ends_of_fate t zero ending s why = quiet s
@@ -85,7 +90,8 @@ module _ (l : ℕ) (Why : Reason) where
   all_end_fate t ending s why = ends_of_fate t s.drawn ending s why
 
 -- the row of a stream that ended
-pub gone_here : (l n : ℕ) (ending : Ending) (x : Stream) (s : State) → s.streams n ≡ Some x → n ≡ l → (ends_row n ending x s).state.streams l ≡ None
+pub gone_here : (l n : ℕ) (ending : Ending) (x : Stream) (s : State) → s.streams n ≡ Some x → n ≡ l
+    → (ends_row n ending x s).state.streams l ≡ None
 gone_here l n ending x s is same =
     let gone = to_stream n none_kept s in
     ap (λ (r : State). r.streams l) (ends_state n ending x s ∙ client_loses_frame (s.clients x.client) x.client gone)
@@ -107,7 +113,8 @@ module _ (l : ℕ) where
           let row : x ≡ y = (let both : Some x ≡ Some y = sym is ∙ (ap s.streams same ∙ f) in cc) in
           λ g. eqb-false x.link t e (ap (λ (z : Stream). z.link) row ∙ g)
 
-  ends_of_clear : (t k : ℕ) (ending : Ending) (s : State) → (0 < l) × (l ≤ k) → (y : Stream) → (ends_of t k ending s).state.streams l ≡ Some y → y.link ≢ t
+  ends_of_clear : (t k : ℕ) (ending : Ending) (s : State) → (0 < l) × (l ≤ k) → (y : Stream)
+      → (ends_of t k ending s).state.streams l ≡ Some y → y.link ≢ t
   ends_of_clear t zero ending s within y there = absurd (omega (arith, within.0, within.1))
   ends_of_clear t (suc k) ending s within y there = go (cases_eq (suc k) l) (λ less z. ends_of_clear t k ending s (within.0, less) z)
     where
@@ -141,22 +148,26 @@ module _ (l : ℕ) (Why : Reason) where
   pub link_ends_fate : (t : ℕ) (ending : Ending) (s : State) → ((c : ℕ) → Why c t ending) → FateOf l Why s (link_ends t ending s)
   link_ends_fate t ending s why =
       let m = all_end t ending (forgets t s) in
-      then_fate l Why s m (λ s. quietly (mark_all s)) (all_end_fate l Why t ending (forgets t s) why) (fate_same l Why (m.state.streams l) [] refl)
+      then_fate l Why s m (λ s. quietly (mark_all s)) (all_end_fate l Why t ending (forgets t s) why)
+      (fate_same l Why (m.state.streams l) [] refl)
 
   -- ---- the up rule
   go_up_fate : (n : ℕ) (x : Stream) (ps : List (List ℕ)) (s : State) → FateOf l Why s (all_go_up n x ps s)
   go_up_fate n x [] s = quiet l Why s
   go_up_fate n x (p ∷ ps) s =
-      then_fate l Why s (goes_up n x p s) (all_go_up n x ps) (fate_same l Why (s.streams l) _ refl) (go_up_fate n x ps (goes_up n x p s).state)
+      then_fate l Why s (goes_up n x p s) (all_go_up n x ps) (fate_same l Why (s.streams l) _ refl)
+      (go_up_fate n x ps (goes_up n x p s).state)
 
-  closes_if_fate : (over : Bool) (n : ℕ) (o : Option Stream) (s : State) → s.streams n ≡ o → (over ≡ true → n ≡ l → (c t : ℕ) → Why c t ClientClosed)
+  closes_if_fate : (over : Bool) (n : ℕ) (o : Option Stream) (s : State) → s.streams n ≡ o
+      → (over ≡ true → n ≡ l → (c t : ℕ) → Why c t ClientClosed)
       → FateOf l Why s (closes_if over n o s)
   closes_if_fate over n None s is why = quiet l Why s
   closes_if_fate false n (Some x) s is why = quiet l Why s
   closes_if_fate true n (Some x) s is why = telling_fate l Why n ClientClosed x s is (λ same. why refl same x.client x.link)
 
   sends_fate : (n : ℕ) (x : Stream) (client : Client) (ps : List (List ℕ)) (s : State) → s.streams n ≡ Some x
-      → (is_over client.about.ended (drop (total ps) client.held) (flow_after ps x.part.flow) ≡ true → n ≡ l → (c t : ℕ) → Why c t ClientClosed)
+      → (is_over client.about.ended (drop (total ps) client.held) (flow_after ps x.part.flow) ≡ true → n ≡ l
+      → (c t : ℕ) → Why c t ClientClosed)
       → FateOf l Why s (sends_up n x client ps s)
   sends_fate n x client ps s is why =
       let left = noted n x client.held ps s in
@@ -174,10 +185,13 @@ module _ (l : ℕ) (Why : Reason) where
   up_client_fate n x (Some client) s is why =
       let ps = payloads x.part.flow (maxdata_of x.link s.devices) client.held in
       if_fate l Why s (is_streaming n client.about.phase) (sends_up n x client ps s) (quietly s)
-      (λ e. sends_fate n x client ps s is.0 (why (record { stream = x; client = client; there = is.0; here = is.1; streaming = e }))) (λ e. quiet l Why s)
+      (λ e. sends_fate n x client ps s is.0
+      (why (record { stream = x; client = client; there = is.0; here = is.1; streaming = e })))
+      (λ e. quiet l Why s)
 
   -- of the stream that it sends up
-  pub up_fate : (n : ℕ) (s : State) → ((y : Sending n s) → over n s y ≡ true → n ≡ l → (c t : ℕ) → Why c t ClientClosed) → FateOf l Why s (up n s)
+  pub up_fate : (n : ℕ) (s : State)
+      → ((y : Sending n s) → over n s y ≡ true → n ≡ l → (c t : ℕ) → Why c t ClientClosed) → FateOf l Why s (up n s)
   up_fate n s why = go (s.streams n) refl
     where
       go : (o : Option Stream) → s.streams n ≡ o → FateOf l Why s (up_stream n o s)

@@ -1,5 +1,6 @@
 -- What holds of a stream that lives is kept by each entry after its birth.
-use Rattle.std.proofs.Common.{◌≡◌, ◌≤◌, ◌<◌, ◌+◌, ℕ, true, false, List, [], ◌∷◌, length, drop, Some, None, refl, sym, ap, subst, ◌∙◌, arith, ◌⊎◌, inl, inr}
+use Rattle.std.proofs.Common.{◌≡◌, ◌≤◌, ◌<◌, ◌+◌, ℕ, true, false, List, [], ◌∷◌, length, drop, Some, None, refl, sym, ap, subst, ◌∙◌, arith}
+use Rattle.std.proofs.Common.{◌⊎◌, inl, inr}
 use Rattle.std.specs.Prelude.{is_some}
 use Rattle.std.proofs.lemmas.Bool.{cases_eq}
 use Rattle.adb_stream.specs.declared.row.Stream.{Stream}
@@ -55,7 +56,8 @@ abbrev pub RulesOn : Entry → History → ℕ → Birth → Stream → Type 0
 RulesOn e older l b x = Standing e older l b x → lives ((rule e (state older)).state.streams l) ≡ true → Ruled e older l b
 
 -- no end of a stream that lives after the rule was told
-rule_quiet : (e : Entry) (older : History) (l : ℕ) (b : Birth) (x : Stream) → Standing e older l b x → lives ((rule e (state older)).state.streams l) ≡ true
+rule_quiet : (e : Entry) (older : History) (l : ℕ) (b : Birth) (x : Stream) → Standing e older l b x
+    → lives ((rule e (state older)).state.streams l) ≡ true
     → ending_in l (rule e (state older)).told ≡ None
 rule_quiet e older l b x t on =
     let owned = (all_linked older t.legal.0).owned in
@@ -70,7 +72,8 @@ far_ruled e older l b x far t on =
     let owned = (all_linked older t.legal.0).owned in
     let y = live_row ((rule e (state older)).state.streams l) on in
     let u = far_rule l x (state older) owned p e t.legal.2 far (ap is_some y.is) in
-    let own : Untouched l b.client (state older) (rule e (state older)) = subst (λ (c : ℕ). Untouched l c (state older) (rule e (state older))) t.client u in
+    let own : Untouched l b.client (state older) (rule e (state older)) =
+    subst (λ (c : ℕ). Untouched l c (state older) (rule e (state older))) t.client u in
     let bytes = far_bytes e older x.client x.link far in
     let same : SameBytes e older b.client b.link =
     subst (λ (c : ℕ). SameBytes e older c b.link) t.client (subst (λ (i : ℕ). SameBytes e older x.client i) t.link bytes) in
@@ -88,12 +91,32 @@ far_ruled e older l b x far t on =
 read_ruled : (older : History) (l : ℕ) (b : Birth) (x : Stream) (bytes : List ℕ) → RulesOn (Read b.client bytes) older l b x
 read_ruled older l b x bytes t on =
     let r = read_after older l b x bytes t in
-    record { row = x; client = with_more bytes t.pair.client; after = r.0; is = r.1.row; here = r.1.here; alive = t.pair.alive; of = t.client; link = t.link }
+    record {
+      row = x;
+      client = with_more bytes t.pair.client;
+      after = r.0;
+      is = r.1.row;
+      here = r.1.here;
+      alive =
+          t.pair.alive;
+      of = t.client;
+      link = t.link;
+    }
 
 end_ruled : (older : History) (l : ℕ) (b : Birth) (x : Stream) → RulesOn (End b.client Eof) older l b x
 end_ruled older l b x t on =
     let r = end_after older l b x t in
-    record { row = x; client = with_end t.pair.client; after = r.0; is = r.1.row; here = r.1.here; alive = t.pair.alive; of = t.client; link = t.link }
+    record {
+      row = x;
+      client = with_end t.pair.client;
+      after = r.0;
+      is = r.1.row;
+      here = r.1.here;
+      alive =
+          t.pair.alive;
+      of = t.client;
+      link = t.link;
+    }
 
 put_ruled : (older : History) (l : ℕ) (b : Birth) (x : Stream) (bytes : List ℕ) → RulesOn (Put b.client bytes) older l b x
 put_ruled older l b x bytes t on =
@@ -133,13 +156,15 @@ detach_ruled older l b x cause t on =
     absurd (none_some Lost (sym (ap (λ o. ending_in l (unplugs_on o x.link (state older)).told) (sym there.is)
     ∙ rule_quiet (Detach x.link cause) older l b x t on) ∙ told))
 
-fail_ruled : (older : History) (l : ℕ) (b : Birth) (x : Stream) (cause : Cause) → is_orderly cause ≡ false → RulesOn (End x.client cause) older l b x
+fail_ruled : (older : History) (l : ℕ) (b : Birth) (x : Stream) (cause : Cause) → is_orderly cause ≡ false
+    → RulesOn (End x.client cause) older l b x
 fail_ruled older l b x cause bad t on =
     let p = t.pair in
     let k = client_of (state older) l x p.is p.alive (all_linked older t.legal.0).owned in
     let told = end_told x.client l cause (state older) x p.is k k.is bad in
     absurd (none_some (ClientFailed cause)
-    (sym (ap (λ o. ending_in l (client_ends x.client cause o (state older)).told) (sym k.is) ∙ rule_quiet (End x.client cause) older l b x t on) ∙ told))
+    (sym (ap (λ o. ending_in l (client_ends x.client cause o (state older)).told) (sym k.is)
+    ∙ rule_quiet (End x.client cause) older l b x t on) ∙ told))
 
 module _ (older : History) (l : ℕ) (b : Birth) (x : Stream) (own : (x.client ≡ b.client) × (x.link ≡ b.link)) where
   ends_ruled : (n : ℕ) (cause : Cause) → RulesOn (End n cause) older l b x
@@ -186,7 +211,8 @@ rule_owned e older legal =
 
 module _ (e : Entry) (older : History) (l : ℕ) (b : Birth) where
   pub ups_hold : IsLegal (e ∷ older) → Ruled e older l b → (0 < l) × (l ≤ (state (e ∷ older)).drawn) → (y : Stream) (k : Client)
-      → ((state (e ∷ older)).streams l ≡ Some y) × (y.part.orphan ≡ false) × ((state (e ∷ older)).clients y.client ≡ Some k) → IsAsTold (e ∷ older) l b y k
+      → ((state (e ∷ older)).streams l ≡ Some y) × (y.part.orphan ≡ false)
+      × ((state (e ∷ older)).clients y.client ≡ Some k) → IsAsTold (e ∷ older) l b y k
   ups_hold legal r within y k is = go (up_run l r.row m.state pair (pair_apart l r.row m.state owned pair) m.state.drawn (within.0, drawn))
     where
       m : Made
@@ -214,7 +240,8 @@ module _ (e : Entry) (older : History) (l : ℕ) (b : Birth) where
       go : UpEffect l r.row pair.client (ups (rule e (state older)).state) → IsAsTold (e ∷ older) l b y k
       go u = kind u.after
         where
-          kind : GoesOnWith l r.row pair.client u.sent (ups (rule e (state older)).state).state ⊎ EndsWith l r.row pair.client u.sent (ups (rule e
+          kind : GoesOnWith l r.row pair.client u.sent (ups (rule e (state older)).state).state
+              ⊎ EndsWith l r.row pair.client u.sent (ups (rule e
               (state older)).state)
               → IsAsTold (e ∷ older) l b y k
           kind (inr ends) = absurd (let clash : None ≡ Some y = sym ends.2 ∙ is.0 in cc)
@@ -222,7 +249,10 @@ module _ (e : Entry) (older : History) (l : ℕ) (b : Birth) where
               let z = record r.row { part = with_flow (flow_after u.sent r.row.part.flow) r.row.part } in
               let row : z ≡ y = (let both : Some z ≡ Some y = sym goes.0 ∙ is.0 in cc) in
               let rest = record pair.client { held = drop (total u.sent) pair.client.held } in
-              let client : rest ≡ k = (let both : Some rest ≡ Some k = sym goes.1 ∙ (ap (λ (w : Stream). (state (e ∷ older)).clients w.client) row
+              let client : rest ≡ k =
+              (let both : Some rest ≡ Some k = sym goes.1
+              ∙ (ap (λ (w : Stream). (state (e ∷ older)).clients w.client) row
               ∙ is.2) in cc) in
               subst (λ (w : Client). IsAsTold (e ∷ older) l b y w) client
-              (subst (λ (w : Stream). IsAsTold (e ∷ older) l b w rest) row (after_ups e older l b r.row pair.client after (r.of, r.link, credit) u))
+              (subst (λ (w : Stream). IsAsTold (e ∷ older) l b w rest) row
+              (after_ups e older l b r.row pair.client after (r.of, r.link, credit) u))

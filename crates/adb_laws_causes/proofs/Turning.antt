@@ -1,5 +1,6 @@
 -- The packets to a stream that lives, of its link: what each makes of it.
-use Rattle.std.proofs.Common.{◌≡◌, ◌+◌, ℕ, Bool, true, false, cond, not, ◌||◌, ◌&&◌, List, [], ◌∷◌, length, Option, Some, None, refl, sym, ap, subst, ◌∙◌, eqb}
+use Rattle.std.proofs.Common.{◌≡◌, ◌+◌, ℕ, Bool, true, false, cond, not, ◌||◌, ◌&&◌, List, [], ◌∷◌, length, Option, Some, None, refl, sym}
+use Rattle.std.proofs.Common.{ap, subst, ◌∙◌, eqb}
 use Rattle.std.proofs.Common.{arith, ◌⊎◌, inl, inr}
 use Rattle.std.specs.Prelude.{nat_eq}
 use Rattle.std.proofs.lemmas.Bool.{eqb-true, eqb-false, eq-eqb}
@@ -48,7 +49,8 @@ live_frame n t l s m f live = record {
   within = (live.within.0, omega (arith, live.within.1, f.drawn));
 }
 
-written_same : (l : ℕ) (x : Stream) (p : Packet) (written : ℕ) → counts x.part.remote l p ≡ false → written_after x.part.remote l p written ≡ written
+written_same : (l : ℕ) (x : Stream) (p : Packet) (written : ℕ) → counts x.part.remote l p ≡ false
+    → written_after x.part.remote l p written ≡ written
 written_same l x p written e = ap (λ b. cond b (written + length p.payload) written) e
 
 module _ (t l : ℕ) (x : Stream) (p : Packet) (s : State) where
@@ -85,7 +87,8 @@ record Goes (x y : Stream) (id : ℕ) : Type 0 where
   alive : y.part.orphan ≡ false
   link : y.link ≡ x.link
   remote : y.part.remote ≡ id
-  flow : (credit : Bool) (written handed given : ℕ) → FlowIs x.part.flow credit written handed given → FlowIs y.part.flow credit written handed given
+  flow : (credit : Bool) (written handed given : ℕ) → FlowIs x.part.flow credit written handed given
+      → FlowIs y.part.flow credit written handed given
 
 and_yes : (a : Bool) → (a && true && true) ≡ a
 and_yes true = refl
@@ -136,7 +139,8 @@ module _ (t : ℕ) (x : Stream) (p : Packet) (s : State) (h : Here t p.arg1 x s)
   opens_turn word c first =
       let part = with_remote p.arg0 (with_flow (first_credit word x.part.flow) x.part) in
       let heard = hears_okay (s.clients x.client) x.client s in
-      let before : heard.state.streams p.arg1 ≡ Some x = ap (λ streams. streams p.arg1) (hears_streams (s.clients x.client) x.client s) ∙ h.is in
+      let before : heard.state.streams p.arg1 ≡ Some x = ap (λ streams. streams p.arg1)
+      (hears_streams (s.clients x.client) x.client s) ∙ h.is in
       okay_passes (record x { part = part }) (opened p.arg1 p.arg0 word x s) c
       (changed_here p.arg1 (with_stream_part part) heard.state.streams x before) (frame_opened p.arg1 p.arg1 t p.arg0 word x s) (record {
         alive = h.alive;
@@ -174,7 +178,8 @@ module _ (t : ℕ) (x : Stream) (p : Packet) (s : State) (h : Here t p.arg1 x s)
       known false e = okay_quiet c (sym (ap (λ b. cond b p.arg0 x.part.remote) e))
 
       at_first : (b : Bool) → eqb x.part.remote 0 ≡ b → Passes t p.arg1 x p (cond b (okay_first x.part.orphan p.arg1 p.arg0 word x s) later)
-      at_first true e = subst (λ (orphan : Bool). Passes t p.arg1 x p (okay_first orphan p.arg1 p.arg0 word x s)) (sym h.alive) (opens_turn word c e)
+      at_first true e = subst (λ (orphan : Bool). Passes t p.arg1 x p (okay_first orphan p.arg1 p.arg0 word x s))
+          (sym h.alive) (opens_turn word c e)
       at_first false e = known (eqb p.arg0 x.part.remote) e
 
       at_zero : (b : Bool) → eqb p.arg0 0 ≡ b
@@ -184,7 +189,8 @@ module _ (t : ℕ) (x : Stream) (p : Packet) (s : State) (h : Here t p.arg1 x s)
 
 -- ---- WRTE
 -- the test of a write and what counts as one
-pub no_write : (remote own : ℕ) → (eqb remote 0 || not (eqb remote own)) ≡ true → (true && not (nat_eq own 0) && (nat_eq remote own && true)) ≡ false
+pub no_write : (remote own : ℕ) → (eqb remote 0 || not (eqb remote own)) ≡ true
+    → (true && not (nat_eq own 0) && (nat_eq remote own && true)) ≡ false
 no_write remote own e = go (eqb remote 0) (eqb remote own) refl refl e
   where
     nil : (b : Bool) → nat_eq own 0 ≡ b → own ≡ 0 → (true && not b && (true && true)) ≡ false
@@ -196,7 +202,8 @@ no_write remote own e = go (eqb remote 0) (eqb remote own) refl refl e
     go true true f g h = nil (nat_eq own 0) refl (sym (eqb-true remote own g) ∙ eqb-true remote 0 f)
     go false true f g h = absurd (let clash : false ≡ true = h in cc)
 
-pub a_write : (remote own : ℕ) → (eqb remote 0 || not (eqb remote own)) ≡ false → (true && not (nat_eq own 0) && (nat_eq remote own && true)) ≡ true
+pub a_write : (remote own : ℕ) → (eqb remote 0 || not (eqb remote own)) ≡ false
+    → (true && not (nat_eq own 0) && (nat_eq remote own && true)) ≡ true
 a_write remote own e = go (eqb remote 0) (eqb remote own) refl refl e
   where
     some : (b : Bool) → nat_eq own 0 ≡ b → (own ≡ 0 → ⊥) → (true && not b && (true && true)) ≡ true
@@ -236,7 +243,8 @@ module _ (t : ℕ) (x : Stream) (p : Packet) (s : State) (h : Here t p.arg1 x s)
     flow : (credit : Bool) (written handed given : ℕ) → FlowIs x.part.flow credit written handed given
         → FlowIs y.part.flow credit (written + length p.payload) handed given
 
-  write_passes : (y : Stream) (m : Made) → (p.command ≡ Wrte) × (counts x.part.remote p.arg1 p ≡ true) × (is_out_of_turn x.part.flow (length p.payload) ≡ false)
+  write_passes : (y : Stream) (m : Made) → (p.command ≡ Wrte) × (counts x.part.remote p.arg1 p ≡ true)
+      × (is_out_of_turn x.part.flow (length p.payload) ≡ false)
       → m.state.streams p.arg1 ≡ Some y → Frame p.arg1 p.arg1 t s m → Takes y → Passes t p.arg1 x p m
   write_passes y m c is frame takes = record {
     row = y;
@@ -265,19 +273,22 @@ module _ (t : ℕ) (x : Stream) (p : Packet) (s : State) (h : Here t p.arg1 x s)
         alive = h.alive;
         link = refl;
         remote = refl;
-        flow = λ credit written handed given f. subst (λ (ps : List ℕ). FlowIs x.part.flow credit (written + length ps) handed given) (sym is)
+        flow = λ credit written handed given f. subst
+            (λ (ps : List ℕ). FlowIs x.part.flow credit (written + length ps) handed given) (sym is)
             (flow_none credit written handed given x.part.flow f);
       })
   takes_turn (b ∷ payload) is c =
       let part = with_flow (accepted (length (b ∷ payload)) x.part.flow) x.part in
-      write_passes (record x { part = part }) (accepts p.arg1 (b ∷ payload) x s) c (changed_here p.arg1 (with_stream_part part) s.streams x h.is)
+      write_passes (record x { part = part }) (accepts p.arg1 (b ∷ payload) x s) c
+      (changed_here p.arg1 (with_stream_part part) s.streams x h.is)
       (frame_accepts p.arg1 p.arg1 t (b ∷ payload) x s) (record {
         alive = h.alive;
         link = refl;
         remote = refl;
         flow = λ credit written handed given f.
             subst (λ (ps : List ℕ). FlowIs (accepted (length (b ∷ payload)) x.part.flow) credit (written + length ps) handed given) (sym is)
-            (flow_accepts credit written handed given (length (b ∷ payload)) x.part.flow (ap (λ ps. is_out_of_turn x.part.flow (length ps)) (sym is) ∙ c.2) f);
+            (flow_accepts credit written handed given (length (b ∷ payload)) x.part.flow
+            (ap (λ ps. is_out_of_turn x.part.flow (length ps)) (sym is) ∙ c.2) f);
       })
 
   late_turn : (p.command ≡ Wrte) × (counts x.part.remote p.arg1 p ≡ true) × (is_out_of_turn x.part.flow (length p.payload) ≡ true)
@@ -323,7 +334,8 @@ module _ (t : ℕ) (x : Stream) (p : Packet) (s : State) (h : Here t p.arg1 x s)
   pub close_turn : p.command ≡ Clse → Turn t p.arg1 x p (takes_close p.arg1 p.arg0 x s)
   close_turn c = go (eqb p.arg0 0 || eqb p.arg0 x.part.remote) refl
     where
-      go : (b : Bool) → (eqb p.arg0 0 || eqb p.arg0 x.part.remote) ≡ b → Turn t p.arg1 x p (cond b (ends_row p.arg1 PeerClosed x s) (quietly s))
+      go : (b : Bool) → (eqb p.arg0 0 || eqb p.arg0 x.part.remote) ≡ b
+          → Turn t p.arg1 x p (cond b (ends_row p.arg1 PeerClosed x s) (quietly s))
       go true e = inr (record {
         ending = PeerClosed;
         told = ended_told p.arg1 s (ends_row p.arg1 PeerClosed x s) x PeerClosed (h.is, h.alive)

@@ -1,5 +1,6 @@
 -- What one packet of its link makes of a stream that lives: it goes on, or it ends for what the packet says.
-use Rattle.std.proofs.Common.{◌≡◌, ◌≢◌, ◌≤◌, ◌<◌, ◌+◌, ℕ, Bool, true, false, cond, not, ◌||◌, ◌&&◌, length, Option, Some, None, refl, sym, ap, ◌∙◌}
+use Rattle.std.proofs.Common.{◌≡◌, ◌≢◌, ◌≤◌, ◌<◌, ◌+◌, ℕ, Bool, true, false, cond, not, ◌||◌, ◌&&◌, length, Option, Some, None, refl, sym}
+use Rattle.std.proofs.Common.{ap, ◌∙◌}
 use Rattle.std.proofs.Common.{arith}
 use Rattle.std.specs.Prelude.{nat_eq, nat_lt, is_some}
 use Rattle.std.proofs.lemmas.Bool.{ne_eqb}
@@ -132,11 +133,13 @@ turn_is (Credit c) credit written handed given n h =
     ∙ ap (λ b. is_early b written handed given n) (sym h.0)
 
 module _ (credit : Bool) (written handed given : ℕ) where
-  pub flow_first : (word : Option ℕ) (flow : Flow) → FlowIs flow credit written handed given → FlowIs (first_credit word flow) credit written handed given
+  pub flow_first : (word : Option ℕ) (flow : Flow) → FlowIs flow credit written handed given
+      → FlowIs (first_credit word flow) credit written handed given
   flow_first word (One window) h = h
   flow_first word (Credit c) h = h
 
-  pub flow_okay : (word : Option ℕ) (flow : Flow) → FlowIs flow credit written handed given → FlowIs (acknowledged word flow) credit written handed given
+  pub flow_okay : (word : Option ℕ) (flow : Flow) → FlowIs flow credit written handed given
+      → FlowIs (acknowledged word flow) credit written handed given
   flow_okay word (One window) h = h
   flow_okay None (Credit c) h = h
   flow_okay (Some n) (Credit c) h = h

@@ -1,5 +1,6 @@
 -- Each packet of its link, and a stream that lives: the stream goes on, or it ends for what the packet says.
-use Rattle.std.proofs.Common.{◌≡◌, ◌≢◌, ℕ, Bool, true, false, cond, not, ◌||◌, ◌&&◌, [], ◌++◌, Option, Some, None, refl, sym, ap, subst, ◌∙◌, eqb}
+use Rattle.std.proofs.Common.{◌≡◌, ◌≢◌, ℕ, Bool, true, false, cond, not, ◌||◌, ◌&&◌, [], ◌++◌, Option, Some, None, refl, sym, ap, subst}
+use Rattle.std.proofs.Common.{◌∙◌, eqb}
 use Rattle.std.proofs.Common.{arith, ◌⊎◌, inl, inr}
 use Rattle.std.specs.Prelude.{nat_eq, nat_lt, is_some, is_none}
 use Rattle.std.specs.Option.{option_or}
@@ -22,7 +23,8 @@ use Rattle.adb_history.specs.declared.ending.Ending.TheVariants.{Lost, Broken}
 use Rattle.adb_history.specs.Links.{close_packet, credit_word, owe_link, is_connected, is_connected_row, is_connected_state}
 use Rattle.adb_history.specs.Streams.{all_end}
 use Rattle.adb_history.specs.Losing.{forgets, link_ends}
-use Rattle.adb_history.specs.Packets.{least_version, least_maxdata, streams_end_first, connects, cnxn, unauthorized_from, unauthorized, refuses_open}
+use Rattle.adb_history.specs.Packets.{least_version, least_maxdata, streams_end_first, connects, cnxn, unauthorized_from, unauthorized}
+use Rattle.adb_history.specs.Packets.{refuses_open}
 use Rattle.adb_history.specs.Packets.{at_stream, takes_okay}
 use Rattle.adb_history.specs.Packets.{takes_write, takes_close, treat_open, treat_any, treat_on, treat}
 use Rattle.adb_history.specs.Book.{is_refused}
@@ -36,9 +38,11 @@ use Rattle.adb_laws_causes.proofs.Turning.{Here, Turn, live_frame, ignored, own_
 
 -- ---- the link ends, or its device says anew who it is
 module _ (t l : ℕ) (x : Stream) (s : State) (h : Here t l x s) where
-  all_end_told : (ending : Ending) (r : State) → r.streams ≡ s.streams → r.drawn ≡ s.drawn → ending_in l (all_end t ending r).told ≡ Some ending
+  all_end_told : (ending : Ending) (r : State) → r.streams ≡ s.streams → r.drawn ≡ s.drawn
+      → ending_in l (all_end t ending r).told ≡ Some ending
   all_end_told ending r same drawn =
-      all_end_ends l t ending r x (ap (λ streams. streams l) same ∙ h.is, h.alive, h.on) (h.live.within.0, omega (arith, h.live.within.1, drawn))
+      all_end_ends l t ending r x (ap (λ streams. streams l) same ∙ h.is, h.alive, h.on)
+      (h.live.within.0, omega (arith, h.live.within.1, drawn))
 
   pub link_ends_told : (ending : Ending) → ending_in l (link_ends t ending s).told ≡ Some ending
   link_ends_told ending =
@@ -70,13 +74,16 @@ module _ (t l : ℕ) (x : Stream) (p : Packet) (s : State) (h : Here t l x s) wh
     where
       go : (b : Bool) → (nat_lt p.arg0 least_version || nat_lt p.arg1 least_maxdata) ≡ b
           → Turn t l x p (cond b (link_ends t Broken s) (connects t p.arg0 p.arg1 (identity_of p.payload) s))
-      go true e = breaks (ap (λ k. is_cnxn k && (nat_lt p.arg0 least_version || nat_lt p.arg1 least_maxdata || is_none (identity_of p.payload))) c
+      go true e = breaks
+          (ap (λ k. is_cnxn k
+          && (nat_lt p.arg0 least_version || nat_lt p.arg1 least_maxdata || is_none (identity_of p.payload))) c
           ∙ ap (λ b. b || is_none (identity_of p.payload)) e)
       go false e = connects_turn (identity_of p.payload) c refl e
 
   -- ---- AUTH, STLS and OPEN
   -- a packet that leaves all as it is
-  still : is_okay p.command ≡ false → is_wrte p.command ≡ false → is_clse p.command ≡ false → is_cnxn p.command ≡ false → Turn t l x p (quietly s)
+  still : is_okay p.command ≡ false → is_wrte p.command ≡ false → is_clse p.command ≡ false
+      → is_cnxn p.command ≡ false → Turn t l x p (quietly s)
   still okay wrte clse not_cnxn = inl (ignored t l x p s (quietly s) h (other_kind l x p okay wrte clse not_cnxn) h.is h.live)
 
   unauthorized_turn : (o : Option Row) → is_connected_row o ≡ true → Turn t l x p (quietly s) → Turn t l x p (unauthorized t o s)
@@ -100,7 +107,8 @@ module _ (t l : ℕ) (x : Stream) (p : Packet) (s : State) (h : Here t l x s) wh
           inl (ignored t l x p s m h ignores h.is (live_frame l t l s m (frame_owe l l t t (close_packet 0 p.arg0) s) h.live))
 
   -- ---- a packet to another stream
-  frame_at : (o : Option Stream) (rule : Stream → State → Made) → ((z : Stream) → Frame p.arg1 l t s (rule z s)) → Frame p.arg1 l t s (at_stream t o rule s)
+  frame_at : (o : Option Stream) (rule : Stream → State → Made) → ((z : Stream) → Frame p.arg1 l t s (rule z s))
+      → Frame p.arg1 l t s (at_stream t o rule s)
   frame_at None rule frame = frame_quiet p.arg1 l t s
   frame_at (Some z) rule frame = go (nat_eq z.link t)
     where
@@ -124,7 +132,8 @@ module _ (t l : ℕ) (x : Stream) (p : Packet) (s : State) where
       go (inl same) = subst (λ (n : ℕ). Turn t n x p m) same (own (subst (λ (n : ℕ). Here t n x s) (sym same) h))
       go (inr apart) = other apart
 
-  open_command : (command : Command) → p.command ≡ command → is_cnxn command ≡ false → Here t l x s → Turn t l x p (treat_open t command p s)
+  open_command : (command : Command) → p.command ≡ command → is_cnxn command ≡ false → Here t l x s
+      → Turn t l x p (treat_open t command p s)
   open_command Open c e h = open_turn t l x p s h c
   open_command Okay c e h =
       here_or (at_stream t (s.streams p.arg1) (takes_okay p.arg1 p.arg0 (credit_word p.payload)) s)
@@ -134,7 +143,8 @@ module _ (t l : ℕ) (x : Stream) (p : Packet) (s : State) where
   open_command Wrte c e h =
       here_or (at_stream t (s.streams p.arg1) (takes_write p.arg1 p.arg0 p.payload) s)
       (λ k. own_rule t x p s k (takes_write p.arg1 p.arg0 p.payload) (write_turn t x p s k c))
-      (λ apart. elsewhere t l x p s h (takes_write p.arg1 p.arg0 p.payload) apart (ap is_cnxn c) (λ z. frame_write p.arg1 l t p.arg0 p.payload z s)) h
+      (λ apart. elsewhere t l x p s h (takes_write p.arg1 p.arg0 p.payload) apart (ap is_cnxn c)
+      (λ z. frame_write p.arg1 l t p.arg0 p.payload z s)) h
   open_command Clse c e h =
       here_or (at_stream t (s.streams p.arg1) (takes_close p.arg1 p.arg0) s)
       (λ k. own_rule t x p s k (takes_close p.arg1 p.arg0) (close_turn t x p s k c))
@@ -151,9 +161,11 @@ module _ (t l : ℕ) (x : Stream) (p : Packet) (s : State) where
   any_command : (command : Command) → p.command ≡ command → Here t l x s → Turn t l x p (treat_any t command p s)
   any_command Cnxn c h = cnxn_turn t l x p s h c
   any_command Auth c h =
-      unauthorized_turn t l x p s h (at t s.devices.rows) h.live.connected (still t l x p s h (ap is_okay c) (ap is_wrte c) (ap is_clse c) (ap is_cnxn c))
+      unauthorized_turn t l x p s h (at t s.devices.rows) h.live.connected
+      (still t l x p s h (ap is_okay c) (ap is_wrte c) (ap is_clse c) (ap is_cnxn c))
   any_command Stls c h =
-      unauthorized_turn t l x p s h (at t s.devices.rows) h.live.connected (still t l x p s h (ap is_okay c) (ap is_wrte c) (ap is_clse c) (ap is_cnxn c))
+      unauthorized_turn t l x p s h (at t s.devices.rows) h.live.connected
+      (still t l x p s h (ap is_okay c) (ap is_wrte c) (ap is_clse c) (ap is_cnxn c))
   any_command Open c h = if_on Open c refl h
   any_command Okay c h = if_on Okay c refl h
   any_command Wrte c h = if_on Wrte c refl h

@@ -1,5 +1,6 @@
 -- What an entry leaves of what the history tells of a stream.
-use Rattle.std.proofs.Common.{◌≡◌, ◌-◌, ℕ, Bool, true, false, cond, not, ◌&&◌, ◌||◌, List, [], ◌∷◌, ◌++◌, length, drop, Option, Some, None, refl, sym}
+use Rattle.std.proofs.Common.{◌≡◌, ◌-◌, ℕ, Bool, true, false, cond, not, ◌&&◌, ◌||◌, List, [], ◌∷◌, ◌++◌, length, drop, Option, Some, None}
+use Rattle.std.proofs.Common.{refl, sym}
 use Rattle.std.proofs.Common.{ap, ◌∙◌, eqb}
 use Rattle.std.proofs.Common.{length-drop}
 use Rattle.std.specs.Prelude.{nat_eq, is_some}
@@ -18,7 +19,8 @@ use Rattle.adb_history.specs.Links.{credit_word}
 use Rattle.adb_history.specs.Machine.{History, state, IsLegal}
 use Rattle.adb_history.specs.Bytes.{is_lost, bytes_read, bytes_put, bytes_received}
 use Rattle.adb_history.specs.Book.{book, asked, is_asking, asked_with, bound_turn, devices_if}
-use Rattle.adb_history.specs.Births.{Birth, born, Opening as FirstOkay, opening_by, opening_in, opening_of, remote_in, remote_of, since, is_between}
+use Rattle.adb_history.specs.Births.{Birth, born, Opening as FirstOkay, opening_by, opening_in, opening_of, remote_in, remote_of, since}
+use Rattle.adb_history.specs.Births.{is_between}
 use Rattle.adb_history.specs.Births.{lead_of, handed_to}
 use Rattle.adb_history.specs.Causes.{has_closed_since, is_close_by}
 use Rattle.adb_history.specs.Moves.{HasOne}
@@ -32,7 +34,8 @@ opened_some l [] o is = absurd (let clash : None ≡ Some o = is in cc)
 opened_some l (p ∷ packets) o is = go p.command is (opened_some l packets o)
   where
     here : (b : Bool) → eqb p.arg0 0 ≡ b → (a : Bool)
-        → cond (a && not b) (Some (record { remote = p.arg0; word = credit_word p.payload; later = packets })) (opening_in l packets) ≡ Some o
+        → cond (a && not b) (Some (record { remote = p.arg0; word = credit_word p.payload; later = packets }))
+        (opening_in l packets) ≡ Some o
         → (opening_in l packets ≡ Some o → nat_eq o.remote 0 ≡ false) → nat_eq o.remote 0 ≡ false
     here false e true f ih =
         let row : record { remote = p.arg0; word = credit_word p.payload; later = packets } ≡ o = cc in
@@ -41,11 +44,13 @@ opened_some l (p ∷ packets) o is = go p.command is (opened_some l packets o)
     here true e true f ih = ih f
     here true e false f ih = ih f
 
-    close : (b : Bool) → cond b None (opening_in l packets) ≡ Some o → (opening_in l packets ≡ Some o → nat_eq o.remote 0 ≡ false) → nat_eq o.remote 0 ≡ false
+    close : (b : Bool) → cond b None (opening_in l packets) ≡ Some o
+        → (opening_in l packets ≡ Some o → nat_eq o.remote 0 ≡ false) → nat_eq o.remote 0 ≡ false
     close true e ih = absurd (let clash : None ≡ Some o = e in cc)
     close false e ih = ih e
 
-    go : (command : Command) → opening_by command l p packets (opening_in l packets) ≡ Some o → (opening_in l packets ≡ Some o → nat_eq o.remote 0 ≡ false)
+    go : (command : Command) → opening_by command l p packets (opening_in l packets) ≡ Some o
+        → (opening_in l packets ≡ Some o → nat_eq o.remote 0 ≡ false)
         → nat_eq o.remote 0 ≡ false
     go Okay e ih = here (eqb p.arg0 0) refl (nat_eq p.arg1 l) e ih
     go Clse e ih = close (is_between 0 l p) e ih
@@ -57,7 +62,8 @@ pub handed_is : (l : ℕ) (b : Birth) (h : History) (r : ℕ) → remote_of l b 
     → length (handed_to l b h) ≡ cond (nat_eq r 0) 0 (length (bytes_put b.client h) - lead_of b h)
 handed_is l b h r is = go (opening_of l b h) refl
   where
-    go : (o : Option FirstOkay) → opening_of l b h ≡ o → length (handed_to l b h) ≡ cond (nat_eq r 0) 0 (length (bytes_put b.client h) - lead_of b h)
+    go : (o : Option FirstOkay) → opening_of l b h ≡ o → length (handed_to l b h)
+        ≡ cond (nat_eq r 0) 0 (length (bytes_put b.client h) - lead_of b h)
     go None e =
         let none : r ≡ 0 = sym is ∙ ap remote_in e in
         ap (λ o. length (cond (is_some o) (drop (lead_of b h) (bytes_put b.client h)) [])) e
@@ -66,7 +72,8 @@ handed_is l b h r is = go (opening_of l b h) refl
         let own : o.remote ≡ r = sym (ap remote_in e) ∙ is in
         ap (λ o. length (cond (is_some o) (drop (lead_of b h) (bytes_put b.client h)) [])) e
         ∙ (length-drop (lead_of b h) (bytes_put b.client h)
-        ∙ sym (ap (λ c. cond c 0 (length (bytes_put b.client h) - lead_of b h)) (ap (λ n. nat_eq n 0) (sym own) ∙ opened_some l (since b h) o e)))
+        ∙ sym (ap (λ c. cond c 0 (length (bytes_put b.client h) - lead_of b h))
+        (ap (λ n. nat_eq n 0) (sym own) ∙ opened_some l (since b h) o e)))
 
 -- ---- what a client asked
 idle_in : (phase : Phase) → HasOne phase → asks_in phase ≡ false
@@ -75,23 +82,27 @@ idle_in (Streaming l) has = refl
 idle_in _ has = absurd has
 
 -- of a client that has a stream no further request is read
-not_asking : (c : ℕ) (k : Client) (older : History) → IsLegal older → (state older).stopped ≡ false → (state older).clients c ≡ Some k → HasOne k.about.phase
+not_asking : (c : ℕ) (k : Client) (older : History) → IsLegal older → (state older).stopped ≡ false
+    → (state older).clients c ≡ Some k → HasOne k.about.phase
     → is_asking c older (book older) ≡ false
 not_asking c k older legal on here has =
     sym (sym (ap asks_now here ∙ idle_in k.about.phase has) ∙ ((booked older legal).clients on c).asks)
 
-pub asked_same : (e : Entry) (c : ℕ) (k : Client) (older : History) → IsLegal (e ∷ older) → (state older).clients c ≡ Some k → HasOne k.about.phase
+pub asked_same : (e : Entry) (c : ℕ) (k : Client) (older : History) → IsLegal (e ∷ older)
+    → (state older).clients c ≡ Some k → HasOne k.about.phase
     → asked c (e ∷ older) ≡ asked c older
 asked_same (Read n bytes) c k older legal here has = go (eqb n c) refl
   where
-    mine : n ≡ c → asked_with (is_asking n older (book older)) (devices_if (book older).killed older) (book older).forwards bytes ((book older).asked n)
+    mine : n ≡ c → asked_with (is_asking n older (book older)) (devices_if (book older).killed older)
+        (book older).forwards bytes ((book older).asked n)
         ≡ asked n older
     mine same =
         ap (λ b. asked_with b (devices_if (book older).killed older) (book older).forwards bytes ((book older).asked n))
         (not_asking n k older legal.0 legal.2.0 (ap (state older).clients same ∙ here) has)
 
     go : (b : Bool) → eqb n c ≡ b
-        → cond b (asked_with (is_asking n older (book older)) (devices_if (book older).killed older) (book older).forwards bytes ((book older).asked n))
+        → cond b (asked_with (is_asking n older (book older)) (devices_if (book older).killed older)
+        (book older).forwards bytes ((book older).asked n))
         ((book older).asked c) ≡ (book older).asked c
     go false e = refl
     go true e = mine (eqb-true n c e) ∙ ap (book older).asked (eqb-true n c e)
@@ -122,4 +133,5 @@ far_bytes _ older c t far = record { received = refl; read = refl; put = refl }
 
 -- a client that closed before has closed
 pub closed_before : (l c : ℕ) (e : Entry) (older : History) → has_closed_since l c older ≡ true → has_closed_since l c (e ∷ older) ≡ true
-closed_before l c e older closed = ap (λ b. (is_some (born l older) && is_close_by c e) || b) closed ∙ or-true (is_some (born l older) && is_close_by c e)
+closed_before l c e older closed = ap (λ b. (is_some (born l older) && is_close_by c e) || b) closed
+    ∙ or-true (is_some (born l older) && is_close_by c e)

@@ -1,5 +1,6 @@
 -- What rules of other clients, streams and links leave of a stream and its client.
-use Rattle.std.proofs.Common.{◌≡◌, ◌≢◌, ℕ, zero, suc, Bool, true, false, cond, not, ◌||◌, List, [], ◌∷◌, ◌++◌, length, Option, Some, None, refl, sym}
+use Rattle.std.proofs.Common.{◌≡◌, ◌≢◌, ℕ, zero, suc, Bool, true, false, cond, not, ◌||◌, List, [], ◌∷◌, ◌++◌, length, Option, Some, None}
+use Rattle.std.proofs.Common.{refl, sym}
 use Rattle.std.proofs.Common.{ap, ◌∙◌, eqb}
 use Rattle.std.specs.Prelude.{option_map, nat_eq, codes}
 use Rattle.std.proofs.lemmas.Bool.{eqb-true, ne_eqb}
@@ -56,7 +57,8 @@ apart_fate l c Why s m fate h = record {
 }
 
 module _ (l c : ℕ) where
-  pub u_then : (s : State) (m : Made) (rule : State → Made) → Untouched l c s m → Untouched l c m.state (rule m.state) → Untouched l c s (then_also m rule)
+  pub u_then : (s : State) (m : Made) (rule : State → Made) → Untouched l c s m → Untouched l c m.state (rule m.state)
+      → Untouched l c s (then_also m rule)
   u_then s m rule h k = record {
     row = k.row ∙ h.row;
     client = λ x is has. k.client x (h.client x is has) has;
@@ -64,7 +66,8 @@ module _ (l c : ℕ) where
     silent = silent_append l m.told (rule m.state).told h.silent k.silent;
   }
 
-  pub u_if : (s : State) (b : Bool) (m n : Made) → (b ≡ true → Untouched l c s m) → (b ≡ false → Untouched l c s n) → Untouched l c s (cond b m n)
+  pub u_if : (s : State) (b : Bool) (m n : Made) → (b ≡ true → Untouched l c s m) → (b ≡ false → Untouched l c s n)
+      → Untouched l c s (cond b m n)
   u_if s true m n one other = one refl
   u_if s false m n one other = other refl
 
@@ -134,12 +137,17 @@ module _ (l c : ℕ) where
       told true = u_stream n none_kept s apart.0
       told false = record { row = changed_other n l none_kept s.streams apart.0; client = λ k is has. is; owed = refl; silent = tt }
 
-      go : (b : Bool) → Untouched l c s (then_also (tells_end b n ending (to_stream n none_kept s)) (λ s. client_loses (s.clients z.client) z.client s))
+      go : (b : Bool)
+          → Untouched l c s
+          (then_also (tells_end b n ending (to_stream n none_kept s))
+          (λ s. client_loses (s.clients z.client) z.client s))
       go b =
           let m = tells_end b n ending (to_stream n none_kept s) in
-          u_then s m (λ s. client_loses (s.clients z.client) z.client s) (told b) (u_client_loses (m.state.clients z.client) z.client m.state apart.1)
+          u_then s m (λ s. client_loses (s.clients z.client) z.client s) (told b)
+          (u_client_loses (m.state.clients z.client) z.client m.state apart.1)
 
-  pub u_telling : (n : ℕ) (ending : Ending) (z : Stream) (s : State) → (n ≢ l) × (z.client ≢ c) → Untouched l c s (ends_telling n ending z s)
+  pub u_telling : (n : ℕ) (ending : Ending) (z : Stream) (s : State) → (n ≢ l) × (z.client ≢ c)
+      → Untouched l c s (ends_telling n ending z s)
   u_telling n ending z s apart =
       let p = close_packet n z.part.remote in
       u_then s (owe_link z.link p s) (ends_row n ending z) (u_owe z.link p s (record { write = refl; credit = refl }))
@@ -155,7 +163,8 @@ module _ (l c : ℕ) where
         (λ e. (let other : n ≢ l = (λ same. h.1 z (ap s.streams (sym same) ∙ is) (eqb-true z.link t e)) in
         u_ends n ending z s (other, h.0.alone n z is other))) (λ e. u_quiet s)
 
-    u_ends_of : (k : ℕ) (s : State) → Apart l c s × ((y : Stream) → s.streams l ≡ Some y → y.link ≢ t) → Untouched l c s (ends_of t k ending s)
+    u_ends_of : (k : ℕ) (s : State) → Apart l c s × ((y : Stream) → s.streams l ≡ Some y → y.link ≢ t)
+        → Untouched l c s (ends_of t k ending s)
     u_ends_of zero s h = u_quiet s
     u_ends_of (suc k) s h =
         let m = ends_of t k ending s in
@@ -167,23 +176,28 @@ module _ (l c : ℕ) where
     pub u_all_end : (s : State) → Apart l c s × ((y : Stream) → s.streams l ≡ Some y → y.link ≢ t) → Untouched l c s (all_end t ending s)
     u_all_end s h = u_ends_of s.drawn s h
 
-    pub u_link_ends : (s : State) → Apart l c s × ((y : Stream) → s.streams l ≡ Some y → y.link ≢ t) → Untouched l c s (link_ends t ending s)
+    pub u_link_ends : (s : State) → Apart l c s × ((y : Stream) → s.streams l ≡ Some y → y.link ≢ t)
+        → Untouched l c s (link_ends t ending s)
     u_link_ends s h =
         let m = all_end t ending (forgets t s) in
         let all = u_all_end (forgets t s) (record { alone = h.0.alone }, h.1) in
-        u_then s m (λ s. quietly (mark_all s)) (record { row = all.row; client = all.client; owed = all.owed; silent = all.silent }) (u_marks m.state)
+        u_then s m (λ s. quietly (mark_all s))
+        (record { row = all.row; client = all.client; owed = all.owed; silent = all.silent }) (u_marks m.state)
 
   -- ---- packets to another stream
   module _ (n : ℕ) (z : Stream) (apart : (n ≢ l) × (z.client ≢ c)) where
     u_hears : (o : Option Client) (s : State) → Untouched l c s (hears_okay o z.client s)
     u_hears None s = u_quiet s
     u_hears (Some client) s =
-        u_if s client.about.forwarded (quietly s) (owe_client z.client (codes "OKAY") s) (λ e. u_quiet s) (λ e. u_owe_client z.client (codes "OKAY") s apart.1)
+        u_if s client.about.forwarded (quietly s) (owe_client z.client (codes "OKAY") s) (λ e. u_quiet s)
+        (λ e. u_owe_client z.client (codes "OKAY") s apart.1)
 
     u_opened : (remote : ℕ) (word : Option ℕ) (s : State) → Untouched l c s (opened n remote word z s)
     u_opened remote word s =
         let heard = hears_okay (s.clients z.client) z.client s in
-        let row = u_stream n (with_stream_part (with_remote remote (with_flow (first_credit word z.part.flow) z.part))) heard.state apart.0 in
+        let row = u_stream n
+        (with_stream_part (with_remote remote (with_flow (first_credit word z.part.flow) z.part))) heard.state
+        apart.0 in
         u_then s heard (λ s. quietly (open_now n remote word z s)) (u_hears (s.clients z.client) s) (record {
           row = row.row;
           client = λ k is has. changed_other z.client c (in_phase (Streaming n)) heard.state.clients apart.1 ∙ is;
@@ -239,4 +253,5 @@ module _ (l c : ℕ) where
 
     pub u_close : (remote : ℕ) (s : State) → Untouched l c s (takes_close n remote z s)
     u_close remote s =
-        u_if s (eqb remote 0 || eqb remote z.part.remote) (ends_row n PeerClosed z s) (quietly s) (λ e. u_ends n PeerClosed z s apart) (λ e. u_quiet s)
+        u_if s (eqb remote 0 || eqb remote z.part.remote) (ends_row n PeerClosed z s) (quietly s)
+        (λ e. u_ends n PeerClosed z s apart) (λ e. u_quiet s)

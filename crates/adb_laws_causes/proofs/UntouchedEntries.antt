@@ -1,5 +1,6 @@
 -- What each entry of other clients and links leaves of a stream that lives on, and of its client.
-use Rattle.std.proofs.Common.{◌≡◌, ◌≢◌, ◌+◌, ℕ, zero, suc, Bool, true, false, cond, List, ◌++◌, length, Option, Some, None, refl, sym, ap, subst, ◌∙◌, eqb}
+use Rattle.std.proofs.Common.{◌≡◌, ◌≢◌, ◌+◌, ℕ, zero, suc, Bool, true, false, cond, List, ◌++◌, length, Option, Some, None, refl, sym, ap}
+use Rattle.std.proofs.Common.{subst, ◌∙◌, eqb}
 use Rattle.std.proofs.Common.{arith, ◌⊎◌, inl, inr}
 use Rattle.std.specs.Prelude.{codes, is_some}
 use Rattle.std.proofs.lemmas.Bool.{ne_eqb}
@@ -25,7 +26,8 @@ use Rattle.adb_history.specs.Clients.{owe_client, closing}
 use Rattle.adb_history.specs.Streams.{stream_ids, asks_for, no_ids_left, opens}
 use Rattle.adb_history.specs.Losing.{stream_fails, stream_of, input_ended, input_ends, client_ends, orphaned, only_client, stops}
 use Rattle.adb_history.specs.Asking.{Asked, asks_with}
-use Rattle.adb_history.specs.Reading.{comes, comes_in_vain, enters_by, tracks, awaits, goes_on, asked_before, has_asked, asks, reads_in, reads_from}
+use Rattle.adb_history.specs.Reading.{comes, comes_in_vain, enters_by, tracks, awaits, goes_on, asked_before, has_asked, asks, reads_in}
+use Rattle.adb_history.specs.Reading.{reads_from}
 use Rattle.adb_history.specs.Reading.{bound_for, bound_in, bound_at}
 use Rattle.adb_registry.specs.Registry.{attached}
 use Rattle.adb_history.specs.Forwarding.{bound_by}
@@ -45,9 +47,11 @@ LeftBy l c m = (m.state.stopped ≡ false) ⊎ ((is_some (m.state.streams l) ≡
 
 -- ---- what another client asks
 module _ (l c : ℕ) where
-  far_opens : (forwarded : Bool) (n t : ℕ) (service : List ℕ) (s : State) → (n ≢ c) × (l ≢ s.drawn + 1) → Untouched l c s (opens forwarded n t service s)
+  far_opens : (forwarded : Bool) (n t : ℕ) (service : List ℕ) (s : State) → (n ≢ c) × (l ≢ s.drawn + 1)
+      → Untouched l c s (opens forwarded n t service s)
   far_opens forwarded n t service s other =
-      u_if l c s (eqb s.drawn stream_ids) (no_ids_left forwarded n s) (asks_for (s.drawn + 1) n t service s) (λ e. ids forwarded) (λ e. record {
+      u_if l c s (eqb s.drawn stream_ids) (no_ids_left forwarded n s) (asks_for (s.drawn + 1) n t service s)
+      (λ e. ids forwarded) (λ e. record {
         row = ap (λ b. cond b (Some (new_stream (s.drawn + 1) n t (new_flow (is_credit t s.devices)))) (s.streams l))
             (ne_eqb (s.drawn + 1) l (λ e. other.1 (sym e)));
         client = λ k is has. changed_other n c (in_phase (Opening (s.drawn + 1))) s.clients other.0 ∙ is;
@@ -257,7 +261,9 @@ module _ (l : ℕ) (x : Stream) (s : State) (h : IsOwned s) (p : Pair l x s) whe
   pub pair_away : (k : ℕ) → k ≢ x.link → Away l x.client k s
   pair_away k other = record {
     apart = pair_apart l x s h p;
-    link = λ y is same. other (let row : x ≡ y = (let both : Some x ≡ Some y = sym p.is ∙ is in cc) in sym same ∙ ap (λ (z : Stream). z.link) (sym row));
+    link = λ y is same. other
+        (let row : x ≡ y = (let both : Some x ≡ Some y = sym p.is ∙ is in cc) in sym same
+        ∙ ap (λ (z : Stream). z.link) (sym row));
   }
 
   pub not_next : l ≢ s.drawn + 1
@@ -273,7 +279,8 @@ module _ (l : ℕ) (x : Stream) (s : State) (h : IsOwned s) (p : Pair l x s) whe
       subst (λ (y : Client). Still y.about.phase) row (has_still p.client.about.phase l x.part.remote p.phase)
 
   -- a stream that lives on is not touched by what is not its own
-  pub far_rule : (e : Entry) → May s e → IsFar x.client x.link e → is_some ((rule e s).state.streams l) ≡ true → Untouched l x.client s (rule e s)
+  pub far_rule : (e : Entry) → May s e → IsFar x.client x.link e → is_some ((rule e s).state.streams l) ≡ true
+      → Untouched l x.client s (rule e s)
   far_rule (Join n) may far on = record {
     row = refl;
     client = λ k is has. ap (λ b. cond b (Some (new_client false n)) (s.clients x.client)) (ne_eqb n x.client (comes_apart n may.1)) ∙ is;

@@ -1,5 +1,6 @@
 -- What the rule of an entry leaves of a stream and its client, where it is of other clients and links.
-use Rattle.std.proofs.Common.{◌≡◌, ◌≢◌, ℕ, zero, suc, Bool, true, false, cond, ◌||◌, List, [], ◌∷◌, ◌++◌, length, drop, min, Option, Some, None, refl}
+use Rattle.std.proofs.Common.{◌≡◌, ◌≢◌, ℕ, zero, suc, Bool, true, false, cond, ◌||◌, List, [], ◌∷◌, ◌++◌, length, drop, min, Option, Some}
+use Rattle.std.proofs.Common.{None, refl}
 use Rattle.std.proofs.Common.{sym, ap, subst, ◌∙◌, eqb}
 use Rattle.std.specs.Prelude.{nat_eq, nat_lt}
 use Rattle.std.proofs.lemmas.Bool.{eqb-true}
@@ -29,7 +30,8 @@ use Rattle.adb_history.specs.Links.{close_packet, okay_packet, credit_packet, cr
 use Rattle.adb_history.specs.Tracking.{offered}
 use Rattle.adb_history.specs.Losing.{link_ends}
 use Rattle.adb_history.specs.Flow.{with_flow}
-use Rattle.adb_history.specs.Packets.{least_version, least_maxdata, goes_online, streams_end_first, connects, cnxn, unauthorized_from, unauthorized}
+use Rattle.adb_history.specs.Packets.{least_version, least_maxdata, goes_online, streams_end_first, connects, cnxn, unauthorized_from}
+use Rattle.adb_history.specs.Packets.{unauthorized}
 use Rattle.adb_history.specs.Packets.{refuses_open, at_stream, takes_okay, takes_write, takes_close, treat_open, treat_any, treat_on, treat}
 use Rattle.adb_history.specs.Packets.{treat_all, faulty_on}
 use Rattle.adb_history.specs.Packets.{faulty, with_rest, receives_cut, receives_on, receives}
@@ -40,7 +42,8 @@ use Rattle.adb_history.proofs.Following.{changed_here}
 use Rattle.adb_laws_causes.proofs.Fates.{FateOf}
 use Rattle.adb_laws_causes.proofs.PacketFates.{OfLink, treat_fate, treat_all_fate}
 use Rattle.adb_laws_causes.proofs.Silent.{okay_silent, credit_silent}
-use Rattle.adb_laws_causes.proofs.Untouched.{Untouched, Apart, apart_fate, u_then, u_if, u_quiet, u_owe, u_client, u_owe_client, u_stream, u_marks}
+use Rattle.adb_laws_causes.proofs.Untouched.{Untouched, Apart, apart_fate, u_then, u_if, u_quiet, u_owe, u_client, u_owe_client, u_stream}
+use Rattle.adb_laws_causes.proofs.Untouched.{u_marks}
 use Rattle.adb_laws_causes.proofs.Untouched.{u_all_end, u_link_ends, u_okay, u_write, u_close}
 
 -- a stream of another link than this one, and no other stream is of its client
@@ -53,7 +56,8 @@ away_row l c t s m fate u h = record { apart = apart_fate l c (OfLink t) s m fat
 
 -- ---- what comes on another link
 module _ (l c t : ℕ) where
-  far_connects : (version maxdata : ℕ) (who : Option Identity) (s : State) → Away l c t s → Untouched l c s (connects t version maxdata who s)
+  far_connects : (version maxdata : ℕ) (who : Option Identity) (s : State) → Away l c t s
+      → Untouched l c s (connects t version maxdata who s)
   far_connects version maxdata None s h = u_link_ends l c t Broken s (h.apart, h.link)
   far_connects version maxdata (Some identity) s h =
       let m = streams_end_first (is_connected t s.devices) t s in
@@ -66,7 +70,8 @@ module _ (l c t : ℕ) where
 
   far_cnxn : (version maxdata : ℕ) (banner : List ℕ) (s : State) → Away l c t s → Untouched l c s (cnxn t version maxdata banner s)
   far_cnxn version maxdata banner s h =
-      u_if l c s (nat_lt version least_version || nat_lt maxdata least_maxdata) (link_ends t Broken s) (connects t version maxdata (identity_of banner) s)
+      u_if l c s (nat_lt version least_version || nat_lt maxdata least_maxdata) (link_ends t Broken s)
+      (connects t version maxdata (identity_of banner) s)
       (λ e. u_link_ends l c t Broken s (h.apart, h.link)) (λ e. far_connects version maxdata (identity_of banner) s h)
 
   pub far_unauthorized : (o : Option Row) (s : State) → Untouched l c s (unauthorized t o s)
@@ -86,7 +91,8 @@ module _ (l c t : ℕ) where
   far_at n None rule s is h u = u_quiet l c s
   far_at n (Some z) rule s is h u =
       u_if l c s (nat_eq z.link t) (rule z s) (quietly s)
-      (λ e. (let other : n ≢ l = (λ same. h.link z (ap s.streams (sym same) ∙ is) (eqb-true z.link t e)) in u z (other, h.apart.alone n z is other)))
+      (λ e. (let other : n ≢ l = (λ same. h.link z (ap s.streams (sym same) ∙ is) (eqb-true z.link t e))
+      in u z (other, h.apart.alone n z is other)))
       (λ e. u_quiet l c s)
 
   far_open : (command : Command) (p : Packet) (s : State) → Away l c t s → Untouched l c s (treat_open t command p s)
@@ -95,10 +101,12 @@ module _ (l c t : ℕ) where
       (λ z apart. u_okay l c p.arg1 z apart p.arg0 (credit_word p.payload) s)
   far_open Wrte p s h = far_at p.arg1 (s.streams p.arg1) (takes_write p.arg1 p.arg0 p.payload) s refl h
       (λ z apart. u_write l c p.arg1 z apart p.arg0 p.payload s)
-  far_open Clse p s h = far_at p.arg1 (s.streams p.arg1) (takes_close p.arg1 p.arg0) s refl h (λ z apart. u_close l c p.arg1 z apart p.arg0 s)
+  far_open Clse p s h = far_at p.arg1 (s.streams p.arg1) (takes_close p.arg1 p.arg0) s refl h
+      (λ z apart. u_close l c p.arg1 z apart p.arg0 s)
   far_open _ p s h = u_quiet l c s
 
-  far_if : (command : Command) (p : Packet) (s : State) → Away l c t s → Untouched l c s (cond (is_connected t s.devices) (treat_open t command p s)
+  far_if : (command : Command) (p : Packet) (s : State) → Away l c t s
+      → Untouched l c s (cond (is_connected t s.devices) (treat_open t command p s)
       (quietly s))
   far_if command p s h =
       u_if l c s (is_connected t s.devices) (treat_open t command p s) (quietly s) (λ e. far_open command p s h) (λ e. u_quiet l c s)
@@ -136,7 +144,8 @@ module _ (l c t : ℕ) where
       let rested = to_link t (with_rest cut.rest) s in
       let m = treat_all t cut.given rested in
       let all = far_all cut.given rested (record { apart = record { alone = h.apart.alone }; link = h.link }) in
-      let left = away_row l c t rested m (λ n. treat_all_fate n t cut.given rested) all (record { apart = record { alone = h.apart.alone }; link = h.link }) in
+      let left = away_row l c t rested m (λ n. treat_all_fate n t cut.given rested) all
+      (record { apart = record { alone = h.apart.alone }; link = h.link }) in
       u_then l c s m (faulty t cut.fault) (record { row = all.row; client = all.client; owed = all.owed; silent = all.silent })
       (far_faulty (m.state.links t) cut.fault m.state left)
 
@@ -168,7 +177,8 @@ module _ (l c n : ℕ) (other : n ≢ c) where
 
   far_credit : (back k : ℕ) (z : Stream) (s : State) → k ≢ l → Untouched l c s (tells_credit back k z s)
   far_credit zero k z s apart = u_quiet l c s
-  far_credit (suc m) k z s apart = u_owe l c z.link (credit_packet k z.part.remote (suc m)) s (credit_silent l k z.part.remote (suc m) apart)
+  far_credit (suc m) k z s apart = u_owe l c z.link (credit_packet k z.part.remote (suc m)) s
+      (credit_silent l k z.part.remote (suc m) apart)
 
   far_handed : (flow : Flow) (left k : ℕ) (z : Stream) (s : State) → k ≢ l → Untouched l c s (tells_handed flow left k z s)
   far_handed (One window) zero k z s apart = u_owe l c z.link (okay_packet k z.part.remote) s (okay_silent l k z.part.remote)
@@ -190,7 +200,8 @@ module _ (l c n : ℕ) (other : n ≢ c) where
   far_left (Streaming k) due s apart = far_stream_left due k (s.streams k) s apart
   far_left _ due s apart = u_quiet l c s
 
-  far_takes : (count : ℕ) (o : Option Client) (s : State) → ((k : Client) → o ≡ Some k → OtherIn l k.about.phase) → Untouched l c s (takes_of n count o s)
+  far_takes : (count : ℕ) (o : Option Client) (s : State) → ((k : Client) → o ≡ Some k → OtherIn l k.about.phase)
+      → Untouched l c s (takes_of n count o s)
   far_takes count None s apart = u_quiet l c s
   far_takes count (Some k) s apart =
       let first = u_client l c n (hands count) s other in

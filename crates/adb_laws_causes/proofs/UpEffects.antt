@@ -1,5 +1,6 @@
 -- What the up rule makes of a stream and of its client, and tells of them.
-use Rattle.std.proofs.Common.{◌≡◌, ◌+◌, ◌-◌, ℕ, zero, suc, Bool, true, false, cond, List, [], ◌∷◌, ◌++◌, length, take, drop, refl, sym, ap, subst, ◌∙◌}
+use Rattle.std.proofs.Common.{◌≡◌, ◌+◌, ◌-◌, ℕ, zero, suc, Bool, true, false, cond, List, [], ◌∷◌, ◌++◌, length, take, drop, refl, sym, ap}
+use Rattle.std.proofs.Common.{subst, ◌∙◌}
 use Rattle.std.proofs.Common.{arith}
 use Rattle.std.proofs.Math.Seq.{take-add}
 use Rattle.std.proofs.lemmas.List.{length-take-le}
@@ -18,12 +19,15 @@ use Rattle.adb_laws_causes.specs.Flows.{FlowIs}
 use Rattle.adb_laws_causes.specs.Flows.{waiting}
 
 -- ---- the writes
-joined_writes : (k maxdata credit : ℕ) (held : List ℕ) → joined (writes k maxdata credit held) ≡ take (total (writes k maxdata credit held)) held
+joined_writes : (k maxdata credit : ℕ) (held : List ℕ) → joined (writes k maxdata credit held)
+    ≡ take (total (writes k maxdata credit held)) held
 joined_writes zero maxdata credit held = refl
-joined_writes (suc k) maxdata credit held = go (write_len maxdata credit held) refl (λ n. joined_writes k maxdata (credit - n) (drop n held))
+joined_writes (suc k) maxdata credit held = go (write_len maxdata credit held) refl
+    (λ n. joined_writes k maxdata (credit - n) (drop n held))
   where
     go : (n : ℕ) → write_len maxdata credit held ≡ n
-        → ((n : ℕ) → joined (writes k maxdata (credit - n) (drop n held)) ≡ take (total (writes k maxdata (credit - n) (drop n held))) (drop n held))
+        → ((n : ℕ) → joined (writes k maxdata (credit - n) (drop n held))
+        ≡ take (total (writes k maxdata (credit - n) (drop n held))) (drop n held))
         → joined (write_before (write_len maxdata credit held) held
         (writes k maxdata (credit - write_len maxdata credit held) (drop (write_len maxdata credit held) held)))
         ≡ take (total (write_before (write_len maxdata credit held) held
@@ -44,7 +48,8 @@ joined_writes (suc k) maxdata credit held = go (write_len maxdata credit held) r
             ∙ (sym (take-add (suc n) (total later) held) ∙ ap (λ m. take (m + total later) held) (sym first))
 
 -- what goes up is the front of what is held
-pub joined_payloads : (flow : Flow) (maxdata : ℕ) (held : List ℕ) → joined (payloads flow maxdata held) ≡ take (total (payloads flow maxdata held)) held
+pub joined_payloads : (flow : Flow) (maxdata : ℕ) (held : List ℕ)
+    → joined (payloads flow maxdata held) ≡ take (total (payloads flow maxdata held)) held
 joined_payloads (One window) maxdata held = go window.outstanding
   where
     go : (b : Bool) → joined (cond b [] (writes 1 maxdata maxdata held)) ≡ take (total (cond b [] (writes 1 maxdata maxdata held))) held
@@ -92,7 +97,9 @@ module _ (l : ℕ) (x : Stream) where
   go_carried [] s = refl
   go_carried (p ∷ ps) s =
       let rest = (all_go_up l x ps (goes_up l x p s).state).told in
-      ap (λ b. carried_in l (cond b (write_packet l x.part.remote p ∷ packets_to x.link rest) (packets_to x.link rest))) (eq-eqb x.link x.link refl)
+      ap (λ b. carried_in l
+      (cond b (write_packet l x.part.remote p ∷ packets_to x.link rest) (packets_to x.link rest)))
+      (eq-eqb x.link x.link refl)
       ∙ (ap (λ b. cond b (p ++ carried_in l (packets_to x.link rest)) (carried_in l (packets_to x.link rest))) (eq-eqb l l refl)
       ∙ ap (λ bytes. p ++ bytes) (go_carried ps (goes_up l x p s).state))
 
@@ -100,13 +107,18 @@ module _ (l : ℕ) (x : Stream) where
   go_writes [] s = refl
   go_writes (p ∷ ps) s =
       let rest = (all_go_up l x ps (goes_up l x p s).state).told in
-      ap (λ b. count_from is_wrte l (cond b (write_packet l x.part.remote p ∷ packets_to x.link rest) (packets_to x.link rest))) (eq-eqb x.link x.link refl)
-      ∙ (ap (λ b. cond b (1 + count_from is_wrte l (packets_to x.link rest)) (count_from is_wrte l (packets_to x.link rest))) (eq-eqb l l refl)
+      ap (λ b. count_from is_wrte l
+      (cond b (write_packet l x.part.remote p ∷ packets_to x.link rest) (packets_to x.link rest)))
+      (eq-eqb x.link x.link refl)
+      ∙ (ap (λ b. cond b (1 + count_from is_wrte l (packets_to x.link rest))
+      (count_from is_wrte l (packets_to x.link rest))) (eq-eqb l l refl)
       ∙ ap (λ n. 1 + n) (go_writes ps (goes_up l x p s).state) ∙ omega arith)
 
   pub go_credits : (ps : List (List ℕ)) (s : State) → credit_of (okays_of l (packets_to x.link (all_go_up l x ps s).told)) ≡ 0
   go_credits [] s = refl
   go_credits (p ∷ ps) s =
       let rest = (all_go_up l x ps (goes_up l x p s).state).told in
-      ap (λ b. credit_of (okays_of l (cond b (write_packet l x.part.remote p ∷ packets_to x.link rest) (packets_to x.link rest)))) (eq-eqb x.link x.link refl)
+      ap (λ b. credit_of
+      (okays_of l (cond b (write_packet l x.part.remote p ∷ packets_to x.link rest) (packets_to x.link rest))))
+      (eq-eqb x.link x.link refl)
       ∙ go_credits ps (goes_up l x p s).state

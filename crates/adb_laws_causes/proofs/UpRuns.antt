@@ -1,5 +1,6 @@
 -- What the up rule for all streams makes of one, and of its client.
-use Rattle.std.proofs.Common.{◌≡◌, ◌≢◌, ◌≤◌, ◌<◌, ◌+◌, ℕ, zero, suc, Bool, true, false, cond, List, [], ◌∷◌, ◌++◌, length, take, drop, Option, Some}
+use Rattle.std.proofs.Common.{◌≡◌, ◌≢◌, ◌≤◌, ◌<◌, ◌+◌, ℕ, zero, suc, Bool, true, false, cond, List, [], ◌∷◌, ◌++◌, length, take, drop}
+use Rattle.std.proofs.Common.{Option, Some}
 use Rattle.std.proofs.Common.{None, refl, sym, ap, subst, ◌∙◌}
 use Rattle.std.proofs.Common.{arith, ◌⊎◌, inl, inr}
 use Rattle.std.specs.Option.{option_or}
@@ -35,7 +36,8 @@ use Rattle.adb_laws_causes.proofs.Runs.{alive_told}
 use Rattle.adb_laws_causes.proofs.StreamFates.{telling_fate, gone_here}
 use Rattle.adb_laws_causes.proofs.Turning.{ended_told}
 use Rattle.adb_laws_causes.proofs.Silent.{Tally, tally_silent, tally_append}
-use Rattle.adb_laws_causes.proofs.UpEffects.{joined_payloads, waiting_payloads, go_streams, go_clients, go_owed, go_carried, go_writes, go_credits}
+use Rattle.adb_laws_causes.proofs.UpEffects.{joined_payloads, waiting_payloads, go_streams, go_clients, go_owed, go_carried, go_writes}
+use Rattle.adb_laws_causes.proofs.UpEffects.{go_credits}
 
 -- ---- other streams
 module _ (l c : ℕ) (n : ℕ) (other : n ≢ l) where
@@ -49,7 +51,8 @@ module _ (l c : ℕ) (n : ℕ) (other : n ≢ l) where
   u_closes false (Some z) s is h = u_quiet l c s
   u_closes true (Some z) s is h = u_telling l c n ClientClosed z s (other, h.alone n z is other)
 
-  u_sends : (z : Stream) (client : Client) (ps : List (List ℕ)) (s : State) → s.streams n ≡ Some z → Apart l c s → Untouched l c s (sends_up n z client ps s)
+  u_sends : (z : Stream) (client : Client) (ps : List (List ℕ)) (s : State) → s.streams n ≡ Some z → Apart l c s
+      → Untouched l c s (sends_up n z client ps s)
   u_sends z client ps s is h =
       let left = noted n z client.held ps s in
       let sent = all_go_up n z ps left in
@@ -60,7 +63,13 @@ module _ (l c : ℕ) (n : ℕ) (other : n ≢ l) where
       let apart : Apart l c sent.state = apart_sent sent.state (go_rows ps left) in
       let go : Untouched l c left sent = u_go z ps left in
       u_then l c s sent (λ s. closes_if over n (s.streams n) s)
-      (record { row = go.row ∙ noted_u.row; client = λ k e has. go.client k (noted_u.client k e has) has; owed = go.owed; silent = go.silent })
+      (record {
+        row = go.row ∙ noted_u.row;
+        client = λ k e has. go.client k (noted_u.client k e has) has;
+        owed =
+            go.owed;
+        silent = go.silent;
+      })
       (u_closes over (sent.state.streams n) sent.state refl apart)
     where
       part : Part
@@ -87,7 +96,8 @@ module _ (l c : ℕ) (n : ℕ) (other : n ≢ l) where
       at_client z is None = u_quiet l c s
       at_client z is (Some client) =
           let ps = payloads z.part.flow (maxdata_of z.link s.devices) client.held in
-          u_if l c s (is_streaming n client.about.phase) (sends_up n z client ps s) (quietly s) (λ e. u_sends z client ps s is h) (λ e. u_quiet l c s)
+          u_if l c s (is_streaming n client.about.phase) (sends_up n z client ps s) (quietly s)
+          (λ e. u_sends z client ps s is h) (λ e. u_quiet l c s)
 
       at_stream : (o : Option Stream) → s.streams n ≡ o → Untouched l c s (up_stream n o s)
       at_stream None is = u_quiet l c s
@@ -141,7 +151,9 @@ telling_quiet : (l c : ℕ) (y : Stream) (now : State) (k : Client) → y.part.o
     → is_streaming l k.about.phase ≡ true
     → (owed_to c (ends_telling l ClientClosed y now).told ≡ []) × AreSilent l (ends_telling l ClientClosed y now).told
 telling_quiet l c y now k alive here streaming =
-    subst (λ (orphan : Bool). Quiet (then_also (tells_end orphan l ClientClosed gone) (λ s. client_loses (s.clients y.client) y.client s))) (sym alive)
+    subst (λ (orphan : Bool). Quiet
+    (then_also (tells_end orphan l ClientClosed gone) (λ s. client_loses (s.clients y.client) y.client s)))
+    (sym alive)
     (subst (λ (o : Option Client). Quiet (record {
       state = (client_loses o y.client gone).state;
       told = ended l ClientClosed ∷
@@ -155,9 +167,12 @@ telling_quiet l c y now k alive here streaming =
     Quiet : Made → Type 0
     Quiet m = (owed_to c (due_to_link y.link (close_packet l y.part.remote) (check_on (wants_sums (now.links y.link))
         (close_packet l y.part.remote)) ∷ m.told) ≡ [])
-        × AreSilent l (due_to_link y.link (close_packet l y.part.remote) (check_on (wants_sums (now.links y.link)) (close_packet l y.part.remote)) ∷ m.told)
+        × AreSilent l
+        (due_to_link y.link (close_packet l y.part.remote)
+        (check_on (wants_sums (now.links y.link)) (close_packet l y.part.remote)) ∷ m.told)
 
-    both : (owed_to c (loses k.about.forwarded k.about.phase y.client gone).told ≡ []) × AreSilent l (loses k.about.forwarded k.about.phase y.client gone).told
+    both : (owed_to c (loses k.about.forwarded k.about.phase y.client gone).told ≡ [])
+        × AreSilent l (loses k.about.forwarded k.about.phase y.client gone).told
         → Quiet (record {
           state = (loses k.about.forwarded k.about.phase y.client gone).state;
           told = ended l ClientClosed ∷ (loses k.about.forwarded k.about.phase y.client gone).told;
@@ -181,10 +196,12 @@ module _ (l : ℕ) (s : State) (x : Stream) (h : Pair l x s) (ps : List (List �
   abbrev sent : Made
   sent = all_go_up l x ps (noted l x h.client.held ps s)
 
-  row_left : (all_go_up l x ps (noted l x h.client.held ps s)).state.streams l ≡ Some (record x { part = with_flow (flow_after ps x.part.flow) x.part })
+  row_left : (all_go_up l x ps (noted l x h.client.held ps s)).state.streams l
+      ≡ Some (record x { part = with_flow (flow_after ps x.part.flow) x.part })
   row_left = ap (λ streams. streams l) (go_streams l x ps left) ∙ changed_here l (with_stream_part part) s.streams x h.is
 
-  client_left_is : (all_go_up l x ps (noted l x h.client.held ps s)).state.clients x.client ≡ Some (record h.client { held = drop (total ps) h.client.held })
+  client_left_is : (all_go_up l x ps (noted l x h.client.held ps s)).state.clients x.client
+      ≡ Some (record h.client { held = drop (total ps) h.client.held })
   client_left_is = ap (λ clients. clients x.client) (go_clients l x ps left)
       ∙ changed_here x.client (with_held (drop (total ps) h.client.held)) s.clients h.client h.here
 
@@ -203,24 +220,35 @@ module _ (l : ℕ) (s : State) (x : Stream) (h : Pair l x s) (ps : List (List �
   }
 
   -- it is over
-  ends_effect : is_streaming l h.client.about.phase ≡ true → is_over h.client.about.ended (drop (total ps) h.client.held) (flow_after ps x.part.flow) ≡ true
-      → UpEffect l x h.client (then_also sent (λ r. ends_telling l ClientClosed (record x { part = with_flow (flow_after ps x.part.flow) x.part }) r))
+  ends_effect : is_streaming l h.client.about.phase ≡ true → is_over h.client.about.ended
+      (drop (total ps) h.client.held) (flow_after ps x.part.flow) ≡ true
+      → UpEffect l x h.client
+      (then_also sent
+      (λ r. ends_telling l ClientClosed (record x { part = with_flow (flow_after ps x.part.flow) x.part }) r))
   ends_effect streaming over =
       let y = record x { part = part } in
       let now = sent.state in
       let m = ends_telling l ClientClosed y now in
       let q = telling_quiet l x.client y now (record h.client { held = drop (total ps) h.client.held }) h.alive client_left_is streaming in
-      let none : m.state.streams l ≡ None = gone_here l l ClientClosed y (owe_link y.link (close_packet l y.part.remote) now).state row_left refl in
+      let none : m.state.streams l ≡ None = gone_here l l ClientClosed y
+      (owe_link y.link (close_packet l y.part.remote) now).state row_left refl in
       let told : ending_in l m.told ≡ Some ClientClosed =
-      ended_told l now m y ClientClosed (row_left, h.alive) (telling_fate l (λ c k z. z ≡ ClientClosed) l ClientClosed y now row_left (λ same. refl)) none in
+      ended_told l now m y ClientClosed (row_left, h.alive)
+      (telling_fate l (λ c k z. z ≡ ClientClosed) l ClientClosed y now row_left (λ same. refl)) none in
       let both = tally_append l x.link sent.told m.told (joined ps) [] (length ps) 0 0 0
-      (record { bytes = go_carried l x ps left; count = go_writes l x ps left; given = go_credits l x ps left }) (tally_silent l x.link m.told q.1) in
+      (record { bytes = go_carried l x ps left; count = go_writes l x ps left; given = go_credits l x ps left })
+      (tally_silent l x.link m.told q.1) in
       record {
         sent = ps;
         sends = sends;
         tally = record { bytes = both.bytes ∙ append-nil (joined ps); count = both.count ∙ omega arith; given = both.given };
         owed = owed_append x.client sent.told m.told ∙ (ap (λ w. w ++ owed_to x.client m.told) (go_owed l x x.client ps left) ∙ q.0);
-        after = inr (over, ending_append l sent.told m.told ∙ (ap (λ o. option_or o (ending_in l m.told)) (none_told sent.told go_none) ∙ told), none);
+        after = inr (
+          over,
+          ending_append l sent.told m.told ∙
+              (ap (λ o. option_or o (ending_in l m.told)) (none_told sent.told go_none) ∙ told),
+          none,
+        );
       }
     where
       none_told : (w : List Event) → ending_in l w ≡ None → ending_in l w ≡ None
@@ -237,9 +265,16 @@ module _ (l : ℕ) (s : State) (x : Stream) (h : Pair l x s) (ps : List (List �
   sends_effect streaming = go (is_over h.client.about.ended (drop (total ps) h.client.held) (flow_after ps x.part.flow)) refl
     where
       Result : Bool → Option Stream → Type 0
-      Result over o = UpEffect l x h.client (record { state = (closes_if over l o sent.state).state; told = sent.told ++ (closes_if over l o sent.state).told })
+      Result over o =
+          UpEffect l x h.client
+          (record {
+            state = (closes_if over l o sent.state).state;
+            told =
+                sent.told ++ (closes_if over l o sent.state).told;
+          })
 
-      go : (b : Bool) → is_over h.client.about.ended (drop (total ps) h.client.held) (flow_after ps x.part.flow) ≡ b → Result b (sent.state.streams l)
+      go : (b : Bool) → is_over h.client.about.ended (drop (total ps) h.client.held) (flow_after ps x.part.flow) ≡ b
+          → Result b (sent.state.streams l)
       go false e = subst (Result false) (sym row_left) goes_effect
       go true e = subst (Result true) (sym row_left) (ends_effect streaming e)
 
@@ -253,13 +288,16 @@ own_up l s x h =
     ps = payloads x.part.flow (maxdata_of x.link s.devices) h.client.held
 
     go : (b : Bool) → is_streaming l h.client.about.phase ≡ b
-        → UpEffect l x h.client (cond b (sends_up l x h.client (payloads x.part.flow (maxdata_of x.link s.devices) h.client.held) s) (quietly s))
+        → UpEffect l x h.client
+        (cond b (sends_up l x h.client (payloads x.part.flow (maxdata_of x.link s.devices) h.client.held) s)
+        (quietly s))
     go false e = up_none l s x h
     go true e = sends_effect l s x h ps (own_sends l s x h e) e
 
 -- ---- and all of them
 pub up_apart : (l c k : ℕ) (s : State) → Apart l c s → Apart l c (up_all k s).state
-up_apart l c k s h = apart_fate l c (λ client link y. Unit {0}) s (up_all k s) (λ n. up_all_fate n (λ client link y. Unit {0}) k s (λ client link. tt)) h
+up_apart l c k s h = apart_fate l c (λ client link y. Unit {0}) s (up_all k s)
+    (λ n. up_all_fate n (λ client link y. Unit {0}) k s (λ client link. tt)) h
 
 -- of others than a stream
 pub u_ups : (l c k : ℕ) (s : State) → Apart l c s → ((n : ℕ) → n < k → suc n ≢ l) → Untouched l c s (up_all k s)
@@ -290,7 +328,8 @@ module _ (l : ℕ) (x : Stream) (s : State) (h : Pair l x s) (apart : Apart l x.
           let e = own_up l (up_all k s).state x now in
           let m = up_all k s in
           let n = up l m.state in
-          let both = tally_append l x.link m.told n.told [] (joined e.sent) 0 (length e.sent) 0 0 (tally_silent l x.link m.told u.silent) e.tally in
+          let both = tally_append l x.link m.told n.told [] (joined e.sent) 0 (length e.sent) 0 0
+          (tally_silent l x.link m.told u.silent) e.tally in
           record {
             sent = e.sent;
             sends = e.sends;
@@ -300,9 +339,11 @@ module _ (l : ℕ) (x : Stream) (s : State) (h : Pair l x s) (apart : Apart l x.
           }
         where
           none : ending_in l (up_all k s).told ≡ None
-          none = alive_told l (λ client link y. Unit {0}) s (up_all k s) x (up_all_fate l (λ client link y. Unit {0}) k s (λ client link. tt)) (now.is, h.alive)
+          none = alive_told l (λ client link y. Unit {0}) s (up_all k s) x
+              (up_all_fate l (λ client link y. Unit {0}) k s (λ client link. tt)) (now.is, h.alive)
 
-          after : (ws : List (List ℕ)) → GoesOnWith l x h.client ws (up l (up_all k s).state).state ⊎ EndsWith l x h.client ws (up l (up_all k s).state)
+          after : (ws : List (List ℕ)) → GoesOnWith l x h.client ws (up l (up_all k s).state).state
+              ⊎ EndsWith l x h.client ws (up l (up_all k s).state)
               → GoesOnWith l x h.client ws (up l (up_all k s).state).state ⊎ EndsWith l x h.client ws (then_also (up_all k s) (up l))
           after ws (inl goes) = inl goes
           after ws (inr ends) = inr (
@@ -318,7 +359,8 @@ module _ (l : ℕ) (x : Stream) (s : State) (h : Pair l x s) (apart : Apart l x.
       let m = up_all k s in
       let u = u_up l x.client (suc k) other m.state (up_apart l x.client k s apart) in
       let n = up (suc k) m.state in
-      let both = tally_append l x.link m.told n.told (joined e.sent) [] (length e.sent) 0 0 0 e.tally (tally_silent l x.link n.told u.silent) in
+      let both = tally_append l x.link m.told n.told (joined e.sent) [] (length e.sent) 0 0 0 e.tally
+      (tally_silent l x.link n.told u.silent) in
       record {
         sent = e.sent;
         sends = e.sends;
@@ -332,7 +374,8 @@ module _ (l : ℕ) (x : Stream) (s : State) (h : Pair l x s) (apart : Apart l x.
           → GoesOnWith l x h.client e.sent (up_all (suc k) s).state ⊎ EndsWith l x h.client e.sent (up_all (suc k) s)
       after u (inl goes) = inl (
         u.row ∙ goes.0,
-        u.client (record h.client { held = drop (total e.sent) h.client.held }) goes.1 (has_still h.client.about.phase l x.part.remote h.phase),
+        u.client (record h.client { held = drop (total e.sent) h.client.held }) goes.1
+            (has_still h.client.about.phase l x.part.remote h.phase),
       )
       after u (inr ends) = inr (
         ends.0,

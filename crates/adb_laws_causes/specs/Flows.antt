@@ -12,7 +12,8 @@ use Rattle.adb_history.specs.Births.{Birth, born, since, opening_in, told_to, jo
 use Rattle.adb_history.specs.Lives.{output_of, packets_of}
 use Rattle.adb_history.specs.Causes.{given_to, okays_after, has_closed_since}
 
--- One write each way: what is still to be handed out is what was written and was not handed. Credit: what is left is what was given and was not written.
+-- One write each way: what is still to be handed out is what was written and was not handed. Credit: what is left is
+-- what was given and was not written.
 abbrev pub FlowIs : Flow → Bool → (written handed given : ℕ) → Type 0
 FlowIs (One window) credit written handed given = (credit ≡ false) × (handed + window.to_hand ≡ written)
 FlowIs (Credit c) credit written handed given = (credit ≡ true) × (c.left + written ≡ given)

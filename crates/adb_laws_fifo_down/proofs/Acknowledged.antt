@@ -1,5 +1,6 @@
 -- What a device is told that its client was handed, it was.
-use Rattle.std.proofs.Common.{ℕ, ◌≡◌, Bool, true, false, cond, List, [], ◌∷◌, ◌++◌, length, drop, Option, Some, None, is_some, refl, sym, ◌∙◌, ap, subst, arith}
+use Rattle.std.proofs.Common.{ℕ, ◌≡◌, Bool, true, false, cond, List, [], ◌∷◌, ◌++◌, length, drop, Option, Some, None, is_some, refl, sym}
+use Rattle.std.proofs.Common.{◌∙◌, ap, subst, arith}
 use Rattle.std.specs.Prelude.{All}
 use Rattle.std.proofs.lemmas.List.{length-append}
 use Rattle.std.proofs.lemmas.List.Elements.{All-head, All-tail, All-cons, All-nil}
@@ -33,9 +34,12 @@ window_turns : (b : Line) (k : Cradle) → Turns b (WindowOf b k)
 window_turns b k =
     let life = life_turns b k in record {
       served = λ packets shut out v w. life.served packets shut out v w.life;
-      closes = λ packets shut out v y w. window_over b.id k packets shut out v y.row.orphan _ (life.closes packets shut out v y w.life) w.backed;
-      fails = λ packets shut out v cause a here w. window_fails b.id k packets shut out v w a here cause (life.fails packets shut out v cause a here w.life);
-      stops = λ packets shut out v ending stop w. record { life = life.stops packets shut out v ending stop w.life; backed = w.backed; flow = tt };
+      closes = λ packets shut out v y w. window_over b.id k packets shut out v y.row.orphan _
+          (life.closes packets shut out v y w.life) w.backed;
+      fails = λ packets shut out v cause a here w. window_fails b.id k packets shut out v w a here cause
+          (life.fails packets shut out v cause a here w.life);
+      stops = λ packets shut out v ending stop w.
+          record { life = life.stops packets shut out v ending stop w.life; backed = w.backed; flow = tt };
       hands = λ packets shut out v a bytes here front w.
           window_hands b.id k packets shut out bytes v w a here front b refl (life.hands packets shut out v a bytes here front w.life);
       treats = λ packets out v p w. window_treats b.id k packets out v p w (life.treats packets out v p w.life);
@@ -67,7 +71,8 @@ words_front (p ∷ ps) qs all =
 backed_front : (credit : Bool) (writes : List (List ℕ)) (ps qs : List Packet) (handed : ℕ) → IsBackedBy credit writes (ps ++ qs) handed
     → IsBackedBy credit writes ps handed
 backed_front false writes ps qs handed h = omega (arith, h, length-append ps qs)
-backed_front true writes ps qs handed h = record { words = words_front ps qs h.words; within = omega (arith, h.within, credit_append ps qs) }
+backed_front true writes ps qs handed h =
+    record { words = words_front ps qs h.words; within = omega (arith, h.within, credit_append ps qs) }
 
 no_front : (ps qs : List Packet) → ps ++ qs ≡ [] → ps ≡ []
 no_front [] qs e = refl
@@ -79,7 +84,9 @@ module _ (l : ℕ) (b : Birth) (h : History) (f : Follows WindowOf h l b) (sends
 
   backed : IsBacked (opening_in l (since b h)) l f.cradle.credit (okays_of l (sent b.link h) ++ okays_of l sends.0)
       (handed_past f.cradle (bytes_put b.client h))
-  backed = subst (λ (ps : List Packet). IsBacked (opening_in l (since b h)) l f.cradle.credit ps (handed_past f.cradle (bytes_put b.client h))) (sym okays_are)
+  backed = subst
+      (λ (ps : List Packet). IsBacked (opening_in l (since b h)) l f.cradle.credit ps
+      (handed_past f.cradle (bytes_put b.client h))) (sym okays_are)
       f.holds.keeps.backed
 
   handed_is : handed_past f.cradle (bytes_put b.client h) ≡ length (drop (lead_of b h) (bytes_put b.client h))
@@ -87,16 +94,19 @@ module _ (l : ℕ) (b : Birth) (h : History) (f : Follows WindowOf h l b) (sends
 
   sent_backed : (o : Option Opening) → IsBacked o l f.cradle.credit (okays_of l (sent b.link h) ++ okays_of l sends.0)
       (handed_past f.cradle (bytes_put b.client h))
-      → IsBackedBy f.cradle.credit (told_after l o) (okays_of l (sent b.link h)) (length (cond (is_some o) (drop (lead_of b h) (bytes_put b.client h)) []))
+      → IsBackedBy f.cradle.credit (told_after l o) (okays_of l (sent b.link h))
+      (length (cond (is_some o) (drop (lead_of b h) (bytes_put b.client h)) []))
   sent_backed None none =
-      subst (λ (ps : List Packet). IsBackedBy f.cradle.credit [] ps 0) (sym (no_front (okays_of l (sent b.link h)) (okays_of l sends.0) none))
+      subst (λ (ps : List Packet). IsBackedBy f.cradle.credit [] ps 0)
+      (sym (no_front (okays_of l (sent b.link h)) (okays_of l sends.0) none))
       (backed_none f.cradle.credit [] 0)
   sent_backed (Some o) all =
       subst (λ (n : ℕ). IsBackedBy f.cradle.credit (told_in o.remote l o.later) (okays_of l (sent b.link h)) n) handed_is
       (backed_front f.cradle.credit (told_in o.remote l o.later) (okays_of l (sent b.link h)) (okays_of l sends.0)
       (handed_past f.cradle (bytes_put b.client h)) all)
 
-  by_credit : (credit : Bool) → IsBackedBy credit (told_to l b h) (okays_of l (sent b.link h)) (length (handed_to l b h)) → IsWithinDown credit l b h
+  by_credit : (credit : Bool) → IsBackedBy credit (told_to l b h) (okays_of l (sent b.link h))
+      (length (handed_to l b h)) → IsWithinDown credit l b h
   by_credit false i = i
   by_credit true i = i
 

@@ -58,7 +58,8 @@ pub record AsksAs (c : ℕ) (replies : List ℕ) (s : State) (w : List Event) : 
   pub output : seen.output ≡ replies
 
 module _ (c : ℕ) (replies : List ℕ) where
-  asks_by : (w : List Event) (m : Made) (s : State) (h : AsksAs c replies s w) → After (Shows (alone c) h.seen) w m → After (AsksAs c replies) w m
+  asks_by : (w : List Event) (m : Made) (s : State) (h : AsksAs c replies s w) → After (Shows (alone c) h.seen) w m
+      → After (AsksAs c replies) w m
   asks_by w m s h now = record { seen = h.seen; shows = now; stream = h.stream; due = h.due; client = h.client; output = h.output }
 
   -- the row of the client
@@ -82,7 +83,8 @@ module _ (c : ℕ) (replies : List ℕ) where
       by (inr (y, now)) = absurd (let clash : None ≡ Some y.row = sym h.stream ∙ y.stream in cc)
 
   -- ---- bytes are handed out to it
-  asks_puts : (o : Option Client) (bytes : List ℕ) (s : State) (w : List Event) → IsOwned s → s.clients c ≡ o → MayPut s o bytes → AsksAs c replies s w
+  asks_puts : (o : Option Client) (bytes : List ℕ) (s : State) (w : List Event) → IsOwned s → s.clients c ≡ o
+      → MayPut s o bytes → AsksAs c replies s w
       → After (AsksAs c replies) w (puts_to o c (length bytes) s)
   asks_puts None bytes s w owned is may h = absurd may
   asks_puts (Some a) bytes s w owned is may h = by a.due some_due
@@ -111,7 +113,9 @@ module _ (c : ℕ) (replies : List ℕ) where
       handed : AsksAs c replies (to_client c (hands (length bytes)) s) w
       handed = record {
         seen = with_client (Some (seen_client (record a { due = drop (length bytes) a.due }))) h.seen;
-        shows = subst (λ (p : Phase). Shows (alone c) (with_client (option_map seen_client (left_in p (drop (length bytes) a.due) a)) h.seen)
+        shows = subst
+            (λ (p : Phase). Shows (alone c)
+            (with_client (option_map seen_client (left_in p (drop (length bytes) a.due) a)) h.seen)
             (to_client c (hands (length bytes)) s) w) asks (own_client (alone c) h.seen (hands (length bytes)) a s w is h.shows);
         stream = h.stream;
         due = drop (length bytes) a.due;
@@ -125,11 +129,13 @@ module _ (c : ℕ) (replies : List ℕ) where
           let same : a ≡ x = (let both : Some a ≡ Some x = sym is ∙ here in cc) in
           subst (λ (x : Client). After (AsksAs c replies) w (client_left x.about.phase (length (drop (length bytes) x.due))
           (to_client c (hands (length bytes)) s))) same
-          (subst (λ (p : Phase). After (AsksAs c replies) w (client_left p (length (drop (length bytes) a.due)) (to_client c (hands (length bytes)) s)))
+          (subst (λ (p : Phase). After (AsksAs c replies) w
+          (client_left p (length (drop (length bytes) a.due)) (to_client c (hands (length bytes)) s)))
           (sym asks)
           (after_quietly (AsksAs c replies) w (to_client c (hands (length bytes)) s) handed))
 
-      by : (due : List ℕ) → due ≢ [] → After (AsksAs c replies) w (then_also (lists_first c due a s) (λ s. takes_of c (length bytes) (s.clients c) s))
+      by : (due : List ℕ) → due ≢ [] → After (AsksAs c replies) w
+          (then_also (lists_first c due a s) (λ s. takes_of c (length bytes) (s.clients c) s))
       by [] none = absurd (none refl)
       by (d ∷ due) some = takes (s.clients c) refl
 
@@ -163,7 +169,8 @@ pub record AsksBehind (c : ℕ) (bytes : List ℕ) (older : History) : Type 0 wh
   pub behind_it : asked c (Read c bytes ∷ older)
       ≡ behind (asked c older) (asks_with (state older).devices (state older).forwards bytes (asked_before client))
 
-pub asks_behind_it : (c : ℕ) (bytes : List ℕ) (older : History) → IsLegal older → (state older).stopped ≡ false → is_asking c older (book older) ≡ true
+pub asks_behind_it : (c : ℕ) (bytes : List ℕ) (older : History) → IsLegal older → (state older).stopped ≡ false
+    → is_asking c older (book older) ≡ true
     → AsksBehind c bytes older
 asks_behind_it c bytes older legal on asking = record { client = a; is = row.1; phase = row.2; behind_it = same }
   where
@@ -246,7 +253,8 @@ module _ (c : ℕ) (older : History) (legal : IsLegal older) where
         (shows_reads_in (alone c) h.seen (state older) (told older) h.shows a.about.phase n bytes a other (λ e. goes a refl e)
         (λ e t service f ids g. omega (arith, g)))
 
-    pub other_ends : (n : ℕ) (cause : Cause) → n ≢ c → After (AsksAs c replies) (told older) (client_ends n cause ((state older).clients n) (state older))
+    pub other_ends : (n : ℕ) (cause : Cause) → n ≢ c → After (AsksAs c replies) (told older)
+        (client_ends n cause ((state older).clients n) (state older))
     other_ends n cause other = stays (client_ends n cause ((state older).clients n) (state older))
         (shows_client_ends (alone c) h.seen (state older) (told older) h.shows n other cause ((state older).clients n)
         (λ a is. else_of (alone c) h.seen n a (state older) (told older) linked.owned h.shows other is))
@@ -281,7 +289,8 @@ module _ (c : ℕ) (older : History) (legal : IsLegal older) where
 
         by : (n ≡ c) ⊎ (n ≢ c) → After (AsksAs c replies) (told older) (puts_to ((state older).clients n) n (length bytes) (state older))
         by (inl same) =
-            subst (λ (m : ℕ). After (AsksAs c replies) (told older) (puts_to ((state older).clients m) m (length bytes) (state older))) (sym same)
+            subst (λ (m : ℕ). After (AsksAs c replies) (told older)
+            (puts_to ((state older).clients m) m (length bytes) (state older))) (sym same)
             (asks_puts c replies ((state older).clients c) bytes (state older) (told older) linked.owned refl
             (subst (λ (m : ℕ). MayPut (state older) ((state older).clients m) bytes) same may) h)
         by (inr other) = other_puts ((state older).clients n) refl other

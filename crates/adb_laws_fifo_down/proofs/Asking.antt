@@ -44,7 +44,8 @@ IsAsker c h = is_asking c h (book h) ≡ true
 
 -- the server stops where another client asks for it
 stopped_by : (n : ℕ) (bytes : List ℕ) (older : History) (a : Client) → (state older).clients n ≡ Some a → a.about.phase ≡ Asking
-    → (asks_with (state older).devices (state older).forwards bytes (asked_before a)).next ≡ Some what.Stop → (state (Read n bytes ∷ older)).stopped ≡ true
+    → (asks_with (state older).devices (state older).forwards bytes (asked_before a)).next ≡ Some what.Stop
+    → (state (Read n bytes ∷ older)).stopped ≡ true
 stopped_by n bytes older a is phase stop =
     let q : Asked = asks_with (state older).devices (state older).forwards bytes (asked_before a) in
     let s1 : State = (owe_client n q.replies (to_client n (has_asked q) (state older))).state in
@@ -68,7 +69,8 @@ module _ (c : ℕ) (older : History) (legal : IsLegal older)
           row_below (state older).joined c ((state older).clients c) row.0
           (λ lt. (all_linked older legal).owned.rows.clients.above c lt) (is ∙ row.1)
 
-  read_asking : (n : ℕ) (bytes : List ℕ) → (state older).stopped ≡ false → (state (Read n bytes ∷ older)).stopped ≡ false → IsAsker c (Read n bytes ∷ older)
+  read_asking : (n : ℕ) (bytes : List ℕ) → (state older).stopped ≡ false
+      → (state (Read n bytes ∷ older)).stopped ≡ false → IsAsker c (Read n bytes ∷ older)
       → After (AsksAs c (asked c (Read n bytes ∷ older)).replies) (told older) (rule (Read n bytes) (state older))
   read_asking n bytes on going asks = by (cases_eq n c)
     where
@@ -86,8 +88,10 @@ module _ (c : ℕ) (older : History) (legal : IsLegal older)
           let parts = asking_parts (has_joined c older) (has_ended c older) (still_asks (asked c (Read c bytes ∷ older))) now in
           let none : q.next ≡ None =
           none_next q.next (sym (ap (λ (x : Asked). is_none x.next) by.behind_it) ∙ parts.2) in
-          subst (λ (x : List ℕ). After (AsksAs c x) (told older) (rule (Read c bytes) (state older))) (sym (ap (λ (x : Asked). x.replies) by.behind_it))
-          (subst (λ (o : Option Client). After (AsksAs c ((asked c older).replies ++ q.replies)) (told older) (reads_from o c bytes (state older))) (sym by.is)
+          subst (λ (x : List ℕ). After (AsksAs c x) (told older) (rule (Read c bytes) (state older)))
+          (sym (ap (λ (x : Asked). x.replies) by.behind_it))
+          (subst (λ (o : Option Client). After (AsksAs c ((asked c older).replies ++ q.replies)) (told older)
+          (reads_from o c bytes (state older))) (sym by.is)
           (asks_more c older legal (asked c older).replies (before on e) by.client bytes by.is none))
 
       goes : n ≢ c → (a : Client) → (state older).clients n ≡ Some a → a.about.phase ≡ Asking
@@ -98,14 +102,17 @@ module _ (c : ℕ) (older : History) (legal : IsLegal older)
 
       by : (n ≡ c) ⊎ (n ≢ c) → After (AsksAs c (asked c (Read n bytes ∷ older)).replies) (told older) (rule (Read n bytes) (state older))
       by (inl same) =
-          subst (λ (m : ℕ). After (AsksAs c (asked c (Read m bytes ∷ older)).replies) (told older) (rule (Read m bytes) (state older))) (sym same)
+          subst (λ (m : ℕ). After (AsksAs c (asked c (Read m bytes ∷ older)).replies) (told older)
+          (rule (Read m bytes) (state older))) (sym same)
           (own (subst (λ (m : ℕ). IsAsker c (Read m bytes ∷ older)) same asks) (is_asking c older (book older)) refl)
       by (inr other) =
           let stays : asked c (Read n bytes ∷ older) ≡ asked c older = asked_other n c bytes older other in
           let asking : IsAsker c older =
           sym (ap (λ (q : Asked). has_joined c older && not (has_ended c older) && still_asks q) stays) ∙ asks in
-          subst (λ (x : List ℕ). After (AsksAs c x) (told older) (rule (Read n bytes) (state older))) (sym (ap (λ (x : Asked). x.replies) stays))
-          (other_asks c older legal (asked c older).replies (before on asking) n bytes ((state older).clients n) other (λ a is phase. goes other a is phase))
+          subst (λ (x : List ℕ). After (AsksAs c x) (told older) (rule (Read n bytes) (state older)))
+          (sym (ap (λ (x : Asked). x.replies) stays))
+          (other_asks c older legal (asked c older).replies (before on asking) n bytes ((state older).clients n) other
+          (λ a is phase. goes other a is phase))
 
   join_asking : (n : ℕ) → n ≡ (state older).joined + 1 → (state older).stopped ≡ false → IsAsker c (Join n ∷ older)
       → AsksAs c (asked c older).replies (comes false n (state older)) (told older)
@@ -117,7 +124,9 @@ module _ (c : ℕ) (older : History) (legal : IsLegal older)
           subst (λ (m : ℕ). AsksAs c (asked c older).replies (comes false m (state older)) (told older)) (sym same)
           (comes_asking c older legal (sym same ∙ is))
       by false e =
-          let h = before on (sym (ap (λ (b : Bool). (b || has_joined c older) && not (has_ended c older) && still_asks (asked c older)) e) ∙ asks) in record {
+          let h = before on
+          (sym (ap (λ (b : Bool). (b || has_joined c older) && not (has_ended c older)
+          && still_asks (asked c older)) e) ∙ asks) in record {
             seen = h.seen;
             shows = shows_comes (alone c) h.seen (state older) (told older) h.shows false n
                 (λ same. let clash : true ≡ false = sym (eq-eqb n c same) ∙ e in cc);
@@ -131,14 +140,17 @@ module _ (c : ℕ) (older : History) (legal : IsLegal older)
       → After (AsksAs c (asked c older).replies) (told older) (client_ends n cause ((state older).clients n) (state older))
   end_asking n cause on asks = by (eqb n c) refl
     where
-      by : (b : Bool) → eqb n c ≡ b → After (AsksAs c (asked c older).replies) (told older) (client_ends n cause ((state older).clients n) (state older))
+      by : (b : Bool) → eqb n c ≡ b → After (AsksAs c (asked c older).replies) (told older)
+          (client_ends n cause ((state older).clients n) (state older))
       by true e =
           let parts = asking_parts (has_joined c older) (eqb n c || has_ended c older) (still_asks (asked c older)) asks in
           let clash : true ≡ false = sym (ap (λ (b : Bool). b || has_ended c older) e) ∙ parts.1 in
           absurd (cc)
       by false e =
           other_ends c older legal (asked c older).replies
-          (before on (sym (ap (λ (b : Bool). has_joined c older && not (b || has_ended c older) && still_asks (asked c older)) e) ∙ asks)) n cause
+          (before on (sym
+          (ap (λ (b : Bool). has_joined c older && not (b || has_ended c older) && still_asks (asked c older))
+          e) ∙ asks)) n cause
           (λ same. let clash : true ≡ false = sym (eq-eqb n c same) ∙ e in cc)
 
   -- what is said of a client stays where a listener stands
@@ -150,18 +162,22 @@ module _ (c : ℕ) (older : History) (legal : IsLegal older)
       by (Some want) = refl
 
   -- a link goes on, or goes
-  link_asking : (m : Made) → ((h : AsksAs c (asked c older).replies (state older) (told older)) → After (Shows (alone c) h.seen) (told older) m)
+  link_asking : (m : Made)
+      → ((h : AsksAs c (asked c older).replies (state older) (told older))
+      → After (Shows (alone c) h.seen) (told older) m)
       → (state older).stopped ≡ false → IsAsker c older → After (AsksAs c (asked c older).replies) (told older) m
   link_asking m shows on asks = let h = before on asks in stays c older legal (asked c older).replies h m (shows h)
 
-  rule_asking : (e : Entry) → May (state older) e → (state (e ∷ older)).stopped ≡ false → (state older).stopped ≡ false → IsAsker c (e ∷ older)
+  rule_asking : (e : Entry) → May (state older) e → (state (e ∷ older)).stopped ≡ false
+      → (state older).stopped ≡ false → IsAsker c (e ∷ older)
       → After (AsksAs c (asked c (e ∷ older)).replies) (told older) (rule e (state older))
   rule_asking (Join n) may going on asks =
       after_quietly (AsksAs c (asked c older).replies) (told older) (comes false n (state older)) (join_asking n may.1 on asks)
   rule_asking (Enter n port) may going on asks =
       let there = there_is (before on asks) in
       link_asking (rule (Enter n port) (state older))
-      (λ h. shows_enters (alone c) h.seen (state older) (told older) h.shows (at port (state older).forwards) n (λ same. omega (arith, may.1, same, there))
+      (λ h. shows_enters (alone c) h.seen (state older) (told older) h.shows (at port (state older).forwards) n
+      (λ same. omega (arith, may.1, same, there))
       (λ row f on ids g. omega (arith, g)))
       on asks
   rule_asking (Read n bytes) may going on asks = read_asking n bytes on going asks

@@ -1,5 +1,6 @@
 -- What more bytes that were handed out, and more writes that were told, make of what is acknowledged.
-use Rattle.std.proofs.Common.{ℕ, ◌+◌, ◌-◌, ◌≡◌, ◌≢◌, ◌≤◌, suc, Bool, true, false, cond, List, [], ◌∷◌, ◌++◌, length, Option, Some, None, refl, sym, ◌∙◌, ap}
+use Rattle.std.proofs.Common.{ℕ, ◌+◌, ◌-◌, ◌≡◌, ◌≢◌, ◌≤◌, suc, Bool, true, false, cond, List, [], ◌∷◌, ◌++◌, length, Option, Some, None}
+use Rattle.std.proofs.Common.{refl, sym, ◌∙◌, ap}
 use Rattle.std.proofs.Common.{subst}
 use Rattle.std.proofs.Common.{arith}
 use Rattle.std.specs.Prelude.{nat_le}
@@ -20,7 +21,8 @@ use Rattle.adb_laws_fifo_down.proofs.Openings.{opening_stays, told_append}
 pub whole_more : (n m : ℕ) (told : List (List ℕ)) → n ≤ m → whole_within n told ≤ whole_within m told
 whole_more n m [] le = omega arith
 whole_more n m (p ∷ told) le =
-    by (nat_le (length p) n) (nat_le (length p) m) refl refl (λ a b. whole_more (n - length p) (m - length p) told (omega (arith, le, a, b)))
+    by (nat_le (length p) n) (nat_le (length p) m) refl refl
+    (λ a b. whole_more (n - length p) (m - length p) told (omega (arith, le, a, b)))
   where
     by : (c d : Bool) → nat_le (length p) n ≡ c → nat_le (length p) m ≡ d
         → (length p ≤ n → length p ≤ m → whole_within (n - length p) told ≤ whole_within (m - length p) told)
@@ -75,7 +77,8 @@ backed_none true told n = record { words = All-nil _; within = omega arith }
 pub unbacked : (o : Option birth.Opening) (l : ℕ) (credit : Bool) (okays : List Packet) (n : ℕ) → okays ≡ [] → IsBacked o l credit okays n
 unbacked None l credit okays n none = none
 unbacked (Some o) l credit okays n none =
-    subst (λ (ps : List Packet). IsBackedBy credit (told_in o.remote l o.later) ps n) (sym none) (backed_none credit (told_in o.remote l o.later) n)
+    subst (λ (ps : List Packet). IsBackedBy credit (told_in o.remote l o.later) ps n) (sym none)
+    (backed_none credit (told_in o.remote l o.later) n)
 
 -- with more bytes handed out
 pub backed_more : (o : Option birth.Opening) (l : ℕ) (credit : Bool) (okays : List Packet) (n m : ℕ) → n ≤ m → IsBacked o l credit okays n
@@ -88,7 +91,8 @@ pub backed_goes : (l : ℕ) (packets : List Packet) (p : Packet) (credit : Bool)
     → IsBacked (opening_in l packets) l credit okays n → IsBacked (opening_in l (packets ++ p ∷ [])) l credit okays n
 backed_goes l packets p credit okays n h = by (opening_in l packets) refl h
   where
-    by : (o : Option birth.Opening) → opening_in l packets ≡ o → IsBacked o l credit okays n → IsBacked (opening_in l (packets ++ p ∷ [])) l credit okays n
+    by : (o : Option birth.Opening) → opening_in l packets ≡ o → IsBacked o l credit okays n
+        → IsBacked (opening_in l (packets ++ p ∷ [])) l credit okays n
     by None e none = unbacked (opening_in l (packets ++ p ∷ [])) l credit okays n none
     by (Some o) e backed =
         subst (λ (x : Option birth.Opening). IsBacked x l credit okays n) (sym (opening_stays l packets (p ∷ []) o e))

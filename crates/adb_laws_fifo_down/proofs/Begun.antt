@@ -23,7 +23,8 @@ use Rattle.adb_laws_fifo_down.proofs.Shown.{view_told, tells_nothing, quiet_link
 
 -- ---- whose clients the streams have
 -- no stream has a client that asks
-pub of_another : (s : State) (c : ℕ) (a : Client) (k : ℕ) (x : Stream) → IsOwned s → s.clients c ≡ Some a → a.about.phase ≡ Asking → s.streams k ≡ Some x
+pub of_another : (s : State) (c : ℕ) (a : Client) (k : ℕ) (x : Stream) → IsOwned s → s.clients c ≡ Some a
+    → a.about.phase ≡ Asking → s.streams k ≡ Some x
     → x.client ≢ c
 of_another s c a k x owned is asking there same = by x.part.orphan ((owned.owned.stream k x there).owner)
   where
@@ -104,7 +105,9 @@ module _ (c t : ℕ) (service : List ℕ) (s : State) where
 
       apart : Apart drawn_line (s.drawn + 1) asking_made.state.streams
       apart = record {
-        others = λ k x e other. others k x (sym (ap (λ (b : Bool). cond b (Some new_row) (s.streams k)) (ne_eqb (s.drawn + 1) k (λ f. other (sym f)))) ∙ e);
+        others = λ k x e other. others k x
+            (sym (ap (λ (b : Bool). cond b (Some new_row) (s.streams k))
+            (ne_eqb (s.drawn + 1) k (λ f. other (sym f)))) ∙ e);
         client = λ x e. sym (ap (λ (y : Stream). y.client) (new_is x e));
         link = λ x e. sym (ap (λ (y : Stream). y.link) (new_is x e));
         born = omega arith;

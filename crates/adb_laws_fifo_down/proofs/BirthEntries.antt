@@ -1,5 +1,6 @@
 -- What is promised of a stream at its birth.
-use Rattle.std.proofs.Common.{ℕ, ◌+◌, ◌≡◌, ◌≢◌, ◌<◌, Bool, true, false, cond, List, [], ◌∷◌, ◌++◌, length, drop, Option, Some, None, is_some, refl}
+use Rattle.std.proofs.Common.{ℕ, ◌+◌, ◌≡◌, ◌≢◌, ◌<◌, Bool, true, false, cond, List, [], ◌∷◌, ◌++◌, length, drop, Option, Some, None}
+use Rattle.std.proofs.Common.{is_some, refl}
 use Rattle.std.proofs.Common.{sym, ◌∙◌, ap, subst, eqb, arith, append_assoc, inl, inr}
 use Rattle.std.proofs.lemmas.Bool.{ne_eqb, eq-eqb}
 use Rattle.std.proofs.lemmas.List.{append-nil}
@@ -55,7 +56,8 @@ drop_all [] = refl
 drop_all (x ∷ xs) = drop_all xs
 
 -- the link of a stream that lives brings more
-not_shut : (h : History) → IsLegal h → (l : ℕ) (b : Birth) (v : View) (x : SeenStream) → v.stream ≡ Some x → Shows (line l b) v (state h) (told h)
+not_shut : (h : History) → IsLegal h → (l : ℕ) (b : Birth) (v : View) (x : SeenStream) → v.stream ≡ Some x
+    → Shows (line l b) v (state h) (told h)
     → is_shut b.link h ≡ false
 not_shut h legal l b v x there shows = by ((state h).links b.link) refl
   where
@@ -81,14 +83,16 @@ module _ {P : PromiseOf} (lasts : Lasts P) where
   born_holds : (l : ℕ) (b : Birth) (e : Entry) (older : History) (k : Cradle) (due : List ℕ) → IsLegal (e ∷ older)
       → k.replies ≡ bytes_put b.client (e ∷ older) ++ due → since b (e ∷ older) ≡ []
       → After (Shows (line l b) (newborn (line l b) k due)) (told older) (rule e (state older))
-      → Holds (line l b) (P (line l b) k) (since b (e ∷ older)) (is_shut b.link (e ∷ older)) (bytes_put b.client (e ∷ older)) (state (e ∷ older))
+      → Holds (line l b) (P (line l b) k) (since b (e ∷ older)) (is_shut b.link (e ∷ older))
+      (bytes_put b.client (e ∷ older)) (state (e ∷ older))
       (told (e ∷ older))
   born_holds l b e older k due legal put none shows = record { seen = born; shows = now; keeps = promised }
     where
       born : View
       born = newborn (line l b) k due
 
-      still : (s : State) (w : List Event) → Upped (line l b) (newborn (line l b) k due) s w → Shows (line l b) (newborn (line l b) k due) s w
+      still : (s : State) (w : List Event) → Upped (line l b) (newborn (line l b) k due) s w
+          → Shows (line l b) (newborn (line l b) k due) s w
       still s w (inl h) = h
       still s w (inr (y, h)) =
           let waits : SeenClient = record { phase = Opening l; forwarded = k.forwarded; due = due } in
@@ -103,7 +107,8 @@ module _ {P : PromiseOf} (lasts : Lasts P) where
           (λ u h. still (ups (rule e (state older)).state).state (u ++ (ups (rule e (state older)).state).told)
           (shows_ups (line l b) (newborn (line l b) k due) (rule e (state older)).state.drawn (rule e (state older)).state u h))
 
-      promised : P (line l b) k (since b (e ∷ older)) (is_shut b.link (e ∷ older)) (bytes_put b.client (e ∷ older)) (newborn (line l b) k due)
+      promised : P (line l b) k (since b (e ∷ older)) (is_shut b.link (e ∷ older)) (bytes_put b.client (e ∷ older))
+          (newborn (line l b) k due)
       promised =
           subst (λ (shut : Bool). P (line l b) k (since b (e ∷ older)) shut (bytes_put b.client (e ∷ older)) (newborn (line l b) k due))
           (sym (not_shut (e ∷ older) legal l b (newborn (line l b) k due) _ refl now))
@@ -118,12 +123,14 @@ pub record NowAsks (c : ℕ) (bytes : List ℕ) (older : History) (next : Next) 
   after : (asked_with true (devices older) (forwards older) bytes (asked c older)).next ≡ Some next
   same : asked c (Read c bytes ∷ older) ≡ asks_with (devices older) (forwards older) bytes (asked c older)
 
-pub now_asks : (c : ℕ) (bytes : List ℕ) (older : History) (next : Next) → (asked c older).next ≡ None → (asked c (Read c bytes ∷ older)).next ≡ Some next
+pub now_asks : (c : ℕ) (bytes : List ℕ) (older : History) (next : Next) → (asked c older).next ≡ None
+    → (asked c (Read c bytes ∷ older)).next ≡ Some next
     → NowAsks c bytes older next
 now_asks c bytes older next before after = by (is_asking c older (book older)) refl (asked_then c bytes older)
   where
     by : (asking : Bool) → is_asking c older (book older) ≡ asking
-        → asked c (Read c bytes ∷ older) ≡ asked_with asking (devices older) (forwards older) bytes (asked c older) → NowAsks c bytes older next
+        → asked c (Read c bytes ∷ older) ≡ asked_with asking (devices older) (forwards older) bytes (asked c older)
+        → NowAsks c bytes older next
     by true e now = record { asking = e; before = before; after = ap (λ (q : Asked). q.next) (sym now) ∙ after; same = now }
     by false e now =
         let clash : None ≡ Some next = sym before ∙ (ap (λ (q : Asked). q.next) (sym now) ∙ after) in
@@ -155,7 +162,8 @@ pub record IsUnborn (l t : ℕ) (w : List Event) : Type 0 where
   pub okays : okays_of l (packets_to t w) ≡ []
   pub ending : ending_in l w ≡ None
 
-module _ {P : PromiseOf} (lasts : Lasts P) (c : ℕ) (bytes : List ℕ) (older : History) (legal : IsLegal (Read c bytes ∷ older)) (t : ℕ) (service : List ℕ) where
+module _ {P : PromiseOf} (lasts : Lasts P) (c : ℕ) (bytes : List ℕ) (older : History)
+    (legal : IsLegal (Read c bytes ∷ older)) (t : ℕ) (service : List ℕ) where
   pub read_born : (head : ℕ) → NowAsks c bytes older (what.Open t service) → (state older).drawn ≢ stream_ids
       → IsUnborn ((state older).drawn + 1) t (told older)
       → Follows P (Read c bytes ∷ older) ((state older).drawn + 1) (asked_birth c t service head older)
@@ -210,7 +218,8 @@ module _ {P : PromiseOf} (lasts : Lasts P) (c : ℕ) (bytes : List ℕ) (older :
           let row : SeenClient = record { phase = Asking; forwarded = false; due = asks_it.due } in
           let same : seen_client by.client ≡ row =
           (let both : Some (seen_client by.client) ≡ Some row =
-          sym (client_seen (alone c) asks_it.seen (state older) (told older) (Some by.client) asks_it.shows by.is) ∙ asks_it.client in cc) in
+          sym (client_seen (alone c) asks_it.seen (state older) (told older) (Some by.client) asks_it.shows by.is)
+          ∙ asks_it.client in cc) in
           ap (λ (a : SeenClient). a.forwarded) same
 
       opens_it : q.next ≡ Some (what.Open t service)
@@ -257,9 +266,11 @@ module _ {P : PromiseOf} (lasts : Lasts P) (c : ℕ) (bytes : List ℕ) (older :
           ∙ (ap (λ (x : List ℕ). owed_to c (told older) ++ x) (append-nil q.replies)
           ∙ (ap (λ (x : List ℕ). x ++ q.replies) (sym told_as) ∙ sym said))) in
           let okays : okays_of ((state older).drawn + 1) (packets_to t (told older ++ owed.told)) ≡ [] =
-          ap (okays_of ((state older).drawn + 1)) (packets_append t (told older) owed.told ∙ append-nil (packets_to t (told older))) ∙ unborn.okays in
+          ap (okays_of ((state older).drawn + 1))
+          (packets_append t (told older) owed.told ∙ append-nil (packets_to t (told older))) ∙ unborn.okays in
           let ending : ending_in ((state older).drawn + 1) (told older ++ owed.told) ≡ None =
-          ending_append ((state older).drawn + 1) (told older) owed.told ∙ (first_none (ending_in ((state older).drawn + 1) (told older)) ∙ unborn.ending) in
+          ending_append ((state older).drawn + 1) (told older) owed.told
+          ∙ (first_none (ending_in ((state older).drawn + 1) (told older)) ∙ unborn.ending) in
           λ i. record {
             stream = Some (seen (new_row c t service owed.state));
             client = Some (record { phase = Opening ((state older).drawn + 1); forwarded = by_itself i; due = due });
@@ -273,7 +284,8 @@ module _ {P : PromiseOf} (lasts : Lasts P) (c : ℕ) (bytes : List ℕ) (older :
           (rule (Read c bytes) (state older))
       shows =
           subst (λ (m : Made). After (Shows born_line (newborn born_line cradle due)) (told older) m) (sym rule_is)
-          (subst (λ (v : View). After (Shows born_line v) (told older) (then_also owed (asks_for ((state older).drawn + 1) c t service))) same_view
+          (subst (λ (v : View). After (Shows born_line v) (told older)
+          (then_also owed (asks_for ((state older).drawn + 1) c t service))) same_view
           (subst (λ (u : List Event). Shows born_line drawn_view (asks_for ((state older).drawn + 1) c t service owed.state).state u)
           (append_assoc (told older) owed.told (asks_for ((state older).drawn + 1) c t service owed.state).told)
           (drawn_shows c t service owed.state row_now (told older ++ owed.told) here
@@ -292,7 +304,8 @@ entered_birth c row older = record {
 }
 
 module _ {P : PromiseOf} (lasts : Lasts P) (c port : ℕ) (older : History) (legal : IsLegal (Enter c port ∷ older)) (row : ForwardRow) where
-  pub enter_born : at port (forwards older) ≡ Some row → is_connected row.transport (devices older) ≡ true → (state older).drawn ≢ stream_ids
+  pub enter_born : at port (forwards older) ≡ Some row → is_connected row.transport (devices older) ≡ true
+      → (state older).drawn ≢ stream_ids
       → IsUnborn ((state older).drawn + 1) row.transport (told older)
       → Follows P (Enter c port ∷ older) ((state older).drawn + 1) (entered_birth c row older)
   enter_born is connected ids unborn = record {
@@ -325,14 +338,17 @@ module _ {P : PromiseOf} (lasts : Lasts P) (c port : ℕ) (older : History) (leg
       here : (comes true c (state older)).clients c ≡ Some (new_client true c)
       here = ap (λ (x : Bool). cond x (Some (new_client true c)) ((state older).clients c)) (eq-eqb c c refl)
 
-      rule_is : rule (Enter c port) (state older) ≡ asks_for ((state older).drawn + 1) c row.transport row.remote (comes true c (state older))
+      rule_is : rule (Enter c port) (state older) ≡ asks_for ((state older).drawn + 1) c row.transport row.remote
+          (comes true c (state older))
       rule_is =
           let books = all_books older legal.0 in
           ap (λ (o : Option ForwardRow). enters_by c o (state older)) (ap (at port) books.forwards ∙ is)
-          ∙ (ap (λ (x : Bool). cond x (opens true c row.transport row.remote (comes true c (state older))) (quietly (comes_in_vain (state older))))
+          ∙ (ap (λ (x : Bool). cond x (opens true c row.transport row.remote (comes true c (state older)))
+          (quietly (comes_in_vain (state older))))
           (ap (is_connected row.transport) books.devices ∙ connected)
           ∙ ap (λ (x : Bool). cond x (no_ids_left true c (comes true c (state older)))
-          (asks_for ((state older).drawn + 1) c row.transport row.remote (comes true c (state older)))) (ne_eqb (state older).drawn stream_ids ids))
+          (asks_for ((state older).drawn + 1) c row.transport row.remote (comes true c (state older))))
+          (ne_eqb (state older).drawn stream_ids ids))
 
       born_line : Line
       born_line = line ((state older).drawn + 1) b

@@ -1,5 +1,6 @@
 -- By which entry a stream is born, and what the machine makes of that entry.
-use Rattle.std.proofs.Common.{ℕ, ◌+◌, ◌≡◌, ◌≤◌, ◌<◌, zero, suc, Bool, true, false, cond, List, [], ◌∷◌, ◌++◌, length, Option, Some, None, refl, ◌∙◌}
+use Rattle.std.proofs.Common.{ℕ, ◌+◌, ◌≡◌, ◌≤◌, ◌<◌, zero, suc, Bool, true, false, cond, List, [], ◌∷◌, ◌++◌, length, Option, Some, None}
+use Rattle.std.proofs.Common.{refl, ◌∙◌}
 use Rattle.std.proofs.Common.{ap, subst, arith, inl, inr, ◌⊎◌}
 use Rattle.std.proofs.lemmas.Bool.{ltb-true}
 use Rattle.std.specs.Prelude.{slice_get, nat_lt}
@@ -66,7 +67,8 @@ only_one (y ∷ []) (suc i) x le e = absurd (let clash : None ≡ Some x = e in 
 only_one (y ∷ z ∷ xs) i x le e = absurd (omega (arith, le))
 
 -- A stream was born before, or by this entry.
-pub born_when : (l : ℕ) (b : Birth) (e : Entry) (older : History) → born l (e ∷ older) ≡ Some b → (born l older ≡ Some b) ⊎ IsBornNow l b e older
+pub born_when : (l : ℕ) (b : Birth) (e : Entry) (older : History) → born l (e ∷ older) ≡ Some b
+    → (born l older ≡ Some b) ⊎ IsBornNow l b e older
 born_when zero b e older is = absurd (let clash : None ≡ Some b = is in cc)
 born_when (suc j) b e older is = by (nat_lt j stream_ids) refl is
   where
@@ -78,7 +80,8 @@ born_when (suc j) b e older is = by (nat_lt j stream_ids) refl is
         let one = only_one (births_at e older) i b (few e older) g in
         inr (record {
           number = omega (arith, f, one.0);
-          within = subst (λ (n : ℕ). n < stream_ids) (f ∙ (ap (λ (i : ℕ). length (births older) + i) one.0 ∙ plus_zero (length (births older))))
+          within = subst (λ (n : ℕ). n < stream_ids)
+              (f ∙ (ap (λ (i : ℕ). length (births older) + i) one.0 ∙ plus_zero (length (births older))))
               (ltb-true j stream_ids lt);
           is = one.1;
         })
@@ -110,7 +113,8 @@ pub record IsBy (c head : ℕ) (older : History) (next : Option Next) (b : Birth
 no_births : (b : Birth) → [] ≡ b ∷ [] → ⊥
 no_births b e = let clash : [] ≡ b ∷ [] = e in cc
 
-pub by_request : (c head : ℕ) (older : History) (next : Option Next) (b : Birth) → birth_by c head older next ≡ b ∷ [] → IsBy c head older next b
+pub by_request : (c head : ℕ) (older : History) (next : Option Next) (b : Birth) → birth_by c head older next ≡ b ∷ []
+    → IsBy c head older next b
 by_request c head older (Some (what.Open transport service)) b e =
     record { transport = transport; service = service; opens = refl; birth = (let both : _ ≡ b ∷ [] = e in cc) }
 by_request c head older _ b e = absurd (no_births b e)

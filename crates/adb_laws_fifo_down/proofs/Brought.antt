@@ -1,5 +1,6 @@
 -- What more bytes of a link make of the packets that it brought.
-use Rattle.std.proofs.Common.{ℕ, ◌≡◌, Bool, true, false, cond, List, ◌∷◌, ◌++◌, length, Option, Some, None, is_some, refl, sym, ◌∙◌, ap, subst}
+use Rattle.std.proofs.Common.{ℕ, ◌≡◌, Bool, true, false, cond, List, ◌∷◌, ◌++◌, length, Option, Some, None, is_some, refl, sym, ◌∙◌, ap}
+use Rattle.std.proofs.Common.{subst}
 use Rattle.std.proofs.Common.{arith}
 use Rattle.std.proofs.lemmas.Bool.{eq-eqb}
 use Rattle.std.specs.Prelude.{◌&&◌, ◌||◌, not}
@@ -19,12 +20,14 @@ use Rattle.adb_history.proofs.Received.{ReadTie, framed_piece, received}
 use Rattle.adb_laws_fifo_down.specs.Follows.{is_shut}
 
 -- the bytes of a link that was not lost
-received_on : (t : ℕ) (bytes : List ℕ) (older : History) → is_lost t older ≡ false → bytes_received t (Recv t bytes ∷ older) ≡ bytes_received t older ++ bytes
+received_on : (t : ℕ) (bytes : List ℕ) (older : History) → is_lost t older ≡ false
+    → bytes_received t (Recv t bytes ∷ older) ≡ bytes_received t older ++ bytes
 received_on t bytes older kept =
     ap (λ (c : Bool). cond (c && not (is_lost t older)) (bytes_received t older ++ bytes) (bytes_received t older)) (eq-eqb t t refl)
     ∙ ap (λ (c : Bool). cond (not c) (bytes_received t older ++ bytes) (bytes_received t older)) kept
 
-received_off : (t : ℕ) (bytes : List ℕ) (older : History) → is_lost t older ≡ true → bytes_received t (Recv t bytes ∷ older) ≡ bytes_received t older
+received_off : (t : ℕ) (bytes : List ℕ) (older : History) → is_lost t older ≡ true
+    → bytes_received t (Recv t bytes ∷ older) ≡ bytes_received t older
 received_off t bytes older lost =
     ap (λ (c : Bool). cond (c && not (is_lost t older)) (bytes_received t older ++ bytes) (bytes_received t older)) (eq-eqb t t refl)
     ∙ ap (λ (c : Bool). cond (not c) (bytes_received t older ++ bytes) (bytes_received t older)) lost
@@ -35,7 +38,8 @@ pub record BringsBy (t : ℕ) (bytes : List ℕ) (older : History) (link : Link)
   pub packets : brought t (Recv t bytes ∷ older) ≡ brought t older ++ (cut_packets (record { sums = link.sums }) (link.rest ++ bytes)).given
   pub shut : is_shut t (Recv t bytes ∷ older) ≡ is_some (cut_packets (record { sums = link.sums }) (link.rest ++ bytes)).fault
 
-pub brings : (t : ℕ) (bytes : List ℕ) (older : History) (link : Link) → IsLegal older → (state older).links t ≡ Some link → BringsBy t bytes older link
+pub brings : (t : ℕ) (bytes : List ℕ) (older : History) (link : Link) → IsLegal older
+    → (state older).links t ≡ Some link → BringsBy t bytes older link
 brings t bytes older link legal is =
     let tie : ReadTie (is_lost t older) (Some link) (bytes_received t older) =
     subst (λ (o : Option Link). ReadTie (is_lost t older) o (bytes_received t older)) is ((received older legal).links t) in
@@ -71,7 +75,8 @@ brings_more t bytes older = record {
         sym (ap (λ (c : Bool). c || is_some (framed (bytes_received t older)).fault) e ∙ ap is_some f) ∙ shut in
         absurd (cc)
     closed false e (Some fault) f shut =
-        let stays = fault_stays front_of (λ _ frame. packet_of frame) (λ format frame. format_after format (packet_of frame)) packets_are_framed
+        let stays = fault_stays front_of (λ _ frame. packet_of frame)
+        (λ format frame. format_after format (packet_of frame)) packets_are_framed
         (length (bytes_received t older)) (record { sums = false }) (bytes_received t older) bytes fault (omega arith) f in (
           ap (λ (x : List ℕ). (framed x).given) (received_on t bytes older e) ∙ stays.0,
           ap (λ (c : Bool). c || is_some (framed (bytes_received t (Recv t bytes ∷ older))).fault) e
@@ -88,6 +93,10 @@ brings_more t bytes older = record {
         sym (ap (λ (c : Bool). c || is_some (framed (bytes_received t older)).fault) e ∙ ap is_some f) ∙ open_yet in
         absurd (cc)
     opened false e None f open_yet =
-        let piece = cut_piece front_of (λ _ frame. packet_of frame) (λ format frame. format_after format (packet_of frame)) packets_are_framed
-        (length (bytes_received t older)) (record { sums = false }) (bytes_received t older) bytes (omega arith) f in
-        (_, ap (λ (x : List ℕ). (framed x).given) (received_on t bytes older e) ∙ ap (λ (c : Cut PacketFormat Packet PacketFault). c.given) piece)
+        let piece = cut_piece front_of (λ _ frame. packet_of frame)
+        (λ format frame. format_after format (packet_of frame)) packets_are_framed
+        (length (bytes_received t older)) (record { sums = false }) (bytes_received t older) bytes (omega arith) f in (
+          _,
+          ap (λ (x : List ℕ). (framed x).given) (received_on t bytes older e)
+              ∙ ap (λ (c : Cut PacketFormat Packet PacketFault). c.given) piece,
+        )

@@ -1,5 +1,6 @@
 -- What each turn of what is seen of a stream keeps, each entry after its birth keeps.
-use Rattle.std.proofs.Common.{◌+◌, arith, ◌≤◌, ℕ, ◌≡◌, ◌≢◌, Bool, true, false, cond, List, [], ◌∷◌, ◌++◌, length, Option, Some, None, refl, sym, ◌∙◌, ap, subst}
+use Rattle.std.proofs.Common.{◌+◌, arith, ◌≤◌, ℕ, ◌≡◌, ◌≢◌, Bool, true, false, cond, List, [], ◌∷◌, ◌++◌, length, Option, Some, None, refl}
+use Rattle.std.proofs.Common.{sym, ◌∙◌, ap, subst}
 use Rattle.std.proofs.Common.{eqb, inl, inr, ◌⊎◌}
 use Rattle.std.proofs.lemmas.Bool.{eqb-true, eq-eqb, cases_eq}
 use Rattle.adb_outside.specs.Bytes.{IsPrefixOf}
@@ -71,7 +72,8 @@ module _ (l : ℕ) (b : Birth) {P : Promise} (k : Turns (line l b) P) where
     holds_goes_on next s w h = by (kills next) refl
       where
         by : (c : Bool) → kills next ≡ c → After (Holds (line l b) P packets shut out) w (goes_on next n s)
-        by false e = held_by k packets shut out h.seen w (goes_on next n s) h.keeps (shows_goes_on (line l b) h.seen s w h.shows n other next
+        by false e = held_by k packets shut out h.seen w (goes_on next n s) h.keeps
+            (shows_goes_on (line l b) h.seen s w h.shows n other next
             (no_kill next e) (λ t service f ids. later l s.drawn h.shows.0.born))
         by true e =
             let stop : After (IsStopped (line l b) h.seen (ending_in l (all_stop s.drawn s.streams))) w (stops n s) = own_stops (line l b)
@@ -82,7 +84,8 @@ module _ (l : ℕ) (b : Birth) {P : Promise} (k : Turns (line l b) P) where
               keeps = k.stops packets shut out h.seen (ending_in l (all_stop s.drawn s.streams)) stop.is h.keeps;
             })
 
-    holds_asks : (q : Asked) (s : State) (w : List Event) → Holds (line l b) P packets shut out s w → After (Holds (line l b) P packets shut out) w (asks q n s)
+    holds_asks : (q : Asked) (s : State) (w : List Event) → Holds (line l b) P packets shut out s w
+        → After (Holds (line l b) P packets shut out) w (asks q n s)
     holds_asks q s w h =
         let asked : State = to_client n (has_asked q) s in
         let owed : Made = owe_client n q.replies asked in
@@ -91,7 +94,8 @@ module _ (l : ℕ) (b : Birth) {P : Promise} (k : Turns (line l b) P) where
         (shows_owe_client (line l b) h.seen n q.replies asked w other (shows_client (line l b) h.seen n (has_asked q) s w other h.shows)))
         (λ u now. holds_goes_on q.next owed.state u now)
 
-    holds_unread : (phase : Phase) (bytes : List ℕ) (a : Client) (s : State) (w : List Event) → phase ≢ Asking → Holds (line l b) P packets shut out s w
+    holds_unread : (phase : Phase) (bytes : List ℕ) (a : Client) (s : State) (w : List Event) → phase ≢ Asking
+        → Holds (line l b) P packets shut out s w
         → After (Holds (line l b) P packets shut out) w (reads_in phase n bytes a s)
     holds_unread phase bytes a s w no_asking h =
         held_by k packets shut out h.seen w (reads_in phase n bytes a s) h.keeps
@@ -108,7 +112,8 @@ module _ (l : ℕ) (b : Birth) {P : Promise} (k : Turns (line l b) P) where
     holds_reads_in Gone bytes a s w h = holds_unread Gone bytes a s w (λ e. cc) h
 
   -- ---- the entries of clients
-  module _ (packets : List Packet) (shut : Bool) (out : List ℕ) (s : State) (w : List Event) (h : Holds (line l b) P packets shut out s w) where
+  module _ (packets : List Packet) (shut : Bool) (out : List ℕ) (s : State) (w : List Event)
+      (h : Holds (line l b) P packets shut out s w) where
     -- the client of the stream
     in_line : (a : Client) → s.clients b.client ≡ Some a → IsInLine l a.about.phase
     in_line a is = k.served packets shut out h.seen h.keeps (seen_client a) (client_seen (line l b) h.seen s w (Some a) h.shows is)
@@ -116,11 +121,14 @@ module _ (l : ℕ) (b : Birth) {P : Promise} (k : Turns (line l b) P) where
     kept : (m : Made) → After (Shows (line l b) h.seen) w m → After (Holds (line l b) P packets shut out) w m
     kept m shows = held_by k packets shut out h.seen w m h.keeps shows
 
-    own_read : (o : Option Client) (bytes : List ℕ) → s.clients b.client ≡ o → After (Holds (line l b) P packets shut out) w (reads_from o b.client bytes s)
+    own_read : (o : Option Client) (bytes : List ℕ) → s.clients b.client ≡ o
+        → After (Holds (line l b) P packets shut out) w (reads_from o b.client bytes s)
     own_read None bytes is = after_quietly (Holds (line l b) P packets shut out) w s h
-    own_read (Some a) bytes is = kept (reads_in a.about.phase b.client bytes a s) (own_reads (line l b) h.seen s w h.shows a bytes (in_line a is))
+    own_read (Some a) bytes is = kept (reads_in a.about.phase b.client bytes a s)
+        (own_reads (line l b) h.seen s w h.shows a bytes (in_line a is))
 
-    other_read : (n : ℕ) (o : Option Client) (bytes : List ℕ) → n ≢ b.client → After (Holds (line l b) P packets shut out) w (reads_from o n bytes s)
+    other_read : (n : ℕ) (o : Option Client) (bytes : List ℕ) → n ≢ b.client
+        → After (Holds (line l b) P packets shut out) w (reads_from o n bytes s)
     other_read n None bytes other = after_quietly (Holds (line l b) P packets shut out) w s h
     other_read n (Some a) bytes other = holds_reads_in packets shut out n other a.about.phase bytes a s w h
 
@@ -133,7 +141,8 @@ module _ (l : ℕ) (b : Birth) {P : Promise} (k : Turns (line l b) P) where
             (own_read (s.clients b.client) bytes refl)
         by (inr other) = other_read n (s.clients n) bytes other
 
-    pub end_holds : (n : ℕ) (cause : Cause) → IsOwned s → After (Holds (line l b) P packets shut out) w (client_ends n cause (s.clients n) s)
+    pub end_holds : (n : ℕ) (cause : Cause) → IsOwned s → After (Holds (line l b) P packets shut out) w
+        (client_ends n cause (s.clients n) s)
     end_holds n cause owned = by (cases_eq n b.client)
       where
         by : (n ≡ b.client) ⊎ (n ≢ b.client) → After (Holds (line l b) P packets shut out) w (client_ends n cause (s.clients n) s)
@@ -141,9 +150,11 @@ module _ (l : ℕ) (b : Birth) {P : Promise} (k : Turns (line l b) P) where
             subst (λ (m : ℕ). After (Holds (line l b) P packets shut out) w (client_ends m cause (s.clients m) s)) (sym same)
             (holds_ends k packets shut out cause (s.clients b.client) s w refl h)
         by (inr other) = kept (client_ends n cause (s.clients n) s)
-            (shows_client_ends (line l b) h.seen s w h.shows n other cause (s.clients n) (λ a is. else_of (line l b) h.seen n a s w owned h.shows other is))
+            (shows_client_ends (line l b) h.seen s w h.shows n other cause (s.clients n)
+            (λ a is. else_of (line l b) h.seen n a s w owned h.shows other is))
 
-    own_bound_at : (o : Option Client) (port : ℕ) → s.clients b.client ≡ o → After (Holds (line l b) P packets shut out) w (bound_at o b.client port s)
+    own_bound_at : (o : Option Client) (port : ℕ) → s.clients b.client ≡ o
+        → After (Holds (line l b) P packets shut out) w (bound_at o b.client port s)
     own_bound_at None port is = after_quietly (Holds (line l b) P packets shut out) w s h
     own_bound_at (Some a) port is = kept (bound_at (Some a) b.client port s) (own_bound (line l b) h.seen s w h.shows a port (in_line a is))
 
@@ -158,7 +169,8 @@ module _ (l : ℕ) (b : Birth) {P : Promise} (k : Turns (line l b) P) where
 
     -- ---- hand-outs to clients
     -- what may be put to the client of a stream is due to it
-    due_of : (a : Client) (bytes : List ℕ) → IsOwned s → s.clients b.client ≡ Some a → IsSomeOf bytes (offered s.devices a) → IsSomeOf bytes a.due
+    due_of : (a : Client) (bytes : List ℕ) → IsOwned s → s.clients b.client ≡ Some a
+        → IsSomeOf bytes (offered s.devices a) → IsSomeOf bytes a.due
     due_of a bytes owned is may = record { some = may.some; front = subst (IsPrefixOf bytes) (by a.about.mark refl) may.front }
       where
         by : (mark : Bool) → a.about.mark ≡ mark → offered s.devices a ≡ a.due
@@ -173,7 +185,8 @@ module _ (l : ℕ) (b : Birth) {P : Promise} (k : Turns (line l b) P) where
         record {
           seen = _;
           shows = own_puts (line l b) h.seen (length bytes) a s w is h.shows (not_empty bytes a.due due.some due.front) (in_line a is);
-          keeps = k.hands packets shut out h.seen (seen_client a) bytes (client_seen (line l b) h.seen s w (Some a) h.shows is) due.front h.keeps;
+          keeps = k.hands packets shut out h.seen (seen_client a) bytes
+              (client_seen (line l b) h.seen s w (Some a) h.shows is) due.front h.keeps;
         }
 
     other_put : (n : ℕ) (o : Option Client) (count : ℕ) → IsOwned s → s.clients n ≡ o → n ≢ b.client
@@ -190,13 +203,16 @@ module _ (l : ℕ) (b : Birth) {P : Promise} (k : Turns (line l b) P) where
             → After (Holds (line l b) P packets shut (cond c (out ++ bytes) out)) w (puts_to (s.clients n) n (length bytes) s)
         by true e =
             let same : n ≡ b.client = eqb-true n b.client e in
-            subst (λ (m : ℕ). After (Holds (line l b) P packets shut (out ++ bytes)) w (puts_to (s.clients m) m (length bytes) s)) (sym same)
+            subst (λ (m : ℕ). After (Holds (line l b) P packets shut (out ++ bytes)) w
+            (puts_to (s.clients m) m (length bytes) s)) (sym same)
             (own_put (s.clients b.client) bytes owned refl (subst (λ (m : ℕ). MayPut s (s.clients m) bytes) same may))
-        by false e = other_put n (s.clients n) (length bytes) owned refl (λ same. let clash : true ≡ false = sym (eq-eqb n b.client same) ∙ e in cc)
+        by false e = other_put n (s.clients n) (length bytes) owned refl
+            (λ same. let clash : true ≡ false = sym (eq-eqb n b.client same) ∙ e in cc)
 
     pub come_holds : (n : ℕ) → n ≢ b.client → Holds (line l b) P packets shut out (comes false n s) w
     come_holds n other = record { seen = h.seen; shows = shows_comes (line l b) h.seen s w h.shows false n other; keeps = h.keeps }
 
     pub enter_holds : (n port : ℕ) → n ≢ b.client → After (Holds (line l b) P packets shut out) w (enters_by n (at port s.forwards) s)
-    enter_holds n port other = kept (enters_by n (at port s.forwards) s) (shows_enters (line l b) h.seen s w h.shows (at port s.forwards) n other
+    enter_holds n port other = kept (enters_by n (at port s.forwards) s)
+        (shows_enters (line l b) h.seen s w h.shows (at port s.forwards) n other
         (λ row f on ids. later l s.drawn h.shows.0.born))

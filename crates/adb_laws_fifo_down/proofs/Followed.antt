@@ -1,5 +1,6 @@
 -- What lasts from the birth of a stream on holds of every legal history.
-use Rattle.std.proofs.Common.{ℕ, ◌+◌, ◌≡◌, ◌≢◌, ◌≤◌, ◌<◌, zero, suc, Bool, true, false, cond, List, [], ◌∷◌, length, min, Option, Some, None, is_some}
+use Rattle.std.proofs.Common.{ℕ, ◌+◌, ◌≡◌, ◌≢◌, ◌≤◌, ◌<◌, zero, suc, Bool, true, false, cond, List, [], ◌∷◌, length, min, Option, Some}
+use Rattle.std.proofs.Common.{None, is_some}
 use Rattle.std.proofs.Common.{is_none, refl}
 use Rattle.std.proofs.Common.{sym, ◌∙◌, ap, subst, eqb, arith, inl, inr, ◌⊎◌}
 use Rattle.std.specs.Prelude.{All, ◌&&◌, not}
@@ -76,7 +77,8 @@ brought_recv t n bytes older = by (cases_eq n t)
         omega (arith, ap length more.1, length-append (brought t older) more.0)
 
     by : (n ≡ t) ⊎ (n ≢ t) → length (brought t older) ≤ length (brought t (Recv n bytes ∷ older))
-    by (inl same) = subst (λ (m : ℕ). length (brought t older) ≤ length (brought t (Recv m bytes ∷ older))) (sym same) (own (is_shut t older) refl)
+    by (inl same) = subst (λ (m : ℕ). length (brought t older) ≤ length (brought t (Recv m bytes ∷ older))) (sym same)
+        (own (is_shut t older) refl)
     by (inr other) =
         let same = ap (λ (x : List ℕ). length (Rattle.adb_wire.specs.Cutting.framed x).given) (unreceived n t bytes older other) in
         omega (arith, same)
@@ -91,7 +93,8 @@ okay_no_cnxn c e is = let clash : false ≡ true = sym (ap is_okay is) ∙ e in 
 
 pub unborn_okays : (drawn t : ℕ) (w : List Event) → All (IsOfBorn drawn) w → okays_of (drawn + 1) (packets_to t w) ≡ []
 unborn_okays drawn t [] all = refl
-unborn_okays drawn t (due_to_client client bytes ∷ w) all = unborn_okays drawn t w (All-tail (IsOfBorn drawn) (due_to_client client bytes) w all)
+unborn_okays drawn t (due_to_client client bytes ∷ w) all = unborn_okays drawn t w
+    (All-tail (IsOfBorn drawn) (due_to_client client bytes) w all)
 unborn_okays drawn t (ended stream ending ∷ w) all = unborn_okays drawn t w (All-tail (IsOfBorn drawn) (ended stream ending) w all)
 unborn_okays drawn t (due_to_link link p check ∷ w) all =
     by (eqb link t) (unborn_okays drawn t w (All-tail (IsOfBorn drawn) (due_to_link link p check) w all))
@@ -111,7 +114,8 @@ unborn_okays drawn t (due_to_link link p check ∷ w) all =
 
 -- ---- at all times
 module _ {P : PromiseOf} (lasts : Lasts P) where
-  follows_on : (e : Entry) (older : History) → IsLegal (e ∷ older) → (l : ℕ) (b : Birth) → 0 < l → Follows P older l b → Follows P (e ∷ older) l b
+  follows_on : (e : Entry) (older : History) → IsLegal (e ∷ older) → (l : ℕ) (b : Birth) → 0 < l → Follows P older l b
+      → Follows P (e ∷ older) l b
   follows_on e older legal l b some h = record {
     cradle = h.cradle;
     credit = h.credit;
@@ -120,7 +124,8 @@ module _ {P : PromiseOf} (lasts : Lasts P) where
     asks_no_more = λ own. ap (λ (q : Asked). is_some q.next) (fixed own) ∙ h.asks_no_more own;
     came = omega (arith, h.came, came_more e older);
     within = omega (arith, h.within, brought_no_fewer e b.link older);
-    holds = step_holds l b (lasts.turns (line l b) h.cradle) older legal.0 (record { some = some; came = h.came; within = h.within }) h.holds e legal.2;
+    holds = step_holds l b (lasts.turns (line l b) h.cradle) older legal.0
+        (record { some = some; came = h.came; within = h.within }) h.holds e legal.2;
   }
     where
       fixed : b.forwarded ≡ false → asked b.client (e ∷ older) ≡ asked b.client older
@@ -132,7 +137,8 @@ module _ {P : PromiseOf} (lasts : Lasts P) where
       by false own = sym (ap (λ (q : Asked). q.replies) (fixed own))
 
   -- ---- a stream is born
-  module _ (e : Entry) (older : History) (legal : IsLegal (e ∷ older)) (births_before : HasBirths older) (l : ℕ) (b : Birth) (now : IsBornNow l b e older) where
+  module _ (e : Entry) (older : History) (legal : IsLegal (e ∷ older)) (births_before : HasBirths older) (l : ℕ)
+      (b : Birth) (now : IsBornNow l b e older) where
     drawn_as : (state older).drawn ≡ length (births older)
     drawn_as = births_before.drawn ∙ least (length (births older)) stream_ids now.within
       where
@@ -155,7 +161,8 @@ module _ {P : PromiseOf} (lasts : Lasts P) where
     }
 
     at_number : (x : Birth) → b ≡ x → Follows P (e ∷ older) ((state older).drawn + 1) x → Follows P (e ∷ older) l b
-    at_number x is h = subst (λ (n : ℕ). Follows P (e ∷ older) n b) (sym number_as) (subst (Follows P (e ∷ older) ((state older).drawn + 1)) (sym is) h)
+    at_number x is h = subst (λ (n : ℕ). Follows P (e ∷ older) n b) (sym number_as)
+        (subst (Follows P (e ∷ older) ((state older).drawn + 1)) (sym is) h)
 
   born_by_read : (c : ℕ) (bytes : List ℕ) (older : History) → IsLegal (Read c bytes ∷ older) → HasBirths older → (l : ℕ) (b : Birth)
       → IsBornNow l b (Read c bytes) older → Follows P (Read c bytes ∷ older) l b
@@ -164,7 +171,8 @@ module _ {P : PromiseOf} (lasts : Lasts P) where
       let by = by_request c head older (newly (asked c older).next (asked c (Read c bytes ∷ older)).next) b now.is in
       let next = newly_is (asked c older).next (asked c (Read c bytes ∷ older)).next (what.Open by.transport by.service) by.opens in
       at_number (Read c bytes) older legal births_before l b now (asked_birth c by.transport by.service head older) by.birth
-      (read_born lasts c bytes older legal by.transport by.service head (now_asks c bytes older (what.Open by.transport by.service) next.0 next.1)
+      (read_born lasts c bytes older legal by.transport by.service head
+      (now_asks c bytes older (what.Open by.transport by.service) next.0 next.1)
       (some_left (Read c bytes) older legal births_before l b now) (unborn (Read c bytes) older legal births_before l b now by.transport))
 
   born_by_enter : (c port : ℕ) (older : History) → IsLegal (Enter c port ∷ older) → HasBirths older → (l : ℕ) (b : Birth)

@@ -1,5 +1,6 @@
 -- A client is handed what the device of its stream wrote.
-use Rattle.std.proofs.Common.{ℕ, ◌+◌, ◌≡◌, ◌≤◌, ◌<◌, zero, suc, Bool, true, false, cond, List, [], ◌∷◌, ◌++◌, length, drop, Option, Some, None, is_some, refl}
+use Rattle.std.proofs.Common.{ℕ, ◌+◌, ◌≡◌, ◌≤◌, ◌<◌, zero, suc, Bool, true, false, cond, List, [], ◌∷◌, ◌++◌, length, drop, Option, Some}
+use Rattle.std.proofs.Common.{None, is_some, refl}
 use Rattle.std.proofs.Common.{sym, ◌∙◌, ap, subst}
 use Rattle.std.proofs.Common.{arith, append_assoc, inl, inr, ◌⊎◌, codes}
 use Rattle.std.proofs.Math.Seq.{drop-append_seam}
@@ -9,7 +10,8 @@ use Rattle.adb_outside.specs.Bytes.{IsPrefixOf}
 use Rattle.adb_history.specs.Machine.{History, IsLegal}
 use Rattle.adb_history.specs.Bytes.{bytes_put}
 use Rattle.adb_history.specs.Book.{asked}
-use Rattle.adb_history.specs.Births.{Birth, Opening, since, opening_in, opening_of, told_in, told_after, told_to, told_before, told_before_close}
+use Rattle.adb_history.specs.Births.{Birth, Opening, since, opening_in, opening_of, told_in, told_after, told_to, told_before}
+use Rattle.adb_history.specs.Births.{told_before_close}
 use Rattle.adb_history.specs.Births.{before_close, joined, lead_of, handed_to}
 use Rattle.adb_history.specs.declared.ending.Ending.TheVariants.{PeerClosed}
 use Rattle.adb_history.specs.Fifo.{HandsTold, HandsWholeTold}
@@ -20,7 +22,8 @@ use Rattle.adb_laws_fifo_down.specs.Followed.{LifeOf, HasLives}
 use Rattle.adb_laws_fifo_down.specs.Follows.{is_shut, replies_of, Follows}
 use Rattle.adb_laws_fifo_down.specs.Begins.{Lasts}
 use Rattle.adb_laws_fifo_down.proofs.Openings.{pending_now}
-use Rattle.adb_laws_fifo_down.proofs.Lives.{any_front, life_served, life_closes, life_breaks, life_stops, life_fails, life_hands, life_shuts}
+use Rattle.adb_laws_fifo_down.proofs.Lives.{any_front, life_served, life_closes, life_breaks, life_stops, life_fails, life_hands}
+use Rattle.adb_laws_fifo_down.proofs.Lives.{life_shuts}
 use Rattle.adb_laws_fifo_down.proofs.LifePackets.{life_treats}
 use Rattle.adb_laws_fifo_down.proofs.Followed.{follows}
 
@@ -74,7 +77,8 @@ nothing_past : (n : ℕ) (put replies : List ℕ) → IsPrefixOf put replies →
 nothing_past n put replies (rest, is) le = drop_past n put (omega (arith, ap length is, length-append put rest, le))
 
 -- so many bytes come before those of a stream
-pub lead_is : (k : Cradle) (b : Birth) (h : History) → k.forwarded ≡ b.forwarded → k.replies ≡ replies_of b h → length (lead k) ≡ lead_of b h
+pub lead_is : (k : Cradle) (b : Birth) (h : History) → k.forwarded ≡ b.forwarded → k.replies ≡ replies_of b h
+    → length (lead k) ≡ lead_of b h
 lead_is k b h forwarded_is replies_are = by b.forwarded forwarded_is replies_are
   where
     by : (forwarded : Bool) → k.forwarded ≡ forwarded → k.replies ≡ cond forwarded [] (asked b.client h).replies
@@ -110,7 +114,8 @@ module _ (l : ℕ) (b : Birth) (h : History) (f : Follows LifeOf h l b) where
     pub handed : IsPrefixOf (drop (lead_of b h) (bytes_put b.client h)) bytes
     pub front : IsPrefixOf bytes (joined (told_in o.remote l o.later))
 
-  told_part : (o : Opening) (bytes : List ℕ) → f.holds.seen.output ≡ lead f.cradle ++ bytes → IsPrefixOf bytes (joined (told_in o.remote l o.later)) → IsTold o
+  told_part : (o : Opening) (bytes : List ℕ) → f.holds.seen.output ≡ lead f.cradle ++ bytes
+      → IsPrefixOf bytes (joined (told_in o.remote l o.later)) → IsTold o
   told_part o bytes output front = record {
     bytes = bytes;
     handed = subst (λ (n : ℕ). IsPrefixOf (drop n (bytes_put b.client h)) bytes) lead_length
@@ -121,7 +126,8 @@ module _ (l : ℕ) (b : Birth) (h : History) (f : Follows LifeOf h l b) where
   unheard_told : (o : Opening) → IsUnheard f.cradle f.holds.seen.output f.holds.seen.ending → IsTold o
   unheard_told o unheard =
       let none : drop (lead_of b h) (bytes_put b.client h) ≡ [] =
-      nothing_past (lead_of b h) (bytes_put b.client h) f.cradle.replies (subst (IsPrefixOf (bytes_put b.client h)) unheard.output_is put_front)
+      nothing_past (lead_of b h) (bytes_put b.client h) f.cradle.replies
+      (subst (IsPrefixOf (bytes_put b.client h)) unheard.output_is put_front)
       replies_within in record {
         bytes = [];
         handed = subst (λ (x : List ℕ). IsPrefixOf x []) (sym none) ([], refl);
@@ -194,7 +200,8 @@ module _ (l : ℕ) (b : Birth) (h : History) (f : Follows LifeOf h l b) where
         over (inl never) = absurd (let clash : None ≡ Some o = sym never.0.unopened ∙ is in cc)
         over (inr (inl unheard)) = absurd (unheard.not_by_peer by_peer)
         over (inr (inr i)) =
-            subst (λ (p : Opening). drop (lead_of b h) (bytes_put b.client h) ≡ joined (told_in p.remote l (before_close p.remote l p.later)))
+            subst (λ (p : Opening). drop (lead_of b h) (bytes_put b.client h)
+            ≡ joined (told_in p.remote l (before_close p.remote l p.later)))
             (same i.opening i.opened) (closed i.opening i.bytes i.output_is (i.closed by_peer))
 
         by : (x : Option SeenStream) → LivesIn x l f.cradle (since b h) (is_shut b.link h) (heard f.holds.seen)

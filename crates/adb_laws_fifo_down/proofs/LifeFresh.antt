@@ -1,5 +1,6 @@
 -- The life of a stream that its device has not opened goes on through each packet of its link.
-use Rattle.std.proofs.Common.{ℕ, ◌≡◌, ◌≢◌, zero, suc, Bool, true, false, cond, List, [], ◌∷◌, ◌++◌, length, Option, Some, None, refl, sym, ◌∙◌, ap, subst}
+use Rattle.std.proofs.Common.{ℕ, ◌≡◌, ◌≢◌, zero, suc, Bool, true, false, cond, List, [], ◌∷◌, ◌++◌, length, Option, Some, None, refl, sym}
+use Rattle.std.proofs.Common.{◌∙◌, ap, subst}
 use Rattle.std.proofs.Common.{eqb, append_assoc, inl, inr, codes}
 use Rattle.std.proofs.lemmas.List.{append-nil}
 use Rattle.std.proofs.lemmas.Bool.{eqb-false, eq-eqb}
@@ -53,7 +54,8 @@ module _ (l : ℕ) (k : Cradle) (packets : List Packet) (out : List ℕ) (v : Vi
     lives_on : LivesAs x.orphan x.remote l k more (heard v) → Life l k more false out v
     lives_on i = record { tied = h.tied; lives = subst (λ (o : Option SeenStream). LivesIn o l k more false (heard v)) (sym there) i }
 
-    by_command : (c : Command) → p.command ≡ c → Life l k more false out (treated_as l c p x v) → Life l k more false out (treated_as l p.command p x v)
+    by_command : (c : Command) → p.command ≡ c → Life l k more false out (treated_as l c p x v)
+        → Life l k more false out (treated_as l p.command p x v)
     by_command c is i = subst (λ (c : Command). Life l k more false out (treated_as l c p x v)) (sym is) i
 
     -- ---- an orphan
@@ -67,7 +69,8 @@ module _ (l : ℕ) (k : Cradle) (packets : List Packet) (out : List ℕ) (v : Vi
 
       orphan_over : (ending : Ending) → Life l k more false out (over x.orphan ending v)
       orphan_over ending =
-          subst (λ (c : Bool). Life l k more false out (over c ending v)) (sym is_orphan) (over_orphan l k more false out v ending o.gone h.tied o.unheard)
+          subst (λ (c : Bool). Life l k more false out (over c ending v)) (sym is_orphan)
+          (over_orphan l k more false out v ending o.gone h.tied o.unheard)
 
       orphan_gone : Life l k more false out (record v { stream = None })
       orphan_gone = record {
@@ -123,25 +126,31 @@ module _ (l : ℕ) (k : Cradle) (packets : List Packet) (out : List ℕ) (v : Vi
             ending = o.ending;
           })))
 
-      waits_over : (ending : Ending) → ((others : List Packet) → opening_in l (p ∷ others) ≡ None) → Life l k more false out (over x.orphan ending v)
+      waits_over : (ending : Ending) → ((others : List Packet) → opening_in l (p ∷ others) ≡ None)
+          → Life l k more false out (over x.orphan ending v)
       waits_over ending seals =
           let sealed : IsSealed l more = sealed_by l packets p o.pending seals in
           subst (λ (c : Bool). Life l k more false out (over c ending v)) (sym is_owned)
-          (over_waiting l k more false out v packets o ending due_now (record { unopened = sealed_now l more sealed; for_good = inr sealed }))
+          (over_waiting l k more false out v packets o ending due_now
+          (record { unopened = sealed_now l more sealed; for_good = inr sealed }))
 
       -- what the opening is by a packet
-      as_command : (c : Command) → p.command ≡ c → (others : List Packet) → opening_in l (p ∷ others) ≡ opening_by c l p others (opening_in l others)
+      as_command : (c : Command) → p.command ≡ c → (others : List Packet)
+          → opening_in l (p ∷ others) ≡ opening_by c l p others (opening_in l others)
       as_command c is others = ap (λ (c : Command). opening_by c l p others (opening_in l others)) is
 
       -- its device opens it
-      opened_now : (r : ℕ) → p.arg0 ≡ suc r → opening_in l (p ∷ []) ≡ Some (record { remote = p.arg0; word = credit_word p.payload; later = [] })
+      opened_now : (r : ℕ) → p.arg0 ≡ suc r → opening_in l (p ∷ [])
+          ≡ Some (record { remote = p.arg0; word = credit_word p.payload; later = [] })
           → Life l k more false out (opened_as false l p.arg0 x v)
       opened_now r is opens =
-          subst (λ (c : Option SeenClient). Life l k more false out (hears_open l c (record v { stream = Some (record x { remote = p.arg0 }) }))) (sym o.here)
+          subst (λ (c : Option SeenClient). Life l k more false out
+          (hears_open l c (record v { stream = Some (record x { remote = p.arg0 }) }))) (sym o.here)
           (by o.client.forwarded o.forwarded)
         where
           live : (y : Heard) → IsOpened (suc r) l k more y → LivesAs x.orphan p.arg0 l k more y
-          live y i = subst (λ (c : Bool). LivesAs c p.arg0 l k more y) (sym is_owned) (subst (λ (n : ℕ). LivesAs false n l k more y) (sym is) i)
+          live y i = subst (λ (c : Bool). LivesAs c p.arg0 l k more y) (sym is_owned)
+              (subst (λ (n : ℕ). LivesAs false n l k more y) (sym is) i)
 
           by : (forwarded : Bool) → forwarded ≡ k.forwarded
               → Life l k more false out (hears_as forwarded l o.client (record v { stream = Some (record x { remote = p.arg0 }) }))
@@ -186,11 +195,15 @@ module _ (l : ℕ) (k : Cradle) (packets : List Packet) (out : List ℕ) (v : Vi
               ≡ cond (c && not d) (Some (record { remote = p.arg0; word = credit_word p.payload; later = others })) (opening_in l others)
           opens c d e f others =
               as_command Okay is others
-              ∙ (ap (λ (c : Bool). cond (c && not (eqb p.arg0 0)) (Some (record { remote = p.arg0; word = credit_word p.payload; later = others }))
+              ∙ (ap (λ (c : Bool). cond (c && not (eqb p.arg0 0))
+              (Some (record { remote = p.arg0; word = credit_word p.payload; later = others }))
               (opening_in l others)) e
-              ∙ ap (λ (d : Bool). cond (c && not d) (Some (record { remote = p.arg0; word = credit_word p.payload; later = others })) (opening_in l others)) f)
+              ∙ ap (λ (d : Bool). cond (c && not d)
+              (Some (record { remote = p.arg0; word = credit_word p.payload; later = others }))
+              (opening_in l others)) f)
 
-          first : (r : ℕ) → p.arg0 ≡ r → r ≢ 0 → opening_in l (p ∷ []) ≡ Some (record { remote = p.arg0; word = credit_word p.payload; later = [] })
+          first : (r : ℕ) → p.arg0 ≡ r → r ≢ 0 → opening_in l (p ∷ [])
+              ≡ Some (record { remote = p.arg0; word = credit_word p.payload; later = [] })
               → Life l k more false out (cond (eqb x.remote 0) (opened_as x.orphan l p.arg0 x v) v)
           first zero same some opens_it = absurd (some refl)
           first (suc r) same some opens_it =
@@ -223,16 +236,21 @@ module _ (l : ℕ) (k : Cradle) (packets : List Packet) (out : List ℕ) (v : Vi
               → opening_in l (p ∷ others) ≡ cond (d && c) None (opening_in l others)
           closes c d e f others =
               as_command Clse is others
-              ∙ (ap (λ (c : Bool). cond (eqb p.arg0 0 && c) None (opening_in l others)) e ∙ ap (λ (d : Bool). cond (d && c) None (opening_in l others)) f)
+              ∙ (ap (λ (c : Bool). cond (eqb p.arg0 0 && c) None (opening_in l others)) e
+              ∙ ap (λ (d : Bool). cond (d && c) None (opening_in l others)) f)
 
           same : (eqb p.arg0 0 || eqb p.arg0 x.remote) ≡ (eqb p.arg0 0 || eqb p.arg0 0)
           same = ap (λ (r : ℕ). eqb p.arg0 0 || eqb p.arg0 r) fresh
 
           by : (c d : Bool) → eqb p.arg1 l ≡ c → eqb p.arg0 0 ≡ d → Life l k more false out (cond c (after_close p.arg0 x v) v)
-          by false d e f = waits_on (λ others. closes false d e f others ∙ ap (λ (c : Bool). cond c None (opening_in l others)) (and_false d))
+          by false d e f =
+              waits_on (λ others. closes false d e f others ∙ ap (λ (c : Bool). cond c None (opening_in l others))
+              (and_false d))
           by true true e f =
-              subst (λ (c : Bool). Life l k more false out (cond c (over x.orphan PeerClosed v) v)) (sym (same ∙ ap (λ (c : Bool). c || c) f))
+              subst (λ (c : Bool). Life l k more false out (cond c (over x.orphan PeerClosed v) v))
+              (sym (same ∙ ap (λ (c : Bool). c || c) f))
               (waits_over PeerClosed (λ others. closes true true e f others))
           by true false e f =
-              subst (λ (c : Bool). Life l k more false out (cond c (over x.orphan PeerClosed v) v)) (sym (same ∙ ap (λ (c : Bool). c || c) f))
+              subst (λ (c : Bool). Life l k more false out (cond c (over x.orphan PeerClosed v) v))
+              (sym (same ∙ ap (λ (c : Bool). c || c) f))
               (waits_on (λ others. closes true false e f others))

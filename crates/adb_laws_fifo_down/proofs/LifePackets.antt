@@ -1,5 +1,6 @@
 -- The life of a stream goes on through each packet of its link.
-use Rattle.std.proofs.Common.{ℕ, ◌≡◌, ◌≢◌, zero, suc, Bool, true, false, cond, List, [], ◌∷◌, ◌++◌, length, Option, Some, None, refl, sym, ◌∙◌, ap, subst}
+use Rattle.std.proofs.Common.{ℕ, ◌≡◌, ◌≢◌, zero, suc, Bool, true, false, cond, List, [], ◌∷◌, ◌++◌, length, Option, Some, None, refl, sym}
+use Rattle.std.proofs.Common.{◌∙◌, ap, subst}
 use Rattle.std.proofs.Common.{eqb, append_assoc, inl, inr, ◌⊎◌}
 use Rattle.std.proofs.lemmas.List.{append-nil}
 use Rattle.std.proofs.lemmas.Bool.{eqb-true, ne_eqb}
@@ -23,7 +24,8 @@ use Rattle.adb_laws_fifo_down.proofs.Lives.{tied_at, over_open, open_story, same
 use Rattle.adb_laws_fifo_down.proofs.LifeFresh.{and_false, cnxn_no_close, orphan_goes, waits_goes}
 
 -- one that was open, with one more packet
-was_open_goes : (l : ℕ) (k : Cradle) (packets : List Packet) (p : Packet) (output : List ℕ) (ending : Option Ending) → WasOpen l k packets output ending
+was_open_goes : (l : ℕ) (k : Cradle) (packets : List Packet) (p : Packet) (output : List ℕ) (ending : Option Ending)
+    → WasOpen l k packets output ending
     → WasOpen l k (packets ++ p ∷ []) output ending
 was_open_goes l k packets p output ending h = record {
   opening = later_too (p ∷ []) h.opening;
@@ -66,7 +68,8 @@ module _ (l : ℕ) (k : Cradle) (packets : List Packet) (out : List ℕ) (v : Vi
     lives_on : LivesAs x.orphan x.remote l k more (heard v) → Life l k more false out v
     lives_on i = record { tied = h.tied; lives = subst (λ (o : Option SeenStream). LivesIn o l k more false (heard v)) (sym there) i }
 
-    by_command : (c : Command) → p.command ≡ c → Life l k more false out (treated_as l c p x v) → Life l k more false out (treated_as l p.command p x v)
+    by_command : (c : Command) → p.command ≡ c → Life l k more false out (treated_as l c p x v)
+        → Life l k more false out (treated_as l p.command p x v)
     by_command c is i = subst (λ (c : Command). Life l k more false out (treated_as l c p x v)) (sym is) i
 
     -- ---- one that is open
@@ -149,7 +152,8 @@ module _ (l : ℕ) (k : Cradle) (packets : List Packet) (out : List ℕ) (v : Vi
             opened = still_opened;
             bytes = joined (told_in remote l later);
             output_is = o.output;
-            front = front_later remote l later (p ∷ []) (joined (told_in remote l later)) ([], append-nil (joined (told_in remote l later)));
+            front = front_later remote l later (p ∷ []) (joined (told_in remote l later))
+                ([], append-nil (joined (told_in remote l later)));
             closed = λ e. record {
               whole = ap (λ (ps : List Packet). joined (told_in remote l ps)) (sym (ends []));
               closed = λ others. ap (before_close remote l) (append_assoc later (p ∷ []) others) ∙ (ends others ∙ sym (ends []));
@@ -159,10 +163,12 @@ module _ (l : ℕ) (k : Cradle) (packets : List Packet) (out : List ℕ) (v : Vi
           ends : (others : List Packet) → before_close o.opening.remote l (o.opening.later ++ p ∷ others) ≡ o.opening.later
           ends others =
               unclosed_on o.opening.remote l o.opening.later (p ∷ others) o.unclosed
-              ∙ (ap (λ (c : Bool). o.opening.later ++ cond c [] (p ∷ before_close o.opening.remote l others)) closes ∙ append-nil o.opening.later)
+              ∙ (ap (λ (c : Bool). o.opening.later ++ cond c [] (p ∷ before_close o.opening.remote l others)) closes
+              ∙ append-nil o.opening.later)
 
       -- what a packet tells, by its command
-      tells_by : (c : Command) → p.command ≡ c → told_in o.opening.remote l (p ∷ []) ≡ cond (is_wrte c && is_between o.opening.remote l p) (p.payload ∷ []) []
+      tells_by : (c : Command) → p.command ≡ c → told_in o.opening.remote l (p ∷ [])
+          ≡ cond (is_wrte c && is_between o.opening.remote l p) (p.payload ∷ []) []
       tells_by c is = ap (λ (c : Command). cond (is_wrte c && is_between o.opening.remote l p) (p.payload ∷ []) []) is
 
       closes_by : (c : Command) → p.command ≡ c
@@ -242,7 +248,8 @@ module _ (l : ℕ) (k : Cradle) (packets : List Packet) (out : List ℕ) (v : Vi
               → told_in o.opening.remote l (p ∷ []) ≡ cond (d && c) (p.payload ∷ []) []
           told c d e f =
               tells_by Wrte is
-              ∙ (ap (λ (c : Bool). cond (eqb p.arg0 o.opening.remote && c) (p.payload ∷ []) []) e ∙ ap (λ (d : Bool). cond (d && c) (p.payload ∷ []) []) f)
+              ∙ (ap (λ (c : Bool). cond (eqb p.arg0 o.opening.remote && c) (p.payload ∷ []) []) e
+              ∙ ap (λ (d : Bool). cond (d && c) (p.payload ∷ []) []) f)
 
           tests : (d : Bool) → eqb p.arg0 o.opening.remote ≡ d → (eqb p.arg0 0 || not (eqb p.arg0 x.remote)) ≡ (eqb p.arg0 0 || not d)
           tests d f = ap (λ (n : ℕ). eqb p.arg0 0 || not (eqb p.arg0 n)) remote_is ∙ ap (λ (d : Bool). eqb p.arg0 0 || not d) f
@@ -259,7 +266,8 @@ module _ (l : ℕ) (k : Cradle) (packets : List Packet) (out : List ℕ) (v : Vi
           some : eqb p.arg0 o.opening.remote ≡ true → eqb p.arg0 0 ≡ false
           some f = ne_eqb p.arg0 0 (λ e. let clash : suc r ≡ 0 = sym o.told_as ∙ (sym (eqb-true p.arg0 o.opening.remote f) ∙ e) in cc)
 
-          by : (c d : Bool) → eqb p.arg1 l ≡ c → eqb p.arg0 o.opening.remote ≡ d → Life l k more false out (cond c (after_write l p.arg0 p.payload x v) v)
+          by : (c d : Bool) → eqb p.arg1 l ≡ c → eqb p.arg0 o.opening.remote ≡ d
+              → Life l k more false out (cond c (after_write l p.arg0 p.payload x v) v)
           by false d e f = seen_on unclosed (told false d e f ∙ ap (λ (c : Bool). cond c (p.payload ∷ []) []) (and_false d))
           by true false e f =
               subst (λ (c : Bool). Life l k more false out (cond c v

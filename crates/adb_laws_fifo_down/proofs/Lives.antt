@@ -1,5 +1,6 @@
 -- The life of a stream goes on through each turn of what is seen of it.
-use Rattle.std.proofs.Common.{ℕ, ◌≡◌, ◌≢◌, zero, suc, Bool, true, false, cond, List, [], ◌∷◌, ◌++◌, length, drop, min, Option, Some, None, refl, sym, ◌∙◌, ap}
+use Rattle.std.proofs.Common.{ℕ, ◌≡◌, ◌≢◌, zero, suc, Bool, true, false, cond, List, [], ◌∷◌, ◌++◌, length, drop, min, Option, Some, None}
+use Rattle.std.proofs.Common.{refl, sym, ◌∙◌, ap}
 use Rattle.std.proofs.Common.{subst}
 use Rattle.std.proofs.Common.{eqb, append_assoc, inl, inr, ◌⊎◌}
 use Rattle.std.proofs.lemmas.List.{append-nil}
@@ -13,10 +14,12 @@ use Rattle.adb_history.specs.declared.ending.Ending.TheVariants.{ClientClosed, P
 use Rattle.adb_history.specs.Births as birth
 use Rattle.adb_history.specs.Births.{opening_in, told_in, joined}
 use Rattle.adb_history.proofs.Outputs.{handed_off}
-use Rattle.adb_laws_fifo_down.specs.Line.{Line, SeenStream, SeenClient, View, IsOpenIn, first_of, closing_seen, fail_bytes, loss, lost_by, over}
+use Rattle.adb_laws_fifo_down.specs.Line.{Line, SeenStream, SeenClient, View, IsOpenIn, first_of, closing_seen, fail_bytes, loss, lost_by}
+use Rattle.adb_laws_fifo_down.specs.Line.{over}
 use Rattle.adb_laws_fifo_down.specs.Turned.{IsInLine, IsStop, row_fails, failed_by, killed, row_left, more_okays, credit_told, left_told}
 use Rattle.adb_laws_fifo_down.specs.Turned.{stream_left_as, row_handed, handed_in, handed_out}
-use Rattle.adb_laws_fifo_down.specs.Life.{Cradle, lead, NeverOpens, unopened_output, IsNotByPeer, heard, IsWaiting, IsUnheard, IsOpened, IsClosedAt}
+use Rattle.adb_laws_fifo_down.specs.Life.{Cradle, lead, NeverOpens, unopened_output, IsNotByPeer, heard, IsWaiting, IsUnheard, IsOpened}
+use Rattle.adb_laws_fifo_down.specs.Life.{IsClosedAt}
 use Rattle.adb_laws_fifo_down.specs.Life.{WasOpen, IsDone, Story, LivesAs, LivesIn, TiedTo, Life}
 use Rattle.adb_laws_fifo_down.proofs.Openings.{pending_now}
 
@@ -46,7 +49,8 @@ none_done : IsDone None
 none_done a e = absurd (let clash : None ≡ Some a = e in cc)
 
 -- ---- endings
-other_ending : (before : Option Ending) (ending : Ending) → before ≡ None → ending ≢ PeerClosed → IsNotByPeer (first_of before (Some ending))
+other_ending : (before : Option Ending) (ending : Ending) → before ≡ None → ending ≢ PeerClosed
+    → IsNotByPeer (first_of before (Some ending))
 other_ending before ending none other e =
     let first : first_of before (Some ending) ≡ Some ending = ap (λ (o : Option Ending). first_of o (Some ending)) none in
     let both : Some ending ≡ Some PeerClosed = sym first ∙ e in
@@ -85,22 +89,27 @@ module _ (l : ℕ) (k : Cradle) (packets : List Packet) (shut : Bool) (out : Lis
   pub over_waiting : (before : List Packet) (w : IsWaiting l k before (heard v)) (ending : Ending) → v.output ≡ out ++ w.client.due
       → NeverOpens l packets shut → Life l k packets shut out (over false ending v)
   over_waiting before w ending due never =
-      subst (λ (u : View). Life l k packets shut out u) (sym (over_as w.client (Opening l) ending w.here w.phase)) (by w.client.forwarded refl)
+      subst (λ (u : View). Life l k packets shut out u) (sym (over_as w.client (Opening l) ending w.here w.phase))
+      (by w.client.forwarded refl)
     where
-      known : (forwarded : Bool) → w.client.forwarded ≡ forwarded → unopened_output forwarded k.replies ≡ unopened_output k.forwarded k.replies
+      known : (forwarded : Bool) → w.client.forwarded ≡ forwarded
+          → unopened_output forwarded k.replies ≡ unopened_output k.forwarded k.replies
       known forwarded is = ap (λ (f : Bool). unopened_output f k.replies) (sym is ∙ w.forwarded)
 
       more : v.output ++ fail_bytes ≡ out ++ (w.client.due ++ fail_bytes)
       more = ap (λ (x : List ℕ). x ++ fail_bytes) due ∙ append_assoc out w.client.due fail_bytes
 
       by : (forwarded : Bool) → w.client.forwarded ≡ forwarded
-          → Life l k packets shut out (loss forwarded (Opening l) w.client (record v { stream = None; ending = first_of v.ending (Some ending) }))
+          → Life l k packets shut out
+          (loss forwarded (Opening l) w.client
+          (record v { stream = None; ending = first_of v.ending (Some ending) }))
       by true is = record {
         tied = closing_tied w.client.due w.client v.output out due;
         lives = (closing_done w.client.due w.client, inl (never, w.output ∙ known true is));
       }
       by false is = record {
-        tied = closing_tied (w.client.due ++ fail_bytes) (record w.client { due = w.client.due ++ fail_bytes }) (v.output ++ fail_bytes) out more;
+        tied = closing_tied (w.client.due ++ fail_bytes) (record w.client { due = w.client.due ++ fail_bytes })
+            (v.output ++ fail_bytes) out more;
         lives = (
           closing_done (w.client.due ++ fail_bytes) (record w.client { due = w.client.due ++ fail_bytes }),
           inl (never, ap (λ (x : List ℕ). x ++ fail_bytes) w.output ∙ known false is),
@@ -146,10 +155,12 @@ module _ (l : ℕ) (k : Cradle) (packets : List Packet) (shut : Bool) (out : Lis
       by (Some x) h = alive x.orphan x.remote h
 
   -- it is closed for its client
-  pub life_closes : (b : Line) (y : IsOpenIn b v) → b.id ≡ l → Life l k packets shut out v → Life l k packets shut out (over y.row.orphan ClientClosed v)
+  pub life_closes : (b : Line) (y : IsOpenIn b v) → b.id ≡ l → Life l k packets shut out v
+      → Life l k packets shut out (over y.row.orphan ClientClosed v)
   life_closes b y same h = by y.row.orphan y.row.remote (lives_at y.row y.stream h)
     where
-      by : (orphan : Bool) (remote : ℕ) → LivesAs orphan remote l k packets (heard v) → Life l k packets shut out (over orphan ClientClosed v)
+      by : (orphan : Bool) (remote : ℕ) → LivesAs orphan remote l k packets (heard v)
+          → Life l k packets shut out (over orphan ClientClosed v)
       by true remote i = absurd (let clash : None ≡ Some y.client = sym i.gone ∙ y.here in cc)
       by false zero i =
           let client : i.client ≡ y.client = (let both : Some i.client ≡ Some y.client = sym i.here ∙ y.here in cc) in
@@ -160,7 +171,8 @@ module _ (l : ℕ) (k : Cradle) (packets : List Packet) (shut : Bool) (out : Lis
           (open_story (suc r) ClientClosed (λ e. cc) i)
 
   -- its link is Lost, or Broken
-  pub life_breaks : (x : SeenStream) (ending : Ending) → shut ≡ true → v.stream ≡ Some x → (ending ≡ Lost) ⊎ (ending ≡ Broken) → Life l k packets shut out v
+  pub life_breaks : (x : SeenStream) (ending : Ending) → shut ≡ true → v.stream ≡ Some x
+      → (ending ≡ Lost) ⊎ (ending ≡ Broken) → Life l k packets shut out v
       → Life l k packets shut out (over x.orphan ending v)
   life_breaks x ending over_now there which h = by x.orphan x.remote (lives_at x there h)
     where
@@ -176,7 +188,8 @@ module _ (l : ℕ) (k : Cradle) (packets : List Packet) (shut : Bool) (out : Lis
       by false zero i = over_waiting packets i ending (tied_at v.client i.client v.output out i.here h.tied)
           (record { unopened = pending_now l packets i.pending; for_good = inl over_now })
       by false (suc r) i =
-          over_open i.client l ending i.here i.phase (tied_at v.client i.client v.output out i.here h.tied) (open_story (suc r) ending other i)
+          over_open i.client l ending i.here i.phase (tied_at v.client i.client v.output out i.here h.tied)
+          (open_story (suc r) ending other i)
 
   -- another client stops the server
   pub life_stops : (ending : Option Ending) → IsStop ending → Life l k packets shut out v → Life l k packets shut out (killed ending v)
@@ -234,7 +247,8 @@ module _ (l : ℕ) (k : Cradle) (packets : List Packet) (shut : Bool) (out : Lis
         let same : c ≡ a = (let both : Some c ≡ Some a = sym is ∙ here in cc) in
         sym (ap (λ (x : SeenClient). x.phase) same) ∙ e
 
-    alive_fails : (x : SeenStream) (orphan : Bool) (remote : ℕ) → x.orphan ≡ orphan → x.remote ≡ remote → LivesAs orphan remote l k packets (heard v)
+    alive_fails : (x : SeenStream) (orphan : Bool) (remote : ℕ) → x.orphan ≡ orphan → x.remote ≡ remote
+        → LivesAs orphan remote l k packets (heard v)
         → Life l k packets shut out (row_fails a.phase failing (Some x) v)
     alive_fails x true remote is_orphan is i = absurd (let clash : None ≡ Some a = sym i.gone ∙ here in cc)
     alive_fails x false zero is_orphan is i = row_phase (Opening l) (Some x) (its_phase (Opening l) i.client i.here i.phase) (record {
@@ -245,15 +259,17 @@ module _ (l : ℕ) (k : Cradle) (packets : List Packet) (shut : Bool) (out : Lis
         unheard = record { output_is = i.output; not_by_peer = other_ending v.ending failing i.ending (λ e. cc) };
       };
     })
-    alive_fails x false (suc r) is_orphan is i = row_phase (Streaming l) (Some x) (its_phase (Streaming l) i.client i.here i.phase) (record {
-      tied = gone_front;
-      lives = (none_done, inr (inr (open_story (suc r) failing (λ e. cc) i)));
-    })
+    alive_fails x false (suc r) is_orphan is i = row_phase (Streaming l) (Some x)
+        (its_phase (Streaming l) i.client i.here i.phase) (record {
+          tied = gone_front;
+          lives = (none_done, inr (inr (open_story (suc r) failing (λ e. cc) i)));
+        })
 
     pub life_fails : Life l k packets shut out (failed_by cause a v)
     life_fails = by v.stream refl h.lives
       where
-        by : (o : Option SeenStream) → v.stream ≡ o → LivesIn o l k packets shut (heard v) → Life l k packets shut out (row_fails a.phase failing o v)
+        by : (o : Option SeenStream) → v.stream ≡ o → LivesIn o l k packets shut (heard v)
+            → Life l k packets shut out (row_fails a.phase failing o v)
         by None none i = row_phase Closing None (i.0 a here)
             (record {
               tied = gone_front;
@@ -284,7 +300,8 @@ module _ (l : ℕ) (k : Cradle) (packets : List Packet) (shut : Bool) (out : Lis
         (subst (λ (r : ℕ). LivesAs x.orphan r l k packets (heard v)) (sym remote) (lives_at l k packets shut out v x there h));
   }
 
-  life_told : (u : View) (credit : Bool) (left : ℕ) (x : SeenStream) → Life l k packets shut out u → Life l k packets shut out (left_told credit left l x u)
+  life_told : (u : View) (credit : Bool) (left : ℕ) (x : SeenStream) → Life l k packets shut out u
+      → Life l k packets shut out (left_told credit left l x u)
   life_told u true left x h = by (Rattle.adb_laws_fifo_down.specs.Turned.back_of left x)
     where
       by : (back : ℕ) → Life l k packets shut out (credit_told back l x u)
@@ -294,11 +311,13 @@ module _ (l : ℕ) (k : Cradle) (packets : List Packet) (shut : Bool) (out : Lis
   life_told u false (suc left) x h = h
 
   -- so many bytes of its stream are left
-  life_left : (left : ℕ) (x : SeenStream) (v : View) → v.stream ≡ Some x → Life l k packets shut out v → Life l k packets shut out (stream_left_as left l x v)
+  life_left : (left : ℕ) (x : SeenStream) (v : View) → v.stream ≡ Some x → Life l k packets shut out v
+      → Life l k packets shut out (stream_left_as left l x v)
   life_left left x v there h = by (eqb left x.to_hand)
     where
       row : Life l k packets shut out (record v { stream = Some (row_left left x) })
-      row = life_row x (row_left left x) v (same_orphan x.credit _ _ x.orphan refl refl) (same_remote x.credit _ _ x.remote refl refl) there h
+      row = life_row x (row_left left x) v (same_orphan x.credit _ _ x.orphan refl refl)
+          (same_remote x.credit _ _ x.remote refl refl) there h
 
       by : (c : Bool) → Life l k packets shut out (cond c v (left_told x.credit left l x (record v { stream = Some (row_left left x) })))
       by true = h
@@ -315,7 +334,8 @@ module _ (l : ℕ) (k : Cradle) (packets : List Packet) (shut : Bool) (out bytes
   pub life_hands : (b : Line) → b.id ≡ l → v.client ≡ Some a → IsPrefixOf bytes a.due → Life l k packets shut out v
       → Life l k packets shut (out ++ bytes) (handed_out b (length bytes) a v)
   life_hands b id_is here front h =
-      subst (λ (m : ℕ). Life l k packets shut (out ++ bytes) (handed_in a.phase m (length bytes) a v)) (sym id_is) (by v.stream refl h.lives)
+      subst (λ (m : ℕ). Life l k packets shut (out ++ bytes) (handed_in a.phase m (length bytes) a v)) (sym id_is)
+      (by v.stream refl h.lives)
     where
       off : v.output ≡ (out ++ bytes) ++ drop (length bytes) a.due
       off = handed_off v.output out a.due bytes (tied_at v.client a v.output out here h.tied) front
@@ -368,14 +388,17 @@ module _ (l : ℕ) (k : Cradle) (packets : List Packet) (shut : Bool) (out bytes
                 (subst (λ (r : ℕ). LivesAs false r l k packets (heard now_seen)) (sym is) lives));
           } in
           in_phase (Streaming l) phase
-          (subst (λ (o : Option SeenStream). Life l k packets shut (out ++ bytes) (row_handed (length (drop (length bytes) a.due)) l o now_seen)) (sym there)
+          (subst (λ (o : Option SeenStream). Life l k packets shut (out ++ bytes)
+          (row_handed (length (drop (length bytes) a.due)) l o now_seen)) (sym there)
           (life_left l k packets shut (out ++ bytes) (min x.to_hand (length (drop (length bytes) a.due))) x now_seen there life))
 
       by : (o : Option SeenStream) → v.stream ≡ o → LivesIn o l k packets shut (heard v)
           → Life l k packets shut (out ++ bytes) (handed_in a.phase l (length bytes) a v)
       by None none i = in_phase Closing (i.0 a here) (record {
         tied = closing_tied (drop (length bytes) a.due) a v.output (out ++ bytes) off;
-        lives = subst (λ (o : Option SeenStream). LivesIn o l k packets shut (heard (record v { client = closing_seen (drop (length bytes) a.due) a })))
+        lives = subst
+            (λ (o : Option SeenStream). LivesIn o l k packets shut
+            (heard (record v { client = closing_seen (drop (length bytes) a.due) a })))
             (sym none) (closing_done (drop (length bytes) a.due) a, i.1);
       })
       by (Some x) there i = alive x x.orphan x.remote refl refl there i

@@ -1,4 +1,5 @@
--- What one packet makes of what is seen of a stream: nothing, its end, or a write that it accepts; and of one that its device has not opened.
+-- What one packet makes of what is seen of a stream: nothing, its end, or a write that it accepts; and of one that
+-- its device has not opened.
 use Rattle.std.proofs.Common.{ℕ, ◌≡◌, ◌≢◌, Bool, true, false, cond, [], ◌∷◌, length, Option, Some, None, refl, sym, ◌∙◌, ap, subst}
 use Rattle.std.proofs.Common.{eqb, inl, inr, ◌⊎◌}
 use Rattle.std.proofs.lemmas.Bool.{eqb-true, ne_eqb}
@@ -50,7 +51,12 @@ module _ (l : ℕ) (p : Packet) (x : SeenStream) (v : View) where
     tells_by c is = ap (λ (c : Command). cond (is_wrte c && is_between remote l p) (p.payload ∷ []) []) is
 
     stay : (c : Command) → p.command ≡ c → is_wrte c ≡ false → OpenTurn remote v
-    stay c is quiet = inl (record { is = refl; told = tells_by c is ∙ ap (λ (b : Bool). cond (b && is_between remote l p) (p.payload ∷ []) []) quiet })
+    stay c is quiet =
+        inl (record {
+          is = refl;
+          told =
+              tells_by c is ∙ ap (λ (b : Bool). cond (b && is_between remote l p) (p.payload ∷ []) []) quiet;
+        })
 
     open_goes : (c : Command) → p.command ≡ c → OpenTurn remote (treated_as l c p x v)
     open_goes Cnxn is = inr (inl (cnxn_ending p, refl))
@@ -65,7 +71,8 @@ module _ (l : ℕ) (p : Packet) (x : SeenStream) (v : View) where
         by : (c d : Bool) → OpenTurn remote (cond c (cond d v (cond (eqb x.remote 0) (opened_as x.orphan l p.arg0 x v) v)) v)
         by false d = stay Okay is refl
         by true true = stay Okay is refl
-        by true false = subst (λ (c : Bool). OpenTurn remote (cond c (opened_as x.orphan l p.arg0 x v) v)) (sym known_one) (stay Okay is refl)
+        by true false = subst (λ (c : Bool). OpenTurn remote (cond c (opened_as x.orphan l p.arg0 x v) v))
+            (sym known_one) (stay Okay is refl)
     open_goes Clse is = by (eqb p.arg1 l) (eqb p.arg0 0 || eqb p.arg0 x.remote)
       where
         by : (c d : Bool) → OpenTurn remote (cond c (cond d (over x.orphan PeerClosed v) v) v)
@@ -77,7 +84,8 @@ module _ (l : ℕ) (p : Packet) (x : SeenStream) (v : View) where
         told : (c d : Bool) → eqb p.arg1 l ≡ c → eqb p.arg0 remote ≡ d → told_in remote l (p ∷ []) ≡ cond (d && c) (p.payload ∷ []) []
         told c d e f =
             tells_by Wrte is
-            ∙ (ap (λ (c : Bool). cond (eqb p.arg0 remote && c) (p.payload ∷ []) []) e ∙ ap (λ (d : Bool). cond (d && c) (p.payload ∷ []) []) f)
+            ∙ (ap (λ (c : Bool). cond (eqb p.arg0 remote && c) (p.payload ∷ []) []) e
+            ∙ ap (λ (d : Bool). cond (d && c) (p.payload ∷ []) []) f)
 
         tests : (d : Bool) → eqb p.arg0 remote ≡ d → (eqb p.arg0 0 || not (eqb p.arg0 x.remote)) ≡ (eqb p.arg0 0 || not d)
         tests d f = ap (λ (n : ℕ). eqb p.arg0 0 || not (eqb p.arg0 n)) known ∙ ap (λ (d : Bool). eqb p.arg0 0 || not d) f
@@ -118,7 +126,8 @@ module _ (l : ℕ) (p : Packet) (x : SeenStream) (v : View) where
     pub okays : u.okays ≡ v.okays
     pub row : (u.stream ≡ None) ⊎ ((y : SeenStream) × (u.stream ≡ Some y) × IsSameRow y)
 
-  module _ (there : v.stream ≡ Some x) (fresh : x.remote ≡ 0) (gone : (orphan : Bool) (ending : Ending) → (over orphan ending v).stream ≡ None) where
+  module _ (there : v.stream ≡ Some x) (fresh : x.remote ≡ 0)
+      (gone : (orphan : Bool) (ending : Ending) → (over orphan ending v).stream ≡ None) where
     same_turn : FreshTurn v
     same_turn = record { okays = refl; row = inr (x, there, record { orphan = refl; credit = refl; to_hand = refl; gathered = refl }) }
 
@@ -129,7 +138,8 @@ module _ (l : ℕ) (p : Packet) (x : SeenStream) (v : View) where
     opened_turn true = record { okays = refl; row = inl refl }
     opened_turn false = by v.client
       where
-        hears : (forwarded : Bool) (a : SeenClient) → FreshTurn (hears_as forwarded l a (record v { stream = Some (record x { remote = p.arg0 }) }))
+        hears : (forwarded : Bool) (a : SeenClient) → FreshTurn
+            (hears_as forwarded l a (record v { stream = Some (record x { remote = p.arg0 }) }))
         hears true a = record {
           okays = refl;
           row = inr (
@@ -197,7 +207,9 @@ module _ (l : ℕ) (p : Packet) (x : SeenStream) (v : View) where
         by : (c : Bool) → FreshTurn (cond c (after_write l p.arg0 p.payload x v) v)
         by false = same_turn
         by true =
-            subst (λ (c : Bool). FreshTurn (cond c v (cond (is_late x (length p.payload)) (over x.orphan OutOfTurn v) (accepts_as l p.payload x v))))
+            subst (λ (c : Bool). FreshTurn
+            (cond c v (cond (is_late x (length p.payload)) (over x.orphan OutOfTurn v)
+            (accepts_as l p.payload x v))))
             (sym never) same_turn
     fresh_goes _ = same_turn
 

@@ -1,5 +1,6 @@
 -- What one more packet makes of the opening of a stream, and of what was told to it.
-use Rattle.std.proofs.Common.{ℕ, ◌≡◌, Bool, true, false, cond, List, [], ◌∷◌, ◌++◌, Some, None, refl, sym, ◌∙◌, ap, subst, eqb, append_assoc}
+use Rattle.std.proofs.Common.{ℕ, ◌≡◌, Bool, true, false, cond, List, [], ◌∷◌, ◌++◌, Some, None, refl, sym, ◌∙◌, ap, subst, eqb}
+use Rattle.std.proofs.Common.{append_assoc}
 use Rattle.std.proofs.lemmas.List.{append-nil}
 use Rattle.std.specs.Prelude.{◌&&◌, not}
 use Rattle.adb_outside.specs.Bytes.{IsPrefixOf}
@@ -19,7 +20,8 @@ pub opening_stays : (l : ℕ) (packets more : List Packet) (o : Opening) → ope
 opening_stays l [] more o e = absurd (let clash : None ≡ Some o = e in cc)
 opening_stays l (p ∷ packets) more o e = by p.command e (λ f. opening_stays l packets more o f)
   where
-    okay : (c : Bool) → cond c (Some (record { remote = p.arg0; word = credit_word p.payload; later = packets })) (opening_in l packets) ≡ Some o
+    okay : (c : Bool) → cond c (Some (record { remote = p.arg0; word = credit_word p.payload; later = packets }))
+        (opening_in l packets) ≡ Some o
         → (opening_in l packets ≡ Some o → opening_in l (packets ++ more) ≡ Some (later_too more o))
         → cond c (Some (record { remote = p.arg0; word = credit_word p.payload; later = packets ++ more })) (opening_in l (packets ++ more))
         ≡ Some (later_too more o)
@@ -44,7 +46,8 @@ opening_stays l (p ∷ packets) more o e = by p.command e (λ f. opening_stays l
     by _ e rest = rest e
 
 -- ---- a packet that neither opens nor closes, and one that closes
-pub pending_on : (l : ℕ) (packets : List Packet) (p : Packet) → IsPending l packets → ((more : List Packet) → opening_in l (p ∷ more) ≡ opening_in l more)
+pub pending_on : (l : ℕ) (packets : List Packet) (p : Packet) → IsPending l packets
+    → ((more : List Packet) → opening_in l (p ∷ more) ≡ opening_in l more)
     → IsPending l (packets ++ p ∷ [])
 pending_on l packets p h passes more = ap (opening_in l) (append_assoc packets (p ∷ []) more) ∙ (h (p ∷ more) ∙ passes more)
 
@@ -66,14 +69,17 @@ pub opened_by : (l : ℕ) (packets : List Packet) (p : Packet) (o : Opening) →
 opened_by l packets p o h is = h (p ∷ []) ∙ is
 
 -- ---- what was told
-told_one : (here : Bool) (payload : List ℕ) (xs ys zs : List (List ℕ)) → xs ≡ ys ++ zs → cond here (payload ∷ xs) xs ≡ cond here (payload ∷ ys) ys ++ zs
+told_one : (here : Bool) (payload : List ℕ) (xs ys zs : List (List ℕ)) → xs ≡ ys ++ zs
+    → cond here (payload ∷ xs) xs ≡ cond here (payload ∷ ys) ys ++ zs
 told_one true payload xs ys zs e = ap (λ (us : List (List ℕ)). payload ∷ us) e
 told_one false payload xs ys zs e = e
 
-pub told_append : (remote l : ℕ) (packets more : List Packet) → told_in remote l (packets ++ more) ≡ told_in remote l packets ++ told_in remote l more
+pub told_append : (remote l : ℕ) (packets more : List Packet)
+    → told_in remote l (packets ++ more) ≡ told_in remote l packets ++ told_in remote l more
 told_append remote l [] more = refl
 told_append remote l (p ∷ packets) more =
-    told_one (is_wrte p.command && is_between remote l p) p.payload (told_in remote l (packets ++ more)) (told_in remote l packets) (told_in remote l more)
+    told_one (is_wrte p.command && is_between remote l p) p.payload (told_in remote l (packets ++ more))
+    (told_in remote l packets) (told_in remote l more)
     (told_append remote l packets more)
 
 pub joined_append : (xs ys : List (List ℕ)) → joined (xs ++ ys) ≡ joined xs ++ joined ys

@@ -23,13 +23,15 @@ module _ (b : Line) (v : View) (t : ℕ) (apart : IsElsewhere b v t) where
       after_then (Shows b v) w (treat t p s) (treat_all t packets) (shows_treat_on b v t apart s w h (s.links t) p)
       (λ u now. shows_treat_all packets (treat t p s).state u now)
 
-  shows_cut : (c : Cut PacketFormat Packet PacketFault) (s : State) (w : List Event) → Shows b v s w → After (Shows b v) w (receives_cut t c s)
+  shows_cut : (c : Cut PacketFormat Packet PacketFault) (s : State) (w : List Event) → Shows b v s w
+      → After (Shows b v) w (receives_cut t c s)
   shows_cut c s w h =
       let treated : Made = treat_all t c.given (to_link t (with_rest c.rest) s) in
       after_then (Shows b v) w treated (faulty t c.fault) (shows_treat_all c.given (to_link t (with_rest c.rest) s) w h)
       (λ u now. shows_faulty b v t apart treated.state u now (treated.state.links t) c.fault)
 
-  pub shows_receives : (o : Option Link) (bytes : List ℕ) (s : State) (w : List Event) → Shows b v s w → After (Shows b v) w (receives_on o t bytes s)
+  pub shows_receives : (o : Option Link) (bytes : List ℕ) (s : State) (w : List Event) → Shows b v s w
+      → After (Shows b v) w (receives_on o t bytes s)
   shows_receives None bytes s w h = after_quietly (Shows b v) w s h
   shows_receives (Some link) bytes s w h = shows_cut (cut_packets (record { sums = link.sums }) (link.rest ++ bytes)) s w h
 

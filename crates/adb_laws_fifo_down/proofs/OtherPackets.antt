@@ -28,7 +28,8 @@ use Rattle.adb_history.specs.Clients.{owe_client}
 use Rattle.adb_history.specs.Streams.{ends_row, ends_telling}
 use Rattle.adb_history.specs.Flow.{with_flow}
 use Rattle.adb_history.specs.Losing.{link_ends}
-use Rattle.adb_history.specs.Packets.{least_version, least_maxdata, streams_end_first, goes_online, connects, cnxn, unauthorized_from, unauthorized}
+use Rattle.adb_history.specs.Packets.{least_version, least_maxdata, streams_end_first, goes_online, connects, cnxn, unauthorized_from}
+use Rattle.adb_history.specs.Packets.{unauthorized}
 use Rattle.adb_history.specs.Packets.{refuses_open}
 use Rattle.adb_history.specs.Packets.{at_stream, with_remote, hears_okay, opened, okay_open, okay_first, takes_okay}
 use Rattle.adb_history.specs.Packets.{accepts_none, accepts, takes_write, takes_close, treat_open, treat_any, treat_on, faulty_on}
@@ -36,12 +37,14 @@ use Rattle.adb_history.specs.Moves.{After}
 use Rattle.adb_history.proofs.Following.{after_quietly, after_then, after_if}
 use Rattle.adb_laws_fifo_down.specs.Line.{Line, View, Shows}
 use Rattle.adb_laws_fifo_down.proofs.Shown.{no_okay, shows_owe_link, shows_client, shows_owe_client, shows_mark_all, shows_stream}
-use Rattle.adb_laws_fifo_down.proofs.Others.{IsElsewhere, elsewhere, part_keeps, none_keeps, shows_ends, shows_ends_telling, shows_all_end, shows_link_ends}
+use Rattle.adb_laws_fifo_down.proofs.Others.{IsElsewhere, elsewhere, part_keeps, none_keeps, shows_ends, shows_ends_telling, shows_all_end}
+use Rattle.adb_laws_fifo_down.proofs.Others.{shows_link_ends}
 
 module _ (b : Line) (v : View) where
   -- ---- packets to another stream
   module _ (k : ℕ) (other : k ≢ b.id) (x : Stream) where
-    shows_hears : (o : Option Client) (s : State) (w : List Event) → x.client ≢ b.client → Shows b v s w → After (Shows b v) w (hears_okay o x.client s)
+    shows_hears : (o : Option Client) (s : State) (w : List Event) → x.client ≢ b.client → Shows b v s w
+        → After (Shows b v) w (hears_okay o x.client s)
     shows_hears None s w apart h = after_quietly (Shows b v) w s h
     shows_hears (Some a) s w apart h =
         after_if (Shows b v) w a.about.forwarded (quietly s) (owe_client x.client (codes "OKAY") s) (λ e. after_quietly (Shows b v) w s h)
@@ -56,19 +59,22 @@ module _ (b : Line) (v : View) where
           after_then (Shows b v) w heard
           (λ s. quietly (to_client x.client (in_phase (Streaming k)) (to_stream k (with_stream_part part) s)))
           (shows_hears (s.clients x.client) s w apart h)
-          (λ u now. after_quietly (Shows b v) u (to_client x.client (in_phase (Streaming k)) (to_stream k (with_stream_part part) heard.state))
+          (λ u now. after_quietly (Shows b v) u
+          (to_client x.client (in_phase (Streaming k)) (to_stream k (with_stream_part part) heard.state))
           (shows_client b v x.client (in_phase (Streaming k)) (to_stream k (with_stream_part part) heard.state) u apart
           (shows_stream b v k (with_stream_part part) heard.state u other (part_keeps part) now)))
 
       shows_first : (orphan : Bool) (remote : ℕ) (word : Option ℕ) → After (Shows b v) w (okay_first orphan k remote word x s)
       shows_first true remote word =
-          shows_owe_link b v x.link (close_packet k remote) (to_stream k none_kept s) w refl (shows_stream b v k none_kept s w other none_keeps h)
+          shows_owe_link b v x.link (close_packet k remote) (to_stream k none_kept s) w refl
+          (shows_stream b v k none_kept s w other none_keeps h)
       shows_first false remote word = shows_opened remote word
 
       shows_okay_open : (word : Option ℕ) → After (Shows b v) w (okay_open k word x s)
       shows_okay_open word =
           let part = with_flow (acknowledged word x.part.flow) x.part in
-          after_quietly (Shows b v) w (to_stream k (with_stream_part part) s) (shows_stream b v k (with_stream_part part) s w other (part_keeps part) h)
+          after_quietly (Shows b v) w (to_stream k (with_stream_part part) s)
+          (shows_stream b v k (with_stream_part part) s w other (part_keeps part) h)
 
       shows_okay : (remote : ℕ) (word : Option ℕ) → After (Shows b v) w (takes_okay k remote word x s)
       shows_okay remote word =
@@ -95,9 +101,11 @@ module _ (b : Line) (v : View) where
       shows_write remote payload =
           let late : Made = ends_telling k OutOfTurn x s in
           let taken : Made = accepts k payload x s in
-          after_if (Shows b v) w (eqb remote 0 || not (eqb remote x.part.remote)) (quietly s) (cond (is_out_of_turn x.part.flow (length payload)) late taken)
+          after_if (Shows b v) w (eqb remote 0 || not (eqb remote x.part.remote)) (quietly s)
+          (cond (is_out_of_turn x.part.flow (length payload)) late taken)
           (λ e. after_quietly (Shows b v) w s h)
-          (λ e. after_if (Shows b v) w (is_out_of_turn x.part.flow (length payload)) late taken (λ f. shows_ends_telling b v s w h k OutOfTurn x is other)
+          (λ e. after_if (Shows b v) w (is_out_of_turn x.part.flow (length payload)) late taken
+          (λ f. shows_ends_telling b v s w h k OutOfTurn x is other)
           (λ f. shows_accepts payload))
 
       shows_close : (remote : ℕ) → After (Shows b v) w (takes_close k remote x s)
@@ -128,7 +136,8 @@ module _ (b : Line) (v : View) where
         → ((x : Stream) → s.streams k ≡ Some x → x.link ≡ t → After (Shows b v) w (rule x s)) → After (Shows b v) w (at_stream t o rule s)
     shows_at k None rule is keeps = after_quietly (Shows b v) w s h
     shows_at k (Some x) rule is keeps =
-        after_if (Shows b v) w (eqb x.link t) (rule x s) (quietly s) (λ e. keeps x is (eqb-true x.link t e)) (λ e. after_quietly (Shows b v) w s h)
+        after_if (Shows b v) w (eqb x.link t) (rule x s) (quietly s) (λ e. keeps x is (eqb-true x.link t e))
+        (λ e. after_quietly (Shows b v) w s h)
 
     -- a packet that concerns another stream
     pub shows_treat_open : (command : Command) (p : Packet) → ((x : Stream) → s.streams p.arg1 ≡ Some x → x.link ≡ t → p.arg1 ≢ b.id)
@@ -150,7 +159,8 @@ module _ (b : Line) (v : View) where
     shows_connects version maxdata (Some identity) s w h =
         let first : Made = streams_end_first (is_connected t s.devices) t s in
         after_then (Shows b v) w first (λ s. quietly (goes_online t version maxdata identity s)) (by (is_connected t s.devices))
-        (λ u now. after_quietly (Shows b v) u (goes_online t version maxdata identity first.state) (shows_online first.state u now t version maxdata identity))
+        (λ u now. after_quietly (Shows b v) u (goes_online t version maxdata identity first.state)
+        (shows_online first.state u now t version maxdata identity))
       where
         by : (c : Bool) → After (Shows b v) w (streams_end_first c t s)
         by true = shows_all_end b v t apart Lost s w h
@@ -163,7 +173,8 @@ module _ (b : Line) (v : View) where
           (connects t version maxdata (identity_of banner) s)
           (λ e. shows_link_ends b v t apart Broken s w h) (λ e. shows_connects version maxdata (identity_of banner) s w h)
 
-      shows_if_connected : (command : Command) (p : Packet) → After (Shows b v) w (cond (is_connected t s.devices) (treat_open t command p s) (quietly s))
+      shows_if_connected : (command : Command) (p : Packet) → After (Shows b v) w
+          (cond (is_connected t s.devices) (treat_open t command p s) (quietly s))
       shows_if_connected command p =
           after_if (Shows b v) w (is_connected t s.devices) (treat_open t command p s) (quietly s)
           (λ e. shows_treat_open t s w h command p (λ x is on. elsewhere b v t p.arg1 x s w apart h is on))

@@ -1,5 +1,6 @@
 -- What is seen of a stream stays through the entries of other clients and of who comes, but for a kill.
-use Rattle.std.proofs.Common.{ℕ, ◌≡◌, ◌≢◌, zero, suc, Bool, true, false, cond, List, [], ◌∷◌, ◌++◌, length, drop, min, Option, Some, None, refl, sym, ◌∙◌, ap}
+use Rattle.std.proofs.Common.{ℕ, ◌≡◌, ◌≢◌, zero, suc, Bool, true, false, cond, List, [], ◌∷◌, ◌++◌, length, drop, min, Option, Some, None}
+use Rattle.std.proofs.Common.{refl, sym, ◌∙◌, ap}
 use Rattle.std.proofs.Common.{subst, eqb, inl, inr, ◌⊎◌}
 use Rattle.std.proofs.lemmas.Bool.{ne_eqb}
 use Rattle.std.specs.Prelude.{option_map}
@@ -35,7 +36,8 @@ use Rattle.adb_laws_fifo_down.proofs.Others.{IsElse, IsUndrawn, UndrawnBy, part_
 
 module _ (b : Line) (v : View) where
   -- the stream of another client is another
-  pub else_of : (n : ℕ) (a : Client) (s : State) (w : List Event) → IsOwned s → Shows b v s w → n ≢ b.client → s.clients n ≡ Some a → IsElse b a
+  pub else_of : (n : ℕ) (a : Client) (s : State) (w : List Event) → IsOwned s → Shows b v s w → n ≢ b.client
+      → s.clients n ≡ Some a → IsElse b a
   else_of n a s w owned h other is = record { stream = λ l e same. by a.about.phase l refl e same ((owned.owned.client n a is).holds) }
     where
       clash : (l : ℕ) → l ≡ b.id → Rattle.adb_history.specs.Owned.StreamOf s.streams n l → ⊥
@@ -54,7 +56,8 @@ module _ (b : Line) (v : View) where
         let p = credit_packet k x.part.remote (suc n) in
         shows_owe_link b v x.link p s w (no_okay b p (ne_eqb k b.id other)) h
 
-    shows_tells_handed : (flow : Flow) (left : ℕ) (s : State) (w : List Event) → Shows b v s w → After (Shows b v) w (tells_handed flow left k x s)
+    shows_tells_handed : (flow : Flow) (left : ℕ) (s : State) (w : List Event) → Shows b v s w
+        → After (Shows b v) w (tells_handed flow left k x s)
     shows_tells_handed (One window) zero s w h =
         let p = okay_packet k x.part.remote in
         shows_owe_link b v x.link p s w (no_okay b p (ne_eqb k b.id other)) h
@@ -64,12 +67,15 @@ module _ (b : Line) (v : View) where
     shows_hands : (left : ℕ) (s : State) (w : List Event) → Shows b v s w → After (Shows b v) w (stream_hands left k x s)
     shows_hands left s w h =
         let part : Part = with_flow (handed_to left x.part.flow) x.part in
-        after_if (Shows b v) w (eqb left (to_hand x.part.flow)) (quietly s) (tells_handed x.part.flow left k x (to_stream k (with_stream_part part) s))
+        after_if (Shows b v) w (eqb left (to_hand x.part.flow)) (quietly s)
+        (tells_handed x.part.flow left k x (to_stream k (with_stream_part part) s))
         (λ e. after_quietly (Shows b v) w s h)
-        (λ e. shows_tells_handed x.part.flow left (to_stream k (with_stream_part part) s) w (shows_stream b v k (with_stream_part part) s w other
+        (λ e. shows_tells_handed x.part.flow left (to_stream k (with_stream_part part) s) w
+        (shows_stream b v k (with_stream_part part) s w other
         (part_keeps part) h))
 
-  shows_left : (due k : ℕ) (o : Option Stream) (s : State) (w : List Event) → k ≢ b.id → Shows b v s w → After (Shows b v) w (stream_left due k o s)
+  shows_left : (due k : ℕ) (o : Option Stream) (s : State) (w : List Event) → k ≢ b.id → Shows b v s w
+      → After (Shows b v) w (stream_left due k o s)
   shows_left due k None s w other h = after_quietly (Shows b v) w s h
   shows_left due k (Some x) s w other h = shows_hands k other x (min (to_hand x.part.flow) due) s w h
 
@@ -79,7 +85,8 @@ module _ (b : Line) (v : View) where
   shows_client_left _ due s w other h = after_quietly (Shows b v) w s h
 
   module _ (n : ℕ) (other : n ≢ b.client) (count : ℕ) where
-    shows_takes : (o : Option Client) (s : State) (w : List Event) → ((a : Client) → o ≡ Some a → (k : ℕ) → a.about.phase ≡ Streaming k → k ≢ b.id)
+    shows_takes : (o : Option Client) (s : State) (w : List Event)
+        → ((a : Client) → o ≡ Some a → (k : ℕ) → a.about.phase ≡ Streaming k → k ≢ b.id)
         → Shows b v s w → After (Shows b v) w (takes_of n count o s)
     shows_takes None s w apart h = after_quietly (Shows b v) w s h
     shows_takes (Some a) s w apart h =
@@ -102,7 +109,9 @@ module _ (b : Line) (v : View) where
             after_then (Shows b v) w first (λ s. takes_of n count (s.clients n) s)
             (shows_owe_client b v n (offered s.devices a) (to_client n unmarked s) w other (shows_client b v n unmarked s w other h))
             (λ u kept. shows_takes (first.state.clients n) first.state u
-            (λ x f k e. apart.stream k (inr (sym (phase_of (first.state.clients n) (record row { due = row.due ++ offered s.devices a }) now x f) ∙ e))) kept)
+            (λ x f k e. apart.stream k
+            (inr (sym (phase_of (first.state.clients n) (record row { due = row.due ++ offered s.devices a })
+            now x f) ∙ e))) kept)
         by (d ∷ due) =
             after_then (Shows b v) w (quietly s) (λ s. takes_of n count (s.clients n) s) (after_quietly (Shows b v) w s h)
             (λ u kept. shows_takes (s.clients n) s u (λ x f k e. apart.stream k (inr (sym (phase_of (s.clients n) a is x f) ∙ e))) kept)
@@ -112,15 +121,18 @@ module _ (b : Line) (v : View) where
     pub shows_comes : (forwarded : Bool) (n : ℕ) → n ≢ b.client → Shows b v (comes forwarded n s) w
     shows_comes forwarded n other = (
       h.0,
-      ap (λ (c : Bool). record (view b s w) { client = option_map seen_client (cond c (Some (new_client forwarded n)) (s.clients b.client)) })
+      ap (λ (c : Bool). record (view b s w)
+          { client = option_map seen_client (cond c (Some (new_client forwarded n)) (s.clients b.client)) })
           (ne_eqb n b.client other) ∙ h.1,
     )
 
     pub shows_enters : (o : Option ForwardRow) (n : ℕ) → n ≢ b.client
-        → ((row : ForwardRow) → o ≡ Some row → is_connected row.transport s.devices ≡ true → IsUndrawn b s) → After (Shows b v) w (enters_by n o s)
+        → ((row : ForwardRow) → o ≡ Some row → is_connected row.transport s.devices ≡ true → IsUndrawn b s)
+        → After (Shows b v) w (enters_by n o s)
     shows_enters None n other fresh = after_quietly (Shows b v) w (comes_in_vain s) h
     shows_enters (Some row) n other fresh =
-        after_if (Shows b v) w (is_connected row.transport s.devices) (opens true n row.transport row.remote (comes true n s)) (quietly (comes_in_vain s))
+        after_if (Shows b v) w (is_connected row.transport s.devices)
+        (opens true n row.transport row.remote (comes true n s)) (quietly (comes_in_vain s))
         (λ e. shows_opens b v (comes true n s) w (shows_comes true n other) true n row.transport row.remote other (fresh row refl e))
         (λ e. after_quietly (Shows b v) w (comes_in_vain s) h)
 
@@ -132,11 +144,15 @@ module _ (b : Line) (v : View) where
     -- another client asks, and does not stop the server
     pub shows_reads_in : (phase : Phase) (n : ℕ) (bytes : List ℕ) (a : Client) → n ≢ b.client
         → (phase ≡ Asking → (asks_with s.devices s.forwards bytes (asked_before a)).next ≢ Some what.Stop)
-        → (phase ≡ Asking → UndrawnBy b s (asks_with s.devices s.forwards bytes (asked_before a)).next) → After (Shows b v) w (reads_in phase n bytes a s)
-    shows_reads_in Asking n bytes a other goes fresh = shows_asks b v s w h n other (asks_with s.devices s.forwards bytes (asked_before a)) (goes refl)
+        → (phase ≡ Asking → UndrawnBy b s (asks_with s.devices s.forwards bytes (asked_before a)).next)
+        → After (Shows b v) w (reads_in phase n bytes a s)
+    shows_reads_in Asking n bytes a other goes fresh = shows_asks b v s w h n other
+        (asks_with s.devices s.forwards bytes (asked_before a)) (goes refl)
         (fresh refl)
     shows_reads_in (Opening l) n bytes a other goes fresh =
-        after_quietly (Shows b v) w (to_client n (with_held (a.held ++ bytes)) s) (shows_client b v n (with_held (a.held ++ bytes)) s w other h)
+        after_quietly (Shows b v) w (to_client n (with_held (a.held ++ bytes)) s)
+        (shows_client b v n (with_held (a.held ++ bytes)) s w other h)
     shows_reads_in (Streaming l) n bytes a other goes fresh =
-        after_quietly (Shows b v) w (to_client n (with_held (a.held ++ bytes)) s) (shows_client b v n (with_held (a.held ++ bytes)) s w other h)
+        after_quietly (Shows b v) w (to_client n (with_held (a.held ++ bytes)) s)
+        (shows_client b v n (with_held (a.held ++ bytes)) s w other h)
     shows_reads_in _ n bytes a other goes fresh = after_quietly (Shows b v) w s h

@@ -1,5 +1,6 @@
 -- What is seen of a stream stays through the rules of other clients, streams and links.
-use Rattle.std.proofs.Common.{ℕ, ◌+◌, ◌≡◌, ◌≢◌, zero, suc, Bool, true, false, List, [], ◌∷◌, ◌++◌, Option, Some, None, refl, sym, ◌∙◌, ap, subst, eqb}
+use Rattle.std.proofs.Common.{ℕ, ◌+◌, ◌≡◌, ◌≢◌, zero, suc, Bool, true, false, List, [], ◌∷◌, ◌++◌, Option, Some, None, refl, sym, ◌∙◌, ap}
+use Rattle.std.proofs.Common.{subst, eqb}
 use Rattle.std.proofs.Common.{inl, inr, ◌⊎◌, codes, append_assoc}
 use Rattle.std.proofs.lemmas.Bool.{eqb-true}
 use Rattle.adb_outside.specs.declared.kinds.Cause.{Cause}
@@ -18,25 +19,29 @@ use Rattle.adb_history.specs.declared.ending.Ending.{Ending}
 use Rattle.adb_history.specs.declared.ending.Ending.TheVariants.{ClientFailed}
 use Rattle.adb_history.specs.Links.{owe_link, open_packet, close_packet, is_credit}
 use Rattle.adb_history.specs.Clients.{owe_client, closes, closes_with, closing}
-use Rattle.adb_history.specs.Streams.{stream_ids, draw, asks_for, no_ids_left, opens, loses, client_loses, tells_end, ends_row, ends_telling, ends_if_of}
+use Rattle.adb_history.specs.Streams.{stream_ids, draw, asks_for, no_ids_left, opens, loses, client_loses, tells_end, ends_row}
+use Rattle.adb_history.specs.Streams.{ends_telling, ends_if_of}
 use Rattle.adb_history.specs.Streams.{ends_of}
 use Rattle.adb_history.specs.Streams.{all_end}
 use Rattle.adb_history.specs.Tracking.{mark_all}
 use Rattle.adb_history.specs.Forwarding.{put_forward, bound_by}
 use Rattle.adb_outside.specs.Tables.{without}
-use Rattle.adb_history.specs.Losing.{forgets, link_ends, orphaned, stream_fails, stream_of, client_fails, input_ended, input_ends, client_ends}
+use Rattle.adb_history.specs.Losing.{forgets, link_ends, orphaned, stream_fails, stream_of, client_fails, input_ended, input_ends}
+use Rattle.adb_history.specs.Losing.{client_ends}
 use Rattle.adb_history.specs.Reading.{tracks, awaits, goes_on, has_asked, asks, bound_for, bound_in, bound_at}
 use Rattle.adb_history.specs.Asking.{Asked}
 use Rattle.adb_history.specs.Moves.{After}
 use Rattle.adb_history.proofs.Following.{after_quietly, after_then, after_if}
 use Rattle.std.specs.Prelude.{option_map}
 use Rattle.adb_laws_fifo_down.specs.Line.{Line, View, seen, Shows}
-use Rattle.adb_laws_fifo_down.proofs.Shown.{shows_told, shows_owe_link, shows_client, shows_owe_client, shows_mark_all, shows_stream, shows_draw, quiet_ended}
+use Rattle.adb_laws_fifo_down.proofs.Shown.{shows_told, shows_owe_link, shows_client, shows_owe_client, shows_mark_all, shows_stream}
+use Rattle.adb_laws_fifo_down.proofs.Shown.{shows_draw, quiet_ended}
 
 -- one rule after another, of which each leaves something else
 pub after_next : (P Q : State → List Event → Type 0) (w : List Event) (m : Made) (rule : State → Made) → After P w m
     → ((u : List Event) → P m.state u → After Q u (rule m.state)) → After Q w (then_also m rule)
-after_next P Q w m rule h next = subst (λ (u : List Event). Q (rule m.state).state u) (append_assoc w m.told (rule m.state).told) (next (w ++ m.told) h)
+after_next P Q w m rule h next = subst (λ (u : List Event). Q (rule m.state).state u)
+    (append_assoc w m.told (rule m.state).told) (next (w ++ m.told) h)
 
 -- a part keeps whose the stream is
 pub part_keeps : (part : Part) (x y : Stream) → with_stream_part part x ≡ Some y → (y.client ≡ x.client) × (y.link ≡ x.link)
@@ -66,7 +71,8 @@ module _ (b : Line) (v : View) where
         let owed : Made = owe_client n bytes s in
         shows_client b v n closing owed.state (w ++ owed.told) other (shows_owe_client b v n bytes s w other h)
 
-    shows_asks_for : (n t : ℕ) (service : List ℕ) → n ≢ b.client → s.drawn + 1 ≢ b.id → After (Shows b v) w (asks_for (s.drawn + 1) n t service s)
+    shows_asks_for : (n t : ℕ) (service : List ℕ) → n ≢ b.client → s.drawn + 1 ≢ b.id
+        → After (Shows b v) w (asks_for (s.drawn + 1) n t service s)
     shows_asks_for n t service other fresh =
         let credit : Bool = is_credit t s.devices in
         let drawn : State = draw credit n t s in
@@ -77,7 +83,8 @@ module _ (b : Line) (v : View) where
     shows_no_ids true n other = after_quietly (Shows b v) w (to_client n none_kept s) (shows_client b v n none_kept s w other h)
     shows_no_ids false n other = shows_closes_with n (failed (codes "no stream ids left")).bytes other
 
-    pub shows_opens : (forwarded : Bool) (n t : ℕ) (service : List ℕ) → n ≢ b.client → IsUndrawn b s → After (Shows b v) w (opens forwarded n t service s)
+    pub shows_opens : (forwarded : Bool) (n t : ℕ) (service : List ℕ) → n ≢ b.client → IsUndrawn b s
+        → After (Shows b v) w (opens forwarded n t service s)
     shows_opens forwarded n t service other fresh =
         after_if (Shows b v) w (eqb s.drawn stream_ids) (no_ids_left forwarded n s) (asks_for (s.drawn + 1) n t service s)
         (λ e. shows_no_ids forwarded n other) (λ e. shows_asks_for n t service other (fresh e))
@@ -108,7 +115,8 @@ module _ (b : Line) (v : View) where
         (λ u now. shows_client_loses told.state u now (told.state.clients x.client) x.client (h.0.others k x is other))
 
   module _ (s : State) (w : List Event) (h : Shows b v s w) where
-    pub shows_ends_telling : (k : ℕ) (ending : Ending) (x : Stream) → s.streams k ≡ Some x → k ≢ b.id → After (Shows b v) w (ends_telling k ending x s)
+    pub shows_ends_telling : (k : ℕ) (ending : Ending) (x : Stream) → s.streams k ≡ Some x → k ≢ b.id
+        → After (Shows b v) w (ends_telling k ending x s)
     shows_ends_telling k ending x is other =
         let owed : Made = owe_link x.link (close_packet k x.part.remote) s in
         after_then (Shows b v) w owed (ends_row k ending x) (shows_owe_link b v x.link (close_packet k x.part.remote) s w refl h)
@@ -119,7 +127,8 @@ module _ (b : Line) (v : View) where
   abbrev pub IsElsewhere : ℕ → Type 0
   IsElsewhere t = (t ≢ b.link) ⊎ (v.stream ≡ None)
 
-  pub elsewhere : (t k : ℕ) (x : Stream) (s : State) (w : List Event) → IsElsewhere t → Shows b v s w → s.streams k ≡ Some x → x.link ≡ t → k ≢ b.id
+  pub elsewhere : (t k : ℕ) (x : Stream) (s : State) (w : List Event) → IsElsewhere t → Shows b v s w
+      → s.streams k ≡ Some x → x.link ≡ t → k ≢ b.id
   elsewhere t k x s w (inl apart) h is on same = apart (sym on ∙ h.0.link x (ap s.streams (sym same) ∙ is))
   elsewhere t k x s w (inr none) h is on same =
       let there : v.stream ≡ Some (seen x) = ap (λ (u : View). u.stream) (sym h.1) ∙ ap (option_map seen) (ap s.streams (sym same) ∙ is) in
@@ -137,7 +146,8 @@ module _ (b : Line) (v : View) where
     shows_ends_of : (n : ℕ) (ending : Ending) (s : State) (w : List Event) → Shows b v s w → After (Shows b v) w (ends_of t n ending s)
     shows_ends_of zero ending s w h = after_quietly (Shows b v) w s h
     shows_ends_of (suc n) ending s w h =
-        after_then (Shows b v) w (ends_of t n ending s) (λ s. ends_if_of t (suc n) ending (s.streams (suc n)) s) (shows_ends_of n ending s w h)
+        after_then (Shows b v) w (ends_of t n ending s) (λ s. ends_if_of t (suc n) ending (s.streams (suc n)) s)
+        (shows_ends_of n ending s w h)
         (λ u now. shows_ends_if t (suc n) ending (ends_of t n ending s).state u ((ends_of t n ending s).state.streams (suc n)) refl now
         (λ x is on. elsewhere t (suc n) x (ends_of t n ending s).state u apart now is on))
 
@@ -160,8 +170,10 @@ module _ (b : Line) (v : View) where
     shows_goes_on None none fresh = after_quietly (Shows b v) w s h
     shows_goes_on (Some what.Close) none fresh = after_quietly (Shows b v) w (closes n s) (shows_client b v n closing s w other h)
     shows_goes_on (Some (what.Select id)) none fresh = after_quietly (Shows b v) w s h
-    shows_goes_on (Some (what.Track long)) none fresh = after_quietly (Shows b v) w (to_client n (tracks long) s) (shows_client b v n (tracks long) s w other h)
-    shows_goes_on (Some (what.Open transport service)) none fresh = shows_opens s w h false n transport service other (fresh transport service refl)
+    shows_goes_on (Some (what.Track long)) none fresh = after_quietly (Shows b v) w (to_client n (tracks long) s)
+        (shows_client b v n (tracks long) s w other h)
+    shows_goes_on (Some (what.Open transport service)) none fresh =
+        shows_opens s w h false n transport service other (fresh transport service refl)
     shows_goes_on (Some (what.Bind transport local remote chosen)) none fresh =
         let want : Want = record { transport = transport; local = local; remote = remote } in
         after_quietly (Shows b v) w (to_client n (awaits want) s) (shows_client b v n (awaits want) s w other h)
@@ -174,7 +186,8 @@ module _ (b : Line) (v : View) where
     shows_goes_on (Some what.Stop) none fresh = absurd (none refl)
 
     -- it fails
-    pub shows_stream_fails : (phase : Phase) (cause : Cause) (o : Option Stream) → ((l : ℕ) → phase ≡ Opening l ⊎ phase ≡ Streaming l → o ≢ None → l ≢ b.id)
+    pub shows_stream_fails : (phase : Phase) (cause : Cause) (o : Option Stream)
+        → ((l : ℕ) → phase ≡ Opening l ⊎ phase ≡ Streaming l → o ≢ None → l ≢ b.id)
         → After (Shows b v) w (stream_fails phase cause o s)
     shows_stream_fails (Streaming l) cause (Some x) apart =
         let l_other : l ≢ b.id = apart l (inr refl) (λ e. cc) in
@@ -219,9 +232,11 @@ module _ (b : Line) (v : View) where
         shows_stream_fails (to_client n none_kept s) w (shows_client b v n none_kept s w other h) n other a.about.phase cause
         (stream_of a.about.phase s.streams) (λ l e some. apart.stream l e)
 
-    pub shows_client_ends : (cause : Cause) (o : Option Client) → ((a : Client) → o ≡ Some a → IsElse b a) → After (Shows b v) w (client_ends n cause o s)
+    pub shows_client_ends : (cause : Cause) (o : Option Client) → ((a : Client) → o ≡ Some a → IsElse b a)
+        → After (Shows b v) w (client_ends n cause o s)
     shows_client_ends cause None apart = after_quietly (Shows b v) w s h
-    shows_client_ends Eof (Some a) apart = after_quietly (Shows b v) w (input_ends a.about.phase n s) (shows_input_ends s w h n other a.about.phase)
+    shows_client_ends Eof (Some a) apart = after_quietly (Shows b v) w (input_ends a.about.phase n s)
+        (shows_input_ends s w h n other a.about.phase)
     shows_client_ends Fault (Some a) apart = shows_fails Fault a (apart a refl)
     shows_client_ends Starved (Some a) apart = shows_fails Starved a (apart a refl)
     shows_client_ends NoThread (Some a) apart = shows_fails NoThread a (apart a refl)
@@ -231,5 +246,6 @@ module _ (b : Line) (v : View) where
     shows_asks q none fresh =
         let asked : State = to_client n (has_asked q) s in
         let owed : Made = owe_client n q.replies asked in
-        after_then (Shows b v) w owed (goes_on q.next n) (shows_owe_client b v n q.replies asked w other (shows_client b v n (has_asked q) s w other h))
+        after_then (Shows b v) w owed (goes_on q.next n)
+        (shows_owe_client b v n q.replies asked w other (shows_client b v n (has_asked q) s w other h))
         (λ u now. shows_goes_on owed.state u now n other q.next none fresh)

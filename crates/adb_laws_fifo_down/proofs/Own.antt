@@ -38,10 +38,12 @@ owed_more bytes a v = record v { client = Some (record a { due = a.due ++ bytes 
 
 module _ (b : Line) where
   -- the row that is seen
-  pub client_seen : (v : View) (s : State) (w : List Event) (o : Option Client) → Shows b v s w → s.clients b.client ≡ o → v.client ≡ option_map seen_client o
+  pub client_seen : (v : View) (s : State) (w : List Event) (o : Option Client) → Shows b v s w
+      → s.clients b.client ≡ o → v.client ≡ option_map seen_client o
   client_seen v s w o h is = ap (λ (u : View). u.client) (sym h.1) ∙ ap (option_map seen_client) is
 
-  pub stream_seen : (v : View) (s : State) (w : List Event) (o : Option Stream) → Shows b v s w → s.streams b.id ≡ o → v.stream ≡ option_map seen o
+  pub stream_seen : (v : View) (s : State) (w : List Event) (o : Option Stream) → Shows b v s w → s.streams b.id ≡ o
+      → v.stream ≡ option_map seen o
   stream_seen v s w o h is = ap (λ (u : View). u.stream) (sym h.1) ∙ ap (option_map seen) is
 
   -- the stream changes
@@ -59,7 +61,8 @@ module _ (b : Line) where
   own_part v part x s w is h = own_stream v (with_stream_part part) x s w is (part_keeps part) h
 
   -- its client changes
-  pub own_client : (v : View) (f : Client → Option Client) (a : Client) (s : State) (w : List Event) → s.clients b.client ≡ Some a → Shows b v s w
+  pub own_client : (v : View) (f : Client → Option Client) (a : Client) (s : State) (w : List Event)
+      → s.clients b.client ≡ Some a → Shows b v s w
       → Shows b (with_client (option_map seen_client (f a)) v) (to_client b.client f s) w
   own_client v f a s w is h = (
     h.0,
@@ -94,12 +97,16 @@ module _ (b : Line) where
 
   pub own_no_client : (v : View) (f : Client → Option Client) (s : State) (w : List Event) → s.clients b.client ≡ None → Shows b v s w
       → Shows b v (to_client b.client f s) w
-  own_no_client v f s w is h =
-      (h.0, ap (λ (o : Option Client). with_client (option_map seen_client o) (view b s w)) (changed_none b.client f s.clients is ∙ sym is) ∙ h.1)
+  own_no_client v f s w is h = (
+    h.0,
+    ap (λ (o : Option Client). with_client (option_map seen_client o) (view b s w))
+        (changed_none b.client f s.clients is ∙ sym is) ∙ h.1,
+  )
 
   -- bytes are owed to the client, whether it is there or not
   pub own_owes : (v : View) (bytes : List ℕ) (o : Option Client) (s : State) (w : List Event) → s.clients b.client ≡ o → Shows b v s w
-      → After (Shows b (record v { client = due_more bytes (option_map seen_client o); output = v.output ++ bytes })) w (owe_client b.client bytes s)
+      → After (Shows b (record v { client = due_more bytes (option_map seen_client o); output = v.output ++ bytes }))
+      w (owe_client b.client bytes s)
   own_owes v bytes (Some a) s w is h = own_due v bytes a s w is h
   own_owes v bytes None s w is h =
       let kept = own_no_client v (with_due bytes) s w is h in
@@ -121,7 +128,8 @@ module _ (b : Line) where
   pub own_closes : (v : View) (a : Client) (s : State) (w : List Event) → s.clients b.client ≡ Some a → Shows b v s w
       → Shows b (with_client (closing_seen a.due (seen_client a)) v) (closes b.client s) w
   own_closes v a s w is h =
-      subst (λ (o : Option SeenClient). Shows b (with_client o v) (closes b.client s) w) (closing_is a.due a) (own_client v closing a s w is h)
+      subst (λ (o : Option SeenClient). Shows b (with_client o v) (closes b.client s) w) (closing_is a.due a)
+      (own_client v closing a s w is h)
 
   own_closes_with : (v : View) (bytes : List ℕ) (a : Client) (s : State) (w : List Event) → s.clients b.client ≡ Some a → Shows b v s w
       → After (Shows b (with_client (closing_seen (a.due ++ bytes) (record (seen_client a) { due = a.due ++ bytes }))
@@ -132,7 +140,8 @@ module _ (b : Line) where
       own_closes (owed_more bytes (seen_client a) v) (record a { due = a.due ++ bytes }) owed.state (w ++ owed.told)
       (changed_here b.client (with_due bytes) s.clients a is) (own_due v bytes a s w is h)
 
-  own_loses : (v : View) (forwarded : Bool) (phase : Phase) (a : Client) (s : State) (w : List Event) → s.clients b.client ≡ Some a → Shows b v s w
+  own_loses : (v : View) (forwarded : Bool) (phase : Phase) (a : Client) (s : State) (w : List Event)
+      → s.clients b.client ≡ Some a → Shows b v s w
       → After (Shows b (loss forwarded phase (seen_client a) v)) w (loses forwarded phase b.client s)
   own_loses v forwarded (Streaming l) a s w is h = after_quietly (Shows b _) w (closes b.client s) (own_closes v a s w is h)
   own_loses v true (Opening l) a s w is h = after_quietly (Shows b _) w (closes b.client s) (own_closes v a s w is h)

@@ -37,23 +37,28 @@ module _ (b : Line) where
     own_tells_credit u zero y s same now = after_quietly (Shows b u) w s now
     own_tells_credit u (suc n) y s same now =
         let p : Packet = credit_packet b.id x.part.remote (suc n) in
-        subst (λ (r : ℕ). After (Shows b (record u { okays = u.okays ++ credit_packet b.id r (suc n) ∷ [] })) w (tells_credit (suc n) b.id x s)) (sym same)
+        subst (λ (r : ℕ). After (Shows b (record u { okays = u.okays ++ credit_packet b.id r (suc n) ∷ [] })) w
+        (tells_credit (suc n) b.id x s)) (sym same)
         (own_okay b u x p s w (h.0.link x there) (okay_counts b p refl refl) now)
 
     -- a flow of which so many bytes are left
     row_less : (left : ℕ) (flow : Flow)
-        → seen (record x { part = with_flow (handed_to left flow) x.part }) ≡ row_left left (seen (record x { part = with_flow flow x.part }))
+        → seen (record x { part = with_flow (handed_to left flow) x.part })
+        ≡ row_left left (seen (record x { part = with_flow flow x.part }))
     row_less left (One window) = refl
     row_less left (Credit credit) = refl
 
     tells_left : (u : View) (left : ℕ) (flow : Flow) (s : State) → Shows b u s w
-        → After (Shows b (left_told (seen (record x { part = with_flow flow x.part })).credit left b.id (seen (record x { part = with_flow flow x.part })) u)) w
+        → After (Shows b
+        (left_told (seen (record x { part = with_flow flow x.part })).credit left b.id
+        (seen (record x { part = with_flow flow x.part })) u)) w
         (tells_handed flow left b.id x s)
     tells_left u zero (One window) s now =
         let p : Packet = okay_packet b.id x.part.remote in
         own_okay b u x p s w (h.0.link x there) (okay_counts b p refl refl) now
     tells_left u (suc left) (One window) s now = after_quietly (Shows b u) w s now
-    tells_left u left (Credit credit) s now = own_tells_credit u (credit_back left credit) (seen (record x { part = with_flow (Credit credit) x.part }))
+    tells_left u left (Credit credit) s now = own_tells_credit u (credit_back left credit)
+        (seen (record x { part = with_flow (Credit credit) x.part }))
         s refl now
 
     own_left : (left : ℕ) → After (Shows b (stream_left_as left b.id (seen x) v)) w (stream_hands left b.id x s)
@@ -77,21 +82,25 @@ module _ (b : Line) where
     handed : (phase : Phase) → a.about.phase ≡ phase
         → Shows b (with_client (option_map seen_client (left_in phase (drop n a.due) a)) v) (to_client b.client (hands n) s) w
     handed phase e =
-        subst (λ (p : Phase). Shows b (with_client (option_map seen_client (left_in p (drop n a.due) a)) v) (to_client b.client (hands n) s) w) e
+        subst (λ (p : Phase). Shows b (with_client (option_map seen_client (left_in p (drop n a.due) a)) v)
+        (to_client b.client (hands n) s) w) e
         (own_client b v (hands n) a s w is h)
 
     by_phase : (phase : Phase) → a.about.phase ≡ phase → IsInLine b.id phase
-        → After (Shows b (handed_in phase b.id n (seen_client a) v)) w (client_left phase (length (drop n a.due)) (to_client b.client (hands n) s))
+        → After (Shows b (handed_in phase b.id n (seen_client a) v)) w
+        (client_left phase (length (drop n a.due)) (to_client b.client (hands n) s))
     by_phase (Streaming k) e same =
         let now : State = to_client b.client (hands n) s in
         let u : View = with_client (Some (record (seen_client a) { due = drop n a.due })) v in
-        subst (λ (l : ℕ). After (Shows b (row_handed (length (drop n a.due)) b.id v.stream u)) w (stream_left (length (drop n a.due)) l (s.streams l) now))
+        subst (λ (l : ℕ). After (Shows b (row_handed (length (drop n a.due)) b.id v.stream u)) w
+        (stream_left (length (drop n a.due)) l (s.streams l) now))
         (sym same)
         (subst (λ (o : Option SeenStream). After (Shows b (row_handed (length (drop n a.due)) b.id o u)) w
         (stream_left (length (drop n a.due)) b.id (s.streams b.id) now))
         (ap (λ (y : View). y.stream) h.1)
         (own_row_left u (length (drop n a.due)) (s.streams b.id) now w refl (handed (Streaming k) e)))
-    by_phase (Opening k) e same = after_quietly (Shows b (handed_in (Opening k) b.id n (seen_client a) v)) w (to_client b.client (hands n) s)
+    by_phase (Opening k) e same = after_quietly (Shows b (handed_in (Opening k) b.id n (seen_client a) v)) w
+        (to_client b.client (hands n) s)
         (handed (Opening k) e)
     by_phase Closing e i =
         let d : List ℕ = drop n a.due in
@@ -108,7 +117,8 @@ module _ (b : Line) where
         subst (λ (c : Client). After (Shows b (handed_out b n (seen_client a) v)) w (takes_of b.client n (Some c) s)) same
         (by_phase a.about.phase refl i)
 
-    pub own_puts : a.due ≢ [] → IsInLine b.id a.about.phase → After (Shows b (handed_out b n (seen_client a) v)) w (puts_to (Some a) b.client n s)
+    pub own_puts : a.due ≢ [] → IsInLine b.id a.about.phase → After (Shows b (handed_out b n (seen_client a) v)) w
+        (puts_to (Some a) b.client n s)
     own_puts some i = by a.due some
       where
         by : (due : List ℕ) → due ≢ [] → After (Shows b (handed_out b n (seen_client a) v)) w

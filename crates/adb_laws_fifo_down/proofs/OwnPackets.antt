@@ -1,5 +1,6 @@
 -- What the packets of its link make of what is seen of a stream.
-use Rattle.std.proofs.Common.{ℕ, ◌≡◌, ◌≢◌, ◌≤◌, ◌<◌, zero, suc, Bool, true, false, cond, List, [], ◌∷◌, ◌++◌, length, Option, Some, None, is_some, refl, sym}
+use Rattle.std.proofs.Common.{ℕ, ◌≡◌, ◌≢◌, ◌≤◌, ◌<◌, zero, suc, Bool, true, false, cond, List, [], ◌∷◌, ◌++◌, length, Option, Some, None}
+use Rattle.std.proofs.Common.{is_some, refl, sym}
 use Rattle.std.proofs.Common.{◌∙◌, ap}
 use Rattle.std.proofs.Common.{subst, eqb, arith, inl, inr, ◌⊎◌, codes}
 use Rattle.std.proofs.lemmas.Bool.{eqb-true, eq-eqb, eqb-false, cases_eq}
@@ -34,12 +35,14 @@ use Rattle.adb_history.specs.Fifo.{okays_of}
 use Rattle.adb_history.specs.Moves.{After}
 use Rattle.adb_history.proofs.Following.{after_quietly, after_then, after_if, changed_here}
 use Rattle.adb_laws_fifo_down.specs.Line.{Line, SeenStream, SeenClient, View, seen, seen_client, Shows, first_of, tells, over}
-use Rattle.adb_laws_fifo_down.specs.Treated.{hears_as, hears_open, opened_as, after_okay, is_late, takes, due_more, accepts_as, after_write, after_close, ending_by}
+use Rattle.adb_laws_fifo_down.specs.Treated.{hears_as, hears_open, opened_as, after_okay, is_late, takes, due_more, accepts_as, after_write}
+use Rattle.adb_laws_fifo_down.specs.Treated.{after_close, ending_by}
 use Rattle.adb_laws_fifo_down.specs.Treated.{cnxn_ending, treated_as, treated_on, treated}
 use Rattle.adb_laws_fifo_down.proofs.Shown.{view_told, first_none, shows_owe_link, shows_mark_all}
 use Rattle.adb_laws_fifo_down.proofs.Others.{after_next, none_keeps, shows_ends_if}
 use Rattle.adb_laws_fifo_down.proofs.OtherPackets.{shows_refuses, shows_unauthorized, shows_online, shows_treat_open}
-use Rattle.adb_laws_fifo_down.proofs.Own.{with_stream, owed_more, client_seen, stream_seen, own_stream, own_part, own_client, own_no_client, own_due, own_owes}
+use Rattle.adb_laws_fifo_down.proofs.Own.{with_stream, owed_more, client_seen, stream_seen, own_stream, own_part, own_client, own_no_client}
+use Rattle.adb_laws_fifo_down.proofs.Own.{own_due, own_owes}
 use Rattle.adb_laws_fifo_down.proofs.Own.{own_ends}
 use Rattle.std.proofs.lemmas.List.{append-nil}
 
@@ -50,7 +53,8 @@ pub record IsReal (b : Line) : Type 0 where
 
 module _ (b : Line) where
   -- by a test
-  pub shows_if : (w : List Event) (c : Bool) (u v : View) (m n : Made) → (c ≡ true → After (Shows b u) w m) → (c ≡ false → After (Shows b v) w n)
+  pub shows_if : (w : List Event) (c : Bool) (u v : View) (m n : Made) → (c ≡ true → After (Shows b u) w m)
+      → (c ≡ false → After (Shows b v) w n)
       → After (Shows b (cond c u v)) w (cond c m n)
   shows_if w true u v m n one other = one refl
   shows_if w false u v m n one other = other refl
@@ -59,7 +63,8 @@ module _ (b : Line) where
   row_again : (o : Option SeenStream) (v : View) → v.stream ≡ o → with_stream o v ≡ v
   row_again o v e = ap (λ (x : Option SeenStream). with_stream x v) (sym e)
 
-  pub own_same : (v : View) (part : Part) (x : Stream) (s : State) (w : List Event) → s.streams b.id ≡ Some x → seen (record x { part = part }) ≡ seen x
+  pub own_same : (v : View) (part : Part) (x : Stream) (s : State) (w : List Event) → s.streams b.id ≡ Some x
+      → seen (record x { part = part }) ≡ seen x
       → Shows b v s w → Shows b v (to_stream b.id (with_stream_part part) s) w
   own_same v part x s w is same h =
       subst (λ (u : View). Shows b u (to_stream b.id (with_stream_part part) s) w)
@@ -68,7 +73,8 @@ module _ (b : Line) where
 
   -- ---- what is owed for the stream
   -- an OKAY becomes due to its link
-  pub own_okay : (v : View) (x : Stream) (p : Packet) (s : State) (w : List Event) → x.link ≡ b.link → okays_of b.id (p ∷ []) ≡ p ∷ [] → Shows b v s w
+  pub own_okay : (v : View) (x : Stream) (p : Packet) (s : State) (w : List Event) → x.link ≡ b.link
+      → okays_of b.id (p ∷ []) ≡ p ∷ [] → Shows b v s w
       → After (Shows b (record v { okays = v.okays ++ p ∷ [] })) w (owe_link x.link p s)
   own_okay v x p s w on is h = (h.0, view_told b s w said ∙ (ap (tells b said) h.1 ∙ told))
     where
@@ -79,7 +85,8 @@ module _ (b : Line) where
       told =
           let output : v.output ++ [] ≡ v.output = append-nil v.output in
           let okays : v.okays ++ okays_of b.id (cond (eqb x.link b.link) (p ∷ []) []) ≡ v.okays ++ p ∷ [] =
-          ap (λ (c : Bool). v.okays ++ okays_of b.id (cond c (p ∷ []) [])) (eq-eqb x.link b.link on) ∙ ap (λ (ps : List Packet). v.okays ++ ps) is in
+          ap (λ (c : Bool). v.okays ++ okays_of b.id (cond c (p ∷ []) [])) (eq-eqb x.link b.link on)
+          ∙ ap (λ (ps : List Packet). v.okays ++ ps) is in
           let ending : first_of v.ending None ≡ v.ending = first_none v.ending in
           λ i. record v { output = output i; okays = okays i; ending = ending i }
 
@@ -111,21 +118,30 @@ module _ (b : Line) where
         (own_part b u now_part x s w there h)
 
     opens_for : (u : View) (a : Client) (s : State) (w : List Event) → s.clients b.client ≡ Some a → s.streams b.id ≡ Some x → Shows b u s w
-        → Shows b (record u { stream = Some (record (seen x) { remote = remote }); client = Some (record (seen_client a) { phase = Streaming b.id }) })
+        → Shows b (record u {
+          stream = Some (record (seen x) { remote = remote });
+          client =
+              Some (record (seen_client a) { phase = Streaming b.id });
+        })
         (now_open s) w
     opens_for u a s w is there h =
         own_client b (with_stream (Some (record (seen x) { remote = remote })) u) (in_phase (Streaming b.id)) a
         (to_stream b.id (with_stream_part now_part) s) w is (row_opens u s w there h)
 
-    own_opened : (v : View) (o : Option Client) (s : State) (w : List Event) → s.clients b.client ≡ o → s.streams b.id ≡ Some x → Shows b v s w
+    own_opened : (v : View) (o : Option Client) (s : State) (w : List Event) → s.clients b.client ≡ o
+        → s.streams b.id ≡ Some x → Shows b v s w
         → After (Shows b (hears_open b.id (option_map seen_client o) (record v { stream = Some (record (seen x) { remote = remote }) }))) w
         (then_also (hears_okay o b.client s) (λ s. quietly (now_open s)))
     own_opened v None s w is there h =
-        after_quietly (Shows b _) w (now_open s) (own_no_client b (with_stream (Some (record (seen x) { remote = remote })) v) (in_phase (Streaming b.id))
+        after_quietly (Shows b _) w (now_open s)
+        (own_no_client b (with_stream (Some (record (seen x) { remote = remote })) v) (in_phase (Streaming b.id))
         (to_stream b.id (with_stream_part now_part) s) w is (row_opens v s w there h))
     own_opened v (Some a) s w is there h = by a.about.forwarded
       where
-        by : (forwarded : Bool) → After (Shows b (hears_as forwarded b.id (seen_client a) (record v { stream = Some (record (seen x) { remote = remote }) }))) w
+        by : (forwarded : Bool)
+            → After (Shows b
+            (hears_as forwarded b.id (seen_client a)
+            (record v { stream = Some (record (seen x) { remote = remote }) }))) w
             (then_also (cond forwarded (quietly s) (owe_client b.client (codes "OKAY") s)) (λ s. quietly (now_open s)))
         by true = after_quietly (Shows b _) w (now_open s) (opens_for v a s w is there h)
         by false =
@@ -133,7 +149,8 @@ module _ (b : Line) where
             after_next (Shows b (owed_more (codes "OKAY") (seen_client a) v)) (Shows b _) w owed (λ s. quietly (now_open s))
             (own_due b v (codes "OKAY") a s w is h)
             (λ y now. after_quietly (Shows b _) y (now_open owed.state) (opens_for (owed_more (codes "OKAY") (seen_client a) v)
-            (record a { due = a.due ++ codes "OKAY" }) owed.state y (changed_here b.client (with_due (codes "OKAY")) s.clients a is) there now))
+            (record a { due = a.due ++ codes "OKAY" }) owed.state y
+            (changed_here b.client (with_due (codes "OKAY")) s.clients a is) there now))
 
   module _ (v : View) (x : Stream) (s : State) (w : List Event) (there : s.streams b.id ≡ Some x) (h : Shows b v s w) where
     own_first : (orphan : Bool) (remote : ℕ) (word : Option ℕ) → After (Shows b (opened_as orphan b.id remote (seen x) v)) w
@@ -161,7 +178,8 @@ module _ (b : Line) where
         by None (Credit credit) = refl
         by (Some n) (Credit credit) = refl
 
-    own_takes_okay : (remote : ℕ) (word : Option ℕ) → After (Shows b (after_okay b.id remote (seen x) v)) w (takes_okay b.id remote word x s)
+    own_takes_okay : (remote : ℕ) (word : Option ℕ) → After (Shows b (after_okay b.id remote (seen x) v)) w
+        (takes_okay b.id remote word x s)
     own_takes_okay remote word =
         let first : Made = okay_first x.part.orphan b.id remote word x s in
         let later : Made = cond (eqb remote x.part.remote) (okay_open b.id word x s) (quietly s) in
@@ -179,7 +197,9 @@ module _ (b : Line) where
         after_next (Shows b v) (Shows b (over x.part.orphan ending v)) w owed (ends_row b.id ending x)
         (shows_owe_link b v x.link (close_packet b.id x.part.remote) s w refl h) (λ y now. own_ends b v ending x owed.state y there now)
 
-    own_accepts_none : (flow : Flow) → After (Shows b (accepts_as b.id [] (seen (record x { part = with_flow flow x.part })) v)) w (accepts_none flow b.id x s)
+    own_accepts_none : (flow : Flow)
+        → After (Shows b (accepts_as b.id [] (seen (record x { part = with_flow flow x.part })) v)) w
+        (accepts_none flow b.id x s)
     own_accepts_none (One window) =
         own_okay v x (okay_packet b.id x.part.remote) s w (h.0.link x there) (okay_counts (okay_packet b.id x.part.remote) refl refl) h
     own_accepts_none (Credit credit) = after_quietly (Shows b v) w s h
@@ -206,9 +226,11 @@ module _ (b : Line) where
         (owe_client b.client bytes taken))
         (sym (client_seen b v s w (s.clients b.client) h refl))
         (own_owes b put bytes (s.clients b.client) taken w refl
-        (subst (λ (y : SeenStream). Shows b (with_stream (Some y) v) taken w) (taken_seen (length bytes) x.part.flow) (own_part b v part x s w there h))))
+        (subst (λ (y : SeenStream). Shows b (with_stream (Some y) v) taken w) (taken_seen (length bytes) x.part.flow)
+        (own_part b v part x s w there h))))
 
-    own_takes_write : (remote : ℕ) (payload : List ℕ) → After (Shows b (after_write b.id remote payload (seen x) v)) w (takes_write b.id remote payload x s)
+    own_takes_write : (remote : ℕ) (payload : List ℕ) → After (Shows b (after_write b.id remote payload (seen x) v)) w
+        (takes_write b.id remote payload x s)
     own_takes_write remote payload =
         let late : Made = ends_telling b.id OutOfTurn x s in
         let taken : Made = accepts b.id payload x s in
@@ -219,7 +241,8 @@ module _ (b : Line) where
         (λ e. after_quietly (Shows b v) w s h)
         (λ e. subst (λ (c : Bool). After (Shows b (cond c ends goes)) w (cond (is_out_of_turn x.part.flow (length payload)) late taken))
         (late_is (length payload) x.part.flow)
-        (shows_if w (is_out_of_turn x.part.flow (length payload)) ends goes late taken (λ f. own_ends_telling OutOfTurn) (λ f. own_accepts payload)))
+        (shows_if w (is_out_of_turn x.part.flow (length payload)) ends goes late taken
+        (λ f. own_ends_telling OutOfTurn) (λ f. own_accepts payload)))
 
     -- ---- CLSE
     own_takes_close : (remote : ℕ) → After (Shows b (after_close remote (seen x) v)) w (takes_close b.id remote x s)
@@ -246,7 +269,8 @@ module _ (b : Line) where
       later : n < b.id → Shows b v s w
       ended : b.id ≤ n → Shows b (over x.orphan ending v) s w
 
-    own_ends_if : (s : State) (w : List Event) → Shows b v s w → After (Shows b (over x.orphan ending v)) w (ends_if_of b.link b.id ending (s.streams b.id) s)
+    own_ends_if : (s : State) (w : List Event) → Shows b v s w
+        → After (Shows b (over x.orphan ending v)) w (ends_if_of b.link b.id ending (s.streams b.id) s)
     own_ends_if s w h = go (own_row v x s w there h)
       where
         go : (y : Stream) × (s.streams b.id ≡ Some y) × (seen y ≡ x) → After (Shows b (over x.orphan ending v)) w
@@ -255,7 +279,8 @@ module _ (b : Line) where
             subst (λ (o : Option Stream). After (Shows b (over x.orphan ending v)) w (ends_if_of b.link b.id ending o s)) (sym is)
             (subst (λ (c : Bool). After (Shows b (over x.orphan ending v)) w (cond c (ends_row b.id ending y s) (quietly s)))
             (sym (eq-eqb y.link b.link (h.0.link y is)))
-            (subst (λ (z : SeenStream). After (Shows b (over z.orphan ending v)) w (ends_row b.id ending y s)) same (own_ends b v ending y s w is h)))
+            (subst (λ (z : SeenStream). After (Shows b (over z.orphan ending v)) w (ends_row b.id ending y s)) same
+            (own_ends b v ending y s w is h)))
 
     ends_one : (n : ℕ) (s : State) (w : List Event) → Ended n s w
         → ((suc n ≡ b.id) ⊎ (suc n ≢ b.id)) → After (Ended (suc n)) w (ends_if_of b.link (suc n) ending (s.streams (suc n)) s)
@@ -274,13 +299,16 @@ module _ (b : Line) where
     ends_all zero s w some h =
         after_quietly (Ended zero) w s (record { later = λ lt. h; ended = λ le. absurd (omega (arith, le, some)) })
     ends_all (suc n) s w some h =
-        after_next (Ended n) (Ended (suc n)) w (ends_of b.link n ending s) (λ s. ends_if_of b.link (suc n) ending (s.streams (suc n)) s) (ends_all n s w some h)
+        after_next (Ended n) (Ended (suc n)) w (ends_of b.link n ending s)
+        (λ s. ends_if_of b.link (suc n) ending (s.streams (suc n)) s) (ends_all n s w some h)
         (λ u now. ends_one n (ends_of b.link n ending s).state u now (cases_eq (suc n) b.id))
 
-    pub own_all_end : (s : State) (w : List Event) → IsReal b → Shows b v s w → After (Shows b (over x.orphan ending v)) w (all_end b.link ending s)
+    pub own_all_end : (s : State) (w : List Event) → IsReal b → Shows b v s w
+        → After (Shows b (over x.orphan ending v)) w (all_end b.link ending s)
     own_all_end s w real h = (ends_all s.drawn s w real.some h).ended (omega (arith, h.0.born, real.from))
 
-    pub own_link_ends : (s : State) (w : List Event) → IsReal b → Shows b v s w → After (Shows b (over x.orphan ending v)) w (link_ends b.link ending s)
+    pub own_link_ends : (s : State) (w : List Event) → IsReal b → Shows b v s w
+        → After (Shows b (over x.orphan ending v)) w (link_ends b.link ending s)
     own_link_ends s w real h =
         let ended_all : Made = all_end b.link ending (forgets b.link s) in
         after_then (Shows b (over x.orphan ending v)) w ended_all (λ s. quietly (mark_all s)) (own_all_end (forgets b.link s) w real h)
@@ -293,16 +321,19 @@ module _ (b : Line) where
     pub link : is_some (s.links b.link) ≡ true
     pub connected : is_connected b.link s.devices ≡ true
 
-  module _ (v : View) (x : SeenStream) (there : v.stream ≡ Some x) (real : IsReal b) (s : State) (w : List Event) (up : IsUp s) (h : Shows b v s w) where
+  module _ (v : View) (x : SeenStream) (there : v.stream ≡ Some x) (real : IsReal b) (s : State) (w : List Event)
+      (up : IsUp s) (h : Shows b v s w) where
     own_connects : (version maxdata : ℕ) (who : Option Identity) → After (Shows b (over x.orphan (ending_by false who) v)) w
         (connects b.link version maxdata who s)
     own_connects version maxdata None = own_link_ends v x there Broken s w real h
     own_connects version maxdata (Some identity) =
         subst (λ (c : Bool). After (Shows b (over x.orphan Lost v)) w (then_also (streams_end_first c b.link s)
         (λ s. quietly (goes_online b.link version maxdata identity s)))) (sym up.connected)
-        (after_then (Shows b (over x.orphan Lost v)) w (all_end b.link Lost s) (λ s. quietly (goes_online b.link version maxdata identity s))
+        (after_then (Shows b (over x.orphan Lost v)) w (all_end b.link Lost s)
+        (λ s. quietly (goes_online b.link version maxdata identity s))
         (own_all_end v x there Lost s w real h)
-        (λ u now. after_quietly (Shows b (over x.orphan Lost v)) u (goes_online b.link version maxdata identity (all_end b.link Lost s).state)
+        (λ u now. after_quietly (Shows b (over x.orphan Lost v)) u
+        (goes_online b.link version maxdata identity (all_end b.link Lost s).state)
         (shows_online b (over x.orphan Lost v) (all_end b.link Lost s).state u now b.link version maxdata identity)))
 
     own_cnxn : (p : Packet) → After (Shows b (over x.orphan (cnxn_ending p) v)) w (cnxn b.link p.arg0 p.arg1 p.payload s)
@@ -320,26 +351,33 @@ module _ (b : Line) where
         → After (Shows b (cond (eqb k b.id) u v)) w (at_stream b.link (s.streams k) (rule k) s)
     own_at k u rule own others = by (eqb k b.id) refl
       where
-        mine : (y : Stream) × (s.streams b.id ≡ Some y) × (seen y ≡ x) → After (Shows b u) w (at_stream b.link (s.streams b.id) (rule b.id) s)
+        mine : (y : Stream) × (s.streams b.id ≡ Some y) × (seen y ≡ x)
+            → After (Shows b u) w (at_stream b.link (s.streams b.id) (rule b.id) s)
         mine (y, is, same) =
             subst (λ (o : Option Stream). After (Shows b u) w (at_stream b.link o (rule b.id) s)) (sym is)
-            (subst (λ (c : Bool). After (Shows b u) w (cond c (rule b.id y s) (quietly s))) (sym (eq-eqb y.link b.link (h.0.link y is))) (own y is same))
+            (subst (λ (c : Bool). After (Shows b u) w (cond c (rule b.id y s) (quietly s)))
+            (sym (eq-eqb y.link b.link (h.0.link y is))) (own y is same))
 
         by : (here : Bool) → eqb k b.id ≡ here → After (Shows b (cond here u v)) w (at_stream b.link (s.streams k) (rule k) s)
         by true e = subst (λ (n : ℕ). After (Shows b u) w (at_stream b.link (s.streams n) (rule n) s)) (sym (eqb-true k b.id e))
             (mine (own_row v x s w there h))
         by false e = others (eqb-false k b.id e)
 
-    own_treat_open : (command : Command) (p : Packet) → command ≢ Cnxn → After (Shows b (treated_as b.id command p x v)) w (treat_open b.link command p s)
+    own_treat_open : (command : Command) (p : Packet) → command ≢ Cnxn
+        → After (Shows b (treated_as b.id command p x v)) w (treat_open b.link command p s)
     own_treat_open Open p no_cnxn = shows_refuses b v s w h b.link p.arg0
     own_treat_open Okay p no_cnxn =
         own_at p.arg1 (after_okay b.id p.arg0 x v) (λ k. takes_okay k p.arg0 (credit_word p.payload))
-        (λ y is same. subst (λ (z : SeenStream). After (Shows b (after_okay b.id p.arg0 z v)) w (takes_okay b.id p.arg0 (credit_word p.payload) y s)) same
+        (λ y is same. subst
+        (λ (z : SeenStream). After (Shows b (after_okay b.id p.arg0 z v)) w
+        (takes_okay b.id p.arg0 (credit_word p.payload) y s)) same
         (own_takes_okay v y s w is h p.arg0 (credit_word p.payload)))
         (λ other. shows_treat_open b v b.link s w h Okay p (λ y is on. other))
     own_treat_open Wrte p no_cnxn =
         own_at p.arg1 (after_write b.id p.arg0 p.payload x v) (λ k. takes_write k p.arg0 p.payload)
-        (λ y is same. subst (λ (z : SeenStream). After (Shows b (after_write b.id p.arg0 p.payload z v)) w (takes_write b.id p.arg0 p.payload y s)) same
+        (λ y is same. subst
+        (λ (z : SeenStream). After (Shows b (after_write b.id p.arg0 p.payload z v)) w
+        (takes_write b.id p.arg0 p.payload y s)) same
         (own_takes_write v y s w is h p.arg0 p.payload))
         (λ other. shows_treat_open b v b.link s w h Wrte p (λ y is on. other))
     own_treat_open Clse p no_cnxn =
@@ -352,7 +390,8 @@ module _ (b : Line) where
     own_treat_open Cnxn p no_cnxn = absurd (no_cnxn refl)
 
     own_if_connected : (command : Command) (p : Packet) → command ≢ Cnxn
-        → After (Shows b (treated_as b.id command p x v)) w (cond (is_connected b.link s.devices) (treat_open b.link command p s) (quietly s))
+        → After (Shows b (treated_as b.id command p x v)) w
+        (cond (is_connected b.link s.devices) (treat_open b.link command p s) (quietly s))
     own_if_connected command p no_cnxn =
         subst (λ (c : Bool). After (Shows b (treated_as b.id command p x v)) w (cond c (treat_open b.link command p s) (quietly s)))
         (sym up.connected) (own_treat_open command p no_cnxn)
@@ -366,10 +405,12 @@ module _ (b : Line) where
     own_treat_any Wrte p = own_if_connected Wrte p (λ e. cc)
     own_treat_any Clse p = own_if_connected Clse p (λ e. cc)
 
-    own_treat_on : (o : Option Link) (p : Packet) → s.links b.link ≡ o → After (Shows b (treated_as b.id p.command p x v)) w (treat_on o b.link p s)
+    own_treat_on : (o : Option Link) (p : Packet) → s.links b.link ≡ o
+        → After (Shows b (treated_as b.id p.command p x v)) w (treat_on o b.link p s)
     own_treat_on None p is = absurd (let clash : false ≡ true = sym (ap is_some is) ∙ up.link in cc)
     own_treat_on (Some link) p is = own_treat_any p.command p
 
     pub own_treat : (p : Packet) → After (Shows b (treated b p v)) w (treat b.link p s)
     own_treat p =
-        subst (λ (o : Option SeenStream). After (Shows b (treated_on o b.id p v)) w (treat b.link p s)) (sym there) (own_treat_on (s.links b.link) p refl)
+        subst (λ (o : Option SeenStream). After (Shows b (treated_on o b.id p v)) w (treat b.link p s)) (sym there)
+        (own_treat_on (s.links b.link) p refl)

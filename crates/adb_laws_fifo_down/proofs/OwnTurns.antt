@@ -31,7 +31,8 @@ use Rattle.adb_laws_fifo_down.proofs.Own.{with_stream, with_client, own_stream, 
 module _ (b : Line) (v : View) where
   module _ (s : State) (w : List Event) (h : Shows b v s w) where
     -- ---- it is read, its input ends, a listener stands
-    pub own_reads : (a : Client) (bytes : List ℕ) → IsInLine b.id a.about.phase → After (Shows b v) w (reads_in a.about.phase b.client bytes a s)
+    pub own_reads : (a : Client) (bytes : List ℕ) → IsInLine b.id a.about.phase
+        → After (Shows b v) w (reads_in a.about.phase b.client bytes a s)
     own_reads a bytes in_line = by a.about.phase in_line
       where
         held : Shows b v (to_client b.client (with_held (a.held ++ bytes)) s) w
@@ -49,7 +50,8 @@ module _ (b : Line) (v : View) where
     own_input_ends Closing i = h
     own_input_ends _ i = absurd i
 
-    pub own_bound : (a : Client) (port : ℕ) → IsInLine b.id a.about.phase → After (Shows b v) w (bound_in a.about.phase a.about.want b.client port s)
+    pub own_bound : (a : Client) (port : ℕ) → IsInLine b.id a.about.phase
+        → After (Shows b v) w (bound_in a.about.phase a.about.want b.client port s)
     own_bound a port in_line = by a.about.phase in_line
       where
         by : (phase : Phase) → IsInLine b.id phase → After (Shows b v) w (bound_in phase a.about.want b.client port s)
@@ -67,7 +69,8 @@ module _ (b : Line) (v : View) where
     gone_shows = own_client b v none_kept a s w is h
 
     open_fails : (o : Option Stream) → s.streams b.id ≡ o
-        → After (Shows b (row_fails (Streaming b.id) (ClientFailed cause) (option_map seen o) v)) w (stream_fails (Streaming b.id) cause o gone)
+        → After (Shows b (row_fails (Streaming b.id) (ClientFailed cause) (option_map seen o) v)) w
+        (stream_fails (Streaming b.id) cause o gone)
     open_fails None there = after_quietly (Shows b (with_client None v)) w gone gone_shows
     open_fails (Some x) there =
         let none : View = with_stream None (with_client None v) in
@@ -101,7 +104,8 @@ module _ (b : Line) (v : View) where
 
     pub own_fails : IsInLine b.id a.about.phase → After (Shows b (failed_by cause (seen_client a) v)) w (client_fails b.client cause a s)
     own_fails in_line =
-        subst (λ (o : Option SeenStream). After (Shows b (row_fails a.about.phase (ClientFailed cause) o v)) w (client_fails b.client cause a s))
+        subst (λ (o : Option SeenStream). After (Shows b (row_fails a.about.phase (ClientFailed cause) o v)) w
+        (client_fails b.client cause a s))
         (ap (λ (u : View). u.stream) h.1) (by_phase a.about.phase in_line)
 
   -- ---- the server stops
@@ -136,7 +140,8 @@ module _ (b : Line) (v : View) where
 
   all_stops : (n : ℕ) (streams : Rows (Option Stream)) → TellsStops (all_stop n streams)
   all_stops zero streams = record { bytes = refl; packets = refl; ending = inl refl }
-  all_stops (suc n) streams = both_stop (all_stop n streams) (tells_stop (suc n) (streams (suc n))) (all_stops n streams) (one_stop (suc n) (streams (suc n)))
+  all_stops (suc n) streams = both_stop (all_stop n streams) (tells_stop (suc n) (streams (suc n)))
+      (all_stops n streams) (one_stop (suc n) (streams (suc n)))
 
   -- another client asked for it
   pub record IsStopped (ending : Option Ending) (s : State) (w : List Event) : Type 0 where
@@ -164,15 +169,19 @@ module _ (b : Line) (v : View) where
       told : TellsStops (all_stop s.drawn s.streams)
       told = all_stops s.drawn s.streams
 
-      none_left : option_map seen_client (cond (eqb n b.client) (option_and_then closing (only_client n s.clients b.client)) (only_client n s.clients b.client))
+      none_left : option_map seen_client
+          (cond (eqb n b.client) (option_and_then closing (only_client n s.clients b.client))
+          (only_client n s.clients b.client))
           ≡ None
       none_left = ap (λ (c : Bool). option_map seen_client
-          (cond c (option_and_then closing (cond c (s.clients b.client) None)) (cond c (s.clients b.client) None))) (ne_eqb n b.client other)
+          (cond c (option_and_then closing (cond c (s.clients b.client) None)) (cond c (s.clients b.client) None)))
+          (ne_eqb n b.client other)
 
       same : view b (stops n s).state (w ++ all_stop s.drawn s.streams) ≡ killed (ending_in b.id (all_stop s.drawn s.streams)) (view b s w)
       same =
           let output : owed_to b.client (w ++ all_stop s.drawn s.streams) ≡ owed_to b.client w =
-          owed_append b.client w (all_stop s.drawn s.streams) ∙ (ap (λ (x : List ℕ). owed_to b.client w ++ x) told.bytes ∙ append-nil (owed_to b.client w)) in
+          owed_append b.client w (all_stop s.drawn s.streams)
+          ∙ (ap (λ (x : List ℕ). owed_to b.client w ++ x) told.bytes ∙ append-nil (owed_to b.client w)) in
           let packets : packets_to b.link (w ++ all_stop s.drawn s.streams) ≡ packets_to b.link w =
           packets_append b.link w (all_stop s.drawn s.streams)
           ∙ (ap (λ (x : List Packet). packets_to b.link w ++ x) told.packets ∙ append-nil (packets_to b.link w)) in

@@ -37,7 +37,8 @@ use Rattle.adb_laws_fifo_down.proofs.Ups.{Upped, shows_ups}
 
 module _ {b : Line} {P : Promise} (k : Turns b P) where
   -- what stays in view stays promised
-  pub held_by : (packets : List Packet) (shut : Bool) (out : List ℕ) (v : View) (w : List Event) (m : Made) → P packets shut out v → After (Shows b v) w m
+  pub held_by : (packets : List Packet) (shut : Bool) (out : List ℕ) (v : View) (w : List Event) (m : Made)
+      → P packets shut out v → After (Shows b v) w m
       → After (Holds b P packets shut out) w m
   held_by packets shut out v w m keeps h = record { seen = v; shows = h; keeps = keeps }
 
@@ -60,32 +61,45 @@ module _ {b : Line} {P : Promise} (k : Turns b P) where
         subst (λ (t : ℕ). is_connected t s.devices ≡ true) (h.0.link x there) (linked.on b.id x there).connected in
         record { link = linked.rows.linked b.link ∙ connected_is (at b.link s.devices.rows) connected; connected = connected }
 
-    holds_treat : (packets : List Packet) (out : List ℕ) (p : Packet) (s : State) (w : List Event) → IsLinked s → Holds b P packets false out s w
+    holds_treat : (packets : List Packet) (out : List ℕ) (p : Packet) (s : State) (w : List Event) → IsLinked s
+        → Holds b P packets false out s w
         → After (Holds b P (packets ++ p ∷ []) false out) w (treat b.link p s)
-    holds_treat packets out p s w linked h = record { seen = treated b p h.seen; shows = by h.seen.stream refl; keeps = k.treats packets out h.seen p h.keeps }
+    holds_treat packets out p s w linked h =
+        record {
+          seen = treated b p h.seen;
+          shows = by h.seen.stream refl;
+          keeps =
+              k.treats packets out h.seen p h.keeps;
+        }
       where
         by : (o : Option SeenStream) → h.seen.stream ≡ o → After (Shows b (treated b p h.seen)) w (treat b.link p s)
         by None none =
-            subst (λ (v : View). After (Shows b v) w (treat b.link p s)) (sym (ap (λ (o : Option SeenStream). treated_on o b.id p h.seen) none))
+            subst (λ (v : View). After (Shows b v) w (treat b.link p s))
+            (sym (ap (λ (o : Option SeenStream). treated_on o b.id p h.seen) none))
             (shows_treat_on b h.seen b.link (inr none) s w h.shows (s.links b.link) p)
         by (Some x) there =
             let row = own_row b h.seen x s w there h.shows in
             own_treat b h.seen x there real s w (up_link row.0 h.seen s w row.1 linked h.shows) h.shows p
 
-    holds_treat_all : (given packets : List Packet) (out : List ℕ) (s : State) (w : List Event) → IsLinked s → Holds b P packets false out s w
+    holds_treat_all : (given packets : List Packet) (out : List ℕ) (s : State) (w : List Event) → IsLinked s
+        → Holds b P packets false out s w
         → After (Holds b P (packets ++ given) false out) w (treat_all b.link given s)
     holds_treat_all [] packets out s w linked h =
         subst (λ (ps : List Packet). After (Holds b P ps false out) w (quietly s)) (sym (append-nil packets))
         (after_quietly (Holds b P packets false out) w s h)
     holds_treat_all (p ∷ given) packets out s w linked h =
         let first : Made = treat b.link p s in
-        subst (λ (ps : List Packet). After (Holds b P ps false out) w (treat_all b.link (p ∷ given) s)) (append_assoc packets (p ∷ []) given)
-        (after_next (Holds b P (packets ++ p ∷ []) false out) (Holds b P ((packets ++ p ∷ []) ++ given) false out) w first (treat_all b.link given)
+        subst (λ (ps : List Packet). After (Holds b P ps false out) w (treat_all b.link (p ∷ given) s))
+        (append_assoc packets (p ∷ []) given)
+        (after_next (Holds b P (packets ++ p ∷ []) false out) (Holds b P ((packets ++ p ∷ []) ++ given) false out) w
+        first (treat_all b.link given)
         (holds_treat packets out p s w linked h)
-        (λ u now. holds_treat_all given (packets ++ p ∷ []) out first.state u (treat_on_kept (serves linked_moves) s w linked (s.links b.link) b.link p) now))
+        (λ u now. holds_treat_all given (packets ++ p ∷ []) out first.state u
+        (treat_on_kept (serves linked_moves) s w linked (s.links b.link) b.link p) now))
 
     -- it is Lost, or Broken
-    holds_lost : (packets : List Packet) (shut : Bool) (out : List ℕ) (ending : Ending) (s : State) (w : List Event) → (ending ≡ Lost) ⊎ (ending ≡ Broken)
+    holds_lost : (packets : List Packet) (shut : Bool) (out : List ℕ) (ending : Ending) (s : State) (w : List Event)
+        → (ending ≡ Lost) ⊎ (ending ≡ Broken)
         → Holds b P packets shut out s w → After (Holds b P packets true out) w (link_ends b.link ending s)
     holds_lost packets shut out ending s w which h = by h.seen.stream refl
       where
@@ -94,7 +108,8 @@ module _ {b : Line} {P : Promise} (k : Turns b P) where
 
         by : (o : Option SeenStream) → h.seen.stream ≡ o → After (Holds b P packets true out) w (link_ends b.link ending s)
         by None none = held_by packets true out h.seen w _ closed (shows_link_ends b h.seen b.link (inr none) ending s w h.shows)
-        by (Some x) there = held_by packets true out (over x.orphan ending h.seen) w _ (k.breaks packets out h.seen x ending there which closed)
+        by (Some x) there = held_by packets true out (over x.orphan ending h.seen) w _
+            (k.breaks packets out h.seen x ending there which closed)
             (own_link_ends b h.seen x there ending s w real h.shows)
 
     holds_faulty : (packets : List Packet) (out : List ℕ) (o : Option Link) (fault : Option PacketFault) (s : State) (w : List Event)
@@ -107,17 +122,20 @@ module _ {b : Line} {P : Promise} (k : Turns b P) where
     holds_faulty packets out (Some link) (Some fault) s w h = holds_lost packets false out Broken s w (inr refl) h
 
     -- the bytes of its link
-    pub holds_cut : (packets : List Packet) (out : List ℕ) (c : Cut PacketFormat Packet PacketFault) (s : State) (w : List Event) → IsLinked s
+    pub holds_cut : (packets : List Packet) (out : List ℕ) (c : Cut PacketFormat Packet PacketFault) (s : State)
+        (w : List Event) → IsLinked s
         → Holds b P packets false out s w → After (Holds b P (packets ++ c.given) (is_some c.fault) out) w (receives_cut b.link c s)
     holds_cut packets out c s w linked h =
         let taken : State = to_link b.link (with_rest c.rest) s in
         let treated_all : Made = treat_all b.link c.given taken in
-        after_next (Holds b P (packets ++ c.given) false out) (Holds b P (packets ++ c.given) (is_some c.fault) out) w treated_all (faulty b.link c.fault)
+        after_next (Holds b P (packets ++ c.given) false out) (Holds b P (packets ++ c.given) (is_some c.fault) out) w
+        treated_all (faulty b.link c.fault)
         (holds_treat_all c.given packets out taken w (linked_moves.links b.link (λ link. record link { rest = c.rest }) s w linked)
         (record { seen = h.seen; shows = h.shows; keeps = h.keeps }))
         (λ u now. holds_faulty (packets ++ c.given) out (treated_all.state.links b.link) c.fault treated_all.state u now)
 
-    pub holds_unplugs : (packets : List Packet) (shut : Bool) (out : List ℕ) (o : Option Link) (s : State) (w : List Event) → Holds b P packets shut out s w
+    pub holds_unplugs : (packets : List Packet) (shut : Bool) (out : List ℕ) (o : Option Link) (s : State)
+        (w : List Event) → Holds b P packets shut out s w
         → After (Holds b P packets true out) w (unplugs_on o b.link s)
     holds_unplugs packets shut out None s w h =
         after_quietly (Holds b P packets true out) w s
@@ -125,16 +143,19 @@ module _ {b : Line} {P : Promise} (k : Turns b P) where
     holds_unplugs packets shut out (Some link) s w h = holds_lost packets shut out Lost s w (inl refl) h
 
   -- packets that come while the stream is gone
-  pub more_packets : (more packets : List Packet) (out : List ℕ) (v : View) → v.stream ≡ None → P packets false out v → P (packets ++ more) false out v
+  pub more_packets : (more packets : List Packet) (out : List ℕ) (v : View) → v.stream ≡ None → P packets false out v
+      → P (packets ++ more) false out v
   more_packets [] packets out v none h = subst (λ (ps : List Packet). P ps false out v) (sym (append-nil packets)) h
   more_packets (p ∷ more) packets out v none h =
       subst (λ (ps : List Packet). P ps false out v) (append_assoc packets (p ∷ []) more)
       (more_packets more (packets ++ p ∷ []) out v none
-      (subst (λ (u : View). P (packets ++ p ∷ []) false out u) (ap (λ (o : Option SeenStream). treated_on o b.id p v) none) (k.treats packets out v p h)))
+      (subst (λ (u : View). P (packets ++ p ∷ []) false out u)
+      (ap (λ (o : Option SeenStream). treated_on o b.id p v) none) (k.treats packets out v p h)))
 
   -- ---- the end of its client
   module _ (packets : List Packet) (shut : Bool) (out : List ℕ) where
-    pub holds_ends : (cause : Cause) (o : Option Client) (s : State) (w : List Event) → s.clients b.client ≡ o → Holds b P packets shut out s w
+    pub holds_ends : (cause : Cause) (o : Option Client) (s : State) (w : List Event) → s.clients b.client ≡ o
+        → Holds b P packets shut out s w
         → After (Holds b P packets shut out) w (client_ends b.client cause o s)
     holds_ends cause None s w is h = after_quietly (Holds b P packets shut out) w s h
     holds_ends cause (Some a) s w is h = by cause

@@ -1,5 +1,6 @@
 -- What is seen of a stream stays where other streams and clients change.
-use Rattle.std.proofs.Common.{ℕ, ◌+◌, ◌≡◌, ◌≢◌, Bool, true, false, cond, List, [], ◌∷◌, ◌++◌, Option, Some, None, refl, sym, ◌∙◌, ap, arith, eqb}
+use Rattle.std.proofs.Common.{ℕ, ◌+◌, ◌≡◌, ◌≢◌, Bool, true, false, cond, List, [], ◌∷◌, ◌++◌, Option, Some, None, refl, sym, ◌∙◌, ap, arith}
+use Rattle.std.proofs.Common.{eqb}
 use Rattle.std.proofs.lemmas.Bool.{ne_eqb}
 use Rattle.std.proofs.lemmas.List.{append-nil}
 use Rattle.std.specs.Prelude.{option_map, option_and_then, ◌&&◌}
@@ -45,7 +46,8 @@ pub ending_append : (l : ℕ) (es fs : List Event) → ending_in l (es ++ fs) �
 ending_append l [] fs = refl
 ending_append l (due_to_client client bytes ∷ es) fs = ending_append l es fs
 ending_append l (due_to_link link p check ∷ es) fs = ending_append l es fs
-ending_append l (ended stream ending ∷ es) fs = go (eqb stream l) (ending_in l (es ++ fs)) (ending_in l es) (ending_in l fs) (ending_append l es fs)
+ending_append l (ended stream ending ∷ es) fs = go (eqb stream l) (ending_in l (es ++ fs)) (ending_in l es)
+    (ending_in l fs) (ending_append l es fs)
   where
     go : (here : Bool) (x y z : Option Ending) → x ≡ first_of y z → cond here (Some ending) x ≡ first_of (cond here (Some ending) y) z
     go true x y z e = refl
@@ -60,7 +62,8 @@ module _ (b : Line) where
   view_told s w e =
       let output : owed_to b.client (w ++ e ∷ []) ≡ owed_to b.client w ++ bytes_for b.client e =
       owed_append b.client w (e ∷ []) ∙ ap (λ (x : List ℕ). owed_to b.client w ++ x) (append-nil (bytes_for b.client e)) in
-      let okays : okays_of b.id (packets_to b.link (w ++ e ∷ [])) ≡ okays_of b.id (packets_to b.link w) ++ okays_of b.id (packets_to b.link (e ∷ [])) =
+      let okays : okays_of b.id (packets_to b.link (w ++ e ∷ []))
+      ≡ okays_of b.id (packets_to b.link w) ++ okays_of b.id (packets_to b.link (e ∷ [])) =
       ap (okays_of b.id) (packets_append b.link w (e ∷ [])) ∙ okays_append b.id (packets_to b.link w) (packets_to b.link (e ∷ [])) in
       let ending = ending_append b.id w (e ∷ []) in
       λ i. record (view b s w) { output = output i; okays = okays i; ending = ending i }
@@ -97,7 +100,12 @@ module _ (b : Line) where
   quiet_client n bytes other = record { bytes = ap (λ (x : Bool). cond x bytes []) (ne_eqb n b.client other); okays = refl; ending = refl }
 
   pub quiet_ended : (k : ℕ) (ending : Ending) → k ≢ b.id → IsQuiet (ended k ending)
-  quiet_ended k ending other = record { bytes = refl; okays = refl; ending = ap (λ (x : Bool). cond x (Some ending) None) (ne_eqb k b.id other) }
+  quiet_ended k ending other =
+      record {
+        bytes = refl;
+        okays = refl;
+        ending = ap (λ (x : Bool). cond x (Some ending) None) (ne_eqb k b.id other);
+      }
 
 -- ---- what other streams and clients do
 pub apart_change : (b : Line) (drawn k : ℕ) (f : Stream → Option Stream) (streams : Rows (Option Stream))
@@ -128,24 +136,33 @@ module _ (b : Line) (v : View) where
   pub shows_told : (e : Event) (s : State) (w : List Event) → IsQuiet b e → Shows b v s w → Shows b v s (w ++ e ∷ [])
   shows_told e s w q h = (h.0, view_told b s w e ∙ (tells_nothing b e (view b s w) q ∙ h.1))
 
-  pub shows_owe_link : (t : ℕ) (p : Packet) (s : State) (w : List Event) → IsNoOkay b p → Shows b v s w → After (Shows b v) w (owe_link t p s)
+  pub shows_owe_link : (t : ℕ) (p : Packet) (s : State) (w : List Event) → IsNoOkay b p → Shows b v s w
+      → After (Shows b v) w (owe_link t p s)
   shows_owe_link t p s w none h = shows_told _ s w (quiet_link b t p _ none) h
 
-  pub shows_client : (n : ℕ) (f : Client → Option Client) (s : State) (w : List Event) → n ≢ b.client → Shows b v s w → Shows b v (to_client n f s) w
-  shows_client n f s w other h =
-      (h.0, ap (λ (o : Option Client). record (view b s w) { client = option_map seen_client o }) (changed_other n b.client f s.clients other) ∙ h.1)
+  pub shows_client : (n : ℕ) (f : Client → Option Client) (s : State) (w : List Event) → n ≢ b.client → Shows b v s w
+      → Shows b v (to_client n f s) w
+  shows_client n f s w other h = (
+    h.0,
+    ap (λ (o : Option Client). record (view b s w) { client = option_map seen_client o })
+        (changed_other n b.client f s.clients other) ∙ h.1,
+  )
 
-  pub shows_owe_client : (n : ℕ) (bytes : List ℕ) (s : State) (w : List Event) → n ≢ b.client → Shows b v s w → After (Shows b v) w (owe_client n bytes s)
+  pub shows_owe_client : (n : ℕ) (bytes : List ℕ) (s : State) (w : List Event) → n ≢ b.client → Shows b v s w
+      → After (Shows b v) w (owe_client n bytes s)
   shows_owe_client n bytes s w other h =
-      shows_told (due_to_client n bytes) (to_client n (with_due bytes) s) w (quiet_client b n bytes other) (shows_client n (with_due bytes) s w other h)
+      shows_told (due_to_client n bytes) (to_client n (with_due bytes) s) w (quiet_client b n bytes other)
+      (shows_client n (with_due bytes) s w other h)
 
   -- a change of a client that is not seen
-  pub shows_same : (n : ℕ) (g : Client → Client) (s : State) (w : List Event) → ((a : Client) → seen_client (g a) ≡ seen_client a) → Shows b v s w
+  pub shows_same : (n : ℕ) (g : Client → Client) (s : State) (w : List Event)
+      → ((a : Client) → seen_client (g a) ≡ seen_client a) → Shows b v s w
       → Shows b v (to_client n (λ a. Some (g a)) s) w
   shows_same n g s w same h =
       (h.0, ap (λ (o : Option SeenClient). record (view b s w) { client = o }) (go (eqb n b.client) (s.clients b.client)) ∙ h.1)
     where
-      go : (here : Bool) (o : Option Client) → option_map seen_client (cond here (option_and_then (λ a. Some (g a)) o) o) ≡ option_map seen_client o
+      go : (here : Bool) (o : Option Client) → option_map seen_client
+          (cond here (option_and_then (λ a. Some (g a)) o) o) ≡ option_map seen_client o
       go true None = refl
       go true (Some a) = ap Some (same a)
       go false o = refl
@@ -169,7 +186,8 @@ module _ (b : Line) (v : View) where
     ap (λ (o : Option Stream). record (view b s w) { stream = option_map seen o }) (changed_other k b.id f s.streams other) ∙ h.1,
   )
 
-  pub shows_draw : (credit : Bool) (n t : ℕ) (s : State) (w : List Event) → n ≢ b.client → s.drawn + 1 ≢ b.id → Shows b v s w → Shows b v (draw credit n t s) w
+  pub shows_draw : (credit : Bool) (n t : ℕ) (s : State) (w : List Event) → n ≢ b.client → s.drawn + 1 ≢ b.id
+      → Shows b v s w → Shows b v (draw credit n t s) w
   shows_draw credit n t s w other fresh h = (
     record {
       others = λ k y is apart. by k y (eqb (s.drawn + 1) k) is apart;
@@ -187,5 +205,6 @@ module _ (b : Line) (v : View) where
       here = ap (λ (x : Bool). cond x (Some row) (s.streams b.id)) (ne_eqb (s.drawn + 1) b.id fresh)
 
       by : (k : ℕ) (y : Stream) (new : Bool) → cond new (Some row) (s.streams k) ≡ Some y → k ≢ b.id → y.client ≢ b.client
-      by k y true e apart = let same : row ≡ y = let both : Some row ≡ Some y = e in cc in (λ is. other (ap (λ (x : Stream). x.client) same ∙ is))
+      by k y true e apart = let same : row ≡ y = let both : Some row ≡ Some y =
+          e in cc in (λ is. other (ap (λ (x : Stream). x.client) same ∙ is))
       by k y false e apart = h.0.others k y e apart

@@ -1,5 +1,6 @@
 -- What each turn of what is seen of a stream keeps, each step after its birth keeps.
-use Rattle.std.proofs.Common.{ℕ, ◌+◌, ◌≡◌, ◌≢◌, ◌≤◌, ◌<◌, Bool, true, false, cond, List, ◌∷◌, ◌++◌, length, drop, Option, Some, None, is_some, refl, sym, ◌∙◌}
+use Rattle.std.proofs.Common.{ℕ, ◌+◌, ◌≡◌, ◌≢◌, ◌≤◌, ◌<◌, Bool, true, false, cond, List, ◌∷◌, ◌++◌, length, drop, Option, Some, None}
+use Rattle.std.proofs.Common.{is_some, refl, sym, ◌∙◌}
 use Rattle.std.proofs.Common.{ap, subst}
 use Rattle.std.proofs.Common.{eqb, arith, inl, inr, ◌⊎◌}
 use Rattle.std.proofs.lemmas.Bool.{eqb-true, ne_eqb, eq-eqb, cases_eq}
@@ -48,7 +49,8 @@ pub record IsBornBy (l : ℕ) (b : Birth) (older : History) : Type 0 where
   pub came : b.client ≤ came_count older
   pub within : b.packets_before ≤ length (brought b.link older)
 
-module _ (l : ℕ) (b : Birth) {P : Promise} (k : Turns (line l b) P) (older : History) (legal : IsLegal older) (born : IsBornBy l b older) where
+module _ (l : ℕ) (b : Birth) {P : Promise} (k : Turns (line l b) P) (older : History) (legal : IsLegal older)
+    (born : IsBornBy l b older) where
   abbrev s : State
   s = state older
 
@@ -63,11 +65,14 @@ module _ (l : ℕ) (b : Birth) {P : Promise} (k : Turns (line l b) P) (older : H
   since_more h more is = ap (drop b.packets_before) is ∙ drop-append-le b.packets_before (brought b.link older) more born.within
 
   module _ (h : Holds (line l b) P (since b older) (is_shut b.link older) (bytes_put b.client older) (state older) (told older)) where
-    same_link : (next : History) (m : Made) → bytes_received b.link next ≡ bytes_received b.link older → is_lost b.link next ≡ is_lost b.link older
+    same_link : (next : History) (m : Made) → bytes_received b.link next ≡ bytes_received b.link older
+        → is_lost b.link next ≡ is_lost b.link older
         → After (Holds (line l b) P (since b older) (is_shut b.link older) (bytes_put b.client older)) (told older) m
         → After (Holds (line l b) P (since b next) (is_shut b.link next) (bytes_put b.client older)) (told older) m
     same_link next m bytes lost now =
-        subst (λ (x : List ℕ). After (Holds (line l b) P (drop b.packets_before (framed x).given) (is_lost b.link next || is_some (framed x).fault)
+        subst (λ (x : List ℕ). After
+        (Holds (line l b) P (drop b.packets_before (framed x).given)
+        (is_lost b.link next || is_some (framed x).fault)
         (bytes_put b.client older)) (told older) m) (sym bytes)
         (subst (λ (c : Bool). After (Holds (line l b) P (since b older) (c || is_some (framed (bytes_received b.link older)).fault)
         (bytes_put b.client older)) (told older) m) (sym lost) now)
@@ -79,11 +84,16 @@ module _ (l : ℕ) (b : Birth) {P : Promise} (k : Turns (line l b) P) (older : H
         let c = cut_packets (record { sums = link.sums }) (link.rest ++ bytes) in
         let by = brings b.link bytes older link legal is in
         let m : Made = receives_on (Some link) b.link bytes (state older) in
-        subst (λ (ps : List Packet). After (Holds (line l b) P ps (is_shut b.link (Recv b.link bytes ∷ older)) (bytes_put b.client older)) (told older) m)
+        subst (λ (ps : List Packet). After
+        (Holds (line l b) P ps (is_shut b.link (Recv b.link bytes ∷ older)) (bytes_put b.client older))
+        (told older) m)
         (sym (since_more (Recv b.link bytes ∷ older) c.given by.packets))
-        (subst (λ (shut : Bool). After (Holds (line l b) P (since b older ++ c.given) shut (bytes_put b.client older)) (told older) m) (sym by.shut)
-        (holds_cut k (record { some = born.some; from = refl }) (since b older) (bytes_put b.client older) c (state older) (told older) linked
-        (subst (λ (shut : Bool). Holds (line l b) P (since b older) shut (bytes_put b.client older) (state older) (told older)) by.before h)))
+        (subst (λ (shut : Bool). After (Holds (line l b) P (since b older ++ c.given) shut (bytes_put b.client older))
+        (told older) m) (sym by.shut)
+        (holds_cut k (record { some = born.some; from = refl }) (since b older) (bytes_put b.client older) c
+        (state older) (told older) linked
+        (subst (λ (shut : Bool). Holds (line l b) P (since b older) shut (bytes_put b.client older) (state older)
+        (told older)) by.before h)))
 
     -- a stream of a link that is gone is gone
     gone_with : (state older).links b.link ≡ None → h.seen.stream ≡ None
@@ -96,7 +106,8 @@ module _ (l : ℕ) (b : Birth) {P : Promise} (k : Turns (line l b) P) (older : H
             let on = linked.on l row.0 row.1 in
             let there : is_some ((state older).links row.0.link) ≡ true =
             linked.rows.linked row.0.link ∙ connected_is (at row.0.link (state older).devices.rows) on.connected in
-            let gone : is_some ((state older).links row.0.link) ≡ false = ap is_some (ap (state older).links (h.shows.0.link row.0 row.1) ∙ none) in
+            let gone : is_some ((state older).links row.0.link) ≡ false =
+            ap is_some (ap (state older).links (h.shows.0.link row.0 row.1) ∙ none) in
             let clash : true ≡ false = sym there ∙ gone in
             absurd (cc)
 
@@ -106,7 +117,8 @@ module _ (l : ℕ) (b : Birth) {P : Promise} (k : Turns (line l b) P) (older : H
         next : History
         next = Recv b.link bytes ∷ older
 
-        end_of : (shut : Bool) (packets : List Packet) → P packets false (bytes_put b.client older) h.seen → P packets shut (bytes_put b.client older) h.seen
+        end_of : (shut : Bool) (packets : List Packet) → P packets false (bytes_put b.client older) h.seen
+            → P packets shut (bytes_put b.client older) h.seen
         end_of false packets keeps = keeps
         end_of true packets keeps = k.shuts packets false (bytes_put b.client older) h.seen keeps
 
@@ -124,7 +136,8 @@ module _ (l : ℕ) (b : Birth) {P : Promise} (k : Turns (line l b) P) (older : H
               seen = h.seen;
               shows = h.shows;
               keeps = end_of (is_shut b.link (Recv b.link bytes ∷ older)) (since b (Recv b.link bytes ∷ older))
-                  (subst (λ (ps : List Packet). P ps false (bytes_put b.client older) h.seen) (sym (since_more (Recv b.link bytes ∷ older) more.0 more.1))
+                  (subst (λ (ps : List Packet). P ps false (bytes_put b.client older) h.seen)
+                  (sym (since_more (Recv b.link bytes ∷ older) more.0 more.1))
                   (more_packets k more.0 (since b older) (bytes_put b.client older) h.seen (gone_with none)
                   (subst (λ (shut : Bool). P (since b older) shut (bytes_put b.client older) h.seen) e h.keeps)));
             }
@@ -134,25 +147,32 @@ module _ (l : ℕ) (b : Birth) {P : Promise} (k : Turns (line l b) P) (older : H
     own_recv None bytes is = after_quietly (HoldsOf (Recv b.link bytes ∷ older)) (told older) (state older) (dead_recv bytes is)
     own_recv (Some link) bytes is = alive_recv bytes link is
 
-    recv_holds : (n : ℕ) (bytes : List ℕ) → After (HoldsOf (Recv n bytes ∷ older)) (told older) (receives_on ((state older).links n) n bytes (state older))
+    recv_holds : (n : ℕ) (bytes : List ℕ) → After (HoldsOf (Recv n bytes ∷ older)) (told older)
+        (receives_on ((state older).links n) n bytes (state older))
     recv_holds n bytes = by (cases_eq n b.link)
       where
         by : (n ≡ b.link) ⊎ (n ≢ b.link)
             → After (HoldsOf (Recv n bytes ∷ older)) (told older) (receives_on ((state older).links n) n bytes (state older))
         by (inl same) =
-            subst (λ (m : ℕ). After (HoldsOf (Recv m bytes ∷ older)) (told older) (receives_on ((state older).links m) m bytes (state older))) (sym same)
+            subst (λ (m : ℕ). After (HoldsOf (Recv m bytes ∷ older)) (told older)
+            (receives_on ((state older).links m) m bytes (state older))) (sym same)
             (own_recv ((state older).links b.link) bytes refl)
         by (inr other) =
-            same_link (Recv n bytes ∷ older) (receives_on ((state older).links n) n bytes (state older)) (unreceived n b.link bytes older other) refl
+            same_link (Recv n bytes ∷ older) (receives_on ((state older).links n) n bytes (state older))
+            (unreceived n b.link bytes older other) refl
             (held_by k (since b older) (is_shut b.link older) (bytes_put b.client older) h.seen (told older) _ h.keeps
             (shows_receives (line l b) h.seen n (inl other) ((state older).links n) bytes (state older) (told older) h.shows))
 
-    detach_holds : (n : ℕ) (cause : Cause) → After (HoldsOf (Detach n cause ∷ older)) (told older) (unplugs_on ((state older).links n) n (state older))
+    detach_holds : (n : ℕ) (cause : Cause) → After (HoldsOf (Detach n cause ∷ older)) (told older)
+        (unplugs_on ((state older).links n) n (state older))
     detach_holds n cause = by (eqb n b.link) refl
       where
-        by : (c : Bool) → eqb n b.link ≡ c → After (HoldsOf (Detach n cause ∷ older)) (told older) (unplugs_on ((state older).links n) n (state older))
+        by : (c : Bool) → eqb n b.link ≡ c → After (HoldsOf (Detach n cause ∷ older)) (told older)
+            (unplugs_on ((state older).links n) n (state older))
         by true e =
-            subst (λ (c : Bool). After (Holds (line l b) P (since b older) ((c || is_lost b.link older) || is_some (framed (bytes_received b.link older)).fault)
+            subst (λ (c : Bool). After
+            (Holds (line l b) P (since b older)
+            ((c || is_lost b.link older) || is_some (framed (bytes_received b.link older)).fault)
             (bytes_put b.client older)) (told older) (unplugs_on ((state older).links n) n (state older))) (sym e)
             (subst (λ (m : ℕ). After (Holds (line l b) P (since b older) true (bytes_put b.client older)) (told older)
             (unplugs_on ((state older).links m) m (state older))) (sym (eqb-true n b.link e))
@@ -160,7 +180,8 @@ module _ (l : ℕ) (b : Birth) {P : Promise} (k : Turns (line l b) P) (older : H
             ((state older).links b.link) (state older) (told older) h))
         by false e =
             let other : n ≢ b.link = λ same. (let clash : true ≡ false = sym (eq-eqb n b.link same) ∙ e in cc) in
-            same_link (Detach n cause ∷ older) (unplugs_on ((state older).links n) n (state older)) refl (ap (λ (c : Bool). c || is_lost b.link older) e)
+            same_link (Detach n cause ∷ older) (unplugs_on ((state older).links n) n (state older)) refl
+            (ap (λ (c : Bool). c || is_lost b.link older) e)
             (held_by k (since b older) (is_shut b.link older) (bytes_put b.client older) h.seen (told older) _ h.keeps
             (shows_unplugs (line l b) h.seen n (inl other) ((state older).links n) (state older) (told older) h.shows))
 
@@ -171,20 +192,26 @@ module _ (l : ℕ) (b : Birth) {P : Promise} (k : Turns (line l b) P) (older : H
 
     rule_holds : (e : Entry) → May (state older) e → After (HoldsOf (e ∷ older)) (told older) (rule e (state older))
     rule_holds (Join c) may = after_quietly (HoldsOf (Join c ∷ older)) (told older) (comes false c (state older))
-        (come_holds l b k (since b older) (is_shut b.link older) (bytes_put b.client older) (state older) (told older) h c (comes_new c may.1))
+        (come_holds l b k (since b older) (is_shut b.link older) (bytes_put b.client older) (state older) (told older)
+        h c (comes_new c may.1))
     rule_holds (Enter c port) may =
-        enter_holds l b k (since b older) (is_shut b.link older) (bytes_put b.client older) (state older) (told older) h c port (comes_new c may.1)
-    rule_holds (Read c bytes) may = read_holds l b k (since b older) (is_shut b.link older) (bytes_put b.client older) (state older) (told older) h c bytes
+        enter_holds l b k (since b older) (is_shut b.link older) (bytes_put b.client older) (state older) (told older)
+        h c port (comes_new c may.1)
+    rule_holds (Read c bytes) may = read_holds l b k (since b older) (is_shut b.link older) (bytes_put b.client older)
+        (state older) (told older) h c bytes
     rule_holds (End c cause) may =
         end_holds l b k (since b older) (is_shut b.link older) (bytes_put b.client older) (state older) (told older) h c cause linked.owned
-    rule_holds (Bound c port) may = bound_holds l b k (since b older) (is_shut b.link older) (bytes_put b.client older) (state older) (told older) h c port
+    rule_holds (Bound c port) may = bound_holds l b k (since b older) (is_shut b.link older)
+        (bytes_put b.client older) (state older) (told older) h c port
     rule_holds (Attach t kind serial) may =
-        held_by k (since b older) (is_shut b.link older) (bytes_put b.client older) h.seen (told older) (plugs_in t kind serial (state older)) h.keeps
+        held_by k (since b older) (is_shut b.link older) (bytes_put b.client older) h.seen (told older)
+        (plugs_in t kind serial (state older)) h.keeps
         (shows_plugs_in (line l b) h.seen (state older) (told older) h.shows t kind serial)
     rule_holds (Recv t bytes) may = recv_holds t bytes
     rule_holds (Detach t cause) may = detach_holds t cause
     rule_holds (Put c bytes) may =
-        put_holds l b k (since b older) (is_shut b.link older) (bytes_put b.client older) (state older) (told older) h c bytes linked.owned may
+        put_holds l b k (since b older) (is_shut b.link older) (bytes_put b.client older) (state older) (told older) h
+        c bytes linked.owned may
     rule_holds (Send t bytes) may =
         after_quietly (HoldsOf (Send t bytes ∷ older)) (told older) (sends t (length bytes) (state older))
         (record { seen = h.seen; shows = h.shows; keeps = h.keeps })

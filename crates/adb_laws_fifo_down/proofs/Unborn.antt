@@ -1,5 +1,6 @@
 -- No ending is told of a stream that was not born.
-use Rattle.std.proofs.Common.{ℕ, ◌+◌, ◌≡◌, ◌≢◌, ◌≤◌, ◌<◌, zero, suc, Bool, true, false, cond, List, [], ◌∷◌, length, Option, Some, None, refl, sym, ◌∙◌, ap}
+use Rattle.std.proofs.Common.{ℕ, ◌+◌, ◌≡◌, ◌≢◌, ◌≤◌, ◌<◌, zero, suc, Bool, true, false, cond, List, [], ◌∷◌, length, Option, Some, None}
+use Rattle.std.proofs.Common.{refl, sym, ◌∙◌, ap}
 use Rattle.std.proofs.Common.{subst}
 use Rattle.std.proofs.Common.{eqb, arith, inl, inr}
 use Rattle.std.proofs.lemmas.Bool.{ne_eqb}
@@ -82,7 +83,8 @@ stop_none : (l n : ℕ) (streams : Rows (Option Stream)) → n < l → ending_in
 stop_none l zero streams lt = refl
 stop_none l (suc n) streams lt =
     ending_append l (all_stop n streams) (tells_stop (suc n) (streams (suc n)))
-    ∙ (ap (λ (o : Option Ending). first_of o (ending_in l (tells_stop (suc n) (streams (suc n))))) (stop_none l n streams (omega (arith, lt)))
+    ∙ (ap (λ (o : Option Ending). first_of o (ending_in l (tells_stop (suc n) (streams (suc n)))))
+    (stop_none l n streams (omega (arith, lt)))
     ∙ one (streams (suc n)))
   where
     told : (c : Bool) → ending_in l (cond c [] (ended (suc n) Stopped ∷ [])) ≡ None
@@ -105,7 +107,8 @@ module _ (l : ℕ) where
       by (inr (y, now)) = absurd (let clash : None ≡ Some y.row = sym h.stream ∙ y.stream in cc)
 
   -- ---- what follows a request
-  unborn_goes_on : (next : Option Next) (n : ℕ) (s : State) (w : List Event) → n ≢ 0 → s.drawn < l → UndrawnBy (unborn l) s next → IsUnborn l s w
+  unborn_goes_on : (next : Option Next) (n : ℕ) (s : State) (w : List Event) → n ≢ 0 → s.drawn < l
+      → UndrawnBy (unborn l) s next → IsUnborn l s w
       → After (IsUnborn l) w (goes_on next n s)
   unborn_goes_on next n s w other lt fresh h = by (kills next) refl
     where
@@ -118,7 +121,8 @@ module _ (l : ℕ) where
             seen = killed (ending_in l (all_stop s.drawn s.streams)) h.seen;
             shows = stop.shows;
             stream = refl;
-            ending = ap (λ (o : Option Ending). first_of o (ending_in l (all_stop s.drawn s.streams))) h.ending ∙ stop_none l s.drawn s.streams lt;
+            ending = ap (λ (o : Option Ending). first_of o (ending_in l (all_stop s.drawn s.streams))) h.ending
+                ∙ stop_none l s.drawn s.streams lt;
           })
 
   unborn_asks : (q : Asked) (n : ℕ) (s : State) (w : List Event) → n ≢ 0 → s.drawn < l → UndrawnBy (unborn l) s q.next → IsUnborn l s w
@@ -127,10 +131,13 @@ module _ (l : ℕ) where
       let asked : State = to_client n (has_asked q) s in
       let owed : Made = owe_client n q.replies asked in
       after_next (IsUnborn l) (IsUnborn l) w owed (goes_on q.next n)
-      (unborn_by w owed s h (shows_owe_client (unborn l) h.seen n q.replies asked w other (shows_client (unborn l) h.seen n (has_asked q) s w other h.shows)))
+      (unborn_by w owed s h
+      (shows_owe_client (unborn l) h.seen n q.replies asked w other
+      (shows_client (unborn l) h.seen n (has_asked q) s w other h.shows)))
       (λ u now. unborn_goes_on q.next n owed.state u other lt fresh now)
 
-  unborn_unread : (phase : Phase) (n : ℕ) (bytes : List ℕ) (a : Client) (s : State) (w : List Event) → n ≢ 0 → phase ≢ Asking → IsUnborn l s w
+  unborn_unread : (phase : Phase) (n : ℕ) (bytes : List ℕ) (a : Client) (s : State) (w : List Event) → n ≢ 0
+      → phase ≢ Asking → IsUnborn l s w
       → After (IsUnborn l) w (reads_in phase n bytes a s)
   unborn_unread phase n bytes a s w other no_asking h =
       unborn_by w (reads_in phase n bytes a s) s h
@@ -156,7 +163,8 @@ module _ (l : ℕ) where
   unborn_reads_in Closing n bytes a s w other lt after h = unborn_unread Closing n bytes a s w other (λ e. cc) h
   unborn_reads_in Gone n bytes a s w other lt after h = unborn_unread Gone n bytes a s w other (λ e. cc) h
 
-  unborn_reads : (o : Option Client) (n : ℕ) (bytes : List ℕ) (s : State) (w : List Event) → n ≢ 0 → s.drawn < l → (reads_from o n bytes s).state.drawn < l
+  unborn_reads : (o : Option Client) (n : ℕ) (bytes : List ℕ) (s : State) (w : List Event) → n ≢ 0 → s.drawn < l
+      → (reads_from o n bytes s).state.drawn < l
       → IsUnborn l s w → After (IsUnborn l) w (reads_from o n bytes s)
   unborn_reads None n bytes s w other lt after h = after_quietly (IsUnborn l) w s h
   unborn_reads (Some a) n bytes s w other lt after h = unborn_reads_in a.about.phase n bytes a s w other lt after h
@@ -166,7 +174,9 @@ module _ (l : ℕ) where
   enters_drawn o row n s is on ids =
       ap (λ (o : Option ForwardRow). (enters_by n o s).state.drawn) is
       ∙ (ap (λ (b : Bool). (cond b (opens true n row.transport row.remote (comes true n s)) (quietly (comes_in_vain s))).state.drawn) on
-      ∙ ap (λ (b : Bool). (cond b (no_ids_left true n (comes true n s)) (asks_for (s.drawn + 1) n row.transport row.remote (comes true n s))).state.drawn) ids)
+      ∙ ap (λ (b : Bool).
+      (cond b (no_ids_left true n (comes true n s))
+      (asks_for (s.drawn + 1) n row.transport row.remote (comes true n s))).state.drawn) ids)
 
   -- ---- any entry
   unborn_puts : (o : Option Client) (n count : ℕ) (s : State) (w : List Event) → IsOwned s → s.clients n ≡ o → n ≢ 0 → IsUnborn l s w
@@ -201,7 +211,8 @@ module _ (l : ℕ) where
   unborn_rule (End n cause) s w owned may lt after h =
       let other : n ≢ 0 = λ same. omega (arith, may.1.0, same) in
       unborn_by w (rule (End n cause) s) s h
-      (shows_client_ends (unborn l) h.seen s w h.shows n other cause (s.clients n) (λ a is. else_of (unborn l) h.seen n a s w owned h.shows other is))
+      (shows_client_ends (unborn l) h.seen s w h.shows n other cause (s.clients n)
+      (λ a is. else_of (unborn l) h.seen n a s w owned h.shows other is))
   unborn_rule (Bound n port) s w owned may lt after h =
       unborn_by w (rule (Bound n port) s) s h
       (shows_bound (unborn l) h.seen s w h.shows n (λ same. omega (arith, may.1.0, same)) (s.clients n) port)
@@ -238,7 +249,8 @@ unborn_at (e ∷ older) legal l lt =
     let same : (state (e ∷ older)).drawn ≡ ruled.drawn = up_all_drawn ruled.drawn ruled in
     let before : (state older).drawn < l = omega (arith, lt, drawn_more e older) in
     after_next (IsUnborn l) (IsUnborn l) (told older) (rule e (state older)) ups
-    (unborn_rule l e (state older) (told older) (all_linked older legal.0).owned legal.2 before (omega (arith, lt, same)) (unborn_at older legal.0 l before))
+    (unborn_rule l e (state older) (told older) (all_linked older legal.0).owned legal.2 before
+    (omega (arith, lt, same)) (unborn_at older legal.0 l before))
     (λ u now. unborn_ups l ruled u now)
 
 pub ends_born : (h : History) → IsLegal h → EndsBornAlone h

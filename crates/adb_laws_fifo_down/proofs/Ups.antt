@@ -1,5 +1,6 @@
 -- What the up rule makes of what is seen of a stream: it stays, or the stream is closed for its client.
-use Rattle.std.proofs.Common.{ℕ, ◌≡◌, ◌≢◌, zero, suc, Bool, true, false, List, [], ◌∷◌, length, drop, Option, Some, None, refl, sym, ◌∙◌, ap, subst}
+use Rattle.std.proofs.Common.{ℕ, ◌≡◌, ◌≢◌, zero, suc, Bool, true, false, List, [], ◌∷◌, length, drop, Option, Some, None, refl, sym, ◌∙◌}
+use Rattle.std.proofs.Common.{ap, subst}
 use Rattle.std.proofs.Common.{inl, inr, ◌⊎◌}
 use Rattle.std.proofs.lemmas.Bool.{eqb-true, cases_eq}
 use Rattle.adb_stream.specs.declared.flow.Flow.{Flow}
@@ -14,7 +15,8 @@ use Rattle.adb_history.specs.Events.{Made, Event, quietly}
 use Rattle.adb_history.specs.declared.ending.Ending.{Ending}
 use Rattle.adb_history.specs.declared.ending.Ending.TheVariants.{ClientClosed}
 use Rattle.adb_history.specs.Links.{write_packet, maxdata_of}
-use Rattle.adb_history.specs.Flow.{payloads, total, with_flow, goes_up, all_go_up, flow_after, noted, is_over, closes_if, sends_up, is_streaming}
+use Rattle.adb_history.specs.Flow.{payloads, total, with_flow, goes_up, all_go_up, flow_after, noted, is_over, closes_if, sends_up}
+use Rattle.adb_history.specs.Flow.{is_streaming}
 use Rattle.adb_history.specs.Flow.{up_client, up_stream}
 use Rattle.adb_history.specs.Flow.{up, up_all}
 use Rattle.adb_history.specs.Moves.{After}
@@ -51,10 +53,12 @@ streaming_is l _ e = absurd (cc)
 
 module _ (b : Line) where
   module _ (v : View) where
-    shows_go_up : (l : ℕ) (x : Stream) (payloads : List (List ℕ)) (s : State) (w : List Event) → Shows b v s w → After (Shows b v) w (all_go_up l x payloads s)
+    shows_go_up : (l : ℕ) (x : Stream) (payloads : List (List ℕ)) (s : State) (w : List Event) → Shows b v s w
+        → After (Shows b v) w (all_go_up l x payloads s)
     shows_go_up l x [] s w h = after_quietly (Shows b v) w s h
     shows_go_up l x (payload ∷ payloads) s w h =
-        after_then (Shows b v) w (goes_up l x payload s) (all_go_up l x payloads) (shows_owe_link b v x.link (write_packet l x.part.remote payload) s w refl h)
+        after_then (Shows b v) w (goes_up l x payload s) (all_go_up l x payloads)
+        (shows_owe_link b v x.link (write_packet l x.part.remote payload) s w refl h)
         (λ u now. shows_go_up l x payloads (goes_up l x payload s).state u now)
 
     shows_closes_if : (c : Bool) (k : ℕ) (o : Option Stream) (s : State) (w : List Event) → k ≢ b.id → s.streams k ≡ o → Shows b v s w
@@ -72,15 +76,20 @@ module _ (b : Line) where
         let now : State = noted k x a.held payloads s in
         let sent : Made = all_go_up k x payloads now in
         after_then (Shows b v) w sent (λ s. closes_if (is_over a.about.ended held (flow_after payloads x.part.flow)) k (s.streams k) s)
-        (shows_go_up k x payloads now w (shows_same b v x.client (λ c. record c { held = held }) (to_stream k (with_stream_part part) s) w (λ c. refl)
+        (shows_go_up k x payloads now w
+        (shows_same b v x.client (λ c. record c { held = held }) (to_stream k (with_stream_part part) s) w
+        (λ c. refl)
         (shows_stream b v k (with_stream_part part) s w other (part_keeps part) h)))
-        (λ u kept. shows_closes_if (is_over a.about.ended held (flow_after payloads x.part.flow)) k (sent.state.streams k) sent.state u other refl kept)
+        (λ u kept. shows_closes_if (is_over a.about.ended held (flow_after payloads x.part.flow)) k
+        (sent.state.streams k) sent.state u other refl kept)
 
-    shows_up_client : (k : ℕ) (x : Stream) (o : Option Client) (s : State) (w : List Event) → k ≢ b.id → Shows b v s w → After (Shows b v) w (up_client k x o s)
+    shows_up_client : (k : ℕ) (x : Stream) (o : Option Client) (s : State) (w : List Event) → k ≢ b.id → Shows b v s w
+        → After (Shows b v) w (up_client k x o s)
     shows_up_client k x None s w other h = after_quietly (Shows b v) w s h
     shows_up_client k x (Some a) s w other h =
         let sent : List (List ℕ) = payloads x.part.flow (maxdata_of x.link s.devices) a.held in
-        after_if (Shows b v) w (is_streaming k a.about.phase) (sends_up k x a sent s) (quietly s) (λ e. shows_sends_up k x a sent s w other h)
+        after_if (Shows b v) w (is_streaming k a.about.phase) (sends_up k x a sent s) (quietly s)
+        (λ e. shows_sends_up k x a sent s w other h)
         (λ e. after_quietly (Shows b v) w s h)
 
     shows_up : (k : ℕ) (o : Option Stream) (s : State) (w : List Event) → k ≢ b.id → Shows b v s w → After (Shows b v) w (up_stream k o s)
@@ -105,19 +114,25 @@ module _ (b : Line) where
               (own_ends_telling b v x s w is h ClientClosed),
         )
 
-    own_sends_up : (x : Stream) (a : Client) (payloads : List (List ℕ)) (s : State) (w : List Event) → IsOpenIn b v → s.streams b.id ≡ Some x → Shows b v s w
+    own_sends_up : (x : Stream) (a : Client) (payloads : List (List ℕ)) (s : State) (w : List Event) → IsOpenIn b v
+        → s.streams b.id ≡ Some x → Shows b v s w
         → After Upped w (sends_up b.id x a payloads s)
     own_sends_up x a payloads s w y is h =
         let part : Part = with_flow (flow_after payloads x.part.flow) x.part in
         let held : List ℕ = drop (total payloads) a.held in
         let now : State = noted b.id x a.held payloads s in
         let sent : Made = all_go_up b.id x payloads now in
-        after_next (Shows b v) Upped w sent (λ s. closes_if (is_over a.about.ended held (flow_after payloads x.part.flow)) b.id (s.streams b.id) s)
-        (shows_go_up v b.id x payloads now w (shows_same b v x.client (λ c. record c { held = held }) (to_stream b.id (with_stream_part part) s) w (λ c. refl)
+        after_next (Shows b v) Upped w sent
+        (λ s. closes_if (is_over a.about.ended held (flow_after payloads x.part.flow)) b.id (s.streams b.id) s)
+        (shows_go_up v b.id x payloads now w
+        (shows_same b v x.client (λ c. record c { held = held }) (to_stream b.id (with_stream_part part) s) w
+        (λ c. refl)
         (own_same b v part x s w is (seen_after x payloads x.part.flow) h)))
-        (λ u kept. own_closes_if y (is_over a.about.ended held (flow_after payloads x.part.flow)) (sent.state.streams b.id) sent.state u refl kept)
+        (λ u kept. own_closes_if y (is_over a.about.ended held (flow_after payloads x.part.flow))
+        (sent.state.streams b.id) sent.state u refl kept)
 
-    own_up_client : (x : Stream) (o : Option Client) (s : State) (w : List Event) → s.streams b.id ≡ Some x → s.clients b.client ≡ o → Shows b v s w
+    own_up_client : (x : Stream) (o : Option Client) (s : State) (w : List Event) → s.streams b.id ≡ Some x
+        → s.clients b.client ≡ o → Shows b v s w
         → After Upped w (up_client b.id x o s)
     own_up_client x None s w is here h = after_quietly Upped w s (inl h)
     own_up_client x (Some a) s w is here h =
@@ -135,7 +150,8 @@ module _ (b : Line) where
     own_up : (o : Option Stream) (s : State) (w : List Event) → s.streams b.id ≡ o → Shows b v s w → After Upped w (up_stream b.id o s)
     own_up None s w is h = after_quietly Upped w s (inl h)
     own_up (Some x) s w is h =
-        subst (λ (n : ℕ). After Upped w (up_client b.id x (s.clients n) s)) (sym (h.0.client x is)) (own_up_client x (s.clients b.client) s w is refl h)
+        subst (λ (n : ℕ). After Upped w (up_client b.id x (s.clients n) s)) (sym (h.0.client x is))
+        (own_up_client x (s.clients b.client) s w is refl h)
 
     -- ---- one stream after another
     gone_up : (u : View) (o : Option Stream) (s : State) (w : List Event) → u.stream ≡ None → s.streams b.id ≡ o → Shows b u s w
@@ -149,10 +165,15 @@ module _ (b : Line) where
     up_one k s w (inl h) (inr other) = inl (shows_up v k (s.streams k) s w other h)
     up_one k s w (inr (y, h)) (inl same) =
         let u : View = over y.row.orphan ClientClosed v in
-        inr (y, subst (λ (n : ℕ). After (Shows b u) w (up n s)) (sym same) (gone_up u (s.streams b.id) s w (over_gone y.row.orphan ClientClosed v) refl h))
+        inr (
+          y,
+          subst (λ (n : ℕ). After (Shows b u) w (up n s)) (sym same)
+              (gone_up u (s.streams b.id) s w (over_gone y.row.orphan ClientClosed v) refl h),
+        )
     up_one k s w (inr (y, h)) (inr other) = inr (y, shows_up (over y.row.orphan ClientClosed v) k (s.streams k) s w other h)
 
     pub shows_ups : (n : ℕ) (s : State) (w : List Event) → Shows b v s w → After Upped w (up_all n s)
     shows_ups zero s w h = after_quietly Upped w s (inl h)
     shows_ups (suc n) s w h =
-        after_then Upped w (up_all n s) (up (suc n)) (shows_ups n s w h) (λ u now. up_one (suc n) (up_all n s).state u now (cases_eq (suc n) b.id))
+        after_then Upped w (up_all n s) (up (suc n)) (shows_ups n s w h)
+        (λ u now. up_one (suc n) (up_all n s).state u now (cases_eq (suc n) b.id))

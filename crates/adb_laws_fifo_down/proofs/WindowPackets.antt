@@ -1,5 +1,6 @@
 -- What is acknowledged was handed out: each packet of its link keeps it.
-use Rattle.std.proofs.Common.{ℕ, ◌+◌, ◌-◌, ◌≡◌, ◌≤◌, zero, suc, Bool, true, false, cond, List, [], ◌∷◌, ◌++◌, length, Option, Some, None, refl, sym, ◌∙◌, ap}
+use Rattle.std.proofs.Common.{ℕ, ◌+◌, ◌-◌, ◌≡◌, ◌≤◌, zero, suc, Bool, true, false, cond, List, [], ◌∷◌, ◌++◌, length, Option, Some, None}
+use Rattle.std.proofs.Common.{refl, sym, ◌∙◌, ap}
 use Rattle.std.proofs.Common.{subst}
 use Rattle.std.proofs.Common.{arith, inl, inr, ◌⊎◌}
 use Rattle.std.specs.Prelude.{nat_lt}
@@ -14,7 +15,8 @@ use Rattle.adb_history.specs.Fifo.{whole_within}
 use Rattle.adb_laws_fifo_down.specs.Line.{SeenStream, View}
 use Rattle.adb_laws_fifo_down.specs.Treated.{is_late, accepts_as, treated_as, treated_on}
 use Rattle.adb_laws_fifo_down.specs.Life.{Cradle, okay_after, heard, IsWaiting, IsOpened, IsPending, LivesAs, LivesIn, Life}
-use Rattle.adb_laws_fifo_down.specs.Window.{handed_past, IsBackedBy, IsBacked, waiting_write, Counts, IsFlowing, IsUnused, FlowsBy, FlowAs, FlowIn, Window}
+use Rattle.adb_laws_fifo_down.specs.Window.{handed_past, IsBackedBy, IsBacked, waiting_write, Counts, IsFlowing, IsUnused, FlowsBy, FlowAs}
+use Rattle.adb_laws_fifo_down.specs.Window.{FlowIn, Window}
 use Rattle.adb_laws_fifo_down.proofs.Openings.{later_too, opening_stays, pending_now, told_append, joined_append}
 use Rattle.adb_laws_fifo_down.proofs.Ups.{over_gone}
 use Rattle.adb_laws_fifo_down.proofs.Lives.{any_front}
@@ -38,7 +40,8 @@ record Accepted (k : Cradle) (told : List (List ℕ)) (x : SeenStream) (handed :
   flowing : IsFlowing k row told u.okays handed
   backed : IsBackedBy k.credit told u.okays handed
 
-module _ (l : ℕ) (k : Cradle) (told : List (List ℕ)) (x : SeenStream) (v : View) (there : v.stream ≡ Some x) (same : x.credit ≡ k.credit) (handed : ℕ)
+module _ (l : ℕ) (k : Cradle) (told : List (List ℕ)) (x : SeenStream) (v : View) (there : v.stream ≡ Some x)
+    (same : x.credit ≡ k.credit) (handed : ℕ)
     (flow : IsFlowing k x told v.okays handed) (backed : IsBackedBy k.credit told v.okays handed) where
   -- in turn, without credit, all was handed out before
   none_waits : (n : ℕ) → x.credit ≡ false → is_late x n ≡ false → x.to_hand ≡ 0
@@ -56,7 +59,8 @@ module _ (l : ℕ) (k : Cradle) (told : List (List ℕ)) (x : SeenStream) (v : V
     credit = refl;
     flowing = record {
       left = omega (arith, flow.left, joined_one told []);
-      counts = subst (λ (c : Bool). Counts c x (told ++ [] ∷ []) v.okays handed) (e_is e) (subst (λ (c : Bool). Counts c x told v.okays handed)
+      counts = subst (λ (c : Bool). Counts c x (told ++ [] ∷ []) v.okays handed) (e_is e)
+          (subst (λ (c : Bool). Counts c x told v.okays handed)
           (sym (e_is e)) flow.counts);
     };
     backed = backed_told k.credit told ([] ∷ []) v.okays handed backed;
@@ -76,7 +80,14 @@ module _ (l : ℕ) (k : Cradle) (told : List (List ℕ)) (x : SeenStream) (v : V
     };
     backed = subst (λ (c : Bool). IsBackedBy c (told ++ [] ∷ []) (v.okays ++ okay_packet l x.remote ∷ []) handed) plain
         (subst (λ (n : ℕ). length (v.okays ++ okay_packet l x.remote ∷ []) ≤ whole_within n (told ++ [] ∷ [])) whole
-        (omega (arith, counts, all_whole (told ++ [] ∷ []), length-append v.okays (okay_packet l x.remote ∷ []), length-append told ([] ∷ []), waits)));
+        (omega (
+          arith,
+          counts,
+          all_whole (told ++ [] ∷ []),
+          length-append v.okays (okay_packet l x.remote ∷ []),
+          length-append told ([] ∷ []),
+          waits,
+        )));
   }
     where
       plain : false ≡ k.credit
@@ -94,7 +105,8 @@ module _ (l : ℕ) (k : Cradle) (told : List (List ℕ)) (x : SeenStream) (v : V
       whole : length (joined (told ++ [] ∷ [])) ≡ handed
       whole = omega (arith, flow.left, none, joined_one told [])
 
-  accept_some : (d : ℕ) (payload : List ℕ) (credit : Bool) → x.credit ≡ credit → is_late x (length (d ∷ payload)) ≡ false → (u : View) → u.okays ≡ v.okays
+  accept_some : (d : ℕ) (payload : List ℕ) (credit : Bool) → x.credit ≡ credit
+      → is_late x (length (d ∷ payload)) ≡ false → (u : View) → u.okays ≡ v.okays
       → u.stream ≡ Some (cond credit (record x { left = x.left - length (d ∷ payload); to_hand = x.to_hand + length (d ∷ payload) })
       (record x { to_hand = length (d ∷ payload) }))
       → Accepted k (told ++ (d ∷ payload) ∷ []) x handed u
@@ -103,11 +115,16 @@ module _ (l : ℕ) (k : Cradle) (told : List (List ℕ)) (x : SeenStream) (v : V
     stream = now;
     orphan = refl;
     credit = refl;
-    flowing = subst (λ (ps : List Packet). IsFlowing k (record x { left = x.left - length (d ∷ payload); to_hand = x.to_hand + length (d ∷ payload) })
+    flowing = subst
+        (λ (ps : List Packet). IsFlowing k
+        (record x { left = x.left - length (d ∷ payload); to_hand = x.to_hand + length (d ∷ payload) })
         (told ++ (d ∷ payload) ∷ []) ps handed) (sym okays) (record {
           left = omega (arith, flow.left, joined_one told (d ∷ payload));
-          counts = subst (λ (c : Bool). Counts c (record x { left = x.left - length (d ∷ payload); to_hand = x.to_hand + length (d ∷ payload) })
-              (told ++ (d ∷ payload) ∷ []) v.okays handed) credited (subst (λ (c : Bool). Counts c x told v.okays handed) (sym credited) flow.counts);
+          counts = subst
+              (λ (c : Bool). Counts c
+              (record x { left = x.left - length (d ∷ payload); to_hand = x.to_hand + length (d ∷ payload) })
+              (told ++ (d ∷ payload) ∷ []) v.okays handed) credited
+              (subst (λ (c : Bool). Counts c x told v.okays handed) (sym credited) flow.counts);
         });
     backed = subst (λ (ps : List Packet). IsBackedBy k.credit (told ++ (d ∷ payload) ∷ []) ps handed) (sym okays)
         (backed_told k.credit told ((d ∷ payload) ∷ []) v.okays handed backed);
@@ -120,10 +137,14 @@ module _ (l : ℕ) (k : Cradle) (told : List (List ℕ)) (x : SeenStream) (v : V
     stream = now;
     orphan = refl;
     credit = refl;
-    flowing = subst (λ (ps : List Packet). IsFlowing k (record x { to_hand = length (d ∷ payload) }) (told ++ (d ∷ payload) ∷ []) ps handed) (sym okays)
+    flowing = subst
+        (λ (ps : List Packet). IsFlowing k (record x { to_hand = length (d ∷ payload) }) (told ++ (d ∷ payload) ∷ [])
+        ps handed) (sym okays)
         (record {
           left = omega (arith, flow.left, none, joined_one told (d ∷ payload));
-          counts = subst (λ (c : Bool). Counts c (record x { to_hand = length (d ∷ payload) }) (told ++ (d ∷ payload) ∷ []) v.okays handed) plain
+          counts = subst
+              (λ (c : Bool). Counts c (record x { to_hand = length (d ∷ payload) }) (told ++ (d ∷ payload) ∷ [])
+              v.okays handed) plain
               (omega (arith, counts, waits, length-append told ((d ∷ payload) ∷ [])));
         });
     backed = subst (λ (ps : List Packet). IsBackedBy k.credit (told ++ (d ∷ payload) ∷ []) ps handed) (sym okays)
@@ -142,7 +163,8 @@ module _ (l : ℕ) (k : Cradle) (told : List (List ℕ)) (x : SeenStream) (v : V
       counts : length v.okays + waiting_write x.to_hand ≡ length told
       counts = subst (λ (c : Bool). Counts c x told v.okays handed) (sym plain) flow.counts
 
-  accepts_write : (payload : List ℕ) → is_late x (length payload) ≡ false → Accepted k (told ++ payload ∷ []) x handed (accepts_as l payload x v)
+  accepts_write : (payload : List ℕ) → is_late x (length payload) ≡ false
+      → Accepted k (told ++ payload ∷ []) x handed (accepts_as l payload x v)
   accepts_write [] turn = accept_none x.credit refl turn
   accepts_write (d ∷ payload) turn = accept_some d payload x.credit refl turn (accepts_as l (d ∷ payload) x v) refl refl
 
@@ -182,7 +204,8 @@ module _ (l : ℕ) (k : Cradle) (packets : List Packet) (out : List ℕ) (v : Vi
 
     -- what is seen then
     open_window : (u : View) → Life l k (packets ++ p ∷ []) false out u
-        → Accepted k (told_in o.opening.remote l (o.opening.later ++ p ∷ [])) x (handed_past k out) u → Window l k (packets ++ p ∷ []) false out u
+        → Accepted k (told_in o.opening.remote l (o.opening.later ++ p ∷ [])) x (handed_past k out) u
+        → Window l k (packets ++ p ∷ []) false out u
     open_window u life made = record {
       life = life;
       backed = subst (λ (y : Option birth.Opening). IsBacked y l k.credit u.okays (handed_past k out)) (sym still_opened) made.backed;
@@ -196,9 +219,11 @@ module _ (l : ℕ) (k : Cradle) (packets : List Packet) (out : List ℕ) (v : Vi
     told_then : (payloads : List (List ℕ)) → told_in o.opening.remote l (p ∷ []) ≡ payloads
         → told_in o.opening.remote l o.opening.later ++ payloads ≡ told_in o.opening.remote l (o.opening.later ++ p ∷ [])
     told_then payloads is =
-        ap (λ (ps : List (List ℕ)). told_in o.opening.remote l o.opening.later ++ ps) (sym is) ∙ sym (told_append o.opening.remote l o.opening.later (p ∷ []))
+        ap (λ (ps : List (List ℕ)). told_in o.opening.remote l o.opening.later ++ ps) (sym is)
+        ∙ sym (told_append o.opening.remote l o.opening.later (p ∷ []))
 
-    by_turn : (u : View) → Life l k (packets ++ p ∷ []) false out u → OpenTurn l p x v o.opening.remote u → Window l k (packets ++ p ∷ []) false out u
+    by_turn : (u : View) → Life l k (packets ++ p ∷ []) false out u → OpenTurn l p x v o.opening.remote u
+        → Window l k (packets ++ p ∷ []) false out u
     by_turn u life (inl stays) =
         subst (λ (y : View). Window l k (packets ++ p ∷ []) false out y) (sym stays.is)
         (open_window v (subst (λ (y : View). Life l k (packets ++ p ∷ []) false out y) stays.is life)
@@ -213,11 +238,13 @@ module _ (l : ℕ) (k : Cradle) (packets : List Packet) (out : List ℕ) (v : Vi
         })))
     by_turn u life (inr (inl (ending, is))) =
         subst (λ (y : View). Window l k (packets ++ p ∷ []) false out y) (sym is)
-        (window_over l k (packets ++ p ∷ []) false out v x.orphan ending (subst (λ (y : View). Life l k (packets ++ p ∷ []) false out y) is life) backed_on)
+        (window_over l k (packets ++ p ∷ []) false out v x.orphan ending
+        (subst (λ (y : View). Life l k (packets ++ p ∷ []) false out y) is life) backed_on)
     by_turn u life (inr (inr accepts)) =
         subst (λ (y : View). Window l k (packets ++ p ∷ []) false out y) (sym accepts.is)
         (open_window (accepts_as l p.payload x v) (subst (λ (y : View). Life l k (packets ++ p ∷ []) false out y) accepts.is life)
-        (subst (λ (ps : List (List ℕ)). Accepted k ps x (handed_past k out) (accepts_as l p.payload x v)) (told_then (p.payload ∷ []) accepts.told)
+        (subst (λ (ps : List (List ℕ)). Accepted k ps x (handed_past k out) (accepts_as l p.payload x v))
+        (told_then (p.payload ∷ []) accepts.told)
         (accepts_write l k (told_in o.opening.remote l o.opening.later) x v there (row_flow x there).0 (handed_past k out)
         flowing backed p.payload accepts.in_turn)))
 
@@ -239,20 +266,26 @@ module _ (l : ℕ) (k : Cradle) (packets : List Packet) (out : List ℕ) (v : Vi
     none_now = turn.okays ∙ unused.none
 
     -- its row, where it is still there
-    fresh_treats : ((y : SeenStream) → IsSameRow l p x v y → FlowAs y.orphan l k (packets ++ p ∷ []) y (treated_as l p.command p x v).okays (handed_past k out))
-        → Life l k (packets ++ p ∷ []) false out (treated_as l p.command p x v) → Window l k (packets ++ p ∷ []) false out (treated_as l p.command p x v)
+    fresh_treats :
+        ((y : SeenStream) → IsSameRow l p x v y → FlowAs y.orphan l k (packets ++ p ∷ []) y
+        (treated_as l p.command p x v).okays (handed_past k out))
+        → Life l k (packets ++ p ∷ []) false out (treated_as l p.command p x v)
+        → Window l k (packets ++ p ∷ []) false out (treated_as l p.command p x v)
     fresh_treats flows life = record {
       life = life;
       backed = unbacked (opening_in l (packets ++ p ∷ [])) l k.credit (treated_as l p.command p x v).okays (handed_past k out) none_now;
       flow = by turn.row;
     }
       where
-        by : ((treated_as l p.command p x v).stream ≡ None) ⊎ ((y : SeenStream) × ((treated_as l p.command p x v).stream ≡ Some y) × IsSameRow l p x v y)
+        by : ((treated_as l p.command p x v).stream ≡ None) ⊎
+            ((y : SeenStream) × ((treated_as l p.command p x v).stream ≡ Some y) × IsSameRow l p x v y)
             → FlowIn (treated_as l p.command p x v).stream l k (packets ++ p ∷ []) (treated_as l p.command p x v).okays (handed_past k out)
         by (inl none) =
-            subst (λ (o : Option SeenStream). FlowIn o l k (packets ++ p ∷ []) (treated_as l p.command p x v).okays (handed_past k out)) (sym none) tt
+            subst (λ (o : Option SeenStream). FlowIn o l k (packets ++ p ∷ []) (treated_as l p.command p x v).okays
+            (handed_past k out)) (sym none) tt
         by (inr (y, is, same)) =
-            subst (λ (o : Option SeenStream). FlowIn o l k (packets ++ p ∷ []) (treated_as l p.command p x v).okays (handed_past k out)) (sym is)
+            subst (λ (o : Option SeenStream). FlowIn o l k (packets ++ p ∷ []) (treated_as l p.command p x v).okays
+            (handed_past k out)) (sym is)
             (same.credit ∙ (row_flow x there).0, flows y same)
 
     still_unused : (y : SeenStream) → IsSameRow l p x v y → IsUnused y (treated_as l p.command p x v).okays
@@ -262,14 +295,16 @@ module _ (l : ℕ) (k : Cradle) (packets : List Packet) (out : List ℕ) (v : Vi
     orphan_flow : x.orphan ≡ true → (y : SeenStream) → IsSameRow l p x v y
         → FlowAs y.orphan l k (packets ++ p ∷ []) y (treated_as l p.command p x v).okays (handed_past k out)
     orphan_flow is_orphan y same =
-        subst (λ (c : Bool). FlowAs c l k (packets ++ p ∷ []) y (treated_as l p.command p x v).okays (handed_past k out)) (sym (same.orphan ∙ is_orphan))
+        subst (λ (c : Bool). FlowAs c l k (packets ++ p ∷ []) y (treated_as l p.command p x v).okays
+        (handed_past k out)) (sym (same.orphan ∙ is_orphan))
         (still_unused y same)
 
     -- one that waits, of which nothing was handed out
     wait_flow : x.orphan ≡ false → IsPending l packets → handed_past k out ≡ 0 → (y : SeenStream) → IsSameRow l p x v y
         → FlowAs y.orphan l k (packets ++ p ∷ []) y (treated_as l p.command p x v).okays (handed_past k out)
     wait_flow owned pending nothing y same =
-        subst (λ (c : Bool). FlowAs c l k (packets ++ p ∷ []) y (treated_as l p.command p x v).okays (handed_past k out)) (sym (same.orphan ∙ owned))
+        subst (λ (c : Bool). FlowAs c l k (packets ++ p ∷ []) y (treated_as l p.command p x v).okays
+        (handed_past k out)) (sym (same.orphan ∙ owned))
         (by (opening_in l (packets ++ p ∷ [])) refl)
       where
         unused_now : IsUnused y (treated_as l p.command p x v).okays
@@ -284,7 +319,8 @@ module _ (l : ℕ) (k : Cradle) (packets : List Packet) (out : List ℕ) (v : Vi
         by None e = unused_now
         by (Some o) e =
             let first : o.later ≡ [] = first_later l p o (sym (pending (p ∷ [])) ∙ e) in
-            subst (λ (ps : List Packet). IsFlowing k y (told_in o.remote l ps) (treated_as l p.command p x v).okays (handed_past k out)) (sym first)
+            subst (λ (ps : List Packet). IsFlowing k y (told_in o.remote l ps) (treated_as l p.command p x v).okays
+            (handed_past k out)) (sym first)
             (subst (λ (ps : List Packet). IsFlowing k y [] ps (handed_past k out)) (sym none_now)
             (record { left = omega (arith, unused_now.to_hand, nothing); counts = count k.credit }))
 
@@ -302,12 +338,14 @@ module _ (l : ℕ) (k : Cradle) (packets : List Packet) (out : List ℕ) (v : Vi
       longer true = omega arith
       longer false = omega (arith, length-append k.replies (Rattle.std.specs.Prelude.codes "OKAY"))
 
-  pub window_treats : Life l k (packets ++ p ∷ []) false out (treated_on v.stream l p v) → Window l k (packets ++ p ∷ []) false out (treated_on v.stream l p v)
+  pub window_treats : Life l k (packets ++ p ∷ []) false out (treated_on v.stream l p v)
+      → Window l k (packets ++ p ∷ []) false out (treated_on v.stream l p v)
   window_treats life = by v.stream refl w.life.lives life
     where
       alive : (x : SeenStream) (orphan : Bool) (remote : ℕ) → v.stream ≡ Some x → x.orphan ≡ orphan → x.remote ≡ remote
           → LivesAs orphan remote l k packets (heard v)
-          → Life l k (packets ++ p ∷ []) false out (treated_as l p.command p x v) → Window l k (packets ++ p ∷ []) false out (treated_as l p.command p x v)
+          → Life l k (packets ++ p ∷ []) false out (treated_as l p.command p x v)
+          → Window l k (packets ++ p ∷ []) false out (treated_as l p.command p x v)
       alive x true r there is_orphan is i life =
           let unused = subst (λ (c : Bool). FlowAs c l k packets x v.okays (handed_past k out)) is_orphan (row_flow x there).1 in
           fresh_treats x there (is ∙ i.remote_is) unused (orphan_flow x there (is ∙ i.remote_is) unused is_orphan) life
@@ -317,7 +355,8 @@ module _ (l : ℕ) (k : Cradle) (packets : List Packet) (out : List ℕ) (v : Vi
           fresh_treats x there is unused (wait_flow x there is unused owned i.pending (nothing_handed i)) life
       alive x false (suc r) there owned is i life = open_treats r x there owned is i life
 
-      by : (o : Option SeenStream) → v.stream ≡ o → LivesIn o l k packets false (heard v) → Life l k (packets ++ p ∷ []) false out (treated_on o l p v)
+      by : (o : Option SeenStream) → v.stream ≡ o → LivesIn o l k packets false (heard v)
+          → Life l k (packets ++ p ∷ []) false out (treated_on o l p v)
           → Window l k (packets ++ p ∷ []) false out (treated_on o l p v)
       by None none i life = record {
         life = life;

@@ -1,5 +1,6 @@
 -- What is acknowledged was handed out: each turn of what is seen of a stream keeps it.
-use Rattle.std.proofs.Common.{ℕ, ◌+◌, ◌-◌, ◌≡◌, ◌≤◌, zero, suc, Bool, true, false, List, ◌++◌, length, drop, min, Option, Some, None, refl, sym, ◌∙◌, ap, subst}
+use Rattle.std.proofs.Common.{ℕ, ◌+◌, ◌-◌, ◌≡◌, ◌≤◌, zero, suc, Bool, true, false, List, ◌++◌, length, drop, min, Option, Some, None, refl}
+use Rattle.std.proofs.Common.{sym, ◌∙◌, ap, subst}
 use Rattle.std.proofs.Common.{arith}
 use Rattle.std.proofs.lemmas.List.{length-append, length-drop}
 use Rattle.adb_outside.specs.Bytes.{IsPrefixOf}
@@ -29,12 +30,15 @@ module _ (l : ℕ) (k : Cradle) where
       → IsBacked (opening_in l packets) l k.credit v.okays (handed_past k out) → Window l k packets shut out (over orphan ending v)
   window_over packets shut out v orphan ending life backed = record {
     life = life;
-    backed = subst (λ (ps : List Packet). IsBacked (opening_in l packets) l k.credit ps (handed_past k out)) (sym (over_okays orphan ending v)) backed;
-    flow = subst (λ (o : Option SeenStream). FlowIn o l k packets (over orphan ending v).okays (handed_past k out)) (sym (over_gone orphan ending v)) tt;
+    backed = subst (λ (ps : List Packet). IsBacked (opening_in l packets) l k.credit ps (handed_past k out))
+        (sym (over_okays orphan ending v)) backed;
+    flow = subst (λ (o : Option SeenStream). FlowIn o l k packets (over orphan ending v).okays (handed_past k out))
+        (sym (over_gone orphan ending v)) tt;
   }
 
   -- ---- its client fails
-  module _ (packets : List Packet) (shut : Bool) (out : List ℕ) (v : View) (w : Window l k packets shut out v) (a : SeenClient) (here : v.client ≡ Some a) where
+  module _ (packets : List Packet) (shut : Bool) (out : List ℕ) (v : View) (w : Window l k packets shut out v)
+      (a : SeenClient) (here : v.client ≡ Some a) where
     -- a stream that is asked for has no opening
     asked_unused : (x : SeenStream) (m : ℕ) → v.stream ≡ Some x → a.phase ≡ Opening m → (x.credit ≡ k.credit) × IsUnused x v.okays
     asked_unused x m there phase = (flow.0, by x.orphan x.remote (lives_at l k packets shut out v x there w.life) flow.1)
@@ -42,7 +46,8 @@ module _ (l : ℕ) (k : Cradle) where
         flow : (x.credit ≡ k.credit) × FlowAs x.orphan l k packets x v.okays (handed_past k out)
         flow = subst (λ (o : Option SeenStream). FlowIn o l k packets v.okays (handed_past k out)) there w.flow
 
-        by : (orphan : Bool) (remote : ℕ) → LivesAs orphan remote l k packets (heard v) → FlowAs orphan l k packets x v.okays (handed_past k out)
+        by : (orphan : Bool) (remote : ℕ) → LivesAs orphan remote l k packets (heard v)
+            → FlowAs orphan l k packets x v.okays (handed_past k out)
             → IsUnused x v.okays
         by true remote i unused = unused
         by false zero i flows =
@@ -76,7 +81,8 @@ module _ (l : ℕ) (k : Cradle) where
     }
 
   -- ---- bytes are handed out to its client
-  module _ (packets : List Packet) (shut : Bool) (out bytes : List ℕ) (v : View) (w : Window l k packets shut out v) (a : SeenClient) (here : v.client ≡ Some a)
+  module _ (packets : List Packet) (shut : Bool) (out bytes : List ℕ) (v : View) (w : Window l k packets shut out v)
+      (a : SeenClient) (here : v.client ≡ Some a)
       (front : IsPrefixOf bytes a.due) where
     abbrev due_now : List ℕ
     due_now = drop (length bytes) a.due
@@ -96,11 +102,13 @@ module _ (l : ℕ) (k : Cradle) where
         → Window l k packets shut (out ++ bytes) (stream_left_as (min x.to_hand (length due_now)) l x seen_now)
     open_hands r x there owned o life = record {
       life = life;
-      backed = subst (λ (p : Option birth.Opening). IsBacked p l k.credit after.okays (handed_past k (out ++ bytes))) (sym o.opened) made.backed;
+      backed = subst (λ (p : Option birth.Opening). IsBacked p l k.credit after.okays (handed_past k (out ++ bytes)))
+          (sym o.opened) made.backed;
       flow = subst (λ (p : Option SeenStream). FlowIn p l k packets after.okays (handed_past k (out ++ bytes))) (sym made.stream) (
         made.credit ∙ row.0,
         subst (λ (c : Bool). FlowAs c l k packets made.row after.okays (handed_past k (out ++ bytes))) (sym (made.orphan ∙ owned))
-            (subst (λ (p : Option birth.Opening). FlowsBy p l k made.row after.okays (handed_past k (out ++ bytes))) (sym o.opened) made.flowing),
+            (subst (λ (p : Option birth.Opening). FlowsBy p l k made.row after.okays (handed_past k (out ++ bytes)))
+            (sym o.opened) made.flowing),
       );
     }
       where
@@ -130,8 +138,10 @@ module _ (l : ℕ) (k : Cradle) where
             let lengths : length (lead k) + length (joined (told_in o.opening.remote l o.opening.later)) ≡ length out + length a.due =
             sym (length-append (lead k) (joined (told_in o.opening.remote l o.opening.later)))
             ∙ (ap length (sym o.output ∙ due_is) ∙ length-append out a.due) in
-            let now = left_sum x.to_hand (length (joined (told_in o.opening.remote l o.opening.later))) (length (lead k)) (length out) (length a.due)
-            (length bytes) (ap (λ (n : ℕ). x.to_hand + n) (sym (handed_count k out)) ∙ flowing.left) lengths (front_within bytes a.due front) in
+            let now = left_sum x.to_hand (length (joined (told_in o.opening.remote l o.opening.later)))
+            (length (lead k)) (length out) (length a.due)
+            (length bytes) (ap (λ (n : ℕ). x.to_hand + n) (sym (handed_count k out)) ∙ flowing.left) lengths
+            (front_within bytes a.due front) in
             let due : length (drop (length bytes) a.due) ≡ length a.due - length bytes = length-drop (length bytes) a.due in
             let count : handed_past k (out ++ bytes) ≡ length out + length bytes - length (lead k) =
             handed_count k (out ++ bytes) ∙ ap (λ (n : ℕ). n - length (lead k)) (length-append out bytes) in
@@ -141,18 +151,22 @@ module _ (l : ℕ) (k : Cradle) where
         made : Handed l k (told_in o.opening.remote l o.opening.later) x (handed_past k (out ++ bytes))
             (stream_left_as (min x.to_hand (length (drop (length bytes) a.due))) l x seen_now)
         made =
-            hands_some l k (told_in o.opening.remote l o.opening.later) x seen_now there row.0 (handed_past k out) (handed_past k (out ++ bytes)) flowing backed
+            hands_some l k (told_in o.opening.remote l o.opening.later) x seen_now there row.0 (handed_past k out)
+            (handed_past k (out ++ bytes)) flowing backed
             more (min x.to_hand (length (drop (length bytes) a.due))) (omega arith) sum
 
     pub window_hands : (b : Line) → b.id ≡ l → Life l k packets shut (out ++ bytes) (handed_out b (length bytes) a v)
         → Window l k packets shut (out ++ bytes) (handed_out b (length bytes) a v)
     window_hands b id_is life =
         subst (λ (m : ℕ). Window l k packets shut (out ++ bytes) (handed_in a.phase m (length bytes) a v)) (sym id_is)
-        (by v.stream refl w.life.lives (subst (λ (m : ℕ). Life l k packets shut (out ++ bytes) (handed_in a.phase m (length bytes) a v)) id_is life))
+        (by v.stream refl w.life.lives
+        (subst (λ (m : ℕ). Life l k packets shut (out ++ bytes) (handed_in a.phase m (length bytes) a v)) id_is
+        life))
       where
         -- the client of a stream that is not open
         plain : (phase : Phase) → a.phase ≡ phase
-            → ((u : View) → u.okays ≡ v.okays → u.stream ≡ v.stream → Life l k packets shut (out ++ bytes) u → Window l k packets shut (out ++ bytes) u)
+            → ((u : View) → u.okays ≡ v.okays → u.stream ≡ v.stream → Life l k packets shut (out ++ bytes) u
+            → Window l k packets shut (out ++ bytes) u)
             → (handed_in phase l (length bytes) a v).okays ≡ v.okays → (handed_in phase l (length bytes) a v).stream ≡ v.stream
             → Life l k packets shut (out ++ bytes) (handed_in a.phase l (length bytes) a v)
             → Window l k packets shut (out ++ bytes) (handed_in a.phase l (length bytes) a v)
@@ -162,13 +176,17 @@ module _ (l : ℕ) (k : Cradle) where
             (subst (λ (p : Phase). Life l k packets shut (out ++ bytes) (handed_in p l (length bytes) a v)) is life))
 
         -- a flow that does not hang on what was handed out
-        make_unused : (x : SeenStream) → v.stream ≡ Some x → ((n : ℕ) → FlowAs x.orphan l k packets x v.okays n) → (u : View) → u.okays ≡ v.okays
+        make_unused : (x : SeenStream) → v.stream ≡ Some x → ((n : ℕ) → FlowAs x.orphan l k packets x v.okays n)
+            → (u : View) → u.okays ≡ v.okays
             → u.stream ≡ v.stream → Life l k packets shut (out ++ bytes) u → Window l k packets shut (out ++ bytes) u
         make_unused x there flows u okays stream life = record {
           life = life;
-          backed = subst (λ (ps : List Packet). IsBacked (opening_in l packets) l k.credit ps (handed_past k (out ++ bytes))) (sym okays) backed_now;
+          backed = subst
+              (λ (ps : List Packet). IsBacked (opening_in l packets) l k.credit ps (handed_past k (out ++ bytes)))
+              (sym okays) backed_now;
           flow = subst (λ (ps : List Packet). FlowIn u.stream l k packets ps (handed_past k (out ++ bytes))) (sym okays)
-              (subst (λ (o : Option SeenStream). FlowIn o l k packets v.okays (handed_past k (out ++ bytes))) (sym (stream ∙ there)) (credit, flows _));
+              (subst (λ (o : Option SeenStream). FlowIn o l k packets v.okays (handed_past k (out ++ bytes)))
+              (sym (stream ∙ there)) (credit, flows _));
         }
           where
             credit : x.credit ≡ k.credit
@@ -179,7 +197,8 @@ module _ (l : ℕ) (k : Cradle) where
             let same : c ≡ a = (let both : Some c ≡ Some a = sym is ∙ here in cc) in
             sym (ap (λ (x : SeenClient). x.phase) same) ∙ e
 
-        alive : (x : SeenStream) (orphan : Bool) (remote : ℕ) → v.stream ≡ Some x → x.orphan ≡ orphan → LivesAs orphan remote l k packets (heard v)
+        alive : (x : SeenStream) (orphan : Bool) (remote : ℕ) → v.stream ≡ Some x → x.orphan ≡ orphan
+            → LivesAs orphan remote l k packets (heard v)
             → Life l k packets shut (out ++ bytes) (handed_in a.phase l (length bytes) a v)
             → Window l k packets shut (out ++ bytes) (handed_in a.phase l (length bytes) a v)
         alive x true remote there is_orphan i life = absurd (let clash : None ≡ Some a = sym i.gone ∙ here in cc)
@@ -200,7 +219,8 @@ module _ (l : ℕ) (k : Cradle) where
             subst (λ (o : Option SeenStream). Life l k packets shut (out ++ bytes) (row_handed (length due_now) l o seen_now)) there
             (subst (λ (p : Phase). Life l k packets shut (out ++ bytes) (handed_in p l (length bytes) a v)) phase life) in
             subst (λ (p : Phase). Window l k packets shut (out ++ bytes) (handed_in p l (length bytes) a v)) (sym phase)
-            (subst (λ (o : Option SeenStream). Window l k packets shut (out ++ bytes) (row_handed (length due_now) l o seen_now)) (sym there)
+            (subst (λ (o : Option SeenStream). Window l k packets shut (out ++ bytes)
+            (row_handed (length due_now) l o seen_now)) (sym there)
             (open_hands r x there is_owned i now))
 
         by : (o : Option SeenStream) → v.stream ≡ o → LivesIn o l k packets shut (heard v)
@@ -208,7 +228,9 @@ module _ (l : ℕ) (k : Cradle) where
             → Window l k packets shut (out ++ bytes) (handed_in a.phase l (length bytes) a v)
         by None none i life = plain Closing (i.0 a here) (λ u okays stream life. record {
           life = life;
-          backed = subst (λ (ps : List Packet). IsBacked (opening_in l packets) l k.credit ps (handed_past k (out ++ bytes))) (sym okays) backed_now;
+          backed = subst
+              (λ (ps : List Packet). IsBacked (opening_in l packets) l k.credit ps (handed_past k (out ++ bytes)))
+              (sym okays) backed_now;
           flow = subst (λ (o : Option SeenStream). FlowIn o l k packets u.okays (handed_past k (out ++ bytes))) (sym (stream ∙ none)) tt;
         }) refl refl life
         by (Some x) there i life = alive x x.orphan x.remote there refl i life

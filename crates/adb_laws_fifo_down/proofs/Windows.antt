@@ -1,5 +1,6 @@
 -- What is acknowledged was handed out, through each turn of what is seen of a stream.
-use Rattle.std.proofs.Common.{ℕ, ◌+◌, ◌-◌, ◌≡◌, ◌≢◌, ◌≤◌, ◌<◌, zero, suc, Bool, true, false, cond, List, [], ◌∷◌, ◌++◌, length, min, Some, None, refl, sym}
+use Rattle.std.proofs.Common.{ℕ, ◌+◌, ◌-◌, ◌≡◌, ◌≢◌, ◌≤◌, ◌<◌, zero, suc, Bool, true, false, cond, List, [], ◌∷◌, ◌++◌, length, min, Some}
+use Rattle.std.proofs.Common.{None, refl, sym}
 use Rattle.std.proofs.Common.{◌∙◌, ap, subst}
 use Rattle.std.proofs.Common.{arith, eqb}
 use Rattle.std.proofs.lemmas.Bool.{eqb-true, eqb-false}
@@ -41,12 +42,28 @@ HasWord p = credit_word p.payload ≢ None
 -- the flow of a row without credit, and with
 row_plain : (left : ℕ) (x : SeenStream) → x.credit ≡ false → row_left left x ≡ record x { to_hand = left }
 row_plain left x e = ap (λ (c : Bool). cond c
-    (record x { left = x.left + back_of left x; to_hand = left; gathered = x.gathered + (x.to_hand - left) - back_of left x }) (record x { to_hand = left })) e
+    (record x {
+      left = x.left + back_of left x;
+      to_hand = left;
+      gathered =
+          x.gathered + (x.to_hand - left) - back_of left x;
+    }) (record x { to_hand = left })) e
 
 row_credit : (left : ℕ) (x : SeenStream) → x.credit ≡ true
-    → row_left left x ≡ record x { left = x.left + back_of left x; to_hand = left; gathered = x.gathered + (x.to_hand - left) - back_of left x }
+    → row_left left x
+    ≡ record x {
+      left = x.left + back_of left x;
+      to_hand = left;
+      gathered =
+          x.gathered + (x.to_hand - left) - back_of left x;
+    }
 row_credit left x e = ap (λ (c : Bool). cond c
-    (record x { left = x.left + back_of left x; to_hand = left; gathered = x.gathered + (x.to_hand - left) - back_of left x }) (record x { to_hand = left })) e
+    (record x {
+      left = x.left + back_of left x;
+      to_hand = left;
+      gathered =
+          x.gathered + (x.to_hand - left) - back_of left x;
+    }) (record x { to_hand = left })) e
 
 back_within : (left : ℕ) (x : SeenStream) → back_of left x ≤ x.gathered + (x.to_hand - left)
 back_within left x = by _
@@ -107,7 +124,8 @@ module _ (l : ℕ) (k : Cradle) (told : List (List ℕ)) where
                 (omega (arith, counts, one x.to_hand lt, length-append v.okays (okay_packet l x.remote ∷ [])));
           };
           backed = subst (λ (c : Bool). IsBackedBy c told (v.okays ++ okay_packet l x.remote ∷ []) now) (sym plain)
-              (subst (λ (n : ℕ). length (v.okays ++ okay_packet l x.remote ∷ []) ≤ whole_within n told) (sym (none_left now (length (joined told)) sum))
+              (subst (λ (n : ℕ). length (v.okays ++ okay_packet l x.remote ∷ []) ≤ whole_within n told)
+              (sym (none_left now (length (joined told)) sum))
               (omega (arith, counts, one x.to_hand lt, length-append v.okays (okay_packet l x.remote ∷ []), all_whole told)));
         }
         by (suc n) lt sum = record {
@@ -126,7 +144,13 @@ module _ (l : ℕ) (k : Cradle) (told : List (List ℕ)) where
     -- or of a credit
     hands_credit : (left : ℕ) → k.credit ≡ true → left < x.to_hand → left + now ≡ length (joined told)
         → Handed x now (credit_told (back_of left x) l x (record v {
-          stream = Some (record x { left = x.left + back_of left x; to_hand = left; gathered = x.gathered + (x.to_hand - left) - back_of left x });
+          stream = Some
+              (record x {
+                left = x.left + back_of left x;
+                to_hand = left;
+                gathered =
+                    x.gathered + (x.to_hand - left) - back_of left x;
+              });
         }))
     hands_credit left credit less sum = by (back_of left x) (back_within left x)
       where
@@ -146,7 +170,9 @@ module _ (l : ℕ) (k : Cradle) (told : List (List ℕ)) where
           credit = refl;
           flowing = record {
             left = sum;
-            counts = subst (λ (c : Bool). Counts c (record x { left = x.left + 0; to_hand = left; gathered = x.gathered + (x.to_hand - left) - 0 })
+            counts = subst
+                (λ (c : Bool). Counts c
+                (record x { left = x.left + 0; to_hand = left; gathered = x.gathered + (x.to_hand - left) - 0 })
                 told v.okays now) (sym credit) (omega (arith, counts, flow.left, sum, less));
           };
           backed = backed_handed k.credit told v.okays before now le backed;
@@ -158,7 +184,14 @@ module _ (l : ℕ) (k : Cradle) (told : List (List ℕ)) where
           credit = refl;
           flowing = record {
             left = sum;
-            counts = subst (λ (c : Bool). Counts c (record x { left = x.left + suc n; to_hand = left; gathered = x.gathered + (x.to_hand - left) - suc n })
+            counts = subst
+                (λ (c : Bool). Counts c
+                (record x {
+                  left = x.left + suc n;
+                  to_hand = left;
+                  gathered =
+                      x.gathered + (x.to_hand - left) - suc n;
+                })
                 told (v.okays ++ credit_packet l x.remote (suc n) ∷ []) now) (sym credit)
                 (omega (
                   arith,
@@ -203,7 +236,8 @@ module _ (l : ℕ) (k : Cradle) (told : List (List ℕ)) where
             (hands_plain left (sym same ∙ e) lt sum))
         fewer true e lt =
             subst (λ (c : Bool). Handed x now (left_told c left l x (record v { stream = Some (row_left left x) }))) (sym e)
-            (subst (λ (y : SeenStream). Handed x now (credit_told (back_of left x) l x (record v { stream = Some y }))) (sym (row_credit left x e))
+            (subst (λ (y : SeenStream). Handed x now
+            (credit_told (back_of left x) l x (record v { stream = Some y }))) (sym (row_credit left x e))
             (hands_credit left (sym same ∙ e) lt sum))
 
         by : (c : Bool) → eqb left x.to_hand ≡ c

@@ -1,4 +1,5 @@
--- The life of a stream, in what is seen of it: it waits for its device, or is an orphan, or is open, or is over; and what became due to its client by then.
+-- The life of a stream, in what is seen of it: it waits for its device, or is an orphan, or is open, or is over; and
+-- what became due to its client by then.
 use Rattle.std.specs.Prelude.{ℕ, ◌≡◌, ◌≢◌, ◌⊎◌, Bool, true, false, List, ◌++◌, Option, Some, None, codes, zero, suc}
 use Rattle.adb_outside.specs.Bytes.{IsPrefixOf}
 use Rattle.adb_wire.specs.declared.packets.Packet.{Packet}
@@ -9,7 +10,8 @@ use Rattle.adb_history.specs.Births as birth
 use Rattle.adb_history.specs.Births.{opening_in, told_in, before_close, joined}
 use Rattle.adb_laws_fifo_down.specs.Line.{SeenStream, SeenClient, View, fail_bytes}
 
--- What was so when the stream was born: whether it has credit; whether its client came through a forward; and what had become due to its client.
+-- What was so when the stream was born: whether it has credit; whether its client came through a forward; and what
+-- had become due to its client.
 pub record Cradle : Type 0 where
   pub credit : Bool
   pub forwarded : Bool
@@ -36,7 +38,8 @@ pub record NeverOpens (l : ℕ) (packets : List Packet) (shut : Bool) : Type 0 w
   pub unopened : opening_in l packets ≡ None
   pub for_good : (shut ≡ true) ⊎ IsSealed l packets
 
--- what became due to the client of a stream that never opens, while it waited: its replies, and where it came by itself, that the stream is closed
+-- what became due to the client of a stream that never opens, while it waited: its replies, and where it came by
+-- itself, that the stream is closed
 abbrev pub unopened_output : Bool → List ℕ → List ℕ
 unopened_output true replies = replies
 unopened_output false replies = replies ++ fail_bytes
@@ -105,7 +108,8 @@ IsDone client = (a : SeenClient) → client ≡ Some a → a.phase ≡ Closing
 
 abbrev pub Story : ℕ → Cradle → List Packet → Bool → Heard → Type 0
 Story l k packets shut y =
-    (NeverOpens l packets shut × (y.output ≡ unopened_output k.forwarded k.replies)) ⊎ (IsUnheard k y.output y.ending ⊎ WasOpen l k packets y.output y.ending)
+    (NeverOpens l packets shut × (y.output ≡ unopened_output k.forwarded k.replies))
+    ⊎ (IsUnheard k y.output y.ending ⊎ WasOpen l k packets y.output y.ending)
 
 -- ---- all
 abbrev pub LivesAs : Bool → (remote l : ℕ) → Cradle → List Packet → Heard → Type 0

@@ -56,7 +56,8 @@ seen x = record {
 abbrev pub seen_client : Client → SeenClient
 seen_client a = record { phase = a.about.phase; forwarded = a.about.forwarded; due = a.due }
 
--- stream and client: as they are kept; output: what became due to the client; okays: the OKAYs of the stream that became due to its link; ending: how it
+-- stream and client: as they are kept; output: what became due to the client; okays: the OKAYs of the stream that
+-- became due to its link; ending: how it
 -- ended.
 pub record View : Type 0 where
   pub stream : Option SeenStream

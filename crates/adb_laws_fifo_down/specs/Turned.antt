@@ -1,5 +1,6 @@
 -- What the entries of its client make of what is seen of a stream.
-use Rattle.std.specs.Prelude.{ℕ, ◌+◌, ◌-◌, ◌≡◌, ◌⊎◌, Bool, true, false, if◌then◌else◌, nat_eq, List, [], ◌∷◌, ◌++◌, length, drop, min, Option, Some, None}
+use Rattle.std.specs.Prelude.{ℕ, ◌+◌, ◌-◌, ◌≡◌, ◌⊎◌, Bool, true, false, if◌then◌else◌, nat_eq, List, [], ◌∷◌, ◌++◌, length, drop, min}
+use Rattle.std.specs.Prelude.{Option, Some, None}
 use Rattle.std.specs.Prelude.{zero, suc}
 use Rattle.adb_outside.specs.declared.kinds.Cause.{Cause}
 use Rattle.adb_wire.specs.declared.packets.Packet.{Packet}
@@ -46,7 +47,12 @@ back_of left x = given_back left (x.gathered + (x.to_hand - left))
 -- the row when so many are left
 abbrev pub row_left : ℕ → SeenStream → SeenStream
 row_left left x =
-    if x.credit then record x { left = x.left + back_of left x; to_hand = left; gathered = x.gathered + (x.to_hand - left) - back_of left x }
+    if x.credit then record x {
+      left = x.left + back_of left x;
+      to_hand = left;
+      gathered =
+          x.gathered + (x.to_hand - left) - back_of left x;
+    }
     else record x { to_hand = left }
 
 abbrev pub more_okays : List Packet → View → View
@@ -75,7 +81,8 @@ row_handed due l None v = v
 row_handed due l (Some x) v = stream_left_as (min x.to_hand due) l x v
 
 abbrev pub handed_in : Phase → ℕ → ℕ → SeenClient → View → View
-handed_in (Streaming l) k n a v = row_handed (length (drop n a.due)) k v.stream (record v { client = Some (record a { due = drop n a.due }) })
+handed_in (Streaming l) k n a v = row_handed (length (drop n a.due)) k v.stream
+    (record v { client = Some (record a { due = drop n a.due }) })
 handed_in Closing k n a v = record v { client = closing_seen (drop n a.due) a }
 handed_in _ k n a v = record v { client = Some (record a { due = drop n a.due }) }
 

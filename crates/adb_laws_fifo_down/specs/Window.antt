@@ -25,7 +25,8 @@ abbrev pub waiting_write : ℕ → ℕ
 waiting_write zero = 0
 waiting_write (suc n) = 1
 
--- Each write but the last is acknowledged at most once, and the last only when it was handed out; or each byte of credit that was given back was handed out.
+-- Each write but the last is acknowledged at most once, and the last only when it was handed out; or each byte of
+-- credit that was given back was handed out.
 abbrev pub Counts : Bool → SeenStream → List (List ℕ) → List Packet → ℕ → Type 0
 Counts false x told okays handed = length okays + waiting_write x.to_hand ≡ length told
 Counts true x told okays handed = credit_of okays + x.gathered ≤ handed

@@ -52,7 +52,8 @@ aside_owe_client c bytes s = record {
 }
 
 -- a packet becomes due that neither carries nor closes
-pub aside_owe : (t : ℕ) (p : Packet) (s : State) → (is_wrte p.command ≡ false) × (is_clse p.command ≡ true → p.arg0 ≡ 0) → Aside s (owe_link t p s)
+pub aside_owe : (t : ℕ) (p : Packet) (s : State) → (is_wrte p.command ≡ false)
+    × (is_clse p.command ≡ true → p.arg0 ≡ 0) → Aside s (owe_link t p s)
 aside_owe t p s none = record { drawn = refl; streams = λ l. refl; clients = λ c v see. see; told = (none, tt) }
 
 pub dims_closing : (clients : Rows (Option Client)) (c : ℕ) → Dims clients c closing
@@ -63,7 +64,8 @@ aside_closes c s = aside_client c closing s (dims_closing s.clients c)
 
 pub aside_closes_with : (c : ℕ) (bytes : List ℕ) (s : State) → Aside s (closes_with c bytes s)
 aside_closes_with c bytes s =
-    aside_then s (owe_client c bytes s) (λ s. quietly (closes c s)) (aside_owe_client c bytes s) (aside_closes c (owe_client c bytes s).state)
+    aside_then s (owe_client c bytes s) (λ s. quietly (closes c s)) (aside_owe_client c bytes s)
+    (aside_closes c (owe_client c bytes s).state)
 
 pub aside_drops : (c : ℕ) (s : State) → Aside s (quietly (to_client c none_kept s))
 aside_drops c s = aside_client c none_kept s (λ x v is h. absurd (none_unseen v h))

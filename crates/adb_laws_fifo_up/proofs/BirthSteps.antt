@@ -1,5 +1,6 @@
 -- The streams of a history are those of the one before it, and perhaps one more.
-use Rattle.std.proofs.Common.{◌≡◌, ℕ, ◌<◌, ◌≤◌, zero, suc, Bool, true, false, cond, List, [], ◌∷◌, ◌++◌, length, Option, Some, None, refl, sym, subst}
+use Rattle.std.proofs.Common.{◌≡◌, ℕ, ◌<◌, ◌≤◌, zero, suc, Bool, true, false, cond, List, [], ◌∷◌, ◌++◌, length, Option, Some, None, refl}
+use Rattle.std.proofs.Common.{sym, subst}
 use Rattle.std.proofs.Common.{ap, arith, ◌⊎◌, inl, inr}
 use Rattle.std.specs.Prelude.{slice_get, nat_lt}
 use Rattle.std.proofs.lemmas.Option.{slice_get_within}
@@ -22,7 +23,8 @@ use Rattle.adb_history.specs.Fifo.{HasBirths}
 abbrev pub Has : {X : Type 0} → List X → X → Type 0
 Has xs x = (i : ℕ) × (slice_get xs i ≡ Some x)
 
-get_grown : {X : Type 0} (xs ys : List X) (k : ℕ) (x : X) → slice_get (xs ++ ys) k ≡ Some x → (slice_get xs k ≡ Some x) ⊎ ((length xs ≤ k) × Has ys x)
+get_grown : {X : Type 0} (xs ys : List X) (k : ℕ) (x : X) → slice_get (xs ++ ys) k ≡ Some x
+    → (slice_get xs k ≡ Some x) ⊎ ((length xs ≤ k) × Has ys x)
 get_grown [] ys k x e = inr (omega arith, (k, e))
 get_grown (y ∷ xs) ys zero x e = inl e
 get_grown (y ∷ xs) ys (suc k) x e = go (get_grown xs ys k x e)
@@ -42,7 +44,8 @@ pub record IsNew (l : ℕ) (b : Birth) (e : Entry) (older : History) : Type 0 wh
   pub above : length (births older) < l
   pub now : Has (births_at e older) b
 
-pub born_before : (l : ℕ) (b : Birth) (e : Entry) (older : History) → born l (e ∷ older) ≡ Some b → (born l older ≡ Some b) ⊎ IsNew l b e older
+pub born_before : (l : ℕ) (b : Birth) (e : Entry) (older : History) → born l (e ∷ older) ≡ Some b
+    → (born l older ≡ Some b) ⊎ IsNew l b e older
 born_before zero b e older is = let clash : None ≡ Some b = is in cc
 born_before (suc k) b e older is = go (nat_lt k stream_ids) is
   where
@@ -94,7 +97,8 @@ one_in {X} y x h = go h.0 h.1
     go zero e = cc
     go (suc i) e = let clash : None ≡ Some x = e in cc
 
-before_of : (older : History) (a b : Birth) → a ≡ b → a.packets_before ≡ length (brought a.link older) → b.packets_before ≡ length (brought b.link older)
+before_of : (older : History) (a b : Birth) → a ≡ b → a.packets_before ≡ length (brought a.link older)
+    → b.packets_before ≡ length (brought b.link older)
 before_of older a b same is = subst (λ (x : Birth). x.packets_before ≡ length (brought x.link older)) same is
 
 by_read : (c head : ℕ) (older : History) (next : Option Next) (b : Birth) → Has (birth_by c head older next) b

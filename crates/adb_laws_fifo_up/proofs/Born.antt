@@ -97,12 +97,14 @@ nothing_read older legal c above =
     sym (asked_is_read c older un.ended) ∙ un.input
 
 -- ---- it comes through a forward
-module _ (l c port : ℕ) (older : History) (legal : IsLegal older) (above : (state older).drawn < l) (may : May (state older) (Enter c port)) where
+module _ (l c port : ℕ) (older : History) (legal : IsLegal older) (above : (state older).drawn < l)
+    (may : May (state older) (Enter c port)) where
   not_come : (v : Seen) → Sees ((state older).clients c) v → ⊥
   not_come v see = none_unseen v (subst (λ (o : Option Client). Sees o v)
       ((all_owned older legal).rows.clients.above c (omega (arith, may.1))) see)
 
-  new_seen : (n : ℕ) (v : Seen) → Sees ((comes true c (state older)).clients n) v → Sees ((state older).clients n) v ⊎ ((v.phase ≡ Asking) × (v.held ≡ []))
+  new_seen : (n : ℕ) (v : Seen) → Sees ((comes true c (state older)).clients n) v
+      → Sees ((state older).clients n) v ⊎ ((v.phase ≡ Asking) × (v.held ≡ []))
   new_seen n v see = go (eqb c n) see
     where
       go : (x : Bool) → Sees (cond x (Some (new_client true c)) ((state older).clients n)) v
@@ -112,9 +114,11 @@ module _ (l c port : ℕ) (older : History) (legal : IsLegal older) (above : (st
 
   pub begins_enter : Begins (starts_climbs l c []) (Enter c port) (state older) (told older)
   begins_enter = (
-    start_with l c [] older legal above (comes true c (state older)).clients ((state older).joined + 1) (λ n v see of. none v n of (new_seen n v see))
+    start_with l c [] older legal above (comes true c (state older)).clients ((state older).joined + 1)
+        (λ n v see of. none v n of (new_seen n v see))
         (λ v see phase. held v (new_seen c v see)),
-    start_with l c [] older legal above (state older).clients ((state older).joined + 1) (λ n v see of. not_of l c [] older legal above n v see of)
+    start_with l c [] older legal above (state older).clients ((state older).joined + 1)
+        (λ n v see of. not_of l c [] older legal above n v see of)
         (λ v see phase. absurd (not_come v see)),
   )
     where
@@ -137,7 +141,9 @@ module _ (c : ℕ) (bytes : List ℕ) (older : History) (legal : IsLegal older) 
       go true e = refl
       go false e =
           let same : asked c (Read c bytes ∷ older) ≡ asked c older =
-          ap (λ (y : Bool). cond y (asked_with (is_asking c older (book older)) (devices older) (forwards older) bytes (asked c older)) (asked c older))
+          ap (λ (y : Bool). cond y
+          (asked_with (is_asking c older (book older)) (devices older) (forwards older) bytes (asked c older))
+          (asked c older))
           (eq-eqb c c refl)
           ∙ ap (λ (y : Bool). asked_with y (devices older) (forwards older) bytes (asked c older)) e in
           let none : newly (asked c older).next (asked c (Read c bytes ∷ older)).next ≡ None =
@@ -180,16 +186,23 @@ module _ (c : ℕ) (bytes : List ℕ) (older : History) (legal : IsLegal older) 
             subst (λ (k : ℕ). Sees ((to_client c (has_asked q) (state older)).clients k) v) (sym same) see in
             let both = seen_phase reader.client.about.phase q.rest v (subst (λ (o : Option Client). Sees o v) row here) in
             inr (both.0 ∙ reader.in_phase, both.1)
-        go (inr apart) = inl (apart, subst (λ (o : Option Client). Sees o v) (changed_other c n (has_asked q) (state older).clients apart) see)
+        go (inr apart) =
+            inl (
+              apart,
+              subst (λ (o : Option Client). Sees o v)
+                  (changed_other c n (has_asked q) (state older).clients apart) see,
+            )
 
     pub begins_read : Begins (starts_climbs l c rest_read) (Read c bytes) (state older) (told older)
     begins_read =
         subst (λ (o : Option Client). ReadsOf (starts_climbs l c rest_read) (state older) (told older) o c bytes) (sym reader.here)
-        (subst (λ (p : Phase). ReadsIn (starts_climbs l c rest_read) (state older) (told older) p c bytes reader.client) (sym reader.in_phase)
+        (subst (λ (p : Phase). ReadsIn (starts_climbs l c rest_read) (state older) (told older) p c bytes
+        reader.client) (sym reader.in_phase)
         (start_with l c rest_read older legal above (to_client c (has_asked q) (state older)).clients (state older).joined
         (λ n v see of. none v n of (asked_seen n v see)) (λ v see phase. held v phase (asked_seen c v see))))
       where
-        none : (v : Seen) (n : ℕ) → IsOf l v.phase → ((c ≡ n → ⊥) × Sees ((state older).clients n) v) ⊎ ((v.phase ≡ Asking) × (v.held ≡ q.rest)) → ⊥
+        none : (v : Seen) (n : ℕ) → IsOf l v.phase → ((c ≡ n → ⊥) × Sees ((state older).clients n) v)
+            ⊎ ((v.phase ≡ Asking) × (v.held ≡ q.rest)) → ⊥
         none v n of (inl see) = not_of l c rest_read older legal above n v see.1 of
         none v n of (inr new) = subst (IsOf l) new.0 of
 
@@ -202,7 +215,8 @@ module _ (c : ℕ) (bytes : List ℕ) (older : History) (legal : IsLegal older) 
         held v phase (inl see) = absurd (see.0 refl)
 
 -- ---- the step
-module _ (l : ℕ) (b : Birth) (e : Entry) (older : History) (legal : IsLegal (e ∷ older)) (has : HasBirths (e ∷ older)) (is : born l (e ∷ older) ≡ Some b)
+module _ (l : ℕ) (b : Birth) (e : Entry) (older : History) (legal : IsLegal (e ∷ older)) (has : HasBirths (e ∷ older))
+    (is : born l (e ∷ older) ≡ Some b)
     (above : (state older).drawn < l) where
   -- it has ended by this entry too, or not
   carried_from : b.head ≤ length (bytes_read b.client (e ∷ older)) → (rest : List ℕ) → rest ≡ drop b.head (bytes_read b.client (e ∷ older))
@@ -229,7 +243,8 @@ module _ (l : ℕ) (b : Birth) (e : Entry) (older : History) (legal : IsLegal (e
         whole = λ f. absurd (h.not_closed f);
       }
 
-      rises : (o : Option Ending) → ending_in l (told_at e older) ≡ o → Rises l b.link b.client (rest_of l b (e ∷ older)) (state (e ∷ older)) (told (e ∷ older))
+      rises : (o : Option Ending) → ending_in l (told_at e older) ≡ o
+          → Rises l b.link b.client (rest_of l b (e ∷ older)) (state (e ∷ older)) (told (e ∷ older))
       rises None none = with_rest (rest_of l b (e ∷ older)) (λ v see of lives.
           h.held v see (inr (h.waits b.client v see of).0) ∙ (rest_is ∙ sym (rest_lives l b e older before none)))
       rises (Some ending) now = with_rest (rest_of l b (e ∷ older)) (λ v see of lives.
@@ -250,9 +265,12 @@ carried_new l b (Read c bytes) older legal has is new =
     let above = new_above l b (Read c bytes) older has.0 new in
     let on = reads c bytes older legal.0 legal.2.0 b new.now in
     let rest = rest_read c bytes older legal.0 legal.2.0 b new.now in
-    let same : bytes_read b.client (Read c bytes ∷ older) ≡ bytes_read c (Read c bytes ∷ older) = ap (λ n. bytes_read n (Read c bytes ∷ older)) by.0 in
+    let same : bytes_read b.client (Read c bytes ∷ older) ≡ bytes_read c (Read c bytes ∷ older) =
+    ap (λ n. bytes_read n (Read c bytes ∷ older)) by.0 in
     carried_from l b (Read c bytes) older legal has.1 is above (omega (arith, by.1, on.unused.within, ap length same)) rest
-    (ap (λ x. drop (asked c (Read c bytes ∷ older)).used x) (sym same) ∙ ap (λ n. drop n (bytes_read b.client (Read c bytes ∷ older))) (sym by.1))
+    (ap (λ x. drop (asked c (Read c bytes ∷ older)).used x) (sym same)
+    ∙ ap (λ n. drop n (bytes_read b.client (Read c bytes ∷ older))) (sym by.1))
     (subst (λ (n : ℕ). Starts l n rest (state (Read c bytes ∷ older)) (told (Read c bytes ∷ older))) (sym by.0)
-    (step_climbs (starts_climbs l c rest) (Read c bytes) (state older) (told older) (begins_read c bytes older legal.0 legal.2.0 b new.now l above)))
+    (step_climbs (starts_climbs l c rest) (Read c bytes) (state older) (told older)
+    (begins_read c bytes older legal.0 legal.2.0 b new.now l above)))
 carried_new l b e older legal has is new = absurd (born_by e older b new.now)

@@ -38,7 +38,8 @@ module _ (l t c : ℕ) (rest : List ℕ) (s : State) (w : List Event) (h : Rises
   comes_rises : (forwarded : Bool) (n : ℕ) → Rises l t c rest (comes forwarded n s) w
   comes_rises forwarded n = view l t c rest s (comes forwarded n s) w (omega arith) h.mine (λ k v see of. before k v of (eqb n k) see) h
     where
-      before : (k : ℕ) (v : Seen) → IsOf l v.phase → (b : Bool) → Sees (cond b (Some (new_client forwarded n)) (s.clients k)) v → Sees (s.clients k) v
+      before : (k : ℕ) (v : Seen) → IsOf l v.phase → (b : Bool)
+          → Sees (cond b (Some (new_client forwarded n)) (s.clients k)) v → Sees (s.clients k) v
       before k v of true see = absurd (subst (IsOf l) (seen_phase Asking [] v see).0 of)
       before k v of false see = see
 
@@ -48,7 +49,8 @@ module _ (l t c : ℕ) (rest : List ℕ) (s : State) (w : List Event) (h : Rises
   -- a client that has not this stream, and keeps its phase
   row_rises : (n : ℕ) (f : Client → Option Client) (x y : Client) → s.clients n ≡ Some x → f x ≡ Some y → (IsOf l y.about.phase → ⊥)
       → Rises l t c rest (to_client n f s) w
-  row_rises n f x y here now away = view l t c rest s (to_client n f s) w (omega arith) h.mine (λ k v see of. before k v of see (cases_eq n k)) h
+  row_rises n f x y here now away = view l t c rest s (to_client n f s) w (omega arith) h.mine
+      (λ k v see of. before k v of see (cases_eq n k)) h
     where
       before : (k : ℕ) (v : Seen) → IsOf l v.phase → Sees ((to_client n f s).clients k) v → (n ≡ k) ⊎ (n ≡ k → ⊥) → Sees (s.clients k) v
       before k v of see (inl same) =
@@ -58,7 +60,8 @@ module _ (l t c : ℕ) (rest : List ℕ) (s : State) (w : List Event) (h : Rises
           absurd (away (subst (IsOf l) phase of))
       before k v of see (inr apart) = subst (λ (o : Option Client). Sees o v) (changed_other n k f s.clients apart) see
 
-  read_in_rises : (n : ℕ) (bytes : List ℕ) (x : Client) → s.clients n ≡ Some x → (IsOf l x.about.phase → ⊥) → (phase : Phase) → x.about.phase ≡ phase
+  read_in_rises : (n : ℕ) (bytes : List ℕ) (x : Client) → s.clients n ≡ Some x → (IsOf l x.about.phase → ⊥)
+      → (phase : Phase) → x.about.phase ≡ phase
       → ReadsIn (rises_climbs l t c rest) s w phase n bytes x
   read_in_rises n bytes x here away Asking e = row_rises n _ x _ here refl away
   read_in_rises n bytes x here away (Opening k) e = row_rises n _ x _ here refl away
@@ -75,12 +78,25 @@ module _ (l t c : ℕ) (rest : List ℕ) (s : State) (w : List Event) (h : Rises
       go (Some x) is = read_in_rises n bytes x is (away x is) x.about.phase refl
 
   -- the stream of a client, by its row
-  row_seen : (n : ℕ) (x : Client) → s.clients n ≡ Some x → IsOf l x.about.phase → (v : Seen) × Sees (s.clients n) v × IsOf l v.phase × (v.held ≡ x.held)
+  row_seen : (n : ℕ) (x : Client) → s.clients n ≡ Some x → IsOf l x.about.phase
+      → (v : Seen) × Sees (s.clients n) v × IsOf l v.phase × (v.held ≡ x.held)
   row_seen n x here of = go x.about.phase refl of
     where
       go : (phase : Phase) → x.about.phase ≡ phase → IsOf l phase → (v : Seen) × Sees (s.clients n) v × IsOf l v.phase × (v.held ≡ x.held)
-      go (Opening k) e same = (record { phase = Opening k; held = x.held }, ap seen here ∙ ap (λ (p : Phase). seen_in p x.held) e, same, refl)
-      go (Streaming k) e same = (record { phase = Streaming k; held = x.held }, ap seen here ∙ ap (λ (p : Phase). seen_in p x.held) e, same, refl)
+      go (Opening k) e same = (
+        record { phase = Opening k; held = x.held },
+        ap seen here
+            ∙ ap (λ (p : Phase). seen_in p x.held) e,
+        same,
+        refl,
+      )
+      go (Streaming k) e same = (
+        record { phase = Streaming k; held = x.held },
+        ap seen here
+            ∙ ap (λ (p : Phase). seen_in p x.held) e,
+        same,
+        refl,
+      )
       go _ e same = absurd same
 
   begins_rises : (e : Entry) → IsOwned s → IsNoRead c e → Begins (rises_climbs l t c rest) e s w
@@ -115,7 +131,11 @@ module _ (l t c : ℕ) (rest : List ℕ) (s : State) (w : List Event) (h : Rises
     born = h.born;
     mine = h.mine;
     only = λ n v see of2. only n v see of2 (cases_eq c n);
-    held = λ v see of2. (was.0, ap (λ y. carried t l w ++ y) (row v see) ∙ (sym (append_assoc (carried t l w) x.held bytes) ∙ ap (λ y. y ++ bytes) all));
+    held = λ v see of2. (
+      was.0,
+      ap (λ y. carried t l w ++ y) (row v see)
+          ∙ (sym (append_assoc (carried t l w) x.held bytes) ∙ ap (λ y. y ++ bytes) all),
+    );
     front = (h.front.0 ++ bytes, sym (append_assoc (carried t l w) h.front.0 bytes) ∙ ap (λ y. y ++ bytes) h.front.1);
     whole = λ e. absurd (let clash : None ≡ Some ClientClosed = sym was.0 ∙ e in cc);
   }
@@ -133,7 +153,8 @@ module _ (l t c : ℕ) (rest : List ℕ) (s : State) (w : List Event) (h : Rises
       row v see = (seen_phase x.about.phase (x.held ++ bytes) v
           (subst (λ (o : Option Client). Sees o v) (changed_here c (with_held (x.held ++ bytes)) s.clients x here) see)).1
 
-      only : (n : ℕ) (v : Seen) → Sees ((to_client c (with_held (x.held ++ bytes)) s).clients n) v → IsOf l v.phase → (c ≡ n) ⊎ (c ≡ n → ⊥) → n ≡ c
+      only : (n : ℕ) (v : Seen) → Sees ((to_client c (with_held (x.held ++ bytes)) s).clients n) v → IsOf l v.phase
+          → (c ≡ n) ⊎ (c ≡ n → ⊥) → n ≡ c
       only n v see of2 (inl same) = sym same
       only n v see of2 (inr apart) =
           h.only n v (subst (λ (o : Option Client). Sees o v) (changed_other c n (with_held (x.held ++ bytes)) s.clients apart) see) of2
@@ -168,7 +189,8 @@ module _ (l : ℕ) (b : Birth) (older : History) (h : IsCarried l b older) where
     ended_carried : (ending : Ending) → ending_of l older ≡ Some ending → IsCarried l b (Read b.client bytes ∷ older)
     ended_carried ending is = record {
       head = head_more;
-      rises = subst (λ (r : List ℕ). Rises l b.link b.client r (state (e ∷ older)) (told (e ∷ older))) (sym (rest_ended l b e older ending is))
+      rises = subst (λ (r : List ℕ). Rises l b.link b.client r (state (e ∷ older)) (told (e ∷ older)))
+          (sym (rest_ended l b e older ending is))
           (step_climbs (rises_climbs l b.link b.client (rest_of l b older)) e (state older) (told older)
           (reads_rises l b.link b.client (rest_of l b older) (state older) (told older) h.rises b.client bytes away));
     }
@@ -186,14 +208,16 @@ module _ (l : ℕ) (b : Birth) (older : History) (h : IsCarried l b older) where
           ∙ (sym (drop-append-le b.head (bytes_read b.client older) bytes h.head) ∙ ap (drop b.head) (sym (read_here b.client bytes older)))
 
       -- and its client does not hold for it
-      idle_carried : ((x : Client) → (state older).clients b.client ≡ Some x → IsOf l x.about.phase → ⊥) → IsCarried l b (Read b.client bytes ∷ older)
+      idle_carried : ((x : Client) → (state older).clients b.client ≡ Some x → IsOf l x.about.phase → ⊥)
+          → IsCarried l b (Read b.client bytes ∷ older)
       idle_carried away = record { head = head_more; rises = go (ending_in l (told_at e older)) refl }
         where
           before : Rises l b.link b.client (rest_of l b older) (state (Read b.client bytes ∷ older)) (told (Read b.client bytes ∷ older))
           before = step_climbs (rises_climbs l b.link b.client (rest_of l b older)) e (state older) (told older)
               (reads_rises l b.link b.client (rest_of l b older) (state older) (told older) h.rises b.client bytes away)
 
-          after : Rises l b.link b.client (rest_of l b older ++ bytes) (state (Read b.client bytes ∷ older)) (told (Read b.client bytes ∷ older))
+          after : Rises l b.link b.client (rest_of l b older ++ bytes) (state (Read b.client bytes ∷ older))
+              (told (Read b.client bytes ∷ older))
           after = step_climbs (rises_climbs l b.link b.client (rest_of l b older ++ bytes)) e (state older) (told older)
               (reads_rises l b.link b.client (rest_of l b older ++ bytes) (state older) (told older)
               (more_rises l b.link b.client (rest_of l b older) (state older) (told older) h.rises bytes lives away) b.client bytes away)
@@ -206,7 +230,8 @@ module _ (l : ℕ) (b : Birth) (older : History) (h : IsCarried l b older) where
               (rest_before l b e older lives ∙ sym (rest_ends l b e older ending lives now)) before
 
       -- and its client holds it
-      held_carried : (x : Client) → (state older).clients b.client ≡ Some x → IsOf l x.about.phase → IsCarried l b (Read b.client bytes ∷ older)
+      held_carried : (x : Client) → (state older).clients b.client ≡ Some x → IsOf l x.about.phase
+          → IsCarried l b (Read b.client bytes ∷ older)
       held_carried x here of = record {
         head = head_more;
         rises = subst (λ (r : List ℕ). Rises l b.link b.client r (state (e ∷ older)) (told (e ∷ older)))
@@ -217,7 +242,8 @@ module _ (l : ℕ) (b : Birth) (older : History) (h : IsCarried l b older) where
           taken : State
           taken = to_client b.client (with_held (x.held ++ bytes)) (state older)
 
-          now : Rises l b.link b.client (rest_of l b older ++ bytes) (to_client b.client (with_held (x.held ++ bytes)) (state older)) (told older)
+          now : Rises l b.link b.client (rest_of l b older ++ bytes)
+              (to_client b.client (with_held (x.held ++ bytes)) (state older)) (told older)
           now = held_rises l b.link b.client (rest_of l b older) (state older) (told older) h.rises bytes x here of
 
           by_phase : (phase : Phase) → IsOf l phase
@@ -228,7 +254,8 @@ module _ (l : ℕ) (b : Birth) (older : History) (h : IsCarried l b older) where
 
           begins : Begins (rises_climbs l b.link b.client (rest_of l b older ++ bytes)) (Read b.client bytes) (state older) (told older)
           begins = subst
-              (λ (o : Option Client). ReadsOf (rises_climbs l b.link b.client (rest_of l b older ++ bytes)) (state older) (told older) o b.client bytes)
+              (λ (o : Option Client). ReadsOf (rises_climbs l b.link b.client (rest_of l b older ++ bytes))
+              (state older) (told older) o b.client bytes)
               (sym here) (by_phase x.about.phase of)
 
           rule_is : (phase : Phase) → IsOf l phase
@@ -254,17 +281,22 @@ module _ (l : ℕ) (b : Birth) (older : History) (h : IsCarried l b older) where
           same_row : (x y : Client) → (state older).clients b.client ≡ Some x → (state older).clients b.client ≡ Some y → x ≡ y
           same_row x y is here = let both : Some x ≡ Some y = sym is ∙ here in cc
 
-          by : (x : Client) → (state older).clients b.client ≡ Some x → (phase : Phase) → x.about.phase ≡ phase → IsCarried l b (Read b.client bytes ∷ older)
+          by : (x : Client) → (state older).clients b.client ≡ Some x → (phase : Phase) → x.about.phase ≡ phase
+              → IsCarried l b (Read b.client bytes ∷ older)
           by x is (Opening k) f = at (cases_eq k l)
             where
               at : (k ≡ l) ⊎ (k ≡ l → ⊥) → IsCarried l b (Read b.client bytes ∷ older)
               at (inl same) = held_carried x is (subst (IsOf l) (sym f) same)
-              at (inr apart) = idle_carried (λ y here of. apart (subst (IsOf l) (ap (λ (z : Client). z.about.phase) (sym (same_row x y is here)) ∙ f) of))
+              at (inr apart) =
+                  idle_carried (λ y here of. apart
+                  (subst (IsOf l) (ap (λ (z : Client). z.about.phase) (sym (same_row x y is here)) ∙ f) of))
           by x is (Streaming k) f = at (cases_eq k l)
             where
               at : (k ≡ l) ⊎ (k ≡ l → ⊥) → IsCarried l b (Read b.client bytes ∷ older)
               at (inl same) = held_carried x is (subst (IsOf l) (sym f) same)
-              at (inr apart) = idle_carried (λ y here of. apart (subst (IsOf l) (ap (λ (z : Client). z.about.phase) (sym (same_row x y is here)) ∙ f) of))
+              at (inr apart) =
+                  idle_carried (λ y here of. apart
+                  (subst (IsOf l) (ap (λ (z : Client). z.about.phase) (sym (same_row x y is here)) ∙ f) of))
           by x is _ f = idle_carried (λ y here of. subst (IsOf l) (ap (λ (z : Client). z.about.phase) (sym (same_row x y is here)) ∙ f) of)
 
           go : (o : Option Client) → (state older).clients b.client ≡ o → IsCarried l b (Read b.client bytes ∷ older)

@@ -1,5 +1,7 @@
--- A stream that its client closed was closed towards its device: its CLSE became due by the step that ended it, and was sent where nothing is due.
-use Rattle.std.proofs.Common.{◌≡◌, ℕ, Bool, true, false, List, [], ◌∷◌, ◌++◌, Option, Some, None, refl, sym, ap, subst, ◌∙◌, ◌⊎◌, inl, inr, arith}
+-- A stream that its client closed was closed towards its device: its CLSE became due by the step that ended it, and
+-- was sent where nothing is due.
+use Rattle.std.proofs.Common.{◌≡◌, ℕ, Bool, true, false, List, [], ◌∷◌, ◌++◌, Option, Some, None, refl, sym, ap, subst, ◌∙◌, ◌⊎◌, inl, inr}
+use Rattle.std.proofs.Common.{arith}
 use Rattle.std.specs.Prelude.{Contains}
 use Rattle.std.proofs.lemmas.Bool.{eq-eqb, cases_eq}
 use Rattle.std.proofs.lemmas.List.{append-nil}
@@ -100,7 +102,8 @@ module _ (l : ℕ) where
       absurd (end_such IsOther l m.told ClientClosed (subst (λ (n : ℕ). Goes IsOther n s m) same g).told e refl)
   goes_closed k s m g (inr apart) e = silent_closed l m.told (silent_end IsOther k l (λ f. apart (sym f)) m.told g.told) e
 
-  sent_closed : (k : ℕ) (s : State) (x : Sending k s) → (k ≡ l) ⊎ (k ≡ l → ⊥) → IsClosed l (sends_up k x.stream x.client (writes k s x) s).told
+  sent_closed : (k : ℕ) (s : State) (x : Sending k s) → (k ≡ l) ⊎ (k ≡ l → ⊥)
+      → IsClosed l (sends_up k x.stream x.client (writes k s x) s).told
   sent_closed k s x (inl same) =
       subst (λ (i : ℕ). (z : Sending i s) → IsClosed l (sends_up i z.stream z.client (writes i s z) s).told) (sym same) (sends_closed l s) x
   sent_closed k s x (inr apart) = silent_closed l _ (silent_up k l (λ f. apart (sym f)) _ (sends_made k s x).told)
@@ -137,7 +140,8 @@ module _ (l : ℕ) where
   pub all_closed : (h : History) → IsLegal h → IsClosed l (told h)
   all_closed [] legal = λ e. absurd (let clash : None ≡ Some ClientClosed = e in cc)
   all_closed (e ∷ older) legal =
-      step_climbs closed_climbs e (state older) (told older) (begins (state older) (told older) (all_closed older legal.0) e (all_owned older legal.0))
+      step_climbs closed_climbs e (state older) (told older)
+      (begins (state older) (told older) (all_closed older legal.0) e (all_owned older legal.0))
 
 -- ---- it was sent
 -- where nothing is due to a link, all its packets were sent

@@ -1,5 +1,6 @@
 -- Rules by which a stream goes, or is an orphan from now on.
-use Rattle.std.proofs.Common.{◌≡◌, ◌≢◌, ℕ, Bool, true, false, List, [], ◌∷◌, ◌++◌, Option, Some, None, refl, sym, ap, subst, ◌∙◌, ◌⊎◌, inl, inr}
+use Rattle.std.proofs.Common.{◌≡◌, ◌≢◌, ℕ, Bool, true, false, List, [], ◌∷◌, ◌++◌, Option, Some, None, refl, sym, ap, subst, ◌∙◌, ◌⊎◌, inl}
+use Rattle.std.proofs.Common.{inr}
 use Rattle.std.specs.Prelude.{codes}
 use Rattle.adb_outside.specs.declared.kinds.Cause.{Cause}
 use Rattle.adb_wire.specs.declared.packets.Packet.{Packet}
@@ -114,13 +115,17 @@ module _ (Such : Ending → Type 0) (k : ℕ) (stream : Stream) (s : State) (is 
   pub ends_goes : (ending : Ending) → Such ending → Goes Such k s (ends_row k ending stream s)
   ends_goes ending other = go stream.part.orphan
     where
-      go : (b : Bool) → Goes Such k s (then_also (tells_end b k ending (to_stream k none_kept s)) (λ s. client_loses (s.clients stream.client) stream.client s))
+      go : (b : Bool)
+          → Goes Such k s
+          (then_also (tells_end b k ending (to_stream k none_kept s))
+          (λ s. client_loses (s.clients stream.client) stream.client s))
       go true = lost_goes [] tt
       go false = lost_goes (ended k ending ∷ []) ((refl, other), tt)
 
 -- the device is told first
 module _ (Such : Ending → Type 0) where
-  owed_goes : (k t : ℕ) (p : Packet) (s : State) (m : Made) → (is_wrte p.command ≡ false) × (p.arg0 ≡ k) → Goes Such k (owe_link t p s).state m
+  owed_goes : (k t : ℕ) (p : Packet) (s : State) (m : Made) → (is_wrte p.command ≡ false) × (p.arg0 ≡ k)
+      → Goes Such k (owe_link t p s).state m
       → m.state.streams k ≡ None → Goes Such k s (record { state = m.state; told = (owe_link t p s).told ++ m.told })
   owed_goes k t p s m none h row = record {
     stream = h.stream;
@@ -136,11 +141,13 @@ module _ (Such : Ending → Type 0) where
     shut = λ e. row;
   }
 
-  pub no_row_of : (k : ℕ) (ending : Ending) (stream : Stream) (s : State) → s.streams k ≡ Some stream → (ends_row k ending stream s).state.streams k ≡ None
+  pub no_row_of : (k : ℕ) (ending : Ending) (stream : Stream) (s : State) → s.streams k ≡ Some stream
+      → (ends_row k ending stream s).state.streams k ≡ None
   no_row_of k ending stream s is = go stream.part.orphan
     where
       go : (b : Bool)
-          → (then_also (tells_end b k ending (to_stream k none_kept s)) (λ s. client_loses (s.clients stream.client) stream.client s)).state.streams k ≡ None
+          → (then_also (tells_end b k ending (to_stream k none_kept s))
+          (λ s. client_loses (s.clients stream.client) stream.client s)).state.streams k ≡ None
       go true = no_row Such k stream s is
       go false = no_row Such k stream s is
 
@@ -161,7 +168,8 @@ telling_left k n ending stream s v h of = go stream.part.orphan h
     gone = to_stream k none_kept (owe_link stream.link (close_packet k stream.part.remote) s).state
 
     go : (b : Bool)
-        → Sees ((then_also (tells_end b k ending gone) (λ s. client_loses (s.clients stream.client) stream.client s)).state.clients stream.client) v → ⊥
+        → Sees ((then_also (tells_end b k ending gone)
+        (λ s. client_loses (s.clients stream.client) stream.client s)).state.clients stream.client) v → ⊥
     go true see = client_left (s.clients stream.client) stream.client gone refl n v see of
     go false see = client_left (s.clients stream.client) stream.client gone refl n v see of
 
@@ -169,14 +177,16 @@ telling_left k n ending stream s v h of = go stream.part.orphan h
 not_closed : (cause : Cause) → ClientFailed cause ≢ ClientClosed
 not_closed cause e = cc
 
-module _ (k c : ℕ) (cause : Cause) (x : Client) (stream : Stream) (s : State) (here : s.clients c ≡ Some x) (there : s.streams k ≡ Some stream) where
+module _ (k c : ℕ) (cause : Cause) (x : Client) (stream : Stream) (s : State) (here : s.clients c ≡ Some x)
+    (there : s.streams k ≡ Some stream) where
   gone_client : (v : Seen) → Sees ((to_client c none_kept s).clients c) v → IsOf k v.phase → ⊥
   gone_client v see of = none_unseen v (subst (λ (o : Option Client). Sees o v) (changed_here c none_kept s.clients x here) see)
 
   seen_before : (n : ℕ) (v : Seen) → Sees ((to_client c none_kept s).clients n) v → Sees (s.clients n) v
   seen_before n v see = dims s.clients c none_kept (λ y u is h. absurd (none_unseen u h)) n v see
 
-  pub open_fails_goes : x.about.phase ≡ Streaming k → Goes IsOther k s (stream_fails (Streaming k) cause (Some stream) (to_client c none_kept s))
+  pub open_fails_goes : x.about.phase ≡ Streaming k → Goes IsOther k s
+      (stream_fails (Streaming k) cause (Some stream) (to_client c none_kept s))
   open_fails_goes open_ = record {
     stream = stream;
     is = there;
@@ -191,7 +201,8 @@ module _ (k c : ℕ) (cause : Cause) (x : Client) (stream : Stream) (s : State) 
     shut = λ e. changed_here k none_kept s.streams stream there;
   }
 
-  pub asked_fails_goes : x.about.phase ≡ Opening k → Goes IsOther k s (stream_fails (Opening k) cause (Some stream) (to_client c none_kept s))
+  pub asked_fails_goes : x.about.phase ≡ Opening k → Goes IsOther k s
+      (stream_fails (Opening k) cause (Some stream) (to_client c none_kept s))
   asked_fails_goes asked = record {
     stream = stream;
     is = there;
@@ -214,7 +225,8 @@ module _ (k c : ℕ) (cause : Cause) (x : Client) (stream : Stream) (s : State) 
     shut = λ e. absurd (let clash : false ≡ true = e in cc);
   }
 
-pub orphan_goes : (k remote : ℕ) (stream : Stream) (s : State) → s.streams k ≡ Some stream → Goes IsOther k s (orphan_opened k remote stream s)
+pub orphan_goes : (k remote : ℕ) (stream : Stream) (s : State) → s.streams k ≡ Some stream
+    → Goes IsOther k s (orphan_opened k remote stream s)
 orphan_goes k remote stream s is = record {
   stream = stream;
   is = is;

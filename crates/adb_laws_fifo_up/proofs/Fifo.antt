@@ -1,5 +1,6 @@
 -- What is sent of a stream is a front of what was told of it.
-use Rattle.std.proofs.Common.{◌≡◌, ℕ, ◌<◌, ◌≤◌, zero, suc, Bool, true, false, List, [], ◌∷◌, ◌++◌, length, get_or, refl, sym, ap, subst, ◌∙◌}
+use Rattle.std.proofs.Common.{◌≡◌, ℕ, ◌<◌, ◌≤◌, zero, suc, Bool, true, false, List, [], ◌∷◌, ◌++◌, length, get_or, refl, sym, ap, subst}
+use Rattle.std.proofs.Common.{◌∙◌}
 use Rattle.std.proofs.Common.{append_assoc, arith, eqb, ◌+◌, Option, Some, None}
 use Rattle.std.specs.Prelude.{◌&&◌, Contains}
 use Rattle.std.proofs.lemmas.Bool.{eq-eqb}
@@ -40,7 +41,8 @@ up h legal l b is =
 
 -- ---- all of it, where the client closed
 -- a packet that closes a stream closes it wherever it stands
-close_at : (l k : ℕ) (ps : List Packet) (p : Packet) → is_clse p.command ≡ true → p.arg0 ≡ l → k < length ps → get_or ps k p ≡ p → has_close l ps ≡ true
+close_at : (l k : ℕ) (ps : List Packet) (p : Packet) → is_clse p.command ≡ true → p.arg0 ≡ l → k < length ps
+    → get_or ps k p ≡ p → has_close l ps ≡ true
 close_at l k [] p closes own within is = absurd (omega (arith, within))
 close_at l zero (q ∷ ps) p closes own within is = or_left (is_clse q.command && eqb q.arg0 l) (has_close l ps)
     (rw (ap (λ (r : Packet). is_clse r.command) is ∙ closes) (eq-eqb q.arg0 l (ap (λ (r : Packet). r.arg0) is ∙ own)))
@@ -67,7 +69,13 @@ count_front l ps qs all e = omega (arith, sym (ap (count_from is_wrte l) e), cou
 
 carried_front : (l : ℕ) (ps qs all : List Packet) → ps ++ qs ≡ all → length (carried_in l ps) ≤ length (carried_in l all)
 carried_front l ps qs all e =
-    omega (arith, sym (ap (λ xs. length (carried_in l xs)) e), ap length (carried_in_append l ps qs), length-append (carried_in l ps) (carried_in l qs))
+    omega (
+      arith,
+      sym (ap (λ xs. length (carried_in l xs)) e),
+      ap length (carried_in_append l ps qs),
+      length-append
+          (carried_in l ps) (carried_in l qs),
+    )
 
 within_up : (credit : Bool) (l : ℕ) (b : Birth) (h : History) → ComeFirst (sent b.link h) (packets_of b.link h)
     → used credit b.link l (told h) ≤ allowed credit l (opening_of l b h) → IsWithinUp credit l b h
@@ -82,10 +90,12 @@ answered : (went l : ℕ) (o : Option Opening) → went + 1 ≤ allowed_writes l
 answered went l None fits = omega (arith, fits)
 answered went l (Some o) fits = omega (arith, fits)
 
-is_done : (credit : Bool) (l : ℕ) (b : Birth) (h : History) → IsAnsweredAll credit (used credit b.link l (told h)) (allowed credit l (opening_of l b h))
+is_done : (credit : Bool) (l : ℕ) (b : Birth) (h : History) → IsAnsweredAll credit (used credit b.link l (told h))
+    (allowed credit l (opening_of l b h))
     → carried b.link l (told h) ≡ rest_of l b h → IsDone credit l b h
 is_done false l b h fits all = answered (used false b.link l (told h)) l (opening_of l b h) fits
 is_done true l b h fits all = all
 
 pub closed_done : (h : History) → IsLegal h → ClosedStreamsAreDone h
-closed_done h legal l b is ends = is_done b.credit l b h ((all_fit h legal l b is).fits.done ends).1 ((all_carried h legal l b is).rises.whole ends)
+closed_done h legal l b is ends = is_done b.credit l b h ((all_fit h legal l b is).fits.done ends).1
+    ((all_carried h legal l b is).rises.whole ends)

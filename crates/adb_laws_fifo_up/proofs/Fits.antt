@@ -1,5 +1,6 @@
 -- What goes up a stream, and what it may send more, fits within what its device allowed, through each move but an OKAY to it.
-use Rattle.std.proofs.Common.{not, ◌≡◌, ◌≢◌, ℕ, ◌+◌, ◌-◌, ◌≤◌, zero, suc, Bool, true, false, cond, List, [], ◌∷◌, ◌++◌, length, drop, Option, Some, None}
+use Rattle.std.proofs.Common.{not, ◌≡◌, ◌≢◌, ℕ, ◌+◌, ◌-◌, ◌≤◌, zero, suc, Bool, true, false, cond, List, [], ◌∷◌, ◌++◌, length, drop}
+use Rattle.std.proofs.Common.{Option, Some, None}
 use Rattle.std.proofs.Common.{refl, sym, ap, subst, ◌∙◌, arith, ◌⊎◌, inl, inr, eqb}
 use Rattle.std.proofs.lemmas.Bool.{eq-eqb, cases_eq}
 use Rattle.std.proofs.lemmas.List.{length-append, length-take}
@@ -26,7 +27,8 @@ use Rattle.adb_history.proofs.StreamMoves.{like_after}
 use Rattle.adb_history.proofs.Sweep.{Sending, sent}
 use Rattle.adb_laws_fifo_up.specs.Seen.{Seen, seen, seen_in, Sees}
 use Rattle.adb_laws_fifo_up.specs.Climbing.{carried, Are, may_send, IsLevel, IsRowOf, IsOther, Goes, Climbs}
-use Rattle.adb_laws_fifo_up.proofs.Seeing.{carried_append, packets_append, ending_split, end_such, silent_open, silent_aside, silent_end, silent_up}
+use Rattle.adb_laws_fifo_up.proofs.Seeing.{carried_append, packets_append, ending_split, end_such, silent_open, silent_aside, silent_end}
+use Rattle.adb_laws_fifo_up.proofs.Seeing.{silent_up}
 use Rattle.adb_laws_fifo_up.proofs.Shutting.{IsDry, count_append, count_dry, carried_dry, aside_are_dry, end_are_dry, up_are_dry}
 use Rattle.adb_laws_fifo_up.proofs.Opened.{NowIn, phase_seen, draws_other, Opens, opens_made}
 use Rattle.adb_laws_fifo_up.proofs.Openings.{allowed, IsOpenEnded}
@@ -48,7 +50,8 @@ after_credit (p ∷ ps) credit = omega (arith, after_credit ps (record credit { 
 
 writes_within : (k maxdata credit : ℕ) (held : List ℕ) → total (writes k maxdata credit held) ≤ credit
 writes_within zero maxdata credit held = omega arith
-writes_within (suc k) maxdata credit held = go (write_len maxdata credit held) refl (λ n. writes_within k maxdata (credit - n) (drop n held))
+writes_within (suc k) maxdata credit held = go (write_len maxdata credit held) refl
+    (λ n. writes_within k maxdata (credit - n) (drop n held))
   where
     go : (n : ℕ) → write_len maxdata credit held ≡ n → ((n : ℕ) → total (writes k maxdata (credit - n) (drop n held)) ≤ credit - n)
         → total (write_before n held (writes k maxdata (credit - n) (drop n held))) ≤ credit
@@ -96,7 +99,8 @@ used_dry : (credit : Bool) (t l : ℕ) (w u : List Event) → Are (IsDry l) u �
 used_dry false t l w u dry = count_dry t l w u dry
 used_dry true t l w u dry = ap length (carried_dry t l w u dry)
 
--- Of a stream that its device has not opened nothing went up, and it may still be opened; of an open one what went up, and what it may send, is allowed.
+-- Of a stream that its device has not opened nothing went up, and it may still be opened; of an open one what went
+-- up, and what it may send, is allowed.
 abbrev pub RoomAt : Bool → ℕ → List Packet → (went room remote : ℕ) → Type 0
 RoomAt credit l ps went room zero = IsOpenEnded l ps × (went ≡ 0)
 RoomAt credit l ps went room (suc r) =
@@ -112,7 +116,8 @@ abbrev pub IsAnsweredAll : Bool → (went may : ℕ) → Type 0
 IsAnsweredAll false went may = went + 1 ≤ may
 IsAnsweredAll true went may = Unit {0}
 
-pub answered_more : (credit : Bool) (went next may more : ℕ) → next ≡ went → may ≤ more → IsAnsweredAll credit went may → IsAnsweredAll credit next more
+pub answered_more : (credit : Bool) (went next may more : ℕ) → next ≡ went → may ≤ more
+    → IsAnsweredAll credit went may → IsAnsweredAll credit next more
 answered_more false went next may more same fits h = omega (arith, same, fits, h)
 answered_more true went next may more same fits h = tt
 
@@ -122,7 +127,8 @@ pub record Fits (l t : ℕ) (credit : Bool) (ps : List Packet) (s : State) (w : 
   pub within : used credit t l w ≤ allowed credit l (opening_in l ps)
   pub row : (y : Stream) → s.streams l ≡ Some y → IsRoom t l credit ps (used credit t l w) y
   pub open_row : (n : ℕ) (v : Seen) → Sees (s.clients n) v → v.phase ≡ Streaming l → (y : Stream) → s.streams l ≡ Some y → y.part.remote ≢ 0
-  pub done : ending_in l w ≡ Some ClientClosed → (s.streams l ≡ None) × IsAnsweredAll credit (used credit t l w) (allowed credit l (opening_in l ps))
+  pub done : ending_in l w ≡ Some ClientClosed → (s.streams l ≡ None)
+      × IsAnsweredAll credit (used credit t l w) (allowed credit l (opening_in l ps))
 
 -- an OKAY to another stream
 abbrev pub Others : ℕ → State → ℕ → Type 0
@@ -130,7 +136,8 @@ Others l s k = k ≢ l
 
 module _ (l t : ℕ) (credit : Bool) (ps : List Packet) where
   -- a row that may send as much
-  like_room : (went next : ℕ) (x y : Stream) → next ≡ went → y.link ≡ x.link → IsLevel x.part y.part → IsRoom t l credit ps went x → IsRoom t l credit ps next y
+  like_room : (went next : ℕ) (x y : Stream) → next ≡ went → y.link ≡ x.link → IsLevel x.part y.part
+      → IsRoom t l credit ps went x → IsRoom t l credit ps next y
   like_room went next x y same link level h = record {
     link = link ∙ h.link;
     flow = level.credit ∙ h.flow;
@@ -164,7 +171,8 @@ module _ (l t : ℕ) (credit : Bool) (ps : List Packet) where
   -- nothing is told, and its row stays, or goes
   view : (s next : State) (w : List Event) → s.drawn ≤ next.drawn
       → ((y : Stream) → next.streams l ≡ Some y → (x : Stream) × (s.streams l ≡ Some x) × (y.link ≡ x.link) × IsLevel x.part y.part)
-      → ((n : ℕ) (v : Seen) → Sees (next.clients n) v → v.phase ≡ Streaming l → Sees (s.clients n) v) → Fits l t credit ps s w → Fits l t credit ps next w
+      → ((n : ℕ) (v : Seen) → Sees (next.clients n) v → v.phase ≡ Streaming l → Sees (s.clients n) v)
+      → Fits l t credit ps s w → Fits l t credit ps next w
   view s next w drawn row before h = record {
     born = omega (arith, h.born, drawn);
     within = h.within;
@@ -205,11 +213,18 @@ module _ (l t : ℕ) (credit : Bool) (ps : List Packet) where
       go : (k ≡ l) ⊎ (k ≡ l → ⊥) → (x : Stream) × (s.streams l ≡ Some x) × (y.link ≡ x.link) × IsLevel x.part y.part
       go (inl same) =
           let row : record stream { part = part } ≡ y = (let both : Some (record stream { part = part }) ≡ Some y =
-          sym (changed_here k (with_stream_part part) s.streams stream is) ∙ (ap (to_stream k (with_stream_part part) s).streams same ∙ e) in cc) in
-          (stream, ap s.streams (sym same) ∙ is, ap (λ (z : Stream). z.link) (sym row), subst (λ (z : Stream). IsLevel stream.part z.part) row (level same))
+          sym (changed_here k (with_stream_part part) s.streams stream is)
+          ∙ (ap (to_stream k (with_stream_part part) s).streams same ∙ e) in cc) in (
+            stream,
+            ap s.streams (sym same) ∙ is,
+            ap (λ (z : Stream). z.link) (sym row),
+            subst
+                (λ (z : Stream). IsLevel stream.part z.part) row (level same),
+          )
       go (inr apart) = stays s (to_stream k (with_stream_part part) s) (changed_other k l (with_stream_part part) s.streams apart) y e
 
-  part_fits : (k : ℕ) (stream : Stream) (part : Part) (s : State) (w : List Event) → s.streams k ≡ Some stream → ((k ≡ l) → IsLevel stream.part part)
+  part_fits : (k : ℕ) (stream : Stream) (part : Part) (s : State) (w : List Event) → s.streams k ≡ Some stream
+      → ((k ≡ l) → IsLevel stream.part part)
       → Fits l t credit ps s w → Fits l t credit ps (to_stream k (with_stream_part part) s) w
   part_fits k stream part s w is level h =
       view s (to_stream k (with_stream_part part) s) w (omega arith) (part_row k stream part s is level) (λ n v see phase. see) h
@@ -237,12 +252,14 @@ module _ (l t : ℕ) (credit : Bool) (ps : List Packet) where
       same_stream : Streaming k ≡ Streaming l → k ≡ l
       same_stream e = cc
 
-      before : (n : ℕ) (v : Seen) → v.phase ≡ Streaming l → Sees (s.clients n) v ⊎ ((n ≡ stream.client) × NowIn s.clients stream.client (Streaming k) v)
+      before : (n : ℕ) (v : Seen) → v.phase ≡ Streaming l → Sees (s.clients n) v
+          ⊎ ((n ≡ stream.client) × NowIn s.clients stream.client (Streaming k) v)
           → Sees (s.clients n) v
       before n v phase (inl see) = see
       before n v phase (inr now) = absurd (apart (same_stream (sym now.1.phase_now ∙ phase)))
 
-  pub gone_fits : (s : State) (m : Made) (w : List Event) → Goes IsOther l s m → Fits l t credit ps s w → Fits l t credit ps m.state (w ++ m.told)
+  pub gone_fits : (s : State) (m : Made) (w : List Event) → Goes IsOther l s m → Fits l t credit ps s w
+      → Fits l t credit ps m.state (w ++ m.told)
   gone_fits s m w g h =
       told_dry m.state w m.told (end_are_dry IsOther l l m.told g.told) (λ e. end_such IsOther l m.told ClientClosed g.told e refl)
       (view s m.state w (omega (arith, g.drawn)) (λ y e. row y (g.row y e)) (λ n v see phase. g.clients n v see) h)
@@ -250,13 +267,15 @@ module _ (l t : ℕ) (credit : Bool) (ps : List Packet) where
       row : (y : Stream) → IsRowOf g.stream y → (x : Stream) × (s.streams l ≡ Some x) × (y.link ≡ x.link) × IsLevel x.part y.part
       row y same = (g.stream, g.is, same.0, record { credit = ap has_credit same.2; room = ap may_send same.2; remote = same.3 })
 
-  other_fits : (k : ℕ) (s : State) (m : Made) (w : List Event) → l ≢ k → Goes IsOther k s m → Fits l t credit ps s w → Fits l t credit ps m.state (w ++ m.told)
+  other_fits : (k : ℕ) (s : State) (m : Made) (w : List Event) → l ≢ k → Goes IsOther k s m → Fits l t credit ps s w
+      → Fits l t credit ps m.state (w ++ m.told)
   other_fits k s m w apart g h =
       told_dry m.state w m.told (end_are_dry IsOther k l m.told g.told) (silent_open l m.told (silent_end IsOther k l apart m.told g.told))
       (view s m.state w (omega (arith, g.drawn)) (stays s m.state (g.others l apart)) (λ n v see phase. g.clients n v see) h)
 
   -- ---- sends
-  sent_fits : (s : State) (x : Sending l s) (m : Made) (w : List Event) → Sends l s x m → Fits l t credit ps s w → Fits l t credit ps m.state (w ++ m.told)
+  sent_fits : (s : State) (x : Sending l s) (m : Made) (w : List Event) → Sends l s x m → Fits l t credit ps s w
+      → Fits l t credit ps m.state (w ++ m.told)
   unfolding spent
   sent_fits s x m w o h = by x.stream.part.remote refl mine.room
     where
@@ -290,10 +309,16 @@ module _ (l t : ℕ) (credit : Bool) (ps : List Packet) where
       clients n v phase y e none =
           open_now (record { phase = Streaming l; held = x.client.held }) see refl (sym (o.row y e).3 ∙ none)
 
-      answered : (c : Bool) → has_credit x.stream.part.flow ≡ c → is_idle (flow_after (sent l s x) x.stream.part.flow) ≡ true → (went may : ℕ)
+      answered : (c : Bool) → has_credit x.stream.part.flow ≡ c
+          → is_idle (flow_after (sent l s x) x.stream.part.flow) ≡ true → (went may : ℕ)
           → went + may_send (flow_after (sent l s x) x.stream.part.flow) ≤ may → IsAnsweredAll c went may
       answered false one idle went may within =
-          omega (arith, within, idle_room (flow_after (sent l s x) x.stream.part.flow) ((like_after (sent l s x) x.stream.part.flow).credit ∙ one) idle)
+          omega (
+            arith,
+            within,
+            idle_room (flow_after (sent l s x) x.stream.part.flow)
+                ((like_after (sent l s x) x.stream.part.flow).credit ∙ one) idle,
+          )
       answered true one idle went may within = tt
 
       done : (p : DeviceOpening) × (opening_in l ps ≡ Some p) × (p.remote ≡ x.stream.part.remote)
@@ -308,7 +333,8 @@ module _ (l t : ℕ) (credit : Bool) (ps : List Packet) where
             (omega (arith, sum credit, fits, at.3, ap (allowed credit l) at.1)),
       )
 
-      by : (remote : ℕ) → x.stream.part.remote ≡ remote → RoomAt credit l ps (used credit t l w) (may_send x.stream.part.flow) x.stream.part.remote
+      by : (remote : ℕ) → x.stream.part.remote ≡ remote → RoomAt credit l ps (used credit t l w)
+          (may_send x.stream.part.flow) x.stream.part.remote
           → Fits l t credit ps m.state (w ++ m.told)
       by zero none room = absurd (open_now (record { phase = Streaming l; held = x.client.held }) see refl none)
       by (suc r) is room = record {
@@ -334,19 +360,22 @@ module _ (l t : ℕ) (credit : Bool) (ps : List Packet) where
       → Fits l t credit ps m.state (w ++ m.told)
   unsent_fits k s x m w apart o h =
       told_dry m.state w m.told (up_are_dry k l apart m.told o.told) (silent_open l m.told (silent_up k l apart m.told o.told))
-      (view s m.state w (omega (arith, o.drawn)) (stays s m.state (o.others l apart)) (λ n v see phase. before n v phase (o.clients n v see)) h)
+      (view s m.state w (omega (arith, o.drawn)) (stays s m.state (o.others l apart))
+      (λ n v see phase. before n v phase (o.clients n v see)) h)
     where
       same_stream : Streaming k ≡ Streaming l → k ≡ l
       same_stream e = cc
 
-      before : (n : ℕ) (v : Seen) → v.phase ≡ Streaming l → Sees (s.clients n) v ⊎ ((n ≡ x.stream.client) × (v.phase ≡ Streaming k)) → Sees (s.clients n) v
+      before : (n : ℕ) (v : Seen) → v.phase ≡ Streaming l → Sees (s.clients n) v
+          ⊎ ((n ≡ x.stream.client) × (v.phase ≡ Streaming k)) → Sees (s.clients n) v
       before n v phase (inl see) = see
       before n v phase (inr now) = absurd (apart (sym (same_stream (sym now.1 ∙ phase))))
 
   -- ---- all moves
   pub fits_climbs : Climbs (Others l) (Fits l t credit ps)
   fits_climbs = record {
-    aside = λ s m w off h. told_dry m.state w m.told (aside_are_dry l m.told off.told) (silent_open l m.told (silent_aside l m.told off.told))
+    aside = λ s m w off h. told_dry m.state w m.told (aside_are_dry l m.told off.told)
+        (silent_open l m.told (silent_aside l m.told off.told))
         (view s m.state w (omega (arith, off.drawn)) (stays s m.state (off.streams l)) (λ n v see phase. off.clients n v see) h);
     draws = λ n t2 x s w here asks h. draws_fits n t2 s w h;
     parts = λ k stream part s w is level h. part_fits k stream part s w is (λ same. level) h;
@@ -371,5 +400,7 @@ module _ (l t : ℕ) (credit : Bool) (ps : List Packet) where
       sends : (k : ℕ) (s : State) (x : Sending k s) (w : List Event) → Fits l t credit ps s w → (k ≡ l) ⊎ (k ≡ l → ⊥)
           → After (Fits l t credit ps) w (sends_up k x.stream x.client (sent k s x) s)
       sends k s x w h (inr apart) = unsent_fits k s x _ w (λ e. apart (sym e)) (sends_made k s x) h
-      sends k s x w h (inl same) = subst (λ (i : ℕ). (z : Sending i s) → After (Fits l t credit ps) w (sends_up i z.stream z.client (sent i s z) s)) (sym same)
+      sends k s x w h (inl same) =
+          subst (λ (i : ℕ). (z : Sending i s) → After (Fits l t credit ps) w
+          (sends_up i z.stream z.client (sent i s z) s)) (sym same)
           (λ z. sent_fits s z _ w (sends_made l s z) h) x

@@ -1,5 +1,6 @@
 -- What goes up a stream fits within what its device allowed, packet after packet of its link.
-use Rattle.std.proofs.Common.{◌≡◌, ◌≢◌, ℕ, ◌+◌, ◌<◌, ◌≤◌, zero, suc, Bool, true, false, cond, ◌||◌, not, List, [], ◌∷◌, ◌++◌, Option, Some, None, refl}
+use Rattle.std.proofs.Common.{◌≡◌, ◌≢◌, ℕ, ◌+◌, ◌<◌, ◌≤◌, zero, suc, Bool, true, false, cond, ◌||◌, not, List, [], ◌∷◌, ◌++◌, Option, Some}
+use Rattle.std.proofs.Common.{None, refl}
 use Rattle.std.proofs.Common.{sym, ap, subst, ◌∙◌, arith, ◌⊎◌, inl, inr, eqb, append_assoc}
 use Rattle.std.specs.Prelude.{nat_eq, unwrap_or, ◌&&◌}
 use Rattle.std.proofs.lemmas.Bool.{eqb-true, eqb-false, eq-eqb, ne_eqb}
@@ -35,7 +36,8 @@ use Rattle.adb_laws_fifo_up.proofs.Shutting.{aside_are_dry}
 use Rattle.adb_laws_fifo_up.proofs.Ends.{no_row_of, orphan_goes}
 use Rattle.adb_laws_fifo_up.proofs.Opened.{opened_row, opens_made}
 use Rattle.adb_laws_fifo_up.proofs.OwnedPackets.{treat_linked}
-use Rattle.adb_laws_fifo_up.proofs.Openings.{opening_more, IsOpenEnded, Passes, ended_more, first_heard, Closes, Kind, kind, later_allows, more_allows}
+use Rattle.adb_laws_fifo_up.proofs.Openings.{opening_more, IsOpenEnded, Passes, ended_more, first_heard, Closes, Kind, kind, later_allows}
+use Rattle.adb_laws_fifo_up.proofs.Openings.{more_allows}
 use Rattle.adb_laws_fifo_up.proofs.Openings.{allowed, gives, okay_allows, first_allows}
 use Rattle.adb_laws_fifo_up.proofs.StreamClimbs.{treat_climbs, faulty_climbs}
 use Rattle.adb_laws_fifo_up.proofs.RuleClimbs.{rest_climbs}
@@ -59,7 +61,8 @@ acknowledged_credit word (One window) = refl
 acknowledged_credit None (Credit credit) = refl
 acknowledged_credit (Some n) (Credit credit) = refl
 
-first_room : (credit : Bool) (flow : Flow) (p : Packet) → has_credit flow ≡ credit → may_send (first_credit (credit_word p.payload) flow) ≤ gives credit p
+first_room : (credit : Bool) (flow : Flow) (p : Packet) → has_credit flow ≡ credit
+    → may_send (first_credit (credit_word p.payload) flow) ≤ gives credit p
 first_room false (One window) p e = go window.outstanding
   where
     go : (b : Bool) → cond b 0 1 ≤ 1
@@ -71,7 +74,8 @@ first_room true (Credit credit) p e = omega arith
 
 module _ (l t : ℕ) (credit : Bool) (ps : List Packet) where
   -- ---- packets that leave the stream as it is
-  more_room : (went room : ℕ) (qs : List Packet) (remote : ℕ) → (remote ≡ 0 → IsOpenEnded l (ps ++ qs)) → RoomAt credit l ps went room remote
+  more_room : (went room : ℕ) (qs : List Packet) (remote : ℕ) → (remote ≡ 0 → IsOpenEnded l (ps ++ qs))
+      → RoomAt credit l ps went room remote
       → RoomAt credit l (ps ++ qs) went room remote
   more_room went room qs zero passes h = (passes refl, h.1)
   more_room went room qs (suc r) passes h = (
@@ -81,7 +85,8 @@ module _ (l t : ℕ) (credit : Bool) (ps : List Packet) where
     omega (arith, h.3, later_allows credit l h.0 qs),
   )
 
-  pub more_fits : (qs : List Packet) (s : State) (w : List Event) → ((y : Stream) → s.streams l ≡ Some y → y.part.remote ≡ 0 → IsOpenEnded l (ps ++ qs))
+  pub more_fits : (qs : List Packet) (s : State) (w : List Event)
+      → ((y : Stream) → s.streams l ≡ Some y → y.part.remote ≡ 0 → IsOpenEnded l (ps ++ qs))
       → Fits l t credit ps s w → Fits l t credit (ps ++ qs) s w
   more_fits qs s w passes h = record {
     born = h.born;
@@ -106,17 +111,20 @@ module _ (l t : ℕ) (credit : Bool) (ps : List Packet) where
       ended_more l ps p (subst (λ (n : ℕ). RoomAt credit l ps (used credit t l w) (may_send y.part.flow) n) none room.room).0 passes
 
   -- ---- a packet of another link
-  other_link : (n : ℕ) (p : Packet) (s : State) (w : List Event) → n ≢ t → Fits l t credit ps s w → After (Fits l t credit ps) w (treat n p s)
+  other_link : (n : ℕ) (p : Packet) (s : State) (w : List Event) → n ≢ t → Fits l t credit ps s w
+      → After (Fits l t credit ps) w (treat n p s)
   other_link n p s w apart h = go (to_stream_or l p)
     where
       quiet : After (Fits l t credit ps) w (quietly s)
       quiet = after_quietly (Fits l t credit ps) w s h
 
-      on : (o : Option Stream) → s.streams l ≡ o → After (Fits l t credit ps) w (at_stream n o (takes_okay l p.arg0 (credit_word p.payload)) s)
+      on : (o : Option Stream) → s.streams l ≡ o → After (Fits l t credit ps) w
+          (at_stream n o (takes_okay l p.arg0 (credit_word p.payload)) s)
       on None e = quiet
       on (Some y) e =
           let off : nat_eq y.link n ≡ false = ne_eqb y.link n (λ f. apart (sym f ∙ (h.row y e).link)) in
-          subst (λ (b : Bool). After (Fits l t credit ps) w (cond b (takes_okay l p.arg0 (credit_word p.payload) y s) (quietly s))) (sym off) quiet
+          subst (λ (b : Bool). After (Fits l t credit ps) w
+          (cond b (takes_okay l p.arg0 (credit_word p.payload) y s) (quietly s))) (sym off) quiet
 
       go : ((p.command ≡ Okay) × (p.arg1 ≡ l)) ⊎ (p.command ≡ Okay → p.arg1 ≢ l) → After (Fits l t credit ps) w (treat n p s)
       go (inl okay) = okay_treated (After (Fits l t credit ps) w) n l p s okay (λ e. quiet) (on (s.streams l) refl)
@@ -125,7 +133,8 @@ module _ (l t : ℕ) (credit : Bool) (ps : List Packet) where
   -- ---- an OKAY to it
   module _ (p : Packet) (s : State) (w : List Event) (h : Fits l t credit ps s w) (okay : (p.command ≡ Okay) × (p.arg1 ≡ l)) where
     -- its stream is gone, or stays as it is
-    stays_fits : ((y : Stream) → s.streams l ≡ Some y → y.part.remote ≡ 0 → Passes l p) → After (Fits l t credit (ps ++ p ∷ [])) w (quietly s)
+    stays_fits : ((y : Stream) → s.streams l ≡ Some y → y.part.remote ≡ 0 → Passes l p)
+        → After (Fits l t credit (ps ++ p ∷ [])) w (quietly s)
     stays_fits passes = after_quietly (Fits l t credit (ps ++ p ∷ [])) w s
         (more_fits (p ∷ []) s w (λ y e none. ended_at y w p (h.row y e) (passes y e none) none) h)
 
@@ -145,7 +154,9 @@ module _ (l t : ℕ) (credit : Bool) (ps : List Packet) where
           ap (λ (c : Command). opening_by c l p later others) okay.0
           ∙ rw (eq-eqb p.arg0 0 none) (go (eqb p.arg1 l))
         where
-          go : (b : Bool) → cond (b && not true) (Some (record { remote = p.arg0; word = credit_word p.payload; later = later })) others ≡ others
+          go : (b : Bool)
+              → cond (b && not true) (Some (record { remote = p.arg0; word = credit_word p.payload; later = later }))
+              others ≡ others
           go true = refl
           go false = refl
 
@@ -191,7 +202,8 @@ module _ (l t : ℕ) (credit : Bool) (ps : List Packet) where
         opened_fits =
             let m : Made = opened l p.arg0 (credit_word p.payload) y s in
             let o = opens_made l p.arg0 (credit_word p.payload) y s there in
-            told_dry l t credit (ps ++ p ∷ []) m.state w m.told (aside_are_dry l m.told o.told) (silent_open l m.told (silent_aside l m.told o.told)) (record {
+            told_dry l t credit (ps ++ p ∷ []) m.state w m.told (aside_are_dry l m.told o.told)
+            (silent_open l m.told (silent_aside l m.told o.told)) (record {
               born = omega (arith, h.born, o.drawn);
               within = omega (arith, nothing.1);
               row = opened_room;
@@ -212,10 +224,17 @@ module _ (l t : ℕ) (credit : Bool) (ps : List Packet) where
         record room.0 { later = room.0.later ++ p ∷ [] },
         opening_more l ps (p ∷ []) room.0 room.1,
         room.2,
-        omega (arith, room.3, acknowledged_room credit y.part.flow p mine.flow, okay_allows credit l room.0 p okay.0 (from ∙ (is ∙ sym room.2)) okay.1),
+        omega (
+          arith,
+          room.3,
+          acknowledged_room credit y.part.flow p mine.flow,
+          okay_allows credit l room.0 p okay.0
+              (from ∙ (is ∙ sym room.2)) okay.1,
+        ),
       )
 
-      acked_fits : p.arg0 ≡ y.part.remote → y.part.remote ≢ 0 → After (Fits l t credit (ps ++ p ∷ [])) w (okay_open l (credit_word p.payload) y s)
+      acked_fits : p.arg0 ≡ y.part.remote → y.part.remote ≢ 0
+          → After (Fits l t credit (ps ++ p ∷ [])) w (okay_open l (credit_word p.payload) y s)
       acked_fits from some = after_quietly (Fits l t credit (ps ++ p ∷ [])) w _ (record {
         born = h.born;
         within = omega (arith, h.within, more_allows credit l ps (p ∷ []));
@@ -228,11 +247,15 @@ module _ (l t : ℕ) (credit : Bool) (ps : List Packet) where
         done = λ e. absurd (not_done e);
       })
         where
-          row : (z : Stream) → (to_stream l (with_stream_part (with_flow (acknowledged (credit_word p.payload) y.part.flow) y.part)) s).streams l ≡ Some z
+          row : (z : Stream)
+              → (to_stream l (with_stream_part (with_flow (acknowledged (credit_word p.payload) y.part.flow) y.part))
+              s).streams l ≡ Some z
               → record y { part = with_flow (acknowledged (credit_word p.payload) y.part.flow) y.part } ≡ z
           row z e =
               let both : Some (record y { part = with_flow (acknowledged (credit_word p.payload) y.part.flow) y.part }) ≡ Some z =
-              sym (changed_here l (with_stream_part (with_flow (acknowledged (credit_word p.payload) y.part.flow) y.part)) s.streams y there) ∙ e in
+              sym (changed_here l
+              (with_stream_part (with_flow (acknowledged (credit_word p.payload) y.part.flow) y.part)) s.streams
+              y there) ∙ e in
               cc
 
       taken_fits : After (Fits l t credit (ps ++ p ∷ [])) w (takes_okay l p.arg0 (credit_word p.payload) y s)
@@ -246,13 +269,17 @@ module _ (l t : ℕ) (credit : Bool) (ps : List Packet) where
           (λ e. first_fits (eqb-true y.part.remote 0 e) (eqb-false p.arg0 0 some) y.part.orphan)
           (λ known. after_if (Fits l t credit (ps ++ p ∷ [])) w (eqb p.arg0 y.part.remote) open_again (quietly s)
           (λ e. acked_fits (eqb-true p.arg0 y.part.remote e) (eqb-false y.part.remote 0 known))
-          (λ e. stays_fits (λ z f none. absurd (eqb-false y.part.remote 0 known (ap (λ (x : Stream). x.part.remote) (sym (same_row z f)) ∙ none))))))
+          (λ e. stays_fits
+          (λ z f none. absurd
+          (eqb-false y.part.remote 0 known
+          (ap (λ (x : Stream). x.part.remote) (sym (same_row z f)) ∙ none))))))
 
     heard_fits : (o : Option Stream) → s.streams l ≡ o
         → After (Fits l t credit (ps ++ p ∷ [])) w (at_stream t o (takes_okay l p.arg0 (credit_word p.payload)) s)
     heard_fits None e = stays_fits (λ y f none. absurd (let clash : None ≡ Some y = sym e ∙ f in cc))
     heard_fits (Some y) e =
-        subst (λ (b : Bool). After (Fits l t credit (ps ++ p ∷ [])) w (cond b (takes_okay l p.arg0 (credit_word p.payload) y s) (quietly s)))
+        subst (λ (b : Bool). After (Fits l t credit (ps ++ p ∷ [])) w
+        (cond b (takes_okay l p.arg0 (credit_word p.payload) y s) (quietly s)))
         (sym (eq-eqb y.link t (h.row y e).link)) (taken_fits y e)
 
   -- ---- a packet of its link
@@ -294,8 +321,10 @@ module _ (l t : ℕ) (credit : Bool) (ps : List Packet) where
             ∙ (ap (λ (n : ℕ). at_stream t (s.streams n) (takes_close n p.arg0) s) close.stream
             ∙ (ap (λ (o : Option Stream). at_stream t o (takes_close l p.arg0) s) there
             ∙ (ap (λ (b : Bool). cond b (takes_close l p.arg0 y s) (quietly s)) (eq-eqb y.link t (h.row y there).link)
-            ∙ ap (λ (b : Bool). cond (b || eqb p.arg0 y.part.remote) (ends_row l PeerClosed y s) (quietly s)) (eq-eqb p.arg0 0 close.remote)))))) in
-            let clash : None ≡ Some z = sym (no_row_of Any l PeerClosed y s there) ∙ subst (λ (m : Made). m.state.streams l ≡ Some z) same e in
+            ∙ ap (λ (b : Bool). cond (b || eqb p.arg0 y.part.remote) (ends_row l PeerClosed y s) (quietly s))
+            (eq-eqb p.arg0 0 close.remote)))))) in
+            let clash : None ≡ Some z = sym (no_row_of Any l PeerClosed y s there)
+            ∙ subst (λ (m : Made). m.state.streams l ≡ Some z) same e in
             cc
 
     other_fits : (p.command ≡ Okay → p.arg1 ≢ l) → After (Fits l t credit (ps ++ p ∷ [])) w (treat t p s)
@@ -324,14 +353,17 @@ module _ (l t : ℕ) (credit : Bool) (ps : List Packet) where
 module _ (l t : ℕ) (credit : Bool) (some : 0 < l) where
   all_fits : (packets ps : List Packet) (s : State) (w : List Event) → IsLinked s → Fits l t credit ps s w
       → After (Fits l t credit (ps ++ packets)) w (treat_all t packets s)
-  all_fits [] ps s w linked h = after_quietly (Fits l t credit (ps ++ [])) w s (subst (λ (qs : List Packet). Fits l t credit qs s w) (sym (append-nil ps)) h)
+  all_fits [] ps s w linked h = after_quietly (Fits l t credit (ps ++ [])) w s
+      (subst (λ (qs : List Packet). Fits l t credit qs s w) (sym (append-nil ps)) h)
   all_fits (p ∷ packets) ps s w linked h =
       let m : Made = treat t p s in
-      let rest : Fits l t credit ((ps ++ p ∷ []) ++ packets) (treat_all t packets m.state).state ((w ++ m.told) ++ (treat_all t packets m.state).told) =
+      let rest : Fits l t credit ((ps ++ p ∷ []) ++ packets) (treat_all t packets m.state).state
+      ((w ++ m.told) ++ (treat_all t packets m.state).told) =
       all_fits packets (ps ++ p ∷ []) m.state (w ++ m.told) (treat_linked t p s linked) (packet_fits l t credit ps p s w h linked some) in
       subst (λ (v : List Event). Fits l t credit (ps ++ p ∷ packets) (treat_all t packets m.state).state v)
       (append_assoc w m.told (treat_all t packets m.state).told)
-      (subst (λ (qs : List Packet). Fits l t credit qs (treat_all t packets m.state).state ((w ++ m.told) ++ (treat_all t packets m.state).told))
+      (subst (λ (qs : List Packet). Fits l t credit qs (treat_all t packets m.state).state
+      ((w ++ m.told) ++ (treat_all t packets m.state).told))
       (append_assoc ps (p ∷ []) packets) rest)
 
   all_other : (n : ℕ) (packets ps : List Packet) (s : State) (w : List Event) → n ≢ t → Fits l t credit ps s w
@@ -344,7 +376,8 @@ module _ (l t : ℕ) (credit : Bool) (some : 0 < l) where
   rest_linked : (n : ℕ) (rest : List ℕ) (s : State) (w : List Event) → IsLinked s → IsLinked (to_link n (with_rest rest) s)
   rest_linked n rest s w linked = linked_moves.links n (λ link. record link { rest = rest }) s w linked
 
-  pub cut_fits : (c : Cut PacketFormat Packet PacketFault) (ps : List Packet) (s : State) (w : List Event) → IsLinked s → Fits l t credit ps s w
+  pub cut_fits : (c : Cut PacketFormat Packet PacketFault) (ps : List Packet) (s : State) (w : List Event)
+      → IsLinked s → Fits l t credit ps s w
       → After (Fits l t credit (ps ++ c.given)) w (receives_cut t c s)
   cut_fits c ps s w linked h =
       let taken : State = to_link t (with_rest c.rest) s in
@@ -353,7 +386,8 @@ module _ (l t : ℕ) (credit : Bool) (some : 0 < l) where
       (λ v now. faulty_climbs (fits_climbs l t credit (ps ++ c.given)) (treat_all t c.given taken).state v now
       ((treat_all t c.given taken).state.links t) t c.fault)
 
-  pub cut_other : (n : ℕ) (c : Cut PacketFormat Packet PacketFault) (ps : List Packet) (s : State) (w : List Event) → n ≢ t → Fits l t credit ps s w
+  pub cut_other : (n : ℕ) (c : Cut PacketFormat Packet PacketFault) (ps : List Packet) (s : State) (w : List Event)
+      → n ≢ t → Fits l t credit ps s w
       → After (Fits l t credit ps) w (receives_cut n c s)
   cut_other n c ps s w apart h =
       let taken : State = to_link n (with_rest c.rest) s in
@@ -363,7 +397,8 @@ module _ (l t : ℕ) (credit : Bool) (some : 0 < l) where
       ((treat_all n c.given taken).state.links n) n c.fault)
 
   -- a link that is gone has no stream
-  pub gone_link : (qs ps : List Packet) (s : State) (w : List Event) → IsLinked s → s.links t ≡ None → Fits l t credit ps s w → Fits l t credit (ps ++ qs) s w
+  pub gone_link : (qs ps : List Packet) (s : State) (w : List Event) → IsLinked s → s.links t ≡ None
+      → Fits l t credit ps s w → Fits l t credit (ps ++ qs) s w
   gone_link qs ps s w linked none h = more_fits l t credit ps qs s w (λ y e zero. absurd (no_row y e)) h
     where
       no_row : (y : Stream) → s.streams l ≡ Some y → ⊥

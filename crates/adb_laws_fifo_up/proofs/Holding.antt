@@ -1,5 +1,6 @@
 -- Of a client no more is held than what was held of it and what was read, through each move.
-use Rattle.std.proofs.Common.{◌≡◌, ℕ, ◌+◌, ◌≤◌, Bool, true, false, cond, List, [], ◌∷◌, ◌++◌, length, Option, Some, None, refl, sym, ap, subst, ◌∙◌}
+use Rattle.std.proofs.Common.{◌≡◌, ℕ, ◌+◌, ◌≤◌, Bool, true, false, cond, List, [], ◌∷◌, ◌++◌, length, Option, Some, None, refl, sym, ap}
+use Rattle.std.proofs.Common.{subst, ◌∙◌}
 use Rattle.std.proofs.Common.{arith, ◌⊎◌, inl, inr, eqb}
 use Rattle.std.proofs.lemmas.Bool.{eq-eqb, cases_eq}
 use Rattle.std.proofs.lemmas.List.{length-append, length-drop}
@@ -46,7 +47,9 @@ module _ (c n : ℕ) where
       let u : Seen = record { phase = before; held = now.1.client.held } in
       let see : Sees (s.clients c) u =
       ap (λ (i : ℕ). seen (s.clients i)) now.0
-      ∙ (ap seen now.1.was ∙ (ap (λ (p : Phase). seen_in p now.1.client.held) (ap (λ (y : Client). y.about.phase) same ∙ was) ∙ sees now.1.client.held)) in
+      ∙ (ap seen now.1.was
+      ∙ (ap (λ (p : Phase). seen_in p now.1.client.held) (ap (λ (y : Client). y.about.phase) same ∙ was)
+      ∙ sees now.1.client.held)) in
       let le = h u see in omega (arith, le, ap length now.1.held)
 
   -- what a stream sends is held no more
@@ -90,7 +93,8 @@ module _ (c n : ℕ) where
           → Sees (s.clients c) v ⊎ ((c ≡ stream.client) × NowIn s.clients stream.client (Streaming k) v) → length v.held ≤ n
       opens k stream s w h v waits (inl see) = h v see
       opens k stream s w h v waits (inr now) =
-          was_seen s stream.client (Streaming k) (Opening k) now.1.client w now.1.was (waits now.1.client now.1.was) (λ held. refl) h v (inr now)
+          was_seen s stream.client (Streaming k) (Opening k) now.1.client w now.1.was (waits now.1.client now.1.was)
+          (λ held. refl) h v (inr now)
 
 module _ (c n : ℕ) (s : State) (w : List Event) (h : HoldsUpTo c n s w) where
   -- who comes holds nothing
@@ -185,7 +189,8 @@ holds_within : (e : Entry) (older : History) → IsLegal (e ∷ older) → (c n 
     → held_of ((state (e ∷ older)).clients c) ≤ n
 holds_within e older legal c n is = held_seen c n (state (e ∷ older))
     (step_climbs (holds_climbs c n) e (state older) (told older)
-    (begins_holds c n (state older) (told older) (seen_held c n (state older) (omega (arith, is))) e (all_owned older legal.0) (omega (arith, is))))
+    (begins_holds c n (state older) (told older) (seen_held c n (state older) (omega (arith, is))) e
+    (all_owned older legal.0) (omega (arith, is))))
     (orderly (e ∷ older) legal)
 
 -- Of a client no more is held after an entry than before it, but for what is read of it.

@@ -28,7 +28,8 @@ asked_is_read c [] e = refl
 asked_is_read c (Read n bytes ∷ older) e = go (eqb n c) (asked_is_read c older e)
   where
     go : (b : Bool) → bytes_asked c older ≡ bytes_read c older
-        → cond (b && not (has_ended c older)) (bytes_asked c older ++ bytes) (bytes_asked c older) ≡ cond b (bytes_read c older ++ bytes) (bytes_read c older)
+        → cond (b && not (has_ended c older)) (bytes_asked c older ++ bytes) (bytes_asked c older)
+        ≡ cond b (bytes_read c older ++ bytes) (bytes_read c older)
     go true same =
         ap (λ (x : Bool). cond (not x) (bytes_asked c older ++ bytes) (bytes_asked c older)) e ∙ ap (λ x. x ++ bytes) same
     go false same = same
@@ -57,7 +58,8 @@ module _ (c : ℕ) (bytes : List ℕ) (older : History) (legal : IsLegal older) 
     rest = sym (ap (λ (q : Asked). q.rest) (now
         ∙ (ap (λ (d : DeviceTable). asks_with d (forwards older) bytes (asked c older)) (sym books.devices)
         ∙ (ap (λ (f : List (ℕ × ForwardRow)). asks_with (state older).devices f bytes (asked c older)) (sym books.forwards)
-        ∙ asked_all c bytes x (state older) (asked c older) here asks as_said.rest as_said.selected (none_next (asked c older).next parts.2)))));
+        ∙ asked_all c bytes x (state older) (asked c older) here asks as_said.rest as_said.selected
+        (none_next (asked c older).next parts.2)))));
   }
     where
       books : IsBookOf older
@@ -76,7 +78,9 @@ module _ (c : ℕ) (bytes : List ℕ) (older : History) (legal : IsLegal older) 
       parts = and_parts (has_joined c older) (not (has_ended c older)) (still_asks (asked c older)) asking
 
       now : asked c (Read c bytes ∷ older) ≡ asks_with (devices older) (forwards older) bytes (asked c older)
-      now = ap (λ (b : Bool). cond b (asked_with (is_asking c older (book older)) (devices older) (forwards older) bytes (asked c older)) (asked c older))
+      now = ap (λ (b : Bool). cond b
+          (asked_with (is_asking c older (book older)) (devices older) (forwards older) bytes (asked c older))
+          (asked c older))
           (eq-eqb c c refl)
           ∙ ap (λ (b : Bool). asked_with b (devices older) (forwards older) bytes (asked c older)) asking
 

@@ -17,7 +17,8 @@ use Rattle.adb_history.specs.Rows.{Client, Link, State, to_client, to_stream, no
 use Rattle.adb_history.specs.Events.{ending_in}
 use Rattle.adb_history.specs.Links.{maxdata_of}
 use Rattle.adb_history.specs.Clients.{closing, closes}
-use Rattle.adb_history.specs.Flow.{write_len, write_before, writes, payloads, total, flow_after, with_flow, is_over, is_streaming, up, up_all}
+use Rattle.adb_history.specs.Flow.{write_len, write_before, writes, payloads, total, flow_after, with_flow, is_over, is_streaming, up}
+use Rattle.adb_history.specs.Flow.{up_all}
 use Rattle.adb_history.specs.Machine.{History, state, IsLegal}
 use Rattle.adb_history.specs.Orderly.{IsResting, IsQuiet}
 use Rattle.adb_history.specs.Owned.{StreamOf, HoldsIn, IsOwned}
@@ -69,7 +70,8 @@ module _ (closed : Bool) (maxdata : ℕ) (bytes : List ℕ) where
   -- what is read more
   abbrev OverWith : Flow → List ℕ → Type 0
   OverWith flow held =
-      is_over closed (drop (total (payloads flow maxdata (held ++ bytes))) (held ++ bytes)) (flow_after (payloads flow maxdata (held ++ bytes)) flow) ≡ false
+      is_over closed (drop (total (payloads flow maxdata (held ++ bytes))) (held ++ bytes))
+      (flow_after (payloads flow maxdata (held ++ bytes)) flow) ≡ false
 
   one_reads : (window : OneWrite) (held : List ℕ) → is_over closed held (One window) ≡ false → OverWith (One window) held
   one_reads window held goes_on = go (payloads (One window) maxdata (held ++ bytes))
@@ -84,7 +86,8 @@ module _ (closed : Bool) (maxdata : ℕ) (bytes : List ℕ) where
       go (p ∷ ps) = busy_over closed (drop (total (p ∷ ps)) (held ++ bytes)) (flow_after (p ∷ ps) (One window))
           (outstanding ps (record window { outstanding = true }) refl)
 
-  credit_reads : (credit : ByteCredit) (held : List ℕ) → payloads (Credit credit) maxdata held ≡ [] → is_over closed held (Credit credit) ≡ false
+  credit_reads : (credit : ByteCredit) (held : List ℕ) → payloads (Credit credit) maxdata held ≡ []
+      → is_over closed held (Credit credit) ≡ false
       → OverWith (Credit credit) held
   credit_reads credit [] nothing goes_on =
       let ps : List (List ℕ) = payloads (Credit credit) maxdata bytes in
@@ -123,11 +126,14 @@ module _ (k l : ℕ) (s : State) (apart : k ≢ l) (h : Lasts l s) where
     sends_other : Lasts l (record (left k s x) { links = links })
     sends_other y = go (cases_eq x.stream.client y.stream.client)
       where
-        go : (x.stream.client ≡ y.stream.client) ⊎ (x.stream.client ≡ y.stream.client → ⊥) → over l (record (left k s x) { links = links }) y ≡ false
+        go : (x.stream.client ≡ y.stream.client) ⊎ (x.stream.client ≡ y.stream.client → ⊥)
+            → over l (record (left k s x) { links = links }) y ≡ false
         go (inl same) =
             let row : record x.client { held = held_now } ≡ y.client =
-            (let both : Some (record x.client { held = held_now }) ≡ Some y.client = sym here_now ∙ (ap (left k s x).clients same ∙ y.here) in cc) in
-            absurd (not_streaming k l x.client.about.phase apart x.streaming (ap (λ (z : Client). is_streaming l z.about.phase) row ∙ y.streaming))
+            (let both : Some (record x.client { held = held_now }) ≡ Some y.client =
+            sym here_now ∙ (ap (left k s x).clients same ∙ y.here) in cc) in
+            absurd (not_streaming k l x.client.about.phase apart x.streaming
+            (ap (λ (z : Client). is_streaming l z.about.phase) row ∙ y.streaming))
         go (inr other) = h (record {
           stream = y.stream;
           client = y.client;
@@ -152,20 +158,23 @@ module _ (k l : ℕ) (s : State) (apart : k ≢ l) (h : Lasts l s) where
         go (inr other) = h (record {
           stream = y.stream;
           client = y.client;
-          there = sym (changed_other k l (with_stream_part part) s.streams apart) ∙ (sym (changed_other k l none_kept (left k s x).streams apart) ∙ y.there);
+          there = sym (changed_other k l (with_stream_part part) s.streams apart)
+              ∙ (sym (changed_other k l none_kept (left k s x).streams apart) ∙ y.there);
           here = sym (changed_other x.stream.client y.stream.client (with_held held_now) s.clients other)
               ∙ (sym (changed_other x.stream.client y.stream.client closing (left k s x).clients other) ∙ y.here);
           streaming = y.streaming;
         })
 
   up_other : Lasts l (up k s).state
-  up_other = up_to (Lasts l) k s (record { stays = λ idle. h; sends = λ x links e. sends_other x links; ends = λ x links e. ends_other x links })
+  up_other = up_to (Lasts l) k s
+      (record { stays = λ idle. h; sends = λ x links e. sends_other x links; ends = λ x links e. ends_other x links })
 
 -- ---- and for this one
 up_own : (l : ℕ) (s : State) → Lasts l (up l s).state
 up_own l s y =
     let calm = (up_calms l s).calm y in
-    ap (λ (ps : List (List ℕ)). is_over y.client.about.ended (drop (total ps) y.client.held) (flow_after ps y.stream.part.flow)) calm.nothing ∙ calm.goes_on
+    ap (λ (ps : List (List ℕ)). is_over y.client.about.ended (drop (total ps) y.client.held)
+    (flow_after ps y.stream.part.flow)) calm.nothing ∙ calm.goes_on
 
 -- ---- no end of such a stream is told
 up_lives : (k l : ℕ) (s : State) → Lasts l s → ending_in l (up k s).told ≡ None
@@ -174,7 +183,8 @@ up_lives k l s h = go (cases_eq k l)
     go : (k ≡ l) ⊎ (k ≡ l → ⊥) → ending_in l (up k s).told ≡ None
     go (inl same) = subst (λ (n : ℕ). ending_in l (up n s).told ≡ None) (sym same)
         (up_is (λ m. ending_in l m.told ≡ None) l s refl (λ x. lasting_told l s x (h x)))
-    go (inr apart) = up_is (λ m. ending_in l m.told ≡ None) k s refl (λ x. (silent_up k l (λ e. apart (sym e)) _ (sends_made k s x).told).lives)
+    go (inr apart) = up_is (λ m. ending_in l m.told ≡ None) k s refl
+        (λ x. (silent_up k l (λ e. apart (sym e)) _ (sends_made k s x).told).lives)
 
 up_lasts : (k l : ℕ) (s : State) → Lasts l s → Lasts l (up k s).state
 up_lasts k l s h = go (cases_eq k l)
@@ -190,7 +200,8 @@ up_all_lasts (suc n) l s h = up_lasts (suc n) l (up_all n s).state (up_all_lasts
 pub up_all_lives : (n l : ℕ) (s : State) → Lasts l s → ending_in l (up_all n s).told ≡ None
 up_all_lives zero l s h = refl
 up_all_lives (suc n) l s h =
-    ending_none l (up_all n s).told (up (suc n) (up_all n s).state).told (up_all_lives n l s h) (up_lives (suc n) l (up_all n s).state (up_all_lasts n l s h))
+    ending_none l (up_all n s).told (up (suc n) (up_all n s).state).told (up_all_lives n l s h)
+    (up_lives (suc n) l (up_all n s).state (up_all_lasts n l s h))
 
 -- ---- a client that has a stream reads
 -- the stream of a client lives
@@ -211,7 +222,8 @@ module _ (l c : ℕ) (bytes : List ℕ) (older : History) (legal : IsLegal older
   read_lasts y = subst (λ (z : Client). is_over z.about.ended
       (drop (total (payloads y.stream.part.flow (maxdata_of y.stream.link (state older).devices) z.held)) z.held)
       (flow_after (payloads y.stream.part.flow (maxdata_of y.stream.link (state older).devices) z.held) y.stream.part.flow) ≡ false) row
-      (reads_over x.about.ended (maxdata_of y.stream.link (state older).devices) bytes y.stream.part.flow x.held quiet.nothing quiet.goes_on)
+      (reads_over x.about.ended (maxdata_of y.stream.link (state older).devices) bytes y.stream.part.flow x.held
+      quiet.nothing quiet.goes_on)
     where
       stream : own_stream.stream ≡ y.stream
       stream = let both : Some own_stream.stream ≡ Some y.stream = sym own_stream.is ∙ y.there in cc

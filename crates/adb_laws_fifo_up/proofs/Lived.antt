@@ -13,7 +13,8 @@ use Rattle.adb_history.specs.Lives.{ending_of, lived, rest_of}
 use Rattle.adb_laws_fifo_up.proofs.Seeing.{ending_or, ending_append}
 
 -- what an entry told of the end of a stream
-pub ending_now : (l : ℕ) (e : Entry) (older : History) → ending_of l (e ∷ older) ≡ ending_or (ending_of l older) (ending_in l (told_at e older))
+pub ending_now : (l : ℕ) (e : Entry) (older : History) → ending_of l (e ∷ older)
+    ≡ ending_or (ending_of l older) (ending_in l (told_at e older))
 ending_now l e older = ending_append l (told older) (told_at e older)
 
 -- of a stream that did not end, all is its life
@@ -61,7 +62,8 @@ module _ (l : ℕ) (b : Birth) (e : Entry) (older : History) where
   rest_ends ending none now =
       rest_cases none ∙ ap (λ (o : Option Ending). drop b.head (bytes_read b.client (cond (is_some o) older (e ∷ older)))) now
 
-  pub rest_lives : ending_of l older ≡ None → ending_in l (told_at e older) ≡ None → rest_of l b (e ∷ older) ≡ drop b.head (bytes_read b.client (e ∷ older))
+  pub rest_lives : ending_of l older ≡ None → ending_in l (told_at e older) ≡ None
+      → rest_of l b (e ∷ older) ≡ drop b.head (bytes_read b.client (e ∷ older))
   rest_lives none now =
       rest_cases none ∙ ap (λ (o : Option Ending). drop b.head (bytes_read b.client (cond (is_some o) older (e ∷ older)))) now
 

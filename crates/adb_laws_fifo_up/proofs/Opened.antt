@@ -1,5 +1,6 @@
 -- What the opening of a stream, a change of its row and the draw of another one leave.
-use Rattle.std.proofs.Common.{◌≡◌, ◌≢◌, ℕ, ◌+◌, Bool, true, false, cond, [], ◌++◌, Option, Some, None, refl, sym, ap, subst, ◌∙◌, ◌⊎◌, inl, inr}
+use Rattle.std.proofs.Common.{◌≡◌, ◌≢◌, ℕ, ◌+◌, Bool, true, false, cond, [], ◌++◌, Option, Some, None, refl, sym, ap, subst, ◌∙◌, ◌⊎◌, inl}
+use Rattle.std.proofs.Common.{inr}
 use Rattle.std.specs.Prelude.{option_and_then, codes}
 use Rattle.std.proofs.lemmas.Bool.{eq-eqb, ne_eqb, cases_eq}
 use Rattle.adb_outside.specs.Tables.{Rows, change_row}
@@ -52,13 +53,15 @@ draws_other l c t s apart = rw (ne_eqb (s.drawn + 1) l apart) refl
 
 -- ---- a stream whose part changes
 pub part_row : (l k : ℕ) (stream : Stream) (part : Part) (s : State) (y : Stream) → s.streams k ≡ Some stream
-    → (to_stream k (with_stream_part part) s).streams l ≡ Some y → (x : Stream) × (s.streams l ≡ Some x) × (y.link ≡ x.link) × (y.client ≡ x.client)
+    → (to_stream k (with_stream_part part) s).streams l ≡ Some y
+    → (x : Stream) × (s.streams l ≡ Some x) × (y.link ≡ x.link) × (y.client ≡ x.client)
 part_row l k stream part s y is now = go (cases_eq k l)
   where
     go : (k ≡ l) ⊎ (k ≡ l → ⊥) → (x : Stream) × (s.streams l ≡ Some x) × (y.link ≡ x.link) × (y.client ≡ x.client)
     go (inl same) =
         let row : record stream { part = part } ≡ y = (let both : Some (record stream { part = part }) ≡ Some y =
-        sym (changed_here k (with_stream_part part) s.streams stream is) ∙ (ap (to_stream k (with_stream_part part) s).streams same ∙ now) in cc) in
+        sym (changed_here k (with_stream_part part) s.streams stream is)
+        ∙ (ap (to_stream k (with_stream_part part) s).streams same ∙ now) in cc) in
         (stream, ap s.streams (sym same) ∙ is, ap (λ (z : Stream). z.link) (sym row), ap (λ (z : Stream). z.client) (sym row))
     go (inr apart) = (y, sym (changed_other k l (with_stream_part part) s.streams apart) ∙ now, refl, refl)
 
@@ -66,8 +69,10 @@ part_row l k stream part s y is now = go (cases_eq k l)
 pub record Opens (k : ℕ) (stream : Stream) (s : State) (m : Made) : Type 0 where
   pub drawn : m.state.drawn ≡ s.drawn
   pub others : (l : ℕ) → l ≢ k → m.state.streams l ≡ s.streams l
-  pub row : (l : ℕ) (y : Stream) → m.state.streams l ≡ Some y → (x : Stream) × (s.streams l ≡ Some x) × (y.link ≡ x.link) × (y.client ≡ x.client)
-  pub clients : (n : ℕ) (v : Seen) → Sees (m.state.clients n) v → Sees (s.clients n) v ⊎ ((n ≡ stream.client) × NowIn s.clients stream.client (Streaming k) v)
+  pub row : (l : ℕ) (y : Stream) → m.state.streams l ≡ Some y
+      → (x : Stream) × (s.streams l ≡ Some x) × (y.link ≡ x.link) × (y.client ≡ x.client)
+  pub clients : (n : ℕ) (v : Seen) → Sees (m.state.clients n) v
+      → Sees (s.clients n) v ⊎ ((n ≡ stream.client) × NowIn s.clients stream.client (Streaming k) v)
   pub told : Are IsAside m.told
 
 -- what a client that hears an OKAY holds
@@ -87,7 +92,8 @@ hears_held (Some client) c s x is = go client.about.forwarded is
     go false e = due (s.clients c) refl
         (sym (rw (eq-eqb c c refl) refl) ∙ e)
 
-pub opens_made : (k remote : ℕ) (word : Option ℕ) (stream : Stream) (s : State) → s.streams k ≡ Some stream → Opens k stream s (opened k remote word stream s)
+pub opens_made : (k remote : ℕ) (word : Option ℕ) (stream : Stream) (s : State) → s.streams k ≡ Some stream
+    → Opens k stream s (opened k remote word stream s)
 opens_made k remote word stream s is = record {
   drawn = off.drawn;
   others = λ l apart. changed_other k l (with_stream_part part) heard.state.streams (λ e. apart (sym e)) ∙ off.streams l;
@@ -109,10 +115,13 @@ opens_made k remote word stream s is = record {
 
     clients : (n : ℕ) (v : Seen) → Sees ((opened k remote word stream s).state.clients n) v
         → Sees (s.clients n) v ⊎ ((n ≡ stream.client) × NowIn s.clients stream.client (Streaming k) v)
-    clients n v see = go (phase_seen (hears_okay (s.clients stream.client) stream.client s).state.clients stream.client (Streaming k) n v see)
+    clients n v see =
+        go (phase_seen (hears_okay (s.clients stream.client) stream.client s).state.clients stream.client
+        (Streaming k) n v see)
       where
         go : Sees ((hears_okay (s.clients stream.client) stream.client s).state.clients n) v
-            ⊎ ((n ≡ stream.client) × NowIn (hears_okay (s.clients stream.client) stream.client s).state.clients stream.client (Streaming k) v)
+            ⊎ ((n ≡ stream.client) × NowIn (hears_okay (s.clients stream.client) stream.client s).state.clients
+            stream.client (Streaming k) v)
             → Sees (s.clients n) v ⊎ ((n ≡ stream.client) × NowIn s.clients stream.client (Streaming k) v)
         go (inl same) = inl ((aside_hears (s.clients stream.client) stream.client s).clients n v same)
         go (inr here) =
@@ -127,5 +136,6 @@ opened_row k remote word stream s y is e =
     let part : Part = with_remote remote (with_flow (first_credit word stream.part.flow) stream.part) in
     let off : Aside s (hears_okay (s.clients stream.client) stream.client s) = aside_hears (s.clients stream.client) stream.client s in
     let row : record stream { part = part } ≡ y = (let both : Some (record stream { part = part }) ≡ Some y =
-    sym (changed_here k (with_stream_part part) (hears_okay (s.clients stream.client) stream.client s).state.streams stream (off.streams k ∙ is)) ∙ e in cc) in
+    sym (changed_here k (with_stream_part part) (hears_okay (s.clients stream.client) stream.client s).state.streams
+    stream (off.streams k ∙ is)) ∙ e in cc) in
     (ap (λ (z : Stream). z.link) (sym row), ap (λ (z : Stream). z.part) (sym row))

@@ -16,7 +16,8 @@ allowed false l o = allowed_writes l o
 allowed true l o = allowed_bytes l o
 
 -- ---- an opening stays, and what comes later is behind it
-by_more : (command : Command) (l : ℕ) (p : Packet) (ps qs : List Packet) (o : Opening) → opening_by command l p ps (opening_in l ps) ≡ Some o
+by_more : (command : Command) (l : ℕ) (p : Packet) (ps qs : List Packet) (o : Opening)
+    → opening_by command l p ps (opening_in l ps) ≡ Some o
     → (opening_in l ps ≡ Some o → opening_in l (ps ++ qs) ≡ Some (record o { later = o.later ++ qs }))
     → opening_by command l p (ps ++ qs) (opening_in l (ps ++ qs)) ≡ Some (record o { later = o.later ++ qs })
 by_more Okay l p ps qs o e rest = go (eqb p.arg1 l && not (eqb p.arg0 0)) e
@@ -30,13 +31,15 @@ by_more Okay l p ps qs o e rest = go (eqb p.arg1 l && not (eqb p.arg0 0)) e
     go false f = rest f
 by_more Clse l p ps qs o e rest = go (is_between 0 l p) e
   where
-    go : (b : Bool) → cond b None (opening_in l ps) ≡ Some o → cond b None (opening_in l (ps ++ qs)) ≡ Some (record o { later = o.later ++ qs })
+    go : (b : Bool) → cond b None (opening_in l ps) ≡ Some o
+        → cond b None (opening_in l (ps ++ qs)) ≡ Some (record o { later = o.later ++ qs })
     go true f = let clash : None ≡ Some o = f in cc
     go false f = rest f
 by_more Cnxn l p ps qs o e rest = let clash : None ≡ Some o = e in cc
 by_more _ l p ps qs o e rest = rest e
 
-pub opening_more : (l : ℕ) (ps qs : List Packet) (o : Opening) → opening_in l ps ≡ Some o → opening_in l (ps ++ qs) ≡ Some (record o { later = o.later ++ qs })
+pub opening_more : (l : ℕ) (ps qs : List Packet) (o : Opening) → opening_in l ps ≡ Some o
+    → opening_in l (ps ++ qs) ≡ Some (record o { later = o.later ++ qs })
 opening_more l [] qs o e = let clash : None ≡ Some o = e in cc
 opening_more l (p ∷ ps) qs o e = by_more p.command l p ps qs o e (opening_more l ps qs o)
 
@@ -61,7 +64,8 @@ pub record Hears (l : ℕ) (p : Packet) : Type 0 where
 pub first_heard : (l : ℕ) (ps : List Packet) (p : Packet) → IsOpenEnded l ps → Hears l p
     → opening_in l (ps ++ p ∷ []) ≡ Some (record { remote = p.arg0; word = credit_word p.payload; later = [] })
 first_heard l ps p h okay =
-    h (p ∷ []) ∙ (ap (λ (c : Command). opening_by c l p [] None) okay.command ∙ rw (eq-eqb p.arg1 l okay.stream, ne_eqb p.arg0 0 okay.remote) refl)
+    h (p ∷ []) ∙ (ap (λ (c : Command). opening_by c l p [] None) okay.command
+    ∙ rw (eq-eqb p.arg1 l okay.stream, ne_eqb p.arg0 0 okay.remote) refl)
 
 -- a CNXN, and a CLSE from id 0, keep it from being opened
 pub record Closes (l : ℕ) (p : Packet) : Type 0 where
@@ -75,7 +79,8 @@ Kind l p = Hears l p ⊎ (((p.command ≡ Cnxn) ⊎ Closes l p) ⊎ Passes l p)
 pub kind : (l : ℕ) (p : Packet) → Kind l p
 kind l p = by p.command refl
   where
-    plain : (c : Command) → p.command ≡ c → ((later : List Packet) (others : Option Opening) → opening_by c l p later others ≡ others) → Kind l p
+    plain : (c : Command) → p.command ≡ c
+        → ((later : List Packet) (others : Option Opening) → opening_by c l p later others ≡ others) → Kind l p
     plain c e passes = inr (inr (λ later others. ap (λ (x : Command). opening_by x l p later others) e ∙ passes later others))
 
     okay : (a b : Bool) → eqb p.arg1 l ≡ a → eqb p.arg0 0 ≡ b → p.command ≡ Okay → Kind l p
@@ -110,7 +115,8 @@ okays_append remote l (p ∷ ps) qs = go (is_okay p.command && is_between remote
 
 credit_append : (remote l : ℕ) (ps qs : List Packet) → credit_in remote l (ps ++ qs) ≡ credit_in remote l ps + credit_in remote l qs
 credit_append remote l [] qs = omega arith
-credit_append remote l (p ∷ ps) qs = go (is_okay p.command && is_between remote l p) (unwrap_or (credit_word p.payload) 0) (credit_append remote l ps qs)
+credit_append remote l (p ∷ ps) qs = go (is_okay p.command && is_between remote l p)
+    (unwrap_or (credit_word p.payload) 0) (credit_append remote l ps qs)
   where
     go : (b : Bool) (n : ℕ) → credit_in remote l (ps ++ qs) ≡ credit_in remote l ps + credit_in remote l qs
         → cond b (n + credit_in remote l (ps ++ qs)) (credit_in remote l (ps ++ qs))
@@ -123,7 +129,8 @@ pub later_allows : (credit : Bool) (l : ℕ) (o : Opening) (qs : List Packet)
 later_allows false l o qs = omega (arith, okays_append o.remote l o.later qs)
 later_allows true l o qs = omega (arith, credit_append o.remote l o.later qs)
 
-pub more_allows : (credit : Bool) (l : ℕ) (ps qs : List Packet) → allowed credit l (opening_in l ps) ≤ allowed credit l (opening_in l (ps ++ qs))
+pub more_allows : (credit : Bool) (l : ℕ) (ps qs : List Packet)
+    → allowed credit l (opening_in l ps) ≤ allowed credit l (opening_in l (ps ++ qs))
 more_allows credit l ps qs = go (opening_in l ps) refl
   where
     none : (credit : Bool) → allowed credit l None ≡ 0

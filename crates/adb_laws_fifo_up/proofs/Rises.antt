@@ -23,7 +23,8 @@ use Rattle.adb_history.proofs.Sweep.{Sending, sent}
 use Rattle.adb_laws_fifo_up.specs.Seen.{Seen, seen, seen_in, Sees, IsOf}
 use Rattle.adb_laws_fifo_up.specs.Climbing.{carried, Silent, IsOther, Goes, Climbs}
 use Rattle.adb_laws_fifo_up.specs.Rising.{Rises}
-use Rattle.adb_laws_fifo_up.proofs.Seeing.{silent_aside, silent_end, silent_up, end_carries, end_such, ending_split, ending_none, carried_append, carried_none}
+use Rattle.adb_laws_fifo_up.proofs.Seeing.{silent_aside, silent_end, silent_up, end_carries, end_such, ending_split, ending_none}
+use Rattle.adb_laws_fifo_up.proofs.Seeing.{carried_append, carried_none}
 use Rattle.adb_laws_fifo_up.proofs.Opened.{NowIn, phase_seen, draws_other, part_row, Opens, opens_made}
 use Rattle.adb_laws_fifo_up.proofs.SendsUp.{streaming_is, payloads_join, IsLeft, Sends, sends_made}
 use Rattle.adb_laws_fifo_up.proofs.Stops.{stops_carries, stops_other, stops_unseen}
@@ -41,8 +42,10 @@ owned_waits s owned k stream is new x here =
 
 module _ (l t c : ℕ) (rest : List ℕ) where
   -- nothing is told
-  pub view : (s next : State) (w : List Event) → s.drawn ≤ next.drawn → ((y : Stream) → next.streams l ≡ Some y → (y.link ≡ t) × (y.client ≡ c))
-      → ((n : ℕ) (v : Seen) → Sees (next.clients n) v → IsOf l v.phase → Sees (s.clients n) v) → Rises l t c rest s w → Rises l t c rest next w
+  pub view : (s next : State) (w : List Event) → s.drawn ≤ next.drawn
+      → ((y : Stream) → next.streams l ≡ Some y → (y.link ≡ t) × (y.client ≡ c))
+      → ((n : ℕ) (v : Seen) → Sees (next.clients n) v → IsOf l v.phase → Sees (s.clients n) v) → Rises l t c rest s w
+      → Rises l t c rest next w
   view s next w drawn mine seen_before h = record {
     born = omega (arith, h.born, drawn);
     mine = mine;
@@ -72,7 +75,8 @@ module _ (l t c : ℕ) (rest : List ℕ) where
       closed (inl e) = h.whole e
       closed (inr e) = absurd (let clash : None ≡ Some ClientClosed = sym silent.lives ∙ e in cc)
 
-  same_rows : (s next : State) → ((m : ℕ) → next.streams m ≡ s.streams m) → ((y : Stream) → s.streams l ≡ Some y → (y.link ≡ t) × (y.client ≡ c))
+  same_rows : (s next : State) → ((m : ℕ) → next.streams m ≡ s.streams m)
+      → ((y : Stream) → s.streams l ≡ Some y → (y.link ≡ t) × (y.client ≡ c))
       → (y : Stream) → next.streams l ≡ Some y → (y.link ≡ t) × (y.client ≡ c)
   same_rows s next same mine y e = mine y (sym (same l) ∙ e)
 
@@ -96,7 +100,8 @@ module _ (l t c : ℕ) (rest : List ℕ) where
       (λ y e. h.mine y (sym (draws_other l n t2 s (λ f. omega (arith, f, h.born))) ∙ e))
       (λ m v see of. before m v of (phase_seen s.clients n (Opening (s.drawn + 1)) m v see)) h
     where
-      before : (m : ℕ) (v : Seen) → IsOf l v.phase → Sees (s.clients m) v ⊎ ((m ≡ n) × NowIn s.clients n (Opening (s.drawn + 1)) v) → Sees (s.clients m) v
+      before : (m : ℕ) (v : Seen) → IsOf l v.phase → Sees (s.clients m) v
+          ⊎ ((m ≡ n) × NowIn s.clients n (Opening (s.drawn + 1)) v) → Sees (s.clients m) v
       before m v of (inl see) = see
       before m v of (inr now) =
           let same : s.drawn + 1 ≡ l = subst (IsOf l) now.1.phase_now of in
@@ -124,7 +129,8 @@ module _ (l t c : ℕ) (rest : List ℕ) where
           let u : Seen = record { phase = Opening k; held = now.client.held } in
           (same, u, ap seen now.was ∙ ap (λ (p : Phase). seen_in p now.client.held) (waits now.client now.was), same, sym now.held)
 
-      only : (n : ℕ) (v : Seen) → IsOf l v.phase → Sees (s.clients n) v ⊎ ((n ≡ stream.client) × NowIn s.clients stream.client (Streaming k) v) → n ≡ c
+      only : (n : ℕ) (v : Seen) → IsOf l v.phase → Sees (s.clients n) v
+          ⊎ ((n ≡ stream.client) × NowIn s.clients stream.client (Streaming k) v) → n ≡ c
       only n v of (inl see) = h.only n v see of
       only n v of (inr now) = let u = waited v of now.1 in now.0 ∙ h.only stream.client u.1 u.2 u.3
 
@@ -166,13 +172,15 @@ module _ (l t c : ℕ) (rest : List ℕ) where
           (ending_none l w m.told was.0 none, ap (λ x. x ++ v.held) same ∙ was.1)
       held v see of (inr left) = absurd (left v (subst (λ (n : ℕ). Sees (m.state.clients n) v) (sym (his g.his)) see) of)
 
-  other_rises : (k : ℕ) (s : State) (m : Made) (w : List Event) → l ≢ k → Goes IsOther k s m → Rises l t c rest s w → Rises l t c rest m.state (w ++ m.told)
+  other_rises : (k : ℕ) (s : State) (m : Made) (w : List Event) → l ≢ k → Goes IsOther k s m → Rises l t c rest s w
+      → Rises l t c rest m.state (w ++ m.told)
   other_rises k s m w apart g h =
       told_aside m.state w m.told (silent_end IsOther k l apart m.told g.told)
       (view s m.state w (omega (arith, g.drawn)) (λ y e. h.mine y (sym (g.others l apart) ∙ e)) (λ n v see of. g.clients n v see) h)
 
   -- ---- sends
-  sent_rises : (s : State) (x : Sending l s) (m : Made) (w : List Event) → Sends l s x m → Rises l t c rest s w → Rises l t c rest m.state (w ++ m.told)
+  sent_rises : (s : State) (x : Sending l s) (m : Made) (w : List Event) → Sends l s x m → Rises l t c rest s w
+      → Rises l t c rest m.state (w ++ m.told)
   sent_rises s x m w o h = record {
     born = omega (arith, h.born, o.drawn);
     mine = λ y e. (let row = o.row y e in (row.0 ∙ mine.0, row.1 ∙ mine.1));
@@ -225,9 +233,11 @@ module _ (l t c : ℕ) (rest : List ℕ) where
       → Rises l t c rest m.state (w ++ m.told)
   unsent_rises k s x m w apart o h =
       told_aside m.state w m.told (silent_up k l apart m.told o.told)
-      (view s m.state w (omega (arith, o.drawn)) (λ y e. h.mine y (sym (o.others l apart) ∙ e)) (λ n v see of. before n v of (o.clients n v see)) h)
+      (view s m.state w (omega (arith, o.drawn)) (λ y e. h.mine y (sym (o.others l apart) ∙ e))
+      (λ n v see of. before n v of (o.clients n v see)) h)
     where
-      before : (n : ℕ) (v : Seen) → IsOf l v.phase → Sees (s.clients n) v ⊎ ((n ≡ x.stream.client) × (v.phase ≡ Streaming k)) → Sees (s.clients n) v
+      before : (n : ℕ) (v : Seen) → IsOf l v.phase → Sees (s.clients n) v
+          ⊎ ((n ≡ x.stream.client) × (v.phase ≡ Streaming k)) → Sees (s.clients n) v
       before n v of (inl see) = see
       before n v of (inr now) = absurd (apart (sym (subst (IsOf l) now.1 of)))
 
@@ -266,5 +276,7 @@ module _ (l t c : ℕ) (rest : List ℕ) where
       sends : (k : ℕ) (s : State) (x : Sending k s) (w : List Event) → Rises l t c rest s w → (k ≡ l) ⊎ (k ≡ l → ⊥)
           → After (Rises l t c rest) w (sends_up k x.stream x.client (sent k s x) s)
       sends k s x w h (inr apart) = unsent_rises k s x _ w (λ e. apart (sym e)) (sends_made k s x) h
-      sends k s x w h (inl same) = subst (λ (i : ℕ). (z : Sending i s) → After (Rises l t c rest) w (sends_up i z.stream z.client (sent i s z) s)) (sym same)
+      sends k s x w h (inl same) =
+          subst (λ (i : ℕ). (z : Sending i s) → After (Rises l t c rest) w
+          (sends_up i z.stream z.client (sent i s z) s)) (sym same)
           (λ z. sent_rises s z _ w (sends_made l s z) h) x

@@ -25,7 +25,8 @@ use Rattle.adb_reply.specs.declared.answer.Next.{Next}
 use Rattle.adb_reply.specs.declared.answer.Next.TheVariants.{Close, Select, Track, Open, Bind, Rebind, Unbind, UnbindAll, Stop}
 use Rattle.adb_capture.specs.declared.entry.Entry.{Entry}
 use Rattle.adb_capture.specs.declared.entry.Entry.TheVariants.{Join, Enter, Read, End, Bound, Attach, Recv, Detach, Put, Send}
-use Rattle.adb_history.specs.Rows.{Client, Link, State, new_client, to_client, to_link, to_stream, none_kept, with_due, with_held, with_stream_part}
+use Rattle.adb_history.specs.Rows.{Client, Link, State, new_client, to_client, to_link, to_stream, none_kept, with_due, with_held}
+use Rattle.adb_history.specs.Rows.{with_stream_part}
 use Rattle.adb_history.specs.Events.{Made, Event, quietly}
 use Rattle.adb_history.specs.declared.ending.Ending.TheVariants.{Lost}
 use Rattle.adb_history.specs.Links.{server_cnxn, okay_packet, credit_packet, owe_link, is_connected}
@@ -37,7 +38,8 @@ use Rattle.adb_history.specs.Forwarding.{Binding as BoundBy, bound_by, put_forwa
 use Rattle.adb_history.specs.Asking.{Asked, asks_with}
 use Rattle.adb_history.specs.Losing.{stream_fails, stream_of, client_ends, input_ends}
 use Rattle.adb_history.specs.Packets.{treat, treat_all, faulty, with_rest, receives_cut, receives_on}
-use Rattle.adb_history.specs.Reading.{comes, comes_in_vain, enters_by, tracks, awaits, goes_on, asked_before, has_asked, asks, reads_in, reads_from}
+use Rattle.adb_history.specs.Reading.{comes, comes_in_vain, enters_by, tracks, awaits, goes_on, asked_before, has_asked, asks, reads_in}
+use Rattle.adb_history.specs.Reading.{reads_from}
 use Rattle.adb_history.specs.Reading.{bound_for, bound_in, bound_at, bound}
 use Rattle.adb_history.specs.Handing.{unmarked, lists_first, hands, tells_credit, tells_handed, stream_hands, stream_left}
 use Rattle.adb_history.specs.Handing.{client_left, takes_of, puts_to, sends}
@@ -47,11 +49,13 @@ use Rattle.adb_history.specs.Owned.{IsOwned}
 use Rattle.adb_history.proofs.OwnedStep.{owned_moves}
 use Rattle.adb_history.proofs.Following.{after_quietly, after_then, after_if, changed_here}
 use Rattle.adb_laws_fifo_up.specs.Climbing.{Aside, IsLevel, may_send, Climbs}
-use Rattle.adb_laws_fifo_up.proofs.Asides.{aside_same, aside_then, aside_owe, aside_owe_client, aside_closes, aside_closes_with, aside_drops, aside_tracks}
+use Rattle.adb_laws_fifo_up.proofs.Asides.{aside_same, aside_then, aside_owe, aside_owe_client, aside_closes, aside_closes_with}
+use Rattle.adb_laws_fifo_up.proofs.Asides.{aside_drops, aside_tracks}
 use Rattle.adb_laws_fifo_up.proofs.Asides.{aside_awaits, aside_input, aside_hands, aside_unmarks, aside_marks, aside_else}
 use Rattle.adb_laws_fifo_up.proofs.OwnedPackets.{treat_owned}
 use Rattle.adb_laws_fifo_up.proofs.Ends.{open_fails_goes, asked_fails_goes}
-use Rattle.adb_laws_fifo_up.proofs.StreamClimbs.{quiet_climbs, service_climbs, link_ends_climbs, not_lost, treat_climbs, faulty_climbs, up_all_climbs}
+use Rattle.adb_laws_fifo_up.proofs.StreamClimbs.{quiet_climbs, service_climbs, link_ends_climbs, not_lost, treat_climbs, faulty_climbs}
+use Rattle.adb_laws_fifo_up.proofs.StreamClimbs.{up_all_climbs}
 
 -- ---- bound
 aside_bound_for : (want : Option Want) (c port : ℕ) (s : State) → Aside s (bound_for want c port s)
@@ -77,7 +81,8 @@ aside_turns c s next off = aside_then s (quietly next) (λ s. quietly (closes c 
 aside_lists : (c : ℕ) (due : List ℕ) (client : Client) (s : State) → Aside s (lists_first c due client s)
 aside_lists c [] client s =
     let next : State = to_client c unmarked s in
-    aside_then s (quietly next) (λ _. owe_client c (offered s.devices client) next) (aside_unmarks c s) (aside_owe_client c (offered s.devices client) next)
+    aside_then s (quietly next) (λ _. owe_client c (offered s.devices client) next) (aside_unmarks c s)
+    (aside_owe_client c (offered s.devices client) next)
 aside_lists c (b ∷ due) client s = aside_same s
 
 aside_credit : (back l : ℕ) (stream : Stream) (s : State) → Aside s (tells_credit back l stream s)
@@ -195,7 +200,8 @@ module _ {Hears : State → ℕ → Type 0} {P : State → List Event → Type 0
         let less : State = to_stream l (with_stream_part part) s in
         let told : Made = tells_handed stream.part.flow left l stream less in
         after_if P w (nat_eq left (to_hand stream.part.flow)) (quietly s) told (λ e. after_quietly P w s h)
-        (λ e. k.aside less told w (aside_handed stream.part.flow left l stream less) (k.parts l stream part s w is (level_handed left stream.part) h))
+        (λ e. k.aside less told w (aside_handed stream.part.flow left l stream less)
+        (k.parts l stream part s w is (level_handed left stream.part) h))
 
     stream_left_climbs : (due l : ℕ) (o : Option Stream) → s.streams l ≡ o → After P w (stream_left due l o s)
     stream_left_climbs due l None is = after_quietly P w s h
@@ -229,7 +235,8 @@ module _ {Hears : State → ℕ → Type 0} {P : State → List Event → Type 0
   abbrev pub HearsAll : Type 0
   HearsAll = (s : State) → IsOwned s → (l : ℕ) → Hears s l
 
-  treat_all_climbs : HearsAll → (s : State) (w : List Event) → P s w → IsOwned s → (t : ℕ) (packets : List Packet) → After P w (treat_all t packets s)
+  treat_all_climbs : HearsAll → (s : State) (w : List Event) → P s w → IsOwned s → (t : ℕ) (packets : List Packet)
+      → After P w (treat_all t packets s)
   treat_all_climbs all s w h owned t [] = after_quietly P w s h
   treat_all_climbs all s w h owned t (p ∷ packets) =
       after_then P w (treat t p s) (treat_all t packets) (treat_climbs k s w h t p (λ e. all s owned p.arg1))
@@ -250,11 +257,13 @@ module _ {Hears : State → ℕ → Type 0} {P : State → List Event → Type 0
       cut c =
           let taken : State = to_link t (with_rest c.rest) s in
           after_then P w (treat_all t c.given taken) (faulty t c.fault)
-          (treat_all_climbs all taken w (rest_climbs t c.rest s w h) (owned_moves.links t (λ link. record link { rest = c.rest }) s w owned) t c.given)
+          (treat_all_climbs all taken w (rest_climbs t c.rest s w h)
+          (owned_moves.links t (λ link. record link { rest = c.rest }) s w owned) t c.given)
           (λ v now. faulty_climbs k (treat_all t c.given taken).state v now ((treat_all t c.given taken).state.links t) t c.fault)
 
   -- ---- who comes
-  enters_climbs : (o : Option ForwardRow) (c : ℕ) (s : State) (w : List Event) → P (comes true c s) w → P (comes_in_vain s) w → After P w (enters_by c o s)
+  enters_climbs : (o : Option ForwardRow) (c : ℕ) (s : State) (w : List Event) → P (comes true c s) w
+      → P (comes_in_vain s) w → After P w (enters_by c o s)
   enters_climbs None c s w here vain = after_quietly P w (comes_in_vain s) vain
   enters_climbs (Some row) c s w here vain =
       let now : State = comes true c s in

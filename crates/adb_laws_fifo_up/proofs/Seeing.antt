@@ -1,5 +1,6 @@
 -- What is seen of clients through a change, and what told events say of a stream.
-use Rattle.std.proofs.Common.{◌≡◌, ◌≢◌, ℕ, Bool, true, false, cond, List, [], ◌∷◌, ◌++◌, Option, Some, None, refl, sym, ap, subst, ◌∙◌, append_assoc}
+use Rattle.std.proofs.Common.{◌≡◌, ◌≢◌, ℕ, Bool, true, false, cond, List, [], ◌∷◌, ◌++◌, Option, Some, None, refl, sym, ap, subst, ◌∙◌}
+use Rattle.std.proofs.Common.{append_assoc}
 use Rattle.std.proofs.Common.{◌⊎◌, inl, inr, eqb}
 use Rattle.std.specs.Prelude.{option_and_then, ◌&&◌}
 use Rattle.std.proofs.lemmas.Bool.{eqb-true, ne_eqb}
@@ -40,7 +41,8 @@ pub none_unseen : (v : Seen) → Sees None v → ⊥
 none_unseen v h = let clash : None ≡ Some v = h in cc
 
 -- what is seen of a phase and of what is held
-parts : (phase : Phase) (held : List ℕ) (v : Seen) → Some (record { phase = phase; held = held }) ≡ Some v → (v.phase ≡ phase) × (v.held ≡ held)
+parts : (phase : Phase) (held : List ℕ) (v : Seen) → Some (record { phase = phase; held = held }) ≡ Some v
+    → (v.phase ≡ phase) × (v.held ≡ held)
 parts phase held v h =
     let same : record { phase = phase; held = held } ≡ v = cc in
     (ap (λ (u : Seen). u.phase) (sym same), ap (λ (u : Seen). u.held) (sym same))
@@ -67,7 +69,8 @@ packets_append t (due_to_client client bytes ∷ u) w = packets_append t u w
 packets_append t (due_to_link link packet check ∷ u) w = go (eqb link t) (packets_append t u w)
   where
     go : (b : Bool) → packets_to t (u ++ w) ≡ packets_to t u ++ packets_to t w
-        → cond b (packet ∷ packets_to t (u ++ w)) (packets_to t (u ++ w)) ≡ cond b (packet ∷ packets_to t u) (packets_to t u) ++ packets_to t w
+        → cond b (packet ∷ packets_to t (u ++ w)) (packets_to t (u ++ w))
+        ≡ cond b (packet ∷ packets_to t u) (packets_to t u) ++ packets_to t w
     go true e = ap (λ ps. packet ∷ ps) e
     go false e = e
 packets_append t (ended stream ending ∷ u) w = packets_append t u w
@@ -186,7 +189,8 @@ pub ending_split : (l : ℕ) (u w : List Event) (ending : Ending) → ending_in 
     → (ending_in l u ≡ Some ending) ⊎ (ending_in l w ≡ Some ending)
 ending_split l u w ending e = go (ending_in l u) refl (sym (ending_append l u w) ∙ e)
   where
-    go : (o : Option Ending) → ending_in l u ≡ o → ending_or o (ending_in l w) ≡ Some ending → (ending_in l u ≡ Some ending) ⊎ (ending_in l w ≡ Some ending)
+    go : (o : Option Ending) → ending_in l u ≡ o → ending_or o (ending_in l w) ≡ Some ending
+        → (ending_in l u ≡ Some ending) ⊎ (ending_in l w ≡ Some ending)
     go None is f = inr f
     go (Some first) is f = inl (is ∙ f)
 

@@ -1,5 +1,6 @@
 -- What the up rule makes of a stream that its client has open: what it sends, and what is left of it.
-use Rattle.std.proofs.Common.{◌≡◌, ◌≢◌, ℕ, ◌+◌, ◌-◌, zero, suc, Bool, true, false, cond, List, [], ◌∷◌, ◌++◌, length, take, drop, Option, Some, None}
+use Rattle.std.proofs.Common.{◌≡◌, ◌≢◌, ℕ, ◌+◌, ◌-◌, zero, suc, Bool, true, false, cond, List, [], ◌∷◌, ◌++◌, length, take, drop, Option}
+use Rattle.std.proofs.Common.{Some, None}
 use Rattle.std.proofs.Common.{refl, sym, ap, subst, ◌∙◌, ◌⊎◌, inl, inr, eqb, arith, append_assoc}
 use Rattle.std.proofs.lemmas.Bool.{eqb-true, eq-eqb, cases_eq}
 use Rattle.std.proofs.lemmas.List.{append-nil, length-take, drop-drop, take-append-drop}
@@ -30,7 +31,8 @@ use Rattle.adb_laws_fifo_up.proofs.Shutting.{count_dry, IsLast, IsDry, end_dry, 
 use Rattle.adb_laws_fifo_up.proofs.Ends.{telling_goes, telling_left, no_row_of}
 
 -- ---- the writes are what is held, in order
-writes_join : (k maxdata credit : ℕ) (held : List ℕ) → joined (writes k maxdata credit held) ++ drop (total (writes k maxdata credit held)) held ≡ held
+writes_join : (k maxdata credit : ℕ) (held : List ℕ) → joined (writes k maxdata credit held)
+    ++ drop (total (writes k maxdata credit held)) held ≡ held
 writes_join zero maxdata credit held = refl
 writes_join (suc k) maxdata credit held = go (write_len maxdata credit held) refl (λ n. writes_join k maxdata (credit - n) (drop n held))
   where
@@ -48,10 +50,12 @@ writes_join (suc k) maxdata credit held = go (write_len maxdata credit held) ref
         ∙ (ap (λ x. take (suc n) held ++ (joined later ++ x)) (sym (drop-drop (total later) (suc n) held))
         ∙ (ap (λ x. take (suc n) held ++ x) (ih (suc n)) ∙ take-append-drop (suc n) held)))
 
-pub payloads_join : (flow : Flow) (maxdata : ℕ) (held : List ℕ) → joined (payloads flow maxdata held) ++ drop (total (payloads flow maxdata held)) held ≡ held
+pub payloads_join : (flow : Flow) (maxdata : ℕ) (held : List ℕ)
+    → joined (payloads flow maxdata held) ++ drop (total (payloads flow maxdata held)) held ≡ held
 payloads_join (One window) maxdata held = go window.outstanding
   where
-    go : (b : Bool) → joined (cond b [] (writes 1 maxdata maxdata held)) ++ drop (total (cond b [] (writes 1 maxdata maxdata held))) held ≡ held
+    go : (b : Bool) → joined (cond b [] (writes 1 maxdata maxdata held))
+        ++ drop (total (cond b [] (writes 1 maxdata maxdata held))) held ≡ held
     go true = refl
     go false = writes_join 1 maxdata maxdata held
 payloads_join (Credit credit) maxdata held = writes_join (length held) maxdata credit.to_send held
@@ -61,7 +65,8 @@ one_more : {a b : ℕ} → a ≡ b → 1 + a ≡ suc b
 one_more {a} {b} e = omega (arith, e)
 
 module _ (k : ℕ) (stream : Stream) where
-  pub go_up_frame : (ps : List (List ℕ)) (s : State) → (all_go_up k stream ps s).state ≡ record s { links = (all_go_up k stream ps s).state.links }
+  pub go_up_frame : (ps : List (List ℕ)) (s : State) → (all_go_up k stream ps s).state
+      ≡ record s { links = (all_go_up k stream ps s).state.links }
   go_up_frame [] s = refl
   go_up_frame (p ∷ ps) s = go_up_frame ps (goes_up k stream p s).state
 
@@ -73,7 +78,8 @@ module _ (k : ℕ) (stream : Stream) where
   go_up_lives l [] s = refl
   go_up_lives l (p ∷ ps) s = go_up_lives l ps (goes_up k stream p s).state
 
-  go_up_carries : (t : ℕ) (ps : List (List ℕ)) (s : State) → carried t k (all_go_up k stream ps s).told ≡ cond (eqb stream.link t) (joined ps) []
+  go_up_carries : (t : ℕ) (ps : List (List ℕ)) (s : State) → carried t k (all_go_up k stream ps s).told
+      ≡ cond (eqb stream.link t) (joined ps) []
   go_up_carries t [] s = go (eqb stream.link t)
     where
       go : (b : Bool) → ◌≡◌ {A = List ℕ} [] (cond b [] [])
@@ -82,7 +88,9 @@ module _ (k : ℕ) (stream : Stream) where
   go_up_carries t (p ∷ ps) s = go (eqb stream.link t) (go_up_carries t ps (goes_up k stream p s).state)
     where
       go : (b : Bool) → carried_in k (packets_to t (all_go_up k stream ps (goes_up k stream p s).state).told) ≡ cond b (joined ps) []
-          → carried_in k (cond b (write_packet k stream.part.remote p ∷ packets_to t (all_go_up k stream ps (goes_up k stream p s).state).told)
+          → carried_in k
+          (cond b (write_packet k stream.part.remote p ∷ packets_to t
+          (all_go_up k stream ps (goes_up k stream p s).state).told)
           (packets_to t (all_go_up k stream ps (goes_up k stream p s).state).told)) ≡ cond b (p ++ joined ps) []
       go true e = rw (eq-eqb k k refl) (ap (λ x. p ++ x) e)
       go false e = e
@@ -107,7 +115,9 @@ module _ (k : ℕ) (stream : Stream) where
   go_up_counts t (p ∷ ps) s = go (eqb stream.link t) (go_up_counts t ps (goes_up k stream p s).state)
     where
       go : (b : Bool) → count_from is_wrte k (packets_to t (all_go_up k stream ps (goes_up k stream p s).state).told) ≡ cond b (length ps) 0
-          → count_from is_wrte k (cond b (write_packet k stream.part.remote p ∷ packets_to t (all_go_up k stream ps (goes_up k stream p s).state).told)
+          → count_from is_wrte k
+          (cond b (write_packet k stream.part.remote p ∷ packets_to t
+          (all_go_up k stream ps (goes_up k stream p s).state).told)
           (packets_to t (all_go_up k stream ps (goes_up k stream p s).state).told)) ≡ cond b (suc (length ps)) 0
       go true e = rw (eq-eqb k k refl) (one_more e)
       go false e = e
@@ -137,7 +147,9 @@ row_after k s x = record x.stream { part = with_flow (flow_after (sent k s x) x.
 -- what is left to its client, which has it still, or no more
 abbrev pub IsLeft : (k : ℕ) (s : State) → Sending k s → Made → Type 0
 IsLeft k s x m =
-    ((ending_in k m.told ≡ None) × ((v : Seen) → Sees (m.state.clients x.stream.client) v → v.held ≡ drop (total (sent k s x)) x.client.held))
+    ((ending_in k m.told ≡ None)
+    × ((v : Seen) → Sees (m.state.clients x.stream.client) v
+    → v.held ≡ drop (total (sent k s x)) x.client.held))
     ⊎ ((drop (total (sent k s x)) x.client.held ≡ []) × ((v : Seen) → Sees (m.state.clients x.stream.client) v → IsOf k v.phase → ⊥)
     × (m.state.streams k ≡ None) × (is_idle (flow_after (sent k s x) x.stream.part.flow) ≡ true))
 
@@ -185,12 +197,15 @@ module _ (k : ℕ) (s : State) (x : Sending k s) where
       let h = seen_phase x.client.about.phase held_now v (subst (λ (o : Option Client). Sees o v) here_now see) in
       (h.0 ∙ streaming_is k x.client.about.phase x.streaming, h.1)
 
-  clients_now : (c : ℕ) (v : Seen) → Sees ((left k s x).clients c) v → Sees (s.clients c) v ⊎ ((c ≡ x.stream.client) × (v.phase ≡ Streaming k))
+  clients_now : (c : ℕ) (v : Seen) → Sees ((left k s x).clients c) v
+      → Sees (s.clients c) v ⊎ ((c ≡ x.stream.client) × (v.phase ≡ Streaming k))
   clients_now c v see = go (cases_eq x.stream.client c)
     where
       go : (x.stream.client ≡ c) ⊎ (x.stream.client ≡ c → ⊥) → Sees (s.clients c) v ⊎ ((c ≡ x.stream.client) × (v.phase ≡ Streaming k))
       go (inl same) = inr (sym same, (own_now v (subst (λ (n : ℕ). Sees ((left k s x).clients n) v) (sym same) see)).0)
-      go (inr apart) = inl (subst (λ (o : Option Client). Sees o v) (changed_other x.stream.client c (with_held held_now) s.clients apart) see)
+      go (inr apart) =
+          inl (subst (λ (o : Option Client). Sees o v)
+          (changed_other x.stream.client c (with_held held_now) s.clients apart) see)
 
   row_same : (y : Stream) → (left k s x).streams k ≡ Some y → IsRowOf row_now y
   row_same y e =
@@ -204,7 +219,8 @@ module _ (k : ℕ) (s : State) (x : Sending k s) where
   others_now : (l : ℕ) → l ≢ k → (left k s x).streams l ≡ s.streams l
   others_now l apart = changed_other k l (with_stream_part part) s.streams (λ e. apart (sym e))
 
-  goes_on_sending : (links : Rows (Option Link)) → Sends k s x (record { state = record (left k s x) { links = links }; told = up.told ++ [] })
+  goes_on_sending : (links : Rows (Option Link)) → Sends k s x
+      (record { state = record (left k s x) { links = links }; told = up.told ++ [] })
   goes_on_sending links = record {
     drawn = refl;
     others = others_now;
@@ -214,7 +230,8 @@ module _ (k : ℕ) (s : State) (x : Sending k s) where
     carries = λ t. ap (carried t k) (append-nil up.told) ∙ go_up_carries k x.stream t (sent k s x) (left k s x);
     counts = λ t. ap (λ (w : List Event). count_from is_wrte k (packets_to t w)) (append-nil up.told)
         ∙ go_up_counts k x.stream t (sent k s x) (left k s x);
-    last = λ t. subst (λ (w : List Event). IsLast k (packets_to t w)) (sym (append-nil up.told)) (go_up_last k x.stream t (sent k s x) (left k s x));
+    last = λ t. subst (λ (w : List Event). IsLast k (packets_to t w)) (sym (append-nil up.told))
+        (go_up_last k x.stream t (sent k s x) (left k s x));
     shut = λ e. (
         let clash : false ≡ true = sym (ap (is_shut k) (append-nil up.told) ∙ go_up_open k x.stream (sent k s x) (left k s x)) ∙ e in
         cc
@@ -256,8 +273,10 @@ module _ (k : ℕ) (s : State) (x : Sending k s) where
         );
       }
     where
-      closed : Goes Any k (record (left k s x) { links = links }) (ends_telling k ClientClosed row_now (record (left k s x) { links = links }))
-          → (is_shut k up.told ≡ true) ⊎ (is_shut k (ends_telling k ClientClosed row_now (record (left k s x) { links = links })).told ≡ true)
+      closed : Goes Any k (record (left k s x) { links = links })
+          (ends_telling k ClientClosed row_now (record (left k s x) { links = links }))
+          → (is_shut k up.told ≡ true)
+          ⊎ (is_shut k (ends_telling k ClientClosed row_now (record (left k s x) { links = links })).told ≡ true)
           → (ends_telling k ClientClosed row_now (record (left k s x) { links = links })).state.streams k ≡ None
       closed g (inl f) = let clash : false ≡ true = sym (go_up_open k x.stream (sent k s x) (left k s x)) ∙ f in cc
       closed g (inr f) = g.shut f

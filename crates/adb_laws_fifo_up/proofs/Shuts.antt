@@ -20,7 +20,8 @@ use Rattle.adb_history.proofs.OwnedStep.{all_owned}
 use Rattle.adb_history.proofs.Sweep.{Sending, sent}
 use Rattle.adb_laws_fifo_up.specs.Climbing.{Are, IsAside, IsEndOf, IsUpOf, IsOther, is_shut, Goes, Climbs}
 use Rattle.adb_laws_fifo_up.proofs.Seeing.{are_weaker, aside_apart, up_apart, packets_append}
-use Rattle.adb_laws_fifo_up.proofs.Shutting.{IsLast, IsDry, last_append, apart_dry, end_dry, close_shut, shut_cases, aside_not_shut, end_not_shut}
+use Rattle.adb_laws_fifo_up.proofs.Shutting.{IsLast, IsDry, last_append, apart_dry, end_dry, close_shut, shut_cases, aside_not_shut}
+use Rattle.adb_laws_fifo_up.proofs.Shutting.{end_not_shut}
 use Rattle.adb_laws_fifo_up.proofs.Shutting.{up_not_shut, last_dry}
 use Rattle.adb_laws_fifo_up.proofs.Opened.{draws_other, Opens, opens_made}
 use Rattle.adb_laws_fifo_up.proofs.SendsUp.{Sends, sends_made}
@@ -58,7 +59,8 @@ module _ (l : ℕ) (some : 0 < l) where
           go (inr f) = absurd (let clash : false ≡ true = sym silent.1 ∙ f in cc)
 
   -- nothing is told at all
-  quiet : (s next : State) (w : List Event) → next.drawn ≡ s.drawn → (s.streams l ≡ None → next.streams l ≡ None) → Shuts l s w → Shuts l next w
+  quiet : (s next : State) (w : List Event) → next.drawn ≡ s.drawn → (s.streams l ≡ None → next.streams l ≡ None)
+      → Shuts l s w → Shuts l next w
   quiet s next w drawn stays h = record {
     none = λ above. stays (h.none (omega (arith, above, drawn)));
     born = λ e. omega (arith, h.born e, drawn);
@@ -74,7 +76,8 @@ module _ (l : ℕ) (some : 0 < l) where
       go none (inl same) = absurd (let clash : None ≡ Some stream = sym none ∙ (ap s.streams (sym same) ∙ is) in cc)
       go none (inr apart) = changed_other k l (with_stream_part part) s.streams apart ∙ none
 
-  opens_shuts : (k : ℕ) (stream : Stream) (s : State) (m : Made) (w : List Event) → Opens k stream s m → Shuts l s w → Shuts l m.state (w ++ m.told)
+  opens_shuts : (k : ℕ) (stream : Stream) (s : State) (m : Made) (w : List Event) → Opens k stream s m → Shuts l s w
+      → Shuts l m.state (w ++ m.told)
   opens_shuts k stream s m w o h =
       still s m.state w m.told (omega (arith, o.drawn)) (λ none within. rows none) (λ above. rows (h.none (omega (arith, above, o.drawn))))
       (are_weaker IsAside (IsDry l) (λ e a. apart_dry l e (aside_apart l e a)) m.told o.told, aside_not_shut l some m.told o.told) h
@@ -115,7 +118,8 @@ module _ (l : ℕ) (some : 0 < l) where
     none = λ above. absurd (open_row (h.none (omega (arith, above, o.drawn))));
     born = λ e. within;
     gone = λ e. now (shut_cases l w m.told e);
-    last = λ t. subst (IsLast l) (sym (packets_append t w m.told)) (last_append l (packets_to t w) (packets_to t m.told) (h.last t) (o.last t)
+    last = λ t. subst (IsLast l) (sym (packets_append t w m.told))
+        (last_append l (packets_to t w) (packets_to t m.told) (h.last t) (o.last t)
         (λ e. absurd (open_row (h.gone (close_shut t l w e)))));
   }
     where
@@ -136,11 +140,15 @@ module _ (l : ℕ) (some : 0 < l) where
       now (inl e) = absurd (open_row (h.gone e))
       now (inr e) = o.shut e
 
-  unsent_shuts : (k : ℕ) (s : State) (x : Sending k s) (m : Made) (w : List Event) → l ≢ k → Sends k s x m → Shuts l s w → Shuts l m.state (w ++ m.told)
+  unsent_shuts : (k : ℕ) (s : State) (x : Sending k s) (m : Made) (w : List Event) → l ≢ k → Sends k s x m
+      → Shuts l s w → Shuts l m.state (w ++ m.told)
   unsent_shuts k s x m w apart o h =
       still s m.state w m.told (omega (arith, o.drawn)) (λ none within. o.others l apart ∙ none)
-      (λ above. o.others l apart ∙ h.none (omega (arith, above, o.drawn)))
-      (are_weaker (IsUpOf k) (IsDry l) (λ e a. apart_dry l e (up_apart k l apart e a)) m.told o.told, up_not_shut l some k apart m.told o.told) h
+      (λ above. o.others l apart ∙ h.none (omega (arith, above, o.drawn))) (
+        are_weaker (IsUpOf k) (IsDry l) (λ e a. apart_dry l e (up_apart k l apart e a)) m.told o.told,
+        up_not_shut l
+            some k apart m.told o.told,
+      ) h
 
   pub shuts_climbs : Climbs Heard (Shuts l)
   shuts_climbs = record {
@@ -162,14 +170,17 @@ module _ (l : ℕ) (some : 0 < l) where
     sends = λ k s w x h. sends k s x w h (cases_eq k l);
   }
     where
-      goes : (k : ℕ) (s : State) (m : Made) (w : List Event) → Goes IsOther k s m → Shuts l s w → (k ≡ l) ⊎ (k ≡ l → ⊥) → Shuts l m.state (w ++ m.told)
+      goes : (k : ℕ) (s : State) (m : Made) (w : List Event) → Goes IsOther k s m → Shuts l s w
+          → (k ≡ l) ⊎ (k ≡ l → ⊥) → Shuts l m.state (w ++ m.told)
       goes k s m w g h (inl same) = gone_shuts s m w (subst (λ (n : ℕ). Goes IsOther n s m) same g) h
       goes k s m w g h (inr apart) = other_shuts k s m w (λ e. apart (sym e)) g h
 
       sends : (k : ℕ) (s : State) (x : Sending k s) (w : List Event) → Shuts l s w → (k ≡ l) ⊎ (k ≡ l → ⊥)
           → After (Shuts l) w (sends_up k x.stream x.client (sent k s x) s)
       sends k s x w h (inr apart) = unsent_shuts k s x _ w (λ e. apart (sym e)) (sends_made k s x) h
-      sends k s x w h (inl same) = subst (λ (i : ℕ). (z : Sending i s) → After (Shuts l) w (sends_up i z.stream z.client (sent i s z) s)) (sym same)
+      sends k s x w h (inl same) =
+          subst (λ (i : ℕ). (z : Sending i s) → After (Shuts l) w (sends_up i z.stream z.client (sent i s z) s))
+          (sym same)
           (λ z. sent_shuts s z _ w (sends_made l s z) h) x
 
   -- ---- all entries
@@ -202,4 +213,5 @@ module _ (l : ℕ) (some : 0 < l) where
     last = λ t. tt;
   }
   all_shut (e ∷ older) legal =
-      step_climbs shuts_climbs e (state older) (told older) (begins (state older) (told older) (all_shut older legal.0) e (all_owned older legal.0))
+      step_climbs shuts_climbs e (state older) (told older)
+      (begins (state older) (told older) (all_shut older legal.0) e (all_owned older legal.0))

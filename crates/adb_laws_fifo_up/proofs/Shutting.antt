@@ -1,5 +1,6 @@
 -- Packets behind the CLSE of a stream: none of them carries anything of it.
-use Rattle.std.proofs.Common.{◌≡◌, ◌≢◌, ℕ, ◌+◌, ◌<◌, Bool, true, false, cond, List, [], ◌∷◌, ◌++◌, refl, sym, ap, subst, ◌∙◌, arith, ◌⊎◌, inl, inr, eqb}
+use Rattle.std.proofs.Common.{◌≡◌, ◌≢◌, ℕ, ◌+◌, ◌<◌, Bool, true, false, cond, List, [], ◌∷◌, ◌++◌, refl, sym, ap, subst, ◌∙◌, arith, ◌⊎◌}
+use Rattle.std.proofs.Common.{inl, inr, eqb}
 use Rattle.std.specs.Prelude.{◌&&◌, ◌||◌}
 use Rattle.std.proofs.lemmas.Bool.{ne_eqb}
 use Rattle.adb_wire.specs.declared.packets.Packet.{Packet}
@@ -36,10 +37,13 @@ or_cases : (a b : Bool) → (a || b) ≡ true → (a ≡ true) ⊎ (b ≡ true)
 or_cases true b e = inl refl
 or_cases false b e = inr e
 
-pub last_append : (l : ℕ) (ps qs : List Packet) → IsLast l ps → IsLast l qs → (has_close l ps ≡ true → carried_in l qs ≡ []) → IsLast l (ps ++ qs)
+pub last_append : (l : ℕ) (ps qs : List Packet) → IsLast l ps → IsLast l qs
+    → (has_close l ps ≡ true → carried_in l qs ≡ []) → IsLast l (ps ++ qs)
 last_append l [] qs h i none = i
 last_append l (p ∷ ps) qs h i none = (
-  λ e. carried_in_append l ps qs ∙ (ap (λ x. x ++ carried_in l qs) (h.0 e) ∙ none (or_left (is_clse p.command && eqb p.arg0 l) (has_close l ps) e)),
+  λ e. carried_in_append l ps qs
+      ∙ (ap (λ x. x ++ carried_in l qs) (h.0 e)
+      ∙ none (or_left (is_clse p.command && eqb p.arg0 l) (has_close l ps) e)),
   last_append l ps qs h.1 i (λ e. none (or_right (is_clse p.command && eqb p.arg0 l) (has_close l ps) e)),
 )
 
@@ -47,7 +51,8 @@ pub last_split : (l : ℕ) (ps qs : List Packet) → IsLast l (ps ++ qs) → has
 last_split l [] qs h e = let clash : false ≡ true = e in cc
 last_split l (p ∷ ps) qs h e = go (or_cases (is_clse p.command && eqb p.arg0 l) (has_close l ps) e) (last_split l ps qs h.1)
   where
-    go : ((is_clse p.command && eqb p.arg0 l) ≡ true) ⊎ (has_close l ps ≡ true) → (has_close l ps ≡ true → carried_in l qs ≡ []) → carried_in l qs ≡ []
+    go : ((is_clse p.command && eqb p.arg0 l) ≡ true) ⊎ (has_close l ps ≡ true)
+        → (has_close l ps ≡ true → carried_in l qs ≡ []) → carried_in l qs ≡ []
     go (inl here) rest = none_left (carried_in l ps) (carried_in l qs) (sym (carried_in_append l ps qs) ∙ h.0 here)
     go (inr later) rest = rest later
 
@@ -129,7 +134,8 @@ shut_cases l (due_to_client client bytes ∷ u) w e = shut_cases l u w e
 shut_cases l (due_to_link link packet check ∷ u) w e =
     go (or_cases (is_clse packet.command && eqb packet.arg0 l) (is_shut l (u ++ w)) e) (shut_cases l u w)
   where
-    later : (is_shut l u ≡ true) ⊎ (is_shut l w ≡ true) → (((is_clse packet.command && eqb packet.arg0 l) || is_shut l u) ≡ true) ⊎ (is_shut l w ≡ true)
+    later : (is_shut l u ≡ true) ⊎ (is_shut l w ≡ true)
+        → (((is_clse packet.command && eqb packet.arg0 l) || is_shut l u) ≡ true) ⊎ (is_shut l w ≡ true)
     later (inl f) = inl (or_right (is_clse packet.command && eqb packet.arg0 l) (is_shut l u) f)
     later (inr f) = inr f
 
@@ -200,7 +206,8 @@ last_dry t l w u h none =
     subst (IsLast l) (sym (packets_append t w u)) (last_append l (packets_to t w) (packets_to t u) h (none_last l (packets_to t u) free)
     (λ e. none_carried l (packets_to t u) free))
 
-pub count_dry : (t l : ℕ) (w u : List Event) → Are (IsDry l) u → count_from is_wrte l (packets_to t (w ++ u)) ≡ count_from is_wrte l (packets_to t w)
+pub count_dry : (t l : ℕ) (w u : List Event) → Are (IsDry l) u
+    → count_from is_wrte l (packets_to t (w ++ u)) ≡ count_from is_wrte l (packets_to t w)
 count_dry t l w u none =
     let none_of : count_from is_wrte l (packets_to t u) ≡ 0 = none_counted l (packets_to t u) (none_up t l u none) in
     ap (count_from is_wrte l) (packets_append t w u) ∙ (count_append is_wrte l (packets_to t w) (packets_to t u) ∙ omega (arith, none_of))

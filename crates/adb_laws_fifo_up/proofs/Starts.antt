@@ -18,7 +18,8 @@ use Rattle.adb_history.specs.Moves.{After, draws_now}
 use Rattle.adb_history.proofs.Sweep.{Sending, sent}
 use Rattle.adb_laws_fifo_up.specs.Seen.{Seen, seen, seen_in, Sees, IsOf}
 use Rattle.adb_laws_fifo_up.specs.Climbing.{carried, Are, Silent, IsOther, Goes, Climbs}
-use Rattle.adb_laws_fifo_up.proofs.Seeing.{are_append, silent_aside, silent_end, silent_up, end_carries, end_such, ending_split, ending_none, carried_none}
+use Rattle.adb_laws_fifo_up.proofs.Seeing.{are_append, silent_aside, silent_end, silent_up, end_carries, end_such, ending_split}
+use Rattle.adb_laws_fifo_up.proofs.Seeing.{ending_none, carried_none}
 use Rattle.adb_laws_fifo_up.proofs.Shutting.{IsDry, aside_are_dry, end_are_dry, up_are_dry}
 use Rattle.adb_laws_fifo_up.proofs.Opened.{NowIn, phase_seen, draws_other, part_row}
 use Rattle.adb_laws_fifo_up.proofs.SendsUp.{streaming_is, Sends, sends_made}
@@ -47,7 +48,8 @@ module _ (l c : ℕ) (rest : List ℕ) where
   -- nothing is told, and no client comes to ask or to wait
   view : (s next : State) (w : List Event) → next.drawn ≡ s.drawn
       → ((y : Stream) → next.streams l ≡ Some y → (x : Stream) × (s.streams l ≡ Some x) × (y.client ≡ x.client))
-      → ((n : ℕ) (v : Seen) → Sees (next.clients n) v → Awaits l v.phase → Sees (s.clients n) v) → Starts l c rest s w → Starts l c rest next w
+      → ((n : ℕ) (v : Seen) → Sees (next.clients n) v → Awaits l v.phase → Sees (s.clients n) v) → Starts l c rest s w
+      → Starts l c rest next w
   view s next w drawn row before h = record {
     quiet = h.quiet;
     dry = h.dry;
@@ -109,7 +111,8 @@ module _ (l c : ℕ) (rest : List ℕ) where
           → Sees (s.clients m) v ⊎ ((m ≡ n) × NowIn s.clients n (Opening (s.drawn + 1)) v)
       before m v see = phase_seen s.clients n (Opening (s.drawn + 1)) m v see
 
-      unseen : (s.drawn + 1 < l) → (m : ℕ) (v : Seen) → IsOf l v.phase → Sees (s.clients m) v ⊎ ((m ≡ n) × NowIn s.clients n (Opening (s.drawn + 1)) v) → ⊥
+      unseen : (s.drawn + 1 < l) → (m : ℕ) (v : Seen) → IsOf l v.phase
+          → Sees (s.clients m) v ⊎ ((m ≡ n) × NowIn s.clients n (Opening (s.drawn + 1)) v) → ⊥
       unseen above m v of (inl see) = h.unseen (omega (arith, above)) m v see of
       unseen above m v of (inr now) = (let same : s.drawn + 1 ≡ l = subst (IsOf l) now.1.phase_now of in omega (arith, same, above))
 
@@ -121,7 +124,8 @@ module _ (l c : ℕ) (rest : List ℕ) where
           let is : made ≡ y = cc in
           ap (λ (z : Stream). z.client) is
 
-      own : (y : Stream) (m : ℕ) (v : Seen) → IsOf l v.phase → Sees (s.clients m) v ⊎ ((m ≡ n) × NowIn s.clients n (Opening (s.drawn + 1)) v)
+      own : (y : Stream) (m : ℕ) (v : Seen) → IsOf l v.phase
+          → Sees (s.clients m) v ⊎ ((m ≡ n) × NowIn s.clients n (Opening (s.drawn + 1)) v)
           → (s.drawn + 1 ≡ l) ⊎ (s.drawn + 1 ≡ l → ⊥) → (draws_now n t s).streams l ≡ Some y → m ≡ y.client
       own y m v of (inl see) (inl same) e = absurd (h.unseen (omega (arith, same)) m v see of)
       own y m v of (inl see) (inr apart) e = h.own y (sym (draws_other l n t s apart) ∙ e) m v see of
@@ -135,7 +139,8 @@ module _ (l c : ℕ) (rest : List ℕ) where
           let same : s.drawn + 1 ≡ l = subst (IsOf l) now.1.phase_now of in
           (now.1.phase_now ∙ ap Opening same, h.lives (omega (arith, same)))
 
-      held : (v : Seen) → (v.phase ≡ Asking) ⊎ (v.phase ≡ Opening l) → Sees (s.clients c) v ⊎ ((c ≡ n) × NowIn s.clients n (Opening (s.drawn + 1)) v)
+      held : (v : Seen) → (v.phase ≡ Asking) ⊎ (v.phase ≡ Opening l)
+          → Sees (s.clients c) v ⊎ ((c ≡ n) × NowIn s.clients n (Opening (s.drawn + 1)) v)
           → v.held ≡ rest
       held v phase (inl see) = h.held v see phase
       held v phase (inr now) =
@@ -156,7 +161,11 @@ module _ (l c : ℕ) (rest : List ℕ) where
     lives = λ above. absurd (drawn above);
     unseen = λ above n v see of. drawn above;
     own = λ y e n v see of. (h.own g.stream g.is n v (g.clients n v see) of ∙ sym (g.row y e).1);
-    waits = λ n v see of. ((h.waits n v (g.clients n v see) of).0, ending_none l w m.told (h.waits n v (g.clients n v see) of).1 (stays n v see of g.left));
+    waits = λ n v see of. (
+      (h.waits n v (g.clients n v see) of).0,
+      ending_none l w m.told (h.waits n v (g.clients n v see) of).1
+          (stays n v see of g.left),
+    );
     held = λ v see phase. h.held v (g.clients c v see) phase;
   }
     where
@@ -194,7 +203,8 @@ module _ (l c : ℕ) (rest : List ℕ) where
       not_asking : Streaming k ≡ Asking → ⊥
       not_asking e = cc
 
-      before : (n : ℕ) (v : Seen) → Awaits l v.phase → Sees (s.clients n) v ⊎ ((n ≡ x.stream.client) × (v.phase ≡ Streaming k)) → Sees (s.clients n) v
+      before : (n : ℕ) (v : Seen) → Awaits l v.phase → Sees (s.clients n) v
+          ⊎ ((n ≡ x.stream.client) × (v.phase ≡ Streaming k)) → Sees (s.clients n) v
       before n v of (inl see) = see
       before n v (inl of) (inr now) = absurd (apart (sym (subst (IsOf l) now.1 of)))
       before n v (inr asks) (inr now) = absurd (not_asking (sym now.1 ∙ asks))

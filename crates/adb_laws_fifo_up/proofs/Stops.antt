@@ -64,7 +64,8 @@ not_stopped l n [] above h = refl
 not_stopped l n (due_to_client client bytes ∷ u) above h = absurd h.0
 not_stopped l n (due_to_link link packet check ∷ u) above h = absurd h.0
 not_stopped l n (ended stream ending ∷ u) above h =
-    ap (λ (b : Bool). cond b (Some ending) (ending_in l u)) (ne_eqb stream l (λ e. omega (arith, e, above, h.0.0))) ∙ not_stopped l n u above h.1
+    ap (λ (b : Bool). cond b (Some ending) (ending_in l u)) (ne_eqb stream l (λ e. omega (arith, e, above, h.0.0)))
+    ∙ not_stopped l n u above h.1
 
 stops_are_dry : (l n : ℕ) (e : Event) → IsStop n e → IsDry l e
 stops_are_dry l n (due_to_client client bytes) h = tt

@@ -1,5 +1,6 @@
 -- What each move keeps, the rules of streams keep, and the packets of a device.
-use Rattle.std.proofs.Common.{◌≡◌, ◌≢◌, ℕ, ◌+◌, zero, suc, Bool, true, false, cond, not, ◌||◌, List, [], ◌∷◌, length, Option, Some, None, refl}
+use Rattle.std.proofs.Common.{◌≡◌, ◌≢◌, ℕ, ◌+◌, zero, suc, Bool, true, false, cond, not, ◌||◌, List, [], ◌∷◌, length, Option, Some, None}
+use Rattle.std.proofs.Common.{refl}
 use Rattle.std.proofs.Common.{sym, ap, subst, ◌∙◌, eqb}
 use Rattle.std.specs.Prelude.{nat_eq, nat_lt}
 use Rattle.std.proofs.lemmas.Bool.{eqb-true, eqb-false}
@@ -75,7 +76,8 @@ abbrev pub SendsKept : (State → List Event → Type 0) → ℕ → Type 0
 SendsKept P l = (s : State) (w : List Event) (x : Sending l s) → P s w → After P w (sends_up l x.stream x.client (sent l s x) s)
 
 -- the up rule makes nothing, or what a stream sends
-pub up_is : (Q : Made → Type 0) (l : ℕ) (s : State) → Q (quietly s) → ((x : Sending l s) → Q (sends_up l x.stream x.client (sent l s x) s)) → Q (up l s)
+pub up_is : (Q : Made → Type 0) (l : ℕ) (s : State) → Q (quietly s)
+    → ((x : Sending l s) → Q (sends_up l x.stream x.client (sent l s x) s)) → Q (up l s)
 up_is Q l s stays sends = at_stream (s.streams l) refl
   where
     test : (stream : Stream) (client : Client) (b : Bool)
@@ -84,7 +86,8 @@ up_is Q l s stays sends = at_stream (s.streams l) refl
     test stream client true yes_ = yes_ refl
     test stream client false yes_ = stays
 
-    at_client : (stream : Stream) → s.streams l ≡ Some stream → (o : Option Client) → s.clients stream.client ≡ o → Q (up_client l stream o s)
+    at_client : (stream : Stream) → s.streams l ≡ Some stream → (o : Option Client) → s.clients stream.client ≡ o
+        → Q (up_client l stream o s)
     at_client stream is None here = stays
     at_client stream is (Some client) here = test stream client (is_streaming l client.about.phase)
         (λ e. sends (record { stream = stream; client = client; there = is; here = here; streaming = e }))
@@ -112,7 +115,8 @@ module _ {Hears : State → ℕ → Type 0} {P : State → List Event → Type 0
         after_if P w (eqb s.drawn stream_ids) (no_ids_left forwarded c s) (asks_for (s.drawn + 1) c t service s)
         (λ e. k.aside s (no_ids_left forwarded c s) w (aside_no_ids forwarded c s) h)
         (λ e. k.aside (draws_now c t s) (asks_for (s.drawn + 1) c t service s) w
-        (aside_owe t (open_packet (is_credit t s.devices) (s.drawn + 1) service) (draws_now c t s) (refl, λ e. absurd (let clash : false ≡ true = e in cc)))
+        (aside_owe t (open_packet (is_credit t s.devices) (s.drawn + 1) service) (draws_now c t s)
+        (refl, λ e. absurd (let clash : false ≡ true = e in cc)))
         (k.draws c t x.client s w x.here x.in_phase h))
 
   -- ---- all streams of a link end
@@ -167,7 +171,8 @@ module _ {Hears : State → ℕ → Type 0} {P : State → List Event → Type 0
 
     cnxn_climbs : (t version maxdata : ℕ) (banner : List ℕ) → After P w (cnxn t version maxdata banner s)
     cnxn_climbs t version maxdata banner =
-        after_if P w (nat_lt version least_version || nat_lt maxdata least_maxdata) (link_ends t Broken s) (connects t version maxdata (identity_of banner) s)
+        after_if P w (nat_lt version least_version || nat_lt maxdata least_maxdata) (link_ends t Broken s)
+        (connects t version maxdata (identity_of banner) s)
         (λ e. link_ends_climbs Broken not_broken t s w h) (λ e. connects_climbs t version maxdata (identity_of banner))
 
     unauthorized_climbs : (t : ℕ) (o : Option Row) → After P w (unauthorized t o s)
@@ -220,7 +225,8 @@ module _ {Hears : State → ℕ → Type 0} {P : State → List Event → Type 0
         k.aside taken (owe_client stream.client (b ∷ payload) taken) w (aside_owe_client stream.client (b ∷ payload) taken)
         (k.parts l stream part s w is (level_taken (length (b ∷ payload)) stream.part) h)
 
-    write_climbs : (l remote : ℕ) (payload : List ℕ) (stream : Stream) → s.streams l ≡ Some stream → After P w (takes_write l remote payload stream s)
+    write_climbs : (l remote : ℕ) (payload : List ℕ) (stream : Stream) → s.streams l ≡ Some stream
+        → After P w (takes_write l remote payload stream s)
     write_climbs l remote payload stream is =
         let late : Made = ends_telling l OutOfTurn stream s in
         let taken : Made = accepts l payload stream s in
@@ -244,7 +250,8 @@ module _ {Hears : State → ℕ → Type 0} {P : State → List Event → Type 0
         at_stream_climbs t p.arg1 (s.streams p.arg1) (takes_okay p.arg1 p.arg0 (credit_word p.payload)) refl
         (λ stream is. okay_climbs p.arg1 p.arg0 (credit_word p.payload) stream is (hears refl))
     treat_open_climbs t Wrte p hears =
-        at_stream_climbs t p.arg1 (s.streams p.arg1) (takes_write p.arg1 p.arg0 p.payload) refl (λ stream is. write_climbs p.arg1 p.arg0 p.payload stream is)
+        at_stream_climbs t p.arg1 (s.streams p.arg1) (takes_write p.arg1 p.arg0 p.payload) refl
+        (λ stream is. write_climbs p.arg1 p.arg0 p.payload stream is)
     treat_open_climbs t Clse p hears =
         at_stream_climbs t p.arg1 (s.streams p.arg1) (takes_close p.arg1 p.arg0) refl (λ stream is. close_climbs p.arg1 p.arg0 stream is)
     treat_open_climbs t _ p hears = after_quietly P w s h
@@ -252,7 +259,8 @@ module _ {Hears : State → ℕ → Type 0} {P : State → List Event → Type 0
     connected_climbs : (t : ℕ) (command : Command) (p : Packet) → (command ≡ Okay → Hears s p.arg1)
         → After P w (cond (is_connected t s.devices) (treat_open t command p s) (quietly s))
     connected_climbs t command p hears =
-        after_if P w (is_connected t s.devices) (treat_open t command p s) (quietly s) (λ e. treat_open_climbs t command p hears) (λ e. after_quietly P w s h)
+        after_if P w (is_connected t s.devices) (treat_open t command p s) (quietly s)
+        (λ e. treat_open_climbs t command p hears) (λ e. after_quietly P w s h)
 
     treat_any_climbs : (t : ℕ) (command : Command) (p : Packet) → (command ≡ Okay → Hears s p.arg1) → After P w (treat_any t command p s)
     treat_any_climbs t Cnxn p hears = cnxn_climbs t p.arg0 p.arg1 p.payload

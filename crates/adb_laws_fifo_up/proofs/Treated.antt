@@ -1,5 +1,6 @@
 -- What the packets of a device make of a stream of its link: which are treated, and which end it.
-use Rattle.std.proofs.Common.{◌≡◌, ◌≢◌, ℕ, ◌<◌, ◌≤◌, zero, suc, Bool, true, false, cond, ◌||◌, List, [], ◌∷◌, ◌++◌, Option, Some, None, refl}
+use Rattle.std.proofs.Common.{◌≡◌, ◌≢◌, ℕ, ◌<◌, ◌≤◌, zero, suc, Bool, true, false, cond, ◌||◌, List, [], ◌∷◌, ◌++◌, Option, Some, None}
+use Rattle.std.proofs.Common.{refl}
 use Rattle.std.proofs.Common.{sym, ap, subst, ◌∙◌, arith, ◌⊎◌, inl, inr, eqb}
 use Rattle.std.specs.Prelude.{is_some, nat_eq, nat_lt}
 use Rattle.std.proofs.lemmas.Bool.{eqb-false, eq-eqb, cases_eq}
@@ -54,7 +55,8 @@ module _ (t : ℕ) (ending : Ending) where
           λ g. other (ap (λ (y : Stream). y.link) row ∙ g)
       stays other f (inr apart) = before apart f
 
-      test : (b : Bool) → nat_eq stream.link t ≡ b → (cond b (ends_row k ending stream now) (quietly now)).state.streams m ≡ Some x → x.link ≢ t
+      test : (b : Bool) → nat_eq stream.link t ≡ b
+          → (cond b (ends_row k ending stream now) (quietly now)).state.streams m ≡ Some x → x.link ≢ t
       test true f g = ended g (cases_eq m k)
       test false f g = stays (eqb-false stream.link t f) g (cases_eq m k)
 
@@ -77,7 +79,9 @@ module _ (t version maxdata m : ℕ) where
       → (cnxn t version maxdata banner s).state.streams m ≡ Some x → x.link ≢ t
   cnxn_cleared banner s x on within e = go (nat_lt version least_version || nat_lt maxdata least_maxdata) e
     where
-      go : (b : Bool) → (cond b (link_ends t Broken s) (connects t version maxdata (identity_of banner) s)).state.streams m ≡ Some x → x.link ≢ t
+      go : (b : Bool)
+          → (cond b (link_ends t Broken s) (connects t version maxdata (identity_of banner) s)).state.streams m
+          ≡ Some x → x.link ≢ t
       go true f = ends_cleared t Broken s.drawn m (forgets t s) x within f
       go false f = connects_cleared (identity_of banner) s x on within f
 

@@ -41,7 +41,8 @@ apart_row k l stream streams none is same = let clash : None ≡ Some stream = s
 row_unborn : (l k : ℕ) (stream : Stream) (part : Part) (s : State) (w : List Event) → s.streams k ≡ Some stream → Unborn l s w
     → Unborn l (to_stream k (with_stream_part part) s) w
 row_unborn l k stream part s w is h = record {
-  none = λ above. changed_other k l (with_stream_part part) s.streams (λ e. apart_row k l stream s.streams (h.none above) is (sym e)) ∙ h.none above;
+  none = λ above. changed_other k l (with_stream_part part) s.streams
+      (λ e. apart_row k l stream s.streams (h.none above) is (sym e)) ∙ h.none above;
   silent = h.silent;
   dry = h.dry;
 }
@@ -63,13 +64,15 @@ unborn_climbs l = record {
   opens = λ k remote word stream s w is new hears h.
       let m = opens_made k remote word stream s is in
       record {
-        none = λ above. m.others l (apart_row k l stream s.streams (h.none (omega (arith, above, m.drawn))) is) ∙ h.none (omega (arith, above, m.drawn));
+        none = λ above. m.others l (apart_row k l stream s.streams (h.none (omega (arith, above, m.drawn))) is)
+            ∙ h.none (omega (arith, above, m.drawn));
         silent = λ above. silent_then l w _ (h.silent (omega (arith, above, m.drawn))) (silent_aside l _ m.told);
         dry = λ above. are_append (IsDry l) w _ (h.dry (omega (arith, above, m.drawn))) (aside_are_dry l _ m.told);
       };
   goes = λ k s m w g h. record {
     none = λ above.
-        g.others l (apart_row k l g.stream s.streams (h.none (omega (arith, above, g.drawn))) g.is) ∙ h.none (omega (arith, above, g.drawn));
+        g.others l (apart_row k l g.stream s.streams (h.none (omega (arith, above, g.drawn))) g.is)
+        ∙ h.none (omega (arith, above, g.drawn));
     silent = λ above. silent_then l w m.told (h.silent (omega (arith, above, g.drawn)))
         (silent_end _ k l (apart_row k l g.stream s.streams (h.none (omega (arith, above, g.drawn))) g.is) m.told g.told);
     dry = λ above. are_append (IsDry l) w m.told (h.dry (omega (arith, above, g.drawn))) (end_are_dry _ k l m.told g.told);
@@ -82,7 +85,8 @@ unborn_climbs l = record {
   sends = λ k s w x h.
       let m = sends_made k s x in
       record {
-        none = λ above. m.others l (apart_row k l x.stream s.streams (h.none (omega (arith, above, m.drawn))) x.there) ∙ h.none (omega (arith, above, m.drawn));
+        none = λ above. m.others l (apart_row k l x.stream s.streams (h.none (omega (arith, above, m.drawn))) x.there)
+            ∙ h.none (omega (arith, above, m.drawn));
         silent = λ above. silent_then l w _ (h.silent (omega (arith, above, m.drawn)))
             (silent_up k l (apart_row k l x.stream s.streams (h.none (omega (arith, above, m.drawn))) x.there) _ m.told);
         dry = λ above. are_append (IsDry l) w _ (h.dry (omega (arith, above, m.drawn)))
@@ -103,7 +107,10 @@ module _ (l : ℕ) (s : State) (w : List Event) (h : Unborn l s w) where
 
   begins : (e : Entry) → IsOwned s → Begins (unborn_climbs l) e s w
   begins (Join c) owned = record { none = h.none; silent = h.silent; dry = h.dry }
-  begins (Enter c port) owned = (record { none = h.none; silent = h.silent; dry = h.dry }, record { none = h.none; silent = h.silent; dry = h.dry })
+  begins (Enter c port) owned = (
+    record { none = h.none; silent = h.silent; dry = h.dry },
+    record { none = h.none; silent = h.silent; dry = h.dry },
+  )
   begins (Read c bytes) owned = reads_of (s.clients c) c bytes
   begins (Recv t bytes) owned = (h, owned, λ s owned k. tt)
   begins _ owned = h

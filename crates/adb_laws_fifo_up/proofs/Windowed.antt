@@ -1,5 +1,6 @@
 -- In every legal history what went up a stream fits within what its device allowed.
-use Rattle.std.proofs.Common.{◌≡◌, ◌≢◌, ℕ, ◌<◌, ◌≤◌, Bool, true, false, cond, not, List, [], ◌∷◌, ◌++◌, length, drop, Option, Some, None, refl}
+use Rattle.std.proofs.Common.{◌≡◌, ◌≢◌, ℕ, ◌<◌, ◌≤◌, Bool, true, false, cond, not, List, [], ◌∷◌, ◌++◌, length, drop, Option, Some, None}
+use Rattle.std.proofs.Common.{refl}
 use Rattle.std.proofs.Common.{sym, ap, subst, ◌∙◌, arith, ◌⊎◌, inl, inr, eqb}
 use Rattle.std.specs.Prelude.{◌&&◌}
 use Rattle.std.proofs.lemmas.Bool.{eq-eqb, ne_eqb, cases_eq}
@@ -55,10 +56,13 @@ given_more x y = go (framed x).fault refl
     after : PacketFormat → List ℕ → PacketFormat
     after format frame = format_after format (packet_of frame)
 
-    go : (fault : Option PacketFault) → (framed x).fault ≡ fault → (others : List Packet) × ((framed (x ++ y)).given ≡ (framed x).given ++ others)
+    go : (fault : Option PacketFault) → (framed x).fault ≡ fault
+        → (others : List Packet) × ((framed (x ++ y)).given ≡ (framed x).given ++ others)
     go None e = (
       (cut_packets (framed x).reading ((framed x).rest ++ y)).given,
-      ap (λ (c : Cutting). c.given) (cut_piece front_of (λ _ frame. packet_of frame) (λ format frame. format_after format (packet_of frame)) packets_are_framed
+      ap (λ (c : Cutting). c.given)
+          (cut_piece front_of (λ _ frame. packet_of frame) (λ format frame. format_after format (packet_of frame))
+          packets_are_framed
           (length x) (record { sums = false }) x y (omega arith) e),
     )
     go (Some fault) e = (
@@ -82,7 +86,8 @@ received_here : (t : ℕ) (bytes : List ℕ) (older : History)
 received_here t bytes older =
     ap (λ (b : Bool). cond (b && not (is_lost t older)) (bytes_received t older ++ bytes) (bytes_received t older)) (eq-eqb t t refl)
 
-brings_some : (t : ℕ) (bytes : List ℕ) (older : History) → (others : List Packet) × (brought t (Recv t bytes ∷ older) ≡ brought t older ++ others)
+brings_some : (t : ℕ) (bytes : List ℕ) (older : History) → (others : List Packet)
+    × (brought t (Recv t bytes ∷ older) ≡ brought t older ++ others)
 brings_some t bytes older = go (not (is_lost t older)) (ap (λ x. (framed x).given) (received_here t bytes older))
   where
     go : (b : Bool) → brought t (Recv t bytes ∷ older) ≡ (framed (cond b (bytes_received t older ++ bytes) (bytes_received t older))).given
@@ -94,7 +99,9 @@ brings_some t bytes older = go (not (is_lost t older)) (ap (λ x. (framed x).giv
 brings_cut : (t : ℕ) (bytes : List ℕ) (older : History) (legal : IsLegal older) (link : Link) → (state older).links t ≡ Some link
     → brought t (Recv t bytes ∷ older) ≡ brought t older ++ (cut_packets (record { sums = link.sums }) (link.rest ++ bytes)).given
 brings_cut t bytes older legal link is =
-    ap (λ x. (framed x).given) (received_here t bytes older ∙ ap (λ (b : Bool). cond (not b) (bytes_received t older ++ bytes) (bytes_received t older)) tie.1)
+    ap (λ x. (framed x).given)
+    (received_here t bytes older
+    ∙ ap (λ (b : Bool). cond (not b) (bytes_received t older ++ bytes) (bytes_received t older)) tie.1)
     ∙ ap (λ (c : Cutting). c.given) (framed_piece (bytes_received t older) bytes link tie.0)
   where
     tie : ReadsAs (bytes_received t older) link × (is_lost t older ≡ false)
@@ -109,14 +116,16 @@ module _ (l t : ℕ) (credit : Bool) (ps : List Packet) (s : State) (w : List Ev
       not_asking : Asking ≡ Streaming l → ⊥
       not_asking e = cc
 
-      go : (b : Bool) → Sees (cond b (Some (new_client forwarded c)) (s.clients n)) v → (u : Seen) × Sees (s.clients n) u × (u.phase ≡ Streaming l)
+      go : (b : Bool) → Sees (cond b (Some (new_client forwarded c)) (s.clients n)) v
+          → (u : Seen) × Sees (s.clients n) u × (u.phase ≡ Streaming l)
       go true f = absurd (not_asking (sym (seen_phase Asking [] v f).0 ∙ phase))
       go false f = (v, f, phase)
 
   -- a client that keeps its phase
   kept_phase : (c : ℕ) (f : Client → Option Client) (x y : Client) → s.clients c ≡ Some x → f x ≡ Some y → y.about.phase ≡ x.about.phase
       → Fits l t credit ps (to_client c f s) w
-  kept_phase c f x y here now same = rows_fit l t credit ps s (to_client c f s) w refl refl (λ n v see phase. before n v see phase (cases_eq c n)) h
+  kept_phase c f x y here now same = rows_fit l t credit ps s (to_client c f s) w refl refl
+      (λ n v see phase. before n v see phase (cases_eq c n)) h
     where
       open_seen : (phase : Phase) → phase ≡ Streaming l → seen_in phase x.held ≡ Some (record { phase = Streaming l; held = x.held })
       open_seen phase e = ap (λ (p : Phase). seen_in p x.held) e
@@ -124,7 +133,8 @@ module _ (l t : ℕ) (credit : Bool) (ps : List Packet) (s : State) (w : List Ev
       before : (n : ℕ) (v : Seen) → Sees ((to_client c f s).clients n) v → v.phase ≡ Streaming l → (c ≡ n) ⊎ (c ≡ n → ⊥)
           → (u : Seen) × Sees (s.clients n) u × (u.phase ≡ Streaming l)
       before n v see phase (inl is) =
-          let row : (to_client c f s).clients n ≡ Some y = ap (to_client c f s).clients (sym is) ∙ (changed_here c f s.clients x here ∙ now) in
+          let row : (to_client c f s).clients n ≡ Some y = ap (to_client c f s).clients (sym is)
+          ∙ (changed_here c f s.clients x here ∙ now) in
           let own = (seen_phase y.about.phase y.held v (subst (λ (o : Option Client). Sees o v) row see)).0 in (
             record { phase = Streaming l; held = x.held },
             ap (λ (k : ℕ). seen (s.clients k)) (sym is) ∙ (ap seen here ∙ open_seen x.about.phase (sym same ∙ (sym own ∙ phase))),
@@ -132,7 +142,8 @@ module _ (l t : ℕ) (credit : Bool) (ps : List Packet) (s : State) (w : List Ev
           )
       before n v see phase (inr apart) = (v, subst (λ (o : Option Client). Sees o v) (changed_other c n f s.clients apart) see, phase)
 
-  reads_in : (phase : Phase) (c : ℕ) (bytes : List ℕ) (x : Client) → s.clients c ≡ Some x → ReadsIn (fits_climbs l t credit ps) s w phase c bytes x
+  reads_in : (phase : Phase) (c : ℕ) (bytes : List ℕ) (x : Client) → s.clients c ≡ Some x
+      → ReadsIn (fits_climbs l t credit ps) s w phase c bytes x
   reads_in Asking c bytes x here = kept_phase c _ x _ here refl refl
   reads_in (Opening k) c bytes x here = kept_phase c _ x _ here refl refl
   reads_in (Streaming k) c bytes x here = kept_phase c _ x _ here refl refl
@@ -165,7 +176,8 @@ pub record IsFit (l : ℕ) (b : Birth) (h : History) : Type 0 where
 
 module _ (l : ℕ) (b : Birth) (older : History) (h : IsFit l b older) (some : 0 < l) where
   -- the packets since the birth
-  since_more : (e : Entry) (qs : List Packet) → brought b.link (e ∷ older) ≡ brought b.link older ++ qs → since b (e ∷ older) ≡ since b older ++ qs
+  since_more : (e : Entry) (qs : List Packet) → brought b.link (e ∷ older) ≡ brought b.link older ++ qs
+      → since b (e ∷ older) ≡ since b older ++ qs
   since_more e qs is = ap (drop b.packets_before) is ∙ drop-append-le b.packets_before (brought b.link older) qs h.before
 
   fit_with : (e : Entry) (qs : List Packet) → brought b.link (e ∷ older) ≡ brought b.link older ++ qs
@@ -176,10 +188,12 @@ module _ (l : ℕ) (b : Birth) (older : History) (h : IsFit l b older) (some : 0
   }
 
   -- nothing is brought
-  fit_same : (e : Entry) → BringsNone b.link e → Fits l b.link b.credit (since b older) (state (e ∷ older)) (told (e ∷ older)) → IsFit l b (e ∷ older)
+  fit_same : (e : Entry) → BringsNone b.link e → Fits l b.link b.credit (since b older) (state (e ∷ older))
+      (told (e ∷ older)) → IsFit l b (e ∷ older)
   fit_same e none fits =
       fit_with e [] (ap (λ x. (framed x).given) (brings_none b.link e older none) ∙ sym (append-nil (brought b.link older)))
-      (subst (λ (ps : List Packet). Fits l b.link b.credit ps (state (e ∷ older)) (told (e ∷ older))) (sym (append-nil (since b older))) fits)
+      (subst (λ (ps : List Packet). Fits l b.link b.credit ps (state (e ∷ older)) (told (e ∷ older)))
+      (sym (append-nil (since b older))) fits)
 
   -- behind the rule comes the up rule
   with_ups : (e : Entry) (ps : List Packet) → After (Fits l b.link b.credit ps) (told older) (rule e (state older))
@@ -203,7 +217,9 @@ module _ (l : ℕ) (b : Birth) (older : History) (h : IsFit l b older) (some : 0
       to_rule : (o : Option Link) → (state older).links b.link ≡ o → (ps : List Packet)
           → After (Fits l b.link b.credit ps) (told older) (receives_on o b.link bytes (state older))
           → After (Fits l b.link b.credit ps) (told older) (rule (Recv b.link bytes) (state older))
-      to_rule o is ps now = subst (λ (x : Option Link). After (Fits l b.link b.credit ps) (told older) (receives_on x b.link bytes (state older))) (sym is) now
+      to_rule o is ps now =
+          subst (λ (x : Option Link). After (Fits l b.link b.credit ps) (told older)
+          (receives_on x b.link bytes (state older))) (sym is) now
 
       go : (o : Option Link) → (state older).links b.link ≡ o → IsFit l b (Recv b.link bytes ∷ older)
       go None is =
@@ -215,7 +231,8 @@ module _ (l : ℕ) (b : Birth) (older : History) (h : IsFit l b older) (some : 0
       go (Some link) is =
           let c : Cutting = cut_packets (record { sums = link.sums }) (link.rest ++ bytes) in
           let ps : List Packet = since b older ++ c.given in
-          fit_with (Recv b.link bytes) c.given (brings_cut b.link bytes older legal link is) (with_ups (Recv b.link bytes) ps (to_rule (Some link) is ps
+          fit_with (Recv b.link bytes) c.given (brings_cut b.link bytes older legal link is)
+          (with_ups (Recv b.link bytes) ps (to_rule (Some link) is ps
           (cut_fits l b.link b.credit some c (since b older) (state older) (told older) (all_linked older legal) h.fits)))
 
   recv_fits : (n : ℕ) (bytes : List ℕ) → IsLegal older → IsFit l b (Recv n bytes ∷ older)
@@ -266,7 +283,8 @@ module _ (l : ℕ) (b : Birth) (e : Entry) (older : History) (has : HasBirths (e
       waits : (v : Seen) → v.phase ≡ Streaming l → v.phase ≡ Opening l → ⊥
       waits v open_now asked = (let clash : Streaming l ≡ Opening l = sym open_now ∙ asked in cc)
 
-      row : (y : Stream) → (state (e ∷ older)).streams l ≡ Some y → IsRoom b.link l b.credit [] (used b.credit b.link l (told (e ∷ older))) y
+      row : (y : Stream) → (state (e ∷ older)).streams l ≡ Some y
+          → IsRoom b.link l b.credit [] (used b.credit b.link l (told (e ∷ older))) y
       row y there =
           let kept = has.kept l y there in
           let own : kept.birth ≡ b = (let both : Some kept.birth ≡ Some b = sym kept.is ∙ is in cc) in
@@ -280,7 +298,8 @@ module _ (l : ℕ) (b : Birth) (e : Entry) (older : History) (has : HasBirths (e
                 (sym remote) (λ qs. refl, unused b.credit);
           }
 
-new_fits : (l : ℕ) (b : Birth) (e : Entry) (older : History) → IsLegal (e ∷ older) → HasBirths older × HasBirths (e ∷ older) → born l (e ∷ older) ≡ Some b
+new_fits : (l : ℕ) (b : Birth) (e : Entry) (older : History) → IsLegal (e ∷ older)
+    → HasBirths older × HasBirths (e ∷ older) → born l (e ∷ older) ≡ Some b
     → IsNew l b e older → IsFit l b (e ∷ older)
 new_fits l b (Enter c port) older legal has is new =
     let by = born_by (Enter c port) older b new.now in
@@ -292,7 +311,8 @@ new_fits l b (Read c bytes) older legal has is new =
     let above = new_above l b (Read c bytes) older has.0 new in
     let rest = rest_read c bytes older legal.0 legal.2.0 b new.now in
     born_fits l b (Read c bytes) older has.1 is tt by.2 c rest
-    (step_climbs (starts_climbs l c rest) (Read c bytes) (state older) (told older) (begins_read c bytes older legal.0 legal.2.0 b new.now l above))
+    (step_climbs (starts_climbs l c rest) (Read c bytes) (state older) (told older)
+    (begins_read c bytes older legal.0 legal.2.0 b new.now l above))
 new_fits l b e older legal has is new = absurd (born_by e older b new.now)
 
 pub all_fit : (h : History) → IsLegal h → (l : ℕ) (b : Birth) → born l h ≡ Some b → IsFit l b h

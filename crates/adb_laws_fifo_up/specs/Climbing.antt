@@ -32,7 +32,8 @@ IsAside (ended stream ending) = ⊥
 -- an event of the end of a stream, by such an ending
 abbrev pub IsEndOf : (Ending → Type 0) → ℕ → Event → Type 0
 IsEndOf Such l (due_to_client client bytes) = Unit {0}
-IsEndOf Such l (due_to_link link packet check) = (is_wrte packet.command ≡ false) × (is_clse packet.command ≡ true → (packet.arg0 ≡ 0) ⊎ (packet.arg0 ≡ l))
+IsEndOf Such l (due_to_link link packet check) = (is_wrte packet.command ≡ false)
+    × (is_clse packet.command ≡ true → (packet.arg0 ≡ 0) ⊎ (packet.arg0 ≡ l))
 IsEndOf Such l (ended stream ending) = (stream ≡ l) × Such ending
 
 -- an event of a stream that sends
@@ -84,7 +85,8 @@ IsHis s k stream c = (c ≡ stream.client) ⊎ ((v : Seen) × Sees (s.clients c)
 -- a row of the same stream, which may send as much as before
 abbrev pub IsRowOf : Stream → Stream → Type 0
 IsRowOf before after =
-    (after.link ≡ before.link) × (after.client ≡ before.client) × (after.part.flow ≡ before.part.flow) × (after.part.remote ≡ before.part.remote)
+    (after.link ≡ before.link) × (after.client ≡ before.client) × (after.part.flow ≡ before.part.flow)
+    × (after.part.remote ≡ before.part.remote)
 
 -- A stream goes by such an ending, or is an orphan from now on; where that is told, its client has it no more.
 pub record Goes (Such : Ending → Type 0) (k : ℕ) (s : State) (m : Made) : Type 0 where
@@ -107,13 +109,15 @@ IsOther ending = ending ≢ ClientClosed
 -- What each move keeps, of a state and what was told until then; where a stream may hear an OKAY.
 pub record Climbs (Hears : State → ℕ → Type 0) (P : State → List Event → Type 0) : Type 0 where
   pub aside : (s : State) (m : Made) (w : List Event) → Aside s m → P s w → After P w m
-  pub draws : (c t : ℕ) (x : Client) (s : State) (w : List Event) → s.clients c ≡ Some x → x.about.phase ≡ Asking → P s w → P (draws_now c t s) w
+  pub draws : (c t : ℕ) (x : Client) (s : State) (w : List Event) → s.clients c ≡ Some x → x.about.phase ≡ Asking
+      → P s w → P (draws_now c t s) w
   pub parts : (k : ℕ) (stream : Stream) (part : Part) (s : State) (w : List Event) → s.streams k ≡ Some stream → IsLevel stream.part part
       → P s w → P (to_stream k (with_stream_part part) s) w
   pub acks : (k : ℕ) (word : Option ℕ) (stream : Stream) (s : State) (w : List Event) → s.streams k ≡ Some stream → Hears s k
       → P s w → P (to_stream k (with_stream_part (with_flow (acknowledged word stream.part.flow) stream.part)) s) w
   pub opens : (k remote : ℕ) (word : Option ℕ) (stream : Stream) (s : State) (w : List Event) → s.streams k ≡ Some stream
-      → (stream.part.remote ≡ 0) × (stream.part.orphan ≡ false) × (remote ≢ 0) → Hears s k → P s w → After P w (opened k remote word stream s)
+      → (stream.part.remote ≡ 0) × (stream.part.orphan ≡ false) × (remote ≢ 0) → Hears s k → P s w
+      → After P w (opened k remote word stream s)
   pub goes : (k : ℕ) (s : State) (m : Made) (w : List Event) → Goes IsOther k s m → P s w → After P w m
   pub stops : (c : ℕ) (s : State) (w : List Event) → P s w → After P w (stops c s)
   pub sends : (k : ℕ) (s : State) (w : List Event) (x : Sending k s) → P s w → After P w (sends_up k x.stream x.client (sent k s x) s)

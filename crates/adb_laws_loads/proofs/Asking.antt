@@ -1,5 +1,6 @@
 -- What a client of a load asks, whatever the devices are: its first read has two requests, behind which nothing more is asked.
-use Rattle.std.proofs.Common.{ℕ, ◌+◌, ◌%◌, ◌≡◌, ◌<◌, Bool, true, false, cond, List, [], ◌++◌, drop, zero, suc, refl, sym, ◌∙◌, ap, subst, arith}
+use Rattle.std.proofs.Common.{ℕ, ◌+◌, ◌%◌, ◌≡◌, ◌<◌, Bool, true, false, cond, List, [], ◌++◌, drop, zero, suc, refl, sym, ◌∙◌, ap, subst}
+use Rattle.std.proofs.Common.{arith}
 use Rattle.std.specs.Prelude.{Option, Some, None, codes, nat_lt, Result, Ok, Err, is_none}
 use Rattle.std.specs.Fmt.{decimal, digits}
 use Rattle.std.specs.Map.{values_of}
@@ -72,7 +73,8 @@ module _ (devices : DeviceTable) (forwards : List (ℕ × ForwardRow)) where
   abbrev selecting : Option ℕ → (used : ℕ) → (replies rest : List ℕ) → Asked
   selecting selected used replies rest = record { replies = replies; used = used; rest = rest; selected = selected; next = None }
 
-  second : (id : ℕ) → reads_on devices forwards 31 (selecting (Some id) 23 (codes "OKAY") (codes "0005echo:")) ≡ served_at id (at id devices.rows)
+  second : (id : ℕ) → reads_on devices forwards 31 (selecting (Some id) 23 (codes "OKAY") (codes "0005echo:"))
+      ≡ served_at id (at id devices.rows)
   unfolding meaning
   second id = by_row (at id devices.rows)
     where
@@ -80,7 +82,9 @@ module _ (devices : DeviceTable) (forwards : List (ℕ × ForwardRow)) where
       q = selecting (Some id) 23 (codes "OKAY") (codes "0005echo:")
 
       by_room : (full : Bool)
-          → after_answer (cond full (failed (codes "service name too long")) (record { bytes = []; next = Open id echo })) 9 (reads_on devices forwards 30) q
+          → after_answer
+          (cond full (failed (codes "service name too long")) (record { bytes = []; next = Open id echo })) 9
+          (reads_on devices forwards 30) q
           ≡ served_if id full
       by_room true = refl
       by_room false = refl
@@ -90,10 +94,18 @@ module _ (devices : DeviceTable) (forwards : List (ℕ × ForwardRow)) where
       by_row (Some row) = by_room (nat_lt row.maxdata 6)
 
   first : (t : ℕ) (text : List ℕ) (r : Result ℕ Refusal) → drop 23 text ≡ codes "0005echo:"
-      → after_answer (selects false (device_or (Id t) r)) 23 (reads_on devices forwards 31) (selecting None 0 [] text) ≡ chosen_by t devices r
+      → after_answer (selects false (device_or (Id t) r)) 23 (reads_on devices forwards 31) (selecting None 0 [] text)
+      ≡ chosen_by t devices r
   first t text (Ok id) is = ap (λ rest. reads_on devices forwards 31 (selecting (Some id) 23 (codes "OKAY") rest)) is ∙ second id
   first t text (Err why) is =
-      ap (λ rest. record { replies = (failed (refusal_text (Id t) why)).bytes; used = 23; rest = rest; selected = None; next = Some Close }) is
+      ap (λ rest. record {
+        replies = (failed (refusal_text (Id t) why)).bytes;
+        used = 23;
+        rest = rest;
+        selected =
+            None;
+        next = Some Close;
+      }) is
 
 -- what the requests are read as, over any devices and forwards
 abbrev AreRead : ℕ → Type 0
@@ -134,14 +146,22 @@ read_8 devices forwards = first devices forwards 8 (requests 8) (choice (values_
 
 -- What a client of a load asks is what the choice of its device's row makes of it.
 pub asked_reads : (stream : ℕ) → AreRead (link_of stream)
-asked_reads stream = by_link AreRead read_1 read_2 read_3 read_4 read_5 read_6 read_7 read_8 (stream % 8) (mod-lt stream {m = 8} (omega arith))
+asked_reads stream = by_link AreRead read_1 read_2 read_3 read_4 read_5 read_6 read_7 read_8 (stream % 8)
+    (mod-lt stream {m = 8} (omega arith))
 
 -- Where its device is chosen and takes the service, the client is told so, and asks for the service.
 pub asked_connected : (stream : ℕ) (devices : DeviceTable) (forwards : List (ℕ × ForwardRow)) (row : Row)
     → choice (values_of devices.rows) (Id (link_of stream)) true ≡ Ok (link_of stream) → at (link_of stream) devices.rows ≡ Some row
     → nat_lt row.maxdata 6 ≡ false
     → asks_with devices forwards (asked_of stream) nothing_asked
-    ≡ record { replies = codes "OKAY"; used = 32; rest = []; selected = Some (link_of stream); next = Some (Open (link_of stream) (codes "echo:")) }
+    ≡ record {
+      replies = codes "OKAY";
+      used = 32;
+      rest = [];
+      selected = Some (link_of stream);
+      next =
+          Some (Open (link_of stream) (codes "echo:"));
+    }
 asked_connected stream devices forwards row chosen there room =
     asked_reads stream devices forwards
     ∙ (ap (chosen_by (link_of stream) devices) chosen ∙ (ap (served_at (link_of stream)) there ∙ ap (served_if (link_of stream)) room))

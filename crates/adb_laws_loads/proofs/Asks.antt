@@ -1,5 +1,6 @@
 -- What the clients of a load ask: the device of their stream, and its service, at once.
-use Rattle.std.proofs.Common.{ℕ, zero, suc, ◌+◌, ◌%◌, ◌≡◌, ◌<◌, ◌≤◌, true, false, List, [], ◌∷◌, Option, Some, Ok, refl, ◌∙◌, ap, subst, arith}
+use Rattle.std.proofs.Common.{ℕ, zero, suc, ◌+◌, ◌%◌, ◌≡◌, ◌<◌, ◌≤◌, true, false, List, [], ◌∷◌, Option, Some, Ok, refl, ◌∙◌, ap, subst}
+use Rattle.std.proofs.Common.{arith}
 use Rattle.std.specs.Prelude.{codes}
 use Rattle.std.specs.Map.{values_of}
 use Rattle.adb_outside.specs.Tables.{at, listed, listed_at}
@@ -25,7 +26,8 @@ use Rattle.adb_laws_loads.proofs.Runs.{HasLinks, HasRun}
 abbrev pub all_online : DeviceTable
 all_online = record {
   drawn = 8;
-  rows = (1, device_row 1) ∷ (2, device_row 2) ∷ (3, device_row 3) ∷ (4, device_row 4) ∷ (5, device_row 5) ∷ (6, device_row 6) ∷ (7, device_row 7)
+  rows = (1, device_row 1) ∷ (2, device_row 2) ∷ (3, device_row 3) ∷ (4, device_row 4) ∷ (5, device_row 5)
+      ∷ (6, device_row 6) ∷ (7, device_row 7)
       ∷ (8, device_row 8) ∷ [];
 }
 

@@ -54,7 +54,8 @@ newly_none None after over = absurd (let clash : true ≡ false = over in cc)
 newly_none (Some next) after over = refl
 
 -- a client of which no further request is read
-pub read_nothing : (n plugged c : ℕ) (bytes : List ℕ) (h : History) → Stands n plugged h → is_none (asked c h).next ≡ false → AsksNothing (Read c bytes) h
+pub read_nothing : (n plugged c : ℕ) (bytes : List ℕ) (h : History) → Stands n plugged h
+    → is_none (asked c h).next ≡ false → AsksNothing (Read c bytes) h
 read_nothing n plugged c bytes h at over = record {
   births = ap (birth_by c (asked c (Read c bytes ∷ h)).used h) (newly_none (asked c h).next (asked c (Read c bytes ∷ h)).next over);
   asked = λ k. ap (λ (b : Book). b.asked k) (no_more n plugged h at c bytes over) ∙ same_row (book h).asked c k;
@@ -81,7 +82,8 @@ module _ (stream plugged : ℕ) (h : History) (at : Stands stream plugged h) (ha
   own = asked_at c ∙ ap (λ b. cond b q (asked c h)) (eq-eqb c c refl)
 
   -- what the client asks over the devices that are there
-  module _ (asks : (rows : List (ℕ × ForwardRow)) → asks_with (devices_if false h) rows (asked_of stream) nothing_asked ≡ asks_on (link_of stream)) where
+  module _ (asks : (rows : List (ℕ × ForwardRow)) → asks_with (devices_if false h) rows (asked_of stream)
+      nothing_asked ≡ asks_on (link_of stream)) where
     answer : q ≡ asks_on (link_of stream)
     unfolding first_asked
     answer = ap (λ b. asks_with (devices_if b h) (forwards h) (asked_of stream) nothing_asked) at.killed ∙ asks (forwards h)
@@ -119,7 +121,12 @@ module _ (stream plugged : ℕ) (h : History) (at : Stands stream plugged h) (ha
           (all_stay 0 (births h) (entry_of (Accept stream)) asked_now
           (all_stay 0 (births h) (entry_of (Ask stream)) came (all_stay 0 (births h) (entry_of (Come stream)) h has.streams)))
           (omega (arith, has.counted))
-          (record { client = refl; own = refl; opened = opened_now stream birth packets h small brings (record { link = refl; before = refl }) })
+          (record {
+            client = refl;
+            own = refl;
+            opened = opened_now stream birth packets h small brings
+                (record { link = refl; before = refl });
+          })
 
       -- one more client has its stream
       pub stream_begins : HasBirths (stream + 1) (begun_on stream h)

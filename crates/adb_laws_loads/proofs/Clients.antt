@@ -1,5 +1,6 @@
 -- The clients of a load after any number of its turns: each that came has its stream.
-use Rattle.std.proofs.Common.{ℕ, ◌+◌, ◌≡◌, ◌<◌, ◌≤◌, Bool, true, false, List, [], ◌∷◌, ◌++◌, refl, sym, ap, subst, ◌∙◌, arith, if◌then◌else◌}
+use Rattle.std.proofs.Common.{ℕ, ◌+◌, ◌≡◌, ◌<◌, ◌≤◌, Bool, true, false, List, [], ◌∷◌, ◌++◌, refl, sym, ap, subst, ◌∙◌, arith}
+use Rattle.std.proofs.Common.{if◌then◌else◌}
 use Rattle.std.proofs.lemmas.List.{append-nil}
 use Rattle.adb_capture.specs.declared.entry.Entry.TheVariants.{Recv}
 use Rattle.adb_forward.specs.declared.row.ForwardRow.{ForwardRow}
@@ -42,7 +43,8 @@ IsOn n (Leave stream) = Unit {0}
 IsOn n (Close stream) = Unit {0}
 IsOn n _ = ⊥
 
-act_births : (n plugged : ℕ) (a : Act) (h : History) → Stands n plugged h → HasBirths n h → IsOn n a → HasBirths n (past_of (acts_from a) ++ h)
+act_births : (n plugged : ℕ) (a : Act) (h : History) → Stands n plugged h → HasBirths n h → IsOn n a
+    → HasBirths n (past_of (acts_from a) ++ h)
 act_births n plugged (Plug link) h at has on =
     recvs n link _ _ (births_stay n (entry_of (Plug link)) h (record { births = refl; asked = λ c. refl }) has)
 act_births n plugged (Write stream from count) h at has on =
@@ -51,7 +53,8 @@ act_births n plugged (Write stream from count) h at has on =
     (read_nothing n plugged (client_of stream) (up_bytes stream from count) h at over) has)
 act_births n plugged (Answer stream from count Whole) h at has on = recvs n (link_of stream) _ h has
 act_births n plugged (Answer stream from count Head) h at has on = recvs n (link_of stream) _ _ (recvs n (link_of stream) _ h has)
-act_births n plugged (Leave stream) h at has on = births_stay n (entry_of (Leave stream)) h (record { births = refl; asked = λ c. refl }) has
+act_births n plugged (Leave stream) h at has on = births_stay n (entry_of (Leave stream)) h
+    (record { births = refl; asked = λ c. refl }) has
 act_births n plugged (Close stream) h at has on = recvs n (link_of stream) _ h has
 act_births n plugged _ h at has on = absurd on
 
@@ -74,7 +77,8 @@ module _ (done : List Act) (p : Progress) (has : HasServed done p) where
   stands = subst (Stands p.begun p.plugged) (came_past done) has.follows.stands
 
   next : (a : Act) → IsOn p.begun a → HasBirths p.begun (past_of (done ++ acts_from a))
-  next a on = subst (HasBirths p.begun) (sym (past_then done (acts_from a))) (act_births p.begun p.plugged a (past_of done) stands has.births on)
+  next a on = subst (HasBirths p.begun) (sym (past_then done (acts_from a)))
+      (act_births p.begun p.plugged a (past_of done) stands has.births on)
 
   asks : all_devices ≤ p.plugged → (rows : List (ℕ × ForwardRow))
       → asks_with (devices_if false (past_of done)) rows (asked_of p.begun) nothing_asked ≡ asks_on (link_of p.begun)
@@ -87,7 +91,8 @@ module _ (done : List Act) (p : Progress) (has : HasServed done p) where
       (stream_begins p.begun p.plugged (past_of done) stands has.births (asks plugged) (packets_on (link_of p.begun) done)
       (omega (arith, left, has.run.few)) (has.run.links.brings (link_of p.begun)))
 
-  down : (stream from count : ℕ) (two : Bool) → HasBirths p.begun (past_of (done ++ acts_from (Answer stream from count (if two then Head else Whole))))
+  down : (stream from count : ℕ) (two : Bool) → HasBirths p.begun
+      (past_of (done ++ acts_from (Answer stream from count (if two then Head else Whole))))
   down stream from count true = next (Answer stream from count Head) tt
   down stream from count false = next (Answer stream from count Whole) tt
 

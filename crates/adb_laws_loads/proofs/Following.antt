@@ -1,5 +1,6 @@
 -- Each entry of a load may come behind those before it.
-use Rattle.std.proofs.Common.{ℕ, ◌+◌, ◌≡◌, ◌<◌, ◌≤◌, Bool, true, false, List, [], ◌∷◌, ◌++◌, refl, sym, ◌∙◌, ap, subst, arith, if◌then◌else◌}
+use Rattle.std.proofs.Common.{ℕ, ◌+◌, ◌≡◌, ◌<◌, ◌≤◌, Bool, true, false, List, [], ◌∷◌, ◌++◌, refl, sym, ◌∙◌, ap, subst, arith}
+use Rattle.std.proofs.Common.{if◌then◌else◌}
 use Rattle.std.specs.Prelude.{Option, None, ◌-◌, ◌*◌, is_none}
 use Rattle.std.specs.Fmt.{digits}
 use Rattle.std.proofs.Math.Nat.{mod-lt}
@@ -19,7 +20,8 @@ use Rattle.adb_load.specs.declared.act.Act.{Act}
 use Rattle.adb_load.specs.declared.act.Act.TheVariants.{Answer, Leave, Close}
 use Rattle.adb_load.specs.declared.act.Piece.TheVariants.{Whole, Head, Tail}
 use Rattle.adb_load.specs.declared.live.Live.{Live}
-use Rattle.adb_load.specs.Acts.{IsShort, entry_of, acts_from, acts_due, asked_of, client_of, link_of, serial_of, greeting, device_packet, up_bytes, down_bytes}
+use Rattle.adb_load.specs.Acts.{IsShort, entry_of, acts_from, acts_due, asked_of, client_of, link_of, serial_of, greeting, device_packet}
+use Rattle.adb_load.specs.Acts.{up_bytes, down_bytes}
 use Rattle.adb_load.specs.Acts.{up_size, down_size, piece_of, remote_of}
 use Rattle.adb_load.specs.Streams.{is_set, moved}
 use Rattle.adb_load.specs.Course.{Progress, turn, start, turns_left}
@@ -30,7 +32,8 @@ use Rattle.adb_laws_loads.proofs.Turns.{IsUnderWay, turn_under_way, under_way_at
 use Rattle.adb_laws_loads.proofs.Inputs.{came_onto, came, came_more, drained_same}
 use Rattle.adb_laws_loads.proofs.Asking.{by_link}
 use Rattle.adb_load.proofs.Cycles.{cycle_length}
-use Rattle.adb_load.proofs.Records.{literal_bytes, cycle_bytes, cycle_short, packet_short, piece_short, serial_short, asked_short, greeting_short}
+use Rattle.adb_load.proofs.Records.{literal_bytes, cycle_bytes, cycle_short, packet_short, piece_short, serial_short, asked_short}
+use Rattle.adb_load.proofs.Records.{greeting_short}
 use Rattle.adb_laws_loads.proofs.Texts.{no_bytes}
 use Rattle.adb_load.proofs.Records.{joined_bytes as both_bytes}
 use Rattle.adb_laws_loads.proofs.AskTexts.{asked_texts}
@@ -71,7 +74,8 @@ up_short stream from count small = cycle_short stream from count (omega (arith, 
 
 module _ (begun : ℕ) where
   -- what the device of any stream says
-  says_may : (g : History) → Stands begun all_devices g → (stream : ℕ) (bytes : List ℕ) → IsShort bytes → MayCome g (Recv (link_of stream) bytes)
+  says_may : (g : History) → Stands begun all_devices g → (stream : ℕ) (bytes : List ℕ) → IsShort bytes
+      → MayCome g (Recv (link_of stream) bytes)
   says_may g at stream bytes short = record {
     wants = (omega arith, omega (arith, mod-lt stream {m = 8} (omega arith), at.links));
     reads = tt;
@@ -100,7 +104,8 @@ module _ (begun : ℕ) where
   no_more g at stream own bytes none =
       absurd (let clash : true ≡ false = sym (ap is_none none) ∙ at.over (client_of stream) (omega arith) (omega (arith, own)) in cc)
 
-  writes : (g : History) → Stands begun all_devices g → (stream : ℕ) → stream < begun → (bytes answer : List ℕ) → IsShort bytes → IsShort answer
+  writes : (g : History) → Stands begun all_devices g → (stream : ℕ) → stream < begun → (bytes answer : List ℕ)
+      → IsShort bytes → IsShort answer
       → Arrives begun all_devices (Read (client_of stream) bytes ∷ Recv (link_of stream) answer ∷ []) g
   writes g at stream own bytes answer are others =
       and_before begun all_devices (Read (client_of stream) bytes) (Recv (link_of stream) answer ∷ []) g
@@ -114,11 +119,20 @@ module _ (begun : ℕ) where
       (says_last (Read (client_of stream) bytes ∷ g)
       (stand.written begun all_devices g at (client_of stream) bytes (omega arith) (omega (arith, own))) stream answer others)
 
-  leaves : (g : History) → Stands begun all_devices g → (stream : ℕ) → stream < begun → Arrives begun all_devices (End (client_of stream) Eof ∷ []) g
+  leaves : (g : History) → Stands begun all_devices g → (stream : ℕ) → stream < begun
+      → Arrives begun all_devices (End (client_of stream) Eof ∷ []) g
   leaves g at stream own =
       and_before begun all_devices (End (client_of stream) Eof) [] g
-      (record { wants = client_drawn g at stream own; reads = tt; bytes = literal_bytes (0 ∷ []) refl; size = omega arith; killed = at.killed })
-      (nothing begun all_devices (End (client_of stream) Eof ∷ g) (stand.ended begun all_devices g at (client_of stream) Eof (omega (arith, own))))
+      (record {
+        wants = client_drawn g at stream own;
+        reads = tt;
+        bytes = literal_bytes (0 ∷ []) refl;
+        size =
+            omega arith;
+        killed = at.killed;
+      })
+      (nothing begun all_devices (End (client_of stream) Eof ∷ g)
+      (stand.ended begun all_devices g at (client_of stream) Eof (omega (arith, own))))
 
   -- a stream begins
   asks_first : (g : History) → Stands begun all_devices g → AsksFirst (client_of begun) (asked_of begun) (Join (client_of begun) ∷ g)
@@ -164,7 +178,8 @@ plugs begun plugged g at few = record {
     record {
       wants = record { next = ap (λ n. n + 1) (sym at.links); few = omega (arith, at.links, few); spelled = serials plugged few };
       reads = tt;
-      bytes = both_bytes (117 ∷ []) (serial_of (plugged + 1)) (literal_bytes (117 ∷ []) refl) (serial_short (plugged + 1) (omega (arith, few))).bytes;
+      bytes = both_bytes (117 ∷ []) (serial_of (plugged + 1)) (literal_bytes (117 ∷ []) refl)
+          (serial_short (plugged + 1) (omega (arith, few))).bytes;
       size = omega (arith, (serial_short (plugged + 1) (omega (arith, few))).size);
       killed = at.killed;
     },
@@ -179,7 +194,8 @@ plugs begun plugged g at few = record {
       tt,
     ),
   );
-  stands = stand.received begun (plugged + 1) _ (stand.attached begun plugged g at (plugged + 1) Usb (serial_of (plugged + 1))) (plugged + 1) greeting;
+  stands = stand.received begun (plugged + 1) _
+      (stand.attached begun plugged g at (plugged + 1) Usb (serial_of (plugged + 1))) (plugged + 1) greeting;
 }
 
 -- ---- turns
@@ -195,14 +211,16 @@ module _ (g : History) (p : Progress) (way : IsUnderWay p) (at : Stands p.begun 
   all_at : all_devices ≤ p.plugged → Stands p.begun all_devices g
   all_at few = subst (λ n. Stands p.begun n g) (sym (all_plugged few)) at
 
-  from_all : all_devices ≤ p.plugged → (begun : ℕ) (inputs : List Entry) → Arrives begun all_devices inputs g → Arrives begun p.plugged inputs g
+  from_all : all_devices ≤ p.plugged → (begun : ℕ) (inputs : List Entry) → Arrives begun all_devices inputs g
+      → Arrives begun p.plugged inputs g
   from_all few begun inputs come = subst (λ n. Arrives begun n inputs g) (all_plugged few) come
 
   moves : (live : Live) → IsBegun p.begun live → all_devices ≤ p.plugged → (word : ℕ)
       → Arrives p.begun p.plugged (entries_of (acts_from (moved word live).act)) g
   moves live own few word = from_all few p.begun (entries_of (acts_from (moved word live).act))
       (by_moved (λ act after. Arrives p.begun all_devices (entries_of (acts_from act)) g) word live (record {
-        up = λ count some most. writes p.begun g (all_at few) live.number own.number (up_bytes live.number (up_size live.number - live.up) count)
+        up = λ count some most. writes p.begun g (all_at few) live.number own.number
+            (up_bytes live.number (up_size live.number - live.up) count)
             (device_packet Okay live.number []) (up_short live.number (up_size live.number - live.up) count (omega (arith, most, own.up)))
             (bare_short Okay live.number);
         down = λ count some most. down (is_set word 5) (down_size live.number - live.down) count (omega (arith, most, own.down));
@@ -217,9 +235,12 @@ module _ (g : History) (p : Progress) (way : IsUnderWay p) (at : Stands p.begun 
       down true from count small = let short = answer_short live.number from count small in
           says_twice p.begun g (all_at few) live.number (piece_of Head (packet from count)) (piece_of Tail (packet from count))
           (piece_short Head (packet from count) short) (piece_short Tail (packet from count) short)
-      down false from count small = says_last p.begun g (all_at few) live.number (packet from count) (answer_short live.number from count small)
+      down false from count small = says_last p.begun g (all_at few) live.number (packet from count)
+          (answer_short live.number from count small)
 
-      ends : (closes : Bool) → Arrives p.begun all_devices (entries_of (acts_from (if closes then Close live.number else Leave live.number))) g
+      ends : (closes : Bool)
+          → Arrives p.begun all_devices
+          (entries_of (acts_from (if closes then Close live.number else Leave live.number))) g
       ends true = says_last p.begun g (all_at few) live.number (device_packet Clse live.number []) (bare_short Clse live.number)
       ends false = leaves p.begun g (all_at few) live.number own.number
 
@@ -239,7 +260,8 @@ pub record Follows (done : List Act) (p : Progress) : Type 0 where
 
 pub turn_follows : (done : List Act) (p : Progress) → Follows done p → Follows (done ++ acts_due (turn p).act) (turn p).after
 turn_follows done p so_far = record {
-  may = subst (λ inputs. AllMayCome inputs []) (sym (map-append entry_of done acts)) (all_more (entries_of done) (entries_of acts) [] so_far.may next.may);
+  may = subst (λ inputs. AllMayCome inputs []) (sym (map-append entry_of done acts))
+      (all_more (entries_of done) (entries_of acts) [] so_far.may next.may);
   way = turn_under_way p so_far.way;
   stands = subst (Stands (turn p).after.begun (turn p).after.plugged) (sym (came_more done acts)) next.stands;
 }

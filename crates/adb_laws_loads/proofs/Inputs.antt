@@ -20,7 +20,8 @@ use Rattle.adb_history.specs.Links.{is_connected, is_credit}
 use Rattle.adb_history.specs.Rows.{Client, Link, State}
 use Rattle.adb_history.specs.Machine.{History, state}
 use Rattle.adb_history.specs.Bytes.{has_joined, has_ended, is_lost, bytes_received, brought}
-use Rattle.adb_history.specs.Book.{plugged, plugged_count, is_refused, last_cnxn, row_by, device_of, devices_if, Book, book, devices, asked, forwards}
+use Rattle.adb_history.specs.Book.{plugged, plugged_count, is_refused, last_cnxn, row_by, device_of, devices_if, Book, book, devices, asked}
+use Rattle.adb_history.specs.Book.{forwards}
 use Rattle.adb_history.specs.Book.{still_asks, asked_with, reads_turn, bound_turn, led_by, newly}
 use Rattle.adb_history.specs.Births.{Birth, birth_by, birth_through, births, births_at}
 use Rattle.adb_history.specs.Tied.{bytes_asked, came_count}
@@ -56,7 +57,8 @@ received_on t _ h g lost is = is
 
 asked_on : (c : ℕ) (e : Entry) (h g : History) → has_ended c h ≡ has_ended c g → bytes_asked c h ≡ bytes_asked c g
     → bytes_asked c (e ∷ h) ≡ bytes_asked c (e ∷ g)
-asked_on c (Read n bytes) h g ended is = ap (λ (b : Bool). more_if (eqb n c) b bytes (bytes_asked c h)) ended ∙ ap (more_if (eqb n c) (has_ended c g) bytes) is
+asked_on c (Read n bytes) h g ended is = ap (λ (b : Bool). more_if (eqb n c) b bytes (bytes_asked c h)) ended
+    ∙ ap (more_if (eqb n c) (has_ended c g) bytes) is
 asked_on c _ h g ended is = is
 
 plugged_on : (t : ℕ) (e : Entry) (h g : History) → plugged t h ≡ plugged t g → plugged t (e ∷ h) ≡ plugged t (e ∷ g)
@@ -123,7 +125,8 @@ pub same_devices_if : (h g : History) → SameBrought h g → (killed : Bool) �
 same_devices_if h g same true = ap (λ n. record { drawn = n; rows = [] }) same.plugged_count
 same_devices_if h g same false =
     ap (λ n. record { drawn = n; rows = listed (λ t. device_of t h) 1 n }) same.plugged_count
-    ∙ ap (λ (rows : Rows (Option Row)). record { drawn = plugged_count g; rows = listed rows 1 (plugged_count g) }) (fun_ext (same_device h g same))
+    ∙ ap (λ (rows : Rows (Option Row)). record { drawn = plugged_count g; rows = listed rows 1 (plugged_count g) })
+    (fun_ext (same_device h g same))
 
 pub same_devices : (h g : History) → SameCame h g → devices h ≡ devices g
 same_devices h g same = ap (λ (b : Book). devices_if b.killed h) same.book ∙ same_devices_if h g same.brings (book g).killed
@@ -183,7 +186,8 @@ birth_by_on c head _ h g same = refl
 birth_through_on : (c : ℕ) (row : Option ForwardRow) (h g : History) → SameCame h g → birth_through c h row ≡ birth_through c g row
 birth_through_on c None h g same = refl
 birth_through_on c (Some row) h g same =
-    ap (λ table. cond (is_connected row.transport table) (born_over c row.transport 0 true row.remote (devices h) (length (brought row.transport h)) ∷ []) [])
+    ap (λ table. cond (is_connected row.transport table)
+    (born_over c row.transport 0 true row.remote (devices h) (length (brought row.transport h)) ∷ []) [])
     (same_devices h g same)
     ∙ ap (λ b. cond (is_connected row.transport (devices g)) (b ∷ []) []) (same_born c row.transport 0 true row.remote h g same)
 
@@ -191,8 +195,10 @@ births_at_on : (e : Entry) (h g : History) → SameCame h g → births_at e h �
 births_at_on (Enter c port) h g same =
     ap (λ (b : Book). birth_through c h (at port b.forwards)) same.book ∙ birth_through_on c (at port (forwards g)) h g same
 births_at_on (Read c bytes) h g same =
-    ap (λ (b : Book). birth_by c (b.asked c).used h (newly (asked c h).next (b.asked c).next)) (book_on (Read c bytes) h g same.brings same.book)
-    ∙ (ap (λ (b : Book). birth_by c (asked c (Read c bytes ∷ g)).used h (newly (b.asked c).next (asked c (Read c bytes ∷ g)).next)) same.book
+    ap (λ (b : Book). birth_by c (b.asked c).used h (newly (asked c h).next (b.asked c).next))
+    (book_on (Read c bytes) h g same.brings same.book)
+    ∙ (ap (λ (b : Book). birth_by c (asked c (Read c bytes ∷ g)).used h
+    (newly (b.asked c).next (asked c (Read c bytes ∷ g)).next)) same.book
     ∙ birth_by_on c (asked c (Read c bytes ∷ g)).used (newly (asked c g).next (asked c (Read c bytes ∷ g)).next) h g same)
 births_at_on _ h g same = refl
 
@@ -255,10 +261,12 @@ client_out table c (Some client) = put_out c (offered table client)
 puts_out : (table : DeviceTable) (clients : Rows (Option Client)) (c k : ℕ) → IsOut (first_put table clients c k)
 puts_out table clients c zero = tt
 puts_out table clients c (suc k) =
-    or_out (put_to table c (clients c)) (first_put table clients (suc c) k) (client_out table c (clients c)) (puts_out table clients (suc c) k)
+    or_out (put_to table c (clients c)) (first_put table clients (suc c) k) (client_out table c (clients c))
+    (puts_out table clients (suc c) k)
 
 pub next_is_out : (s : State) → IsOut (next_out s)
-next_is_out s = or_out (first_send s.links 1 s.devices.drawn) (first_put s.devices s.clients 1 s.joined) (sends_out s.links 1 s.devices.drawn)
+next_is_out s = or_out (first_send s.links 1 s.devices.drawn) (first_put s.devices s.clients 1 s.joined)
+    (sends_out s.links 1 s.devices.drawn)
     (puts_out s.devices s.clients 1 s.joined)
 
 -- a hand-out behind the one
@@ -312,7 +320,8 @@ onto_more (e ∷ inputs) more h = onto_more inputs more (e ∷ h)
 pub onto_reverse : (inputs : List Entry) (h : History) → came_onto inputs h ≡ reverse inputs ++ h
 onto_reverse [] h = refl
 onto_reverse (e ∷ inputs) h =
-    onto_reverse inputs (e ∷ h) ∙ (sym (append_assoc (reverse inputs) (e ∷ []) h) ∙ ap (λ front. front ++ h) (sym (reverse_onto inputs e [])))
+    onto_reverse inputs (e ∷ h)
+    ∙ (sym (append_assoc (reverse inputs) (e ∷ []) h) ∙ ap (λ front. front ++ h) (sym (reverse_onto inputs e [])))
 
 pub drained_onto : (inputs : List Entry) (h g : History) → SameCame h g → SameCame (drained_from h inputs) (came_onto inputs g)
 drained_onto [] h g same = same

@@ -1,5 +1,6 @@
 -- What a server makes of a load is a legal history: each entry may come, and so may all that is handed out after it.
-use Rattle.std.proofs.Common.{ℕ, ◌+◌, ◌^◌, ◌≡◌, ◌≢◌, ◌<◌, ◌≤◌, List, [], ◌∷◌, ◌++◌, take, drop, zero, suc, refl, sym, ◌∙◌, ap, subst, arith, lit<}
+use Rattle.std.proofs.Common.{ℕ, ◌+◌, ◌^◌, ◌≡◌, ◌≢◌, ◌<◌, ◌≤◌, List, [], ◌∷◌, ◌++◌, take, drop, zero, suc, refl, sym, ◌∙◌, ap, subst, arith}
+use Rattle.std.proofs.Common.{lit<}
 use Rattle.std.specs.Prelude.{Option, Some, None}
 use Rattle.std.specs.Option.{option_or}
 use Rattle.std.proofs.lemmas.List.{take-append-drop}
@@ -16,7 +17,8 @@ use Rattle.adb_history.specs.Machine.{History, state, MayPut, MaySend, IsSomeOf,
 use Rattle.adb_history.specs.Book.{Book, asked, plugged_count}
 use Rattle.adb_history.specs.Tied.{came_count, IsAskedAs}
 use Rattle.adb_history.specs.Tracking.{offered}
-use Rattle.adb_history.specs.Drained.{send_of, send_on, first_send, put_of, put_to, first_put, next_out, or_stay, drain, drained_after, drained_from, owed}
+use Rattle.adb_history.specs.Drained.{send_of, send_on, first_send, put_of, put_to, first_put, next_out, or_stay, drain, drained_after}
+use Rattle.adb_history.specs.Drained.{drained_from, owed}
 use Rattle.adb_history.proofs.Books.{all_unread}
 use Rattle.adb_history.proofs.Numbers.{counted}
 use Rattle.adb_laws_loads.proofs.Texts.{front_bytes, ClientTexts, LinkTexts, Texts}
@@ -40,7 +42,11 @@ take_some (suc n) b due some e = let clash : b ∷ take n due ≡ [] = e in cc
 
 front_of_due : (b : ℕ) (due : List ℕ) → AreBytes (b ∷ due) → IsFront (take MAX_HAND_OUT (b ∷ due)) (b ∷ due)
 front_of_due b due are = record {
-  some = record { some = take_some MAX_HAND_OUT b due (lit< tt); front = (drop MAX_HAND_OUT (b ∷ due), take-append-drop MAX_HAND_OUT (b ∷ due)) };
+  some = record {
+    some = take_some MAX_HAND_OUT b due (lit< tt);
+    front =
+        (drop MAX_HAND_OUT (b ∷ due), take-append-drop MAX_HAND_OUT (b ∷ due));
+  };
   bytes = front_bytes MAX_HAND_OUT (b ∷ due) are;
 }
 
@@ -128,13 +134,15 @@ fine_out _ h fit fine = absurd fit
 
 next_fits : (h g : History) → SameCame h g → IsFew g → IsFine h → IsFit (state h) (2 ^ 32) (next_out (state h))
 next_fits h g same few fine = out_fits (state h) fine.texts (2 ^ 32)
-    (omega (arith, (counted h).plugged, same.brings.plugged_count, few.links)) (omega (arith, (counted h).joined, same.brings.came_count, few.clients))
+    (omega (arith, (counted h).plugged, same.brings.plugged_count, few.links))
+    (omega (arith, (counted h).joined, same.brings.came_count, few.clients))
 
 drain_fine : (k : ℕ) (h g : History) → SameCame h g → IsFew g → IsFine h → IsFine (drain k h)
 drain_fine zero h g same few fine = fine
 drain_fine (suc k) h g same few fine = go (next_out (state h)) (next_fits h g same few fine) (λ e. drain_fine k (e ∷ h) g)
   where
-    go : (o : Option Entry) → IsFit (state h) (2 ^ 32) o → ((e : Entry) → SameCame (e ∷ h) g → IsFew g → IsFine (e ∷ h) → IsFine (drain k (e ∷ h)))
+    go : (o : Option Entry) → IsFit (state h) (2 ^ 32) o
+        → ((e : Entry) → SameCame (e ∷ h) g → IsFew g → IsFine (e ∷ h) → IsFine (drain k (e ∷ h)))
         → IsFine (or_stay o h (λ e. drain k (e ∷ h)))
     go None fit more = fine
     go (Some e) fit more = let out = fine_out e h fit fine in more e (same_out e out.1 h g same) few out.0
@@ -252,10 +260,12 @@ all_first [] rest g all = tt
 all_first (e ∷ front) rest g all = (all.0, all_first front rest (e ∷ g) all.1)
 
 -- What a server makes of a front of a load is a legal history.
-pub front_legal : (seed streams : ℕ) (front rest : List Entry) → streams < 2 ^ 32 → load seed streams ≡ front ++ rest → IsLegal (drained_from [] front)
+pub front_legal : (seed streams : ℕ) (front rest : List Entry) → streams < 2 ^ 32 → load seed streams ≡ front ++ rest
+    → IsLegal (drained_from [] front)
 front_legal seed streams front rest few is =
     drained_legal front (all_first front rest [] (subst (λ inputs. AllMayCome inputs []) is (load_follows seed streams)))
-    (few_first rest (came_onto front []) (subst IsFew (ap (λ inputs. came_onto inputs []) is ∙ onto_more front rest []) (load_few seed streams few)))
+    (few_first rest (came_onto front [])
+    (subst IsFew (ap (λ inputs. came_onto inputs []) is ∙ onto_more front rest []) (load_few seed streams few)))
 
 -- And so is what it makes of all of it.
 pub load_legal : (seed streams : ℕ) → streams < 2 ^ 32 → IsLegal (drained_from [] (load seed streams))

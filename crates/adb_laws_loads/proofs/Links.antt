@@ -1,5 +1,6 @@
 -- What the links of a load brought: whole packets, whose check words nobody looks at.
-use Rattle.std.proofs.Common.{ℕ, ◌^◌, ◌≡◌, ◌<◌, ◌≤◌, Bool, true, false, cond, List, [], ◌∷◌, ◌++◌, length, reverse, None, refl, sym, ◌∙◌, ap, subst, arith}
+use Rattle.std.proofs.Common.{ℕ, ◌^◌, ◌≡◌, ◌<◌, ◌≤◌, Bool, true, false, cond, List, [], ◌∷◌, ◌++◌, length, reverse, None, refl, sym, ◌∙◌}
+use Rattle.std.proofs.Common.{ap, subst, arith}
 use Rattle.std.specs.Prelude.{nat_eq, not, ◌&&◌, if◌then◌else◌, codes}
 use Rattle.std.specs.List.{flat_map}
 use Rattle.std.proofs.lemmas.List.{append-nil, append_assoc, reverse-append, map-append, take-append-drop}
@@ -142,7 +143,8 @@ module _ (t : ℕ) (packets : List Packet) (h : History) (has : HasBrought t pac
 
   received_more : (p : Packet) → IsReadPlainly p 0 → framed (received ++ spelling p 0) ≡ read_whole (packets ++ p ∷ [])
   received_more p fits =
-      cut_piece front_of item after packets_are_framed (length received) plain received (spelling p 0) (omega arith) (ap (λ (c : Cutting). c.fault) has.cut)
+      cut_piece front_of item after packets_are_framed (length received) plain received (spelling p 0) (omega arith)
+      (ap (λ (c : Cutting). c.fault) has.cut)
       ∙ (ap (λ (c : Cutting). joined c.given (cut_packets c.reading (c.rest ++ spelling p 0))) has.cut
       ∙ ap (joined packets) (one_packet p fits))
 
@@ -154,7 +156,8 @@ module _ (t : ℕ) (packets : List Packet) (h : History) (has : HasBrought t pac
   recv_whole : (link : ℕ) (p : Packet) → IsReadPlainly p 0 → HasBrought t (packets ++ on_link t link p) (Recv link (spelling p 0) ∷ h)
   recv_whole link p fits = record { kept = has.kept; cut = go (nat_eq link t) }
     where
-      go : (here : Bool) → framed (cond (here && not (is_lost t h)) (received ++ spelling p 0) received) ≡ read_whole (packets ++ cond here (p ∷ []) [])
+      go : (here : Bool) → framed (cond (here && not (is_lost t h)) (received ++ spelling p 0) received)
+          ≡ read_whole (packets ++ cond here (p ∷ []) [])
       go true = ap (λ (lost : Bool). framed (cond (not lost) (received ++ spelling p 0) received)) has.kept ∙ received_more p fits
       go false = has.cut ∙ ap read_whole (sym (append-nil packets))
 
@@ -198,7 +201,8 @@ act_brings t packets h (Write stream from count) has whole small = same t packet
 act_brings t packets h (Acknowledge stream) has whole small =
     recv_whole t packets h has (link_of stream) (packet_to Okay stream []) (read_bare stream small)
 act_brings t packets h (Answer stream from count Whole) has whole small =
-    recv_whole t packets h has (link_of stream) (packet_to Wrte stream (down_bytes stream from count)) (read_write stream from count small.0 small.1)
+    recv_whole t packets h has (link_of stream) (packet_to Wrte stream (down_bytes stream from count))
+    (read_write stream from count small.0 small.1)
 act_brings t packets h (Answer stream from count Head) has whole small = absurd whole
 act_brings t packets h (Answer stream from count Tail) has whole small = absurd whole
 act_brings t packets h (Leave stream) has whole small = same t packets h has (entry_of (Leave stream) ∷ h) refl refl
@@ -214,7 +218,8 @@ pub pieces_bring : (t : ℕ) (packets : List Packet) (h : History) (stream from 
     → remote_of stream < 2 ^ 32 → count ≤ MAX_PAYLOAD → HasBrought t (packets ++ packets_by t (Answer stream from count Tail))
     (entry_of (Answer stream from count Tail) ∷ entry_of (Answer stream from count Head) ∷ h)
 pieces_bring t packets h stream from count has small short =
-    recv_pieces t packets h has (link_of stream) p (piece_of Head (spelling p 0)) (piece_of Tail (spelling p 0)) (read_write stream from count small short)
+    recv_pieces t packets h has (link_of stream) p (piece_of Head (spelling p 0)) (piece_of Tail (spelling p 0))
+    (read_write stream from count small short)
     (pieces_join (spelling p 0))
   where
     p : Packet
@@ -242,7 +247,8 @@ module _ (t : ℕ) (done : List Act) (has : BringsOn t done) where
   before = past_of done
 
   -- after some acts that are all of a turn
-  turned : (acts : List Act) (packets : List Packet) → HasBrought t packets (past_of acts ++ before) → packets ≡ packets_on t done ++ packets_on t acts
+  turned : (acts : List Act) (packets : List Packet) → HasBrought t packets (past_of acts ++ before)
+      → packets ≡ packets_on t done ++ packets_on t acts
       → BringsOn t (done ++ acts)
   turned acts packets now is =
       let whole : HasBrought t (packets_on t (done ++ acts)) (past_of acts ++ before) =

@@ -1,5 +1,6 @@
 -- The device of a link of a load is there, as it said who it is.
-use Rattle.std.proofs.Common.{ℕ, ◌+◌, ◌≡◌, ◌<◌, ◌≤◌, ◌⊎◌, inl, inr, Bool, true, false, cond, List, [], ◌∷◌, ◌++◌, find, Option, Some, None, is_some}
+use Rattle.std.proofs.Common.{ℕ, ◌+◌, ◌≡◌, ◌<◌, ◌≤◌, ◌⊎◌, inl, inr, Bool, true, false, cond, List, [], ◌∷◌, ◌++◌, find, Option, Some, None}
+use Rattle.std.proofs.Common.{is_some}
 use Rattle.std.proofs.Common.{refl, sym, ◌∙◌, ap, subst, arith}
 use Rattle.std.specs.Prelude.{nat_eq, ◌||◌, codes, option_map, unwrap_or}
 use Rattle.std.specs.List.{list_any}
@@ -26,7 +27,8 @@ use Rattle.adb_load.specs.declared.act.Act.{Act}
 use Rattle.adb_load.specs.declared.act.Act.TheVariants.{Plug, Greet, Come, Ask, Accept, Write, Acknowledge, Answer, Leave, Close}
 use Rattle.adb_load.specs.declared.act.Piece.TheVariants.{Whole, Head, Tail}
 use Rattle.adb_load.specs.Acts.{serial_of, link_of, down_bytes, acts_from}
-use Rattle.adb_laws_loads.proofs.Links.{Cutting, past_of, past_then, greeting_packet, packet_to, on_link, packets_by, packets_on, packets_then, BringsOn}
+use Rattle.adb_laws_loads.proofs.Links.{Cutting, past_of, past_then, greeting_packet, packet_to, on_link, packets_by, packets_on}
+use Rattle.adb_laws_loads.proofs.Links.{packets_then, BringsOn}
 
 -- ---- who a device says that it is
 abbrev pub identity : Identity
@@ -88,7 +90,8 @@ link_greeted : (packets : List Packet) (t link : ℕ) (p : Packet) → (is_cnxn 
     → IsGreeted (packets ++ on_link t link p)
 link_greeted packets t link p other greeted = go (nat_eq link t) other
   where
-    go : (here : Bool) → (is_cnxn p.command ≡ false) ⊎ (p ≡ greeting_packet) → last_cnxn (packets ++ cond here (p ∷ []) []) ≡ Some greeting_packet
+    go : (here : Bool) → (is_cnxn p.command ≡ false) ⊎ (p ≡ greeting_packet)
+        → last_cnxn (packets ++ cond here (p ∷ []) []) ≡ Some greeting_packet
     go true (inl no_cnxn) = last_more packets p ∙ (ap (λ (b : Bool). cond b (Some p) (last_cnxn packets)) no_cnxn ∙ greeted)
     go true (inr is) = ap (λ (q : Packet). last_cnxn (packets ++ q ∷ [])) is ∙ last_more packets greeting_packet
     go false either = ap last_cnxn (append-nil packets) ∙ greeted
@@ -216,7 +219,8 @@ device_is : (t : ℕ) (done : List Act) → BringsOn t done
 device_is t done brings =
     ap (λ (lost : Bool). row_from lost (framed (bytes_received t (past_of done))) (plugged t (past_of done))) brings.kept
     ∙ (ap (λ (c : Cutting). row_from false c (plugged t (past_of done))) brings.cut
-    ∙ ap (λ (refused : Bool). cond refused None (option_map (row_by (last_cnxn (packets_on t done)) (packets_on t done)) (plugged t (past_of done))))
+    ∙ ap (λ (refused : Bool). cond refused None
+    (option_map (row_by (last_cnxn (packets_on t done)) (packets_on t done)) (plugged t (past_of done))))
     (all_taken t done))
 
 -- The device of a link that is there.
@@ -239,7 +243,8 @@ device_none t h none =
 -- The devices are those of the links that are there.
 module _ (count : ℕ) (done : List Act) (online : AreOnline count done) where
   pub at_device : (t : ℕ) → at t (devices_if false (past_of done)).rows ≡ device_of t (past_of done)
-  at_device t = shows (λ n. device_of n (past_of done)) (plugged_count (past_of done)) (device_none 0 (past_of done) (online.others 0 (inl refl)))
+  at_device t = shows (λ n. device_of n (past_of done)) (plugged_count (past_of done))
+      (device_none 0 (past_of done) (online.others 0 (inl refl)))
       (λ n above. device_none n (past_of done) (online.others n (inr (omega (arith, above, online.counted))))) t
 
   module _ (t : ℕ) (brings : BringsOn t done) (some : 0 < t) (le : t ≤ count) where

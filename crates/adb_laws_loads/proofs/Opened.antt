@@ -1,5 +1,6 @@
 -- The streams of a load are opened: the device says so right behind the birth, and whatever comes after changes nothing of it.
-use Rattle.std.proofs.Common.{ℕ, ◌≡◌, ◌<◌, ◌^◌, true, Bool, cond, List, [], ◌∷◌, ◌++◌, length, drop, Some, None, is_some, refl, sym, ◌∙◌, ap, arith}
+use Rattle.std.proofs.Common.{ℕ, ◌≡◌, ◌<◌, ◌^◌, true, Bool, cond, List, [], ◌∷◌, ◌++◌, length, drop, Some, None, is_some, refl, sym, ◌∙◌}
+use Rattle.std.proofs.Common.{ap, arith}
 use Rattle.std.specs.Prelude.{not, ◌&&◌, ◌==◌}
 use Rattle.std.proofs.lemmas.Bool.{eq-eqb, ne_eqb}
 use Rattle.std.proofs.lemmas.List.{append-nil, drop_at}
@@ -25,7 +26,8 @@ opened_some stream b h opened = ap is_some opened.is
 -- ---- it stays
 pub opened_stays : (stream : ℕ) (b : Birth) (h : History) (e : Entry) → IsOpened stream b h → IsOpened stream b (e ∷ h)
 opened_stays stream b h e opened =
-    let grows = opening_grows (client_of stream) b e h (record { remote = remote_of stream; word = None; later = opened.later }) opened.is in
+    let grows = opening_grows (client_of stream) b e h
+    (record { remote = remote_of stream; word = None; later = opened.later }) opened.is in
     record { later = opened.later ++ grows.0; is = grows.1 }
 
 pub opened_all : (stream : ℕ) (b : Birth) (h new : History) → IsOpened stream b h → IsOpened stream b (new ++ h)
@@ -50,7 +52,8 @@ okay_opens stream =
     ∙ ap not (ne_eqb (remote_of stream) 0 (λ none. omega (arith, none))))
 
 -- the device opens a stream that was born so
-pub opened_now : (stream : ℕ) (b : Birth) (packets : List Packet) (h : History) → remote_of stream < 2 ^ 32 → HasBrought (link_of stream) packets h
+pub opened_now : (stream : ℕ) (b : Birth) (packets : List Packet) (h : History) → remote_of stream < 2 ^ 32
+    → HasBrought (link_of stream) packets h
     → IsBornOn stream b h → IsOpened stream b (begun_on stream h)
 opened_now stream b packets h small has born = record {
   later = [];

@@ -31,8 +31,10 @@ AllHaveRecords (e ∷ inputs) = HasRecord e × AllHaveRecords inputs
 all_records : (inputs : List Entry) (g : History) → AllMayCome inputs g → IsFew (came_onto inputs g) → AllHaveRecords inputs
 all_records [] g may few = tt
 all_records (e ∷ inputs) g may few =
-    let range = in_range g e may.0.wants may.0.bytes (few_first inputs (e ∷ g) few) in
-    (record { owner = range.owner; port = has_port g e may.0.wants; bytes = range.bytes; size = may.0.size }, all_records inputs (e ∷ g) may.1 few)
+    let range = in_range g e may.0.wants may.0.bytes (few_first inputs (e ∷ g) few) in (
+      record { owner = range.owner; port = has_port g e may.0.wants; bytes = range.bytes; size = may.0.size },
+      all_records inputs (e ∷ g) may.1 few,
+    )
 
 -- entries with the offsets of their records
 abbrev placed : ℕ → List Entry → List (ℕ × Entry)
@@ -52,8 +54,10 @@ cut_record : (e : Entry) (offset : ℕ) (rest : List ℕ) → HasRecord e → of
     → cut_all offset (record_of e ++ rest) ≡ joined ((offset, e) ∷ []) (cut_all (offset + length (record_of e)) rest)
 cut_record e offset rest has near =
     cut_first record_at entry_in offset_after framing offset bytes
-    ∙ (ap (λ front. cut_by record_at entry_in offset_after offset bytes front (cut record_at entry_in offset_after)) (spelled_whole offset e rest has near)
-    ∙ (ap (λ first. joined (entry_in offset first ∷ []) (cut_all (offset_after offset first) (drop n bytes))) (take_at (record_of e) rest n refl)
+    ∙ (ap (λ front. cut_by record_at entry_in offset_after offset bytes front (cut record_at entry_in offset_after))
+    (spelled_whole offset e rest has near)
+    ∙ (ap (λ first. joined (entry_in offset first ∷ []) (cut_all (offset_after offset first) (drop n bytes)))
+    (take_at (record_of e) rest n refl)
     ∙ (ap (λ more. joined (entry_in offset (record_of e) ∷ []) (cut_all (offset + n) more)) (drop_at (record_of e) rest n refl)
     ∙ ap (λ item. joined (item ∷ []) (cut_all (offset + n) rest)) (spelled_again offset e has))))
   where
@@ -102,7 +106,8 @@ accept_all (e ∷ inputs) offset h g same fine may few killed =
     others : History → Accepted
     others = accept_from (placed next inputs) None
 
-accept_whole : (c : Cut ℕ (ℕ × Entry) FormFault) (all : List (ℕ × Entry)) (h : History) → IsCutTo c all → accept_cut c h ≡ accept_from all None h
+accept_whole : (c : Cut ℕ (ℕ × Entry) FormFault) (all : List (ℕ × Entry)) (h : History) → IsCutTo c all
+    → accept_cut c h ≡ accept_from all None h
 accept_whole c all h is =
     ap (λ given. accept_from given (end_of c.fault c.rest c.reading) h) is.given
     ∙ (ap (λ fault. accept_from all (end_of fault c.rest c.reading) h) is.fault
@@ -118,7 +123,8 @@ pub load_accepted : (seed streams : ℕ) → streams < 2 ^ 32 → length (magic 
 load_accepted seed streams few near =
     accept_whole (cut_all 8 (records_of inputs)) (placed 8 inputs) []
     (cut_records inputs 8 (all_records inputs [] (load_follows seed streams) (load_few seed streams few)) (omega (arith, near)))
-    ∙ accept_all inputs 8 [] [] (same_refl []) fine_at_first (load_follows seed streams) (load_few seed streams few) (load_lives seed streams)
+    ∙ accept_all inputs 8 [] [] (same_refl []) fine_at_first (load_follows seed streams) (load_few seed streams few)
+    (load_lives seed streams)
   where
     inputs : List Entry
     inputs = load seed streams

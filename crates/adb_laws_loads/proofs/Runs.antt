@@ -35,7 +35,8 @@ pub record IsNext (count : ℕ) (a : Act) : Type 0 where
   pub within : IsPluggedIn count a
 
 -- after the acts of one more turn
-pub act_links : (count : ℕ) (done : List Act) (a : Act) → HasLinks count done → IsNext count a → HasLinks (plugged_after count a) (done ++ acts_from a)
+pub act_links : (count : ℕ) (done : List Act) (a : Act) → HasLinks count done → IsNext count a
+    → HasLinks (plugged_after count a) (done ++ acts_from a)
 act_links count done a has is = record {
   brings = λ t. turn_brings t done (has.brings t) a is.turn;
   online = turn_online count done has.online a is.plugs;
@@ -53,7 +54,8 @@ pub run_at_first : (seed streams : ℕ) → streams < most_streams → HasRun []
 run_at_first seed streams few = record { way = under_way_at_first seed streams; few = few; links = links_at_first }
 
 -- the numbers of a live stream are in the ranges of words
-live_small : (p : Progress) → IsUnderWay p → p.streams < most_streams → (live : Live) → IsBegun p.begun live → remote_of live.number < 2 ^ 32
+live_small : (p : Progress) → IsUnderWay p → p.streams < most_streams → (live : Live) → IsBegun p.begun live
+    → remote_of live.number < 2 ^ 32
 live_small p way few live is = omega (arith, is.number, way.begun, few)
 
 answer_short : (live : Live) (count begun : ℕ) → IsBegun begun live → count ≤ live.down → count ≤ MAX_PAYLOAD
@@ -72,7 +74,8 @@ turn_links done p has = by_turn (λ (t : Turn). HasLinks t.after.plugged (done +
   moves = λ plugged words word place live is. moves word live plugged (live_begun p has.way place live is);
 })
   where
-    next : (a : Act) → IsTurn a → PlugsNext p.plugged a → IsPluggedIn p.plugged a → HasLinks (plugged_after p.plugged a) (done ++ acts_from a)
+    next : (a : Act) → IsTurn a → PlugsNext p.plugged a → IsPluggedIn p.plugged a
+        → HasLinks (plugged_after p.plugged a) (done ++ acts_from a)
     next a turn plugs within = act_links p.plugged done a has.links (record { turn = turn; plugs = plugs; within = within })
 
     small : (live : Live) → IsBegun p.begun live → remote_of live.number < 2 ^ 32
@@ -81,16 +84,19 @@ turn_links done p has = by_turn (λ (t : Turn). HasLinks t.after.plugged (done +
     down : (live : Live) (from count : ℕ) (two : Bool) → all_devices ≤ p.plugged → IsBegun p.begun live → count ≤ live.down
         → HasLinks p.plugged (done ++ acts_from (Answer live.number from count (if two then Head else Whole)))
     down live from count true plugged is most =
-        next (Answer live.number from count Head) (small live is, answer_short live count p.begun is most) tt (link_within p live.number plugged)
+        next (Answer live.number from count Head) (small live is, answer_short live count p.begun is most) tt
+        (link_within p live.number plugged)
     down live from count false plugged is most =
-        next (Answer live.number from count Whole) (small live is, answer_short live count p.begun is most) tt (link_within p live.number plugged)
+        next (Answer live.number from count Whole) (small live is, answer_short live count p.begun is most) tt
+        (link_within p live.number plugged)
 
     ends : (live : Live) (closes : Bool) → all_devices ≤ p.plugged → IsBegun p.begun live
         → HasLinks p.plugged (done ++ acts_from (if closes then Close live.number else Leave live.number))
     ends live true plugged is = next (Close live.number) (small live is) tt (link_within p live.number plugged)
     ends live false plugged is = next (Leave live.number) tt tt tt
 
-    moves : (word : ℕ) (live : Live) → all_devices ≤ p.plugged → IsBegun p.begun live → HasLinks p.plugged (done ++ acts_from (moved word live).act)
+    moves : (word : ℕ) (live : Live) → all_devices ≤ p.plugged → IsBegun p.begun live
+        → HasLinks p.plugged (done ++ acts_from (moved word live).act)
     moves word live plugged is = by_moved (λ act after. HasLinks p.plugged (done ++ acts_from act)) word live (record {
       up = λ count some most. next (Write live.number _ count) (small live is) tt (link_within p live.number plugged);
       down = λ count some most. down live _ count (is_set word 5) plugged is most;

@@ -47,18 +47,22 @@ elsewhere t link bytes h apart =
 module _ (count : ℕ) (done : List Act) (silent : IsSilent count done) where
   -- after some acts that bring nothing on these links
   still : (count' : ℕ) (acts : List Act)
-      → ((t : ℕ) → IsBeyond count' t → (bytes_received t (past_of acts ++ past_of done) ≡ bytes_received t (past_of done)) × IsBeyond count t)
+      → ((t : ℕ) → IsBeyond count' t
+      → (bytes_received t (past_of acts ++ past_of done) ≡ bytes_received t (past_of done)) × IsBeyond count t)
       → IsSilent count' (done ++ acts)
   still count' acts same t beyond =
       ap (bytes_received t) (past_then done acts) ∙ ((same t beyond).0 ∙ silent t (same t beyond).1)
 
   -- nothing comes on any link
-  quiet : (acts : List Act) → ((t : ℕ) → bytes_received t (past_of acts ++ past_of done) ≡ bytes_received t (past_of done)) → IsSilent count (done ++ acts)
+  quiet : (acts : List Act)
+      → ((t : ℕ) → bytes_received t (past_of acts ++ past_of done) ≡ bytes_received t (past_of done))
+      → IsSilent count (done ++ acts)
   quiet acts same = still count acts (λ t beyond. (same t, beyond))
 
   -- all that comes is of the device of a stream
   on_stream : (stream : ℕ) (acts : List Act) → link_of stream ≤ count
-      → ((t : ℕ) → link_of stream ≢ t → bytes_received t (past_of acts ++ past_of done) ≡ bytes_received t (past_of done)) → IsSilent count (done ++ acts)
+      → ((t : ℕ) → link_of stream ≢ t → bytes_received t (past_of acts ++ past_of done)
+      ≡ bytes_received t (past_of done)) → IsSilent count (done ++ acts)
   on_stream stream acts le same = still count acts (λ t beyond. (same t (other_link count t stream beyond le), beyond))
 
   -- a device is plugged in and says who it is

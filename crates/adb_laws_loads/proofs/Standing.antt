@@ -43,7 +43,8 @@ devices_joined true c g = refl
 devices_joined false c g = refl
 
 -- ---- what stands
--- So many clients came and so many devices were plugged in, and no kill stands. Who is still to come asked nothing, and who came asks no more.
+-- So many clients came and so many devices were plugged in, and no kill stands. Who is still to come asked nothing,
+-- and who came asks no more.
 pub record Stands (begun plugged : ℕ) (g : History) : Type 0 where
   pub killed : is_killed g ≡ false
   pub came : came_count g ≡ begun
@@ -64,7 +65,16 @@ at_first = record {
 
 module _ (begun plugged : ℕ) (g : History) (at : Stands begun plugged g) where
   pub received : (t : ℕ) (bytes : List ℕ) → Stands begun plugged (Recv t bytes ∷ g)
-  received t bytes = record { killed = at.killed; came = at.came; links = at.links; fresh = at.fresh; open_ended = at.open_ended; over = at.over }
+  received t bytes =
+      record {
+        killed = at.killed;
+        came = at.came;
+        links = at.links;
+        fresh = at.fresh;
+        open_ended =
+            at.open_ended;
+        over = at.over;
+      }
 
   pub attached : (t : ℕ) (kind : Kind) (serial : List ℕ) → Stands begun (plugged + 1) (Attach t kind serial ∷ g)
   attached t kind serial = record {
@@ -100,7 +110,8 @@ module _ (begun plugged : ℕ) (g : History) (at : Stands begun plugged g) where
       asking : has_joined c g && not (has_ended c g) && still_asks (asked c g) ≡ false
       asking = ap (λ b. has_joined c g && not (has_ended c g) && b) over ∙ off (has_joined c g && not (has_ended c g))
 
-      same : asked_with (has_joined c g && not (has_ended c g) && still_asks (asked c g)) (devices g) (forwards g) bytes (asked c g) ≡ asked c g
+      same : asked_with (has_joined c g && not (has_ended c g) && still_asks (asked c g)) (devices g) (forwards g)
+          bytes (asked c g) ≡ asked c g
       same = ap (λ b. asked_with b (devices g) (forwards g) bytes (asked c g)) asking
 
   pub written : (c : ℕ) (bytes : List ℕ) → 0 < c → c ≤ begun → Stands begun plugged (Read c bytes ∷ g)
@@ -128,7 +139,9 @@ module _ (begun plugged : ℕ) (g : History) (at : Stands begun plugged g) where
       ≡ read_turn (client_of begun) (devices g) first_asked first_asked.next (book g)
   unfolding first_asked
   first_book =
-      ap (λ table. turned table (asked_with (is_asking c (Join c ∷ g) (book g)) table (forwards g) (asked_of begun) (asked c g)) (asked c g))
+      ap (λ table. turned table
+      (asked_with (is_asking c (Join c ∷ g) (book g)) table (forwards g) (asked_of begun) (asked c g))
+      (asked c g))
       (devices_joined (is_killed g) c g)
       ∙ ap (λ (b : Bool). turned (devices g) (asked_with b (devices g) (forwards g) (asked_of begun) (asked c g)) (asked c g)) asking
       ∙ ap (λ (q : Asked). turned (devices g) (asks_with (devices g) (forwards g) (asked_of begun) q) q) (at.fresh c (omega arith))

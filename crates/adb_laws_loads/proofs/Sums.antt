@@ -32,13 +32,15 @@ all_stay stream (b ∷ others) e h are = (
 )
 
 -- and one more comes behind them
-pub all_then : (stream last : ℕ) (bs : List Birth) (b : Birth) (h : History) → AreFrom stream bs h → last ≡ stream + length bs → IsOf last b h
+pub all_then : (stream last : ℕ) (bs : List Birth) (b : Birth) (h : History) → AreFrom stream bs h
+    → last ≡ stream + length bs → IsOf last b h
     → AreFrom stream (bs ++ b ∷ []) h
 all_then stream last [] b h are at one = let same : last ≡ stream = omega (arith, at) in (subst (λ (k : ℕ). IsOf k b h) same one, tt)
 all_then stream last (first ∷ others) b h are at one = (are.0, all_then (suc stream) last others b h are.1 (omega (arith, at)) one)
 
 -- they are so of whatever history brought the same
-all_same : (stream : ℕ) (bs : List Birth) (h g : History) → ((t : ℕ) → brought t h ≡ brought t g) → AreFrom stream bs g → AreFrom stream bs h
+all_same : (stream : ℕ) (bs : List Birth) (h g : History) → ((t : ℕ) → brought t h ≡ brought t g)
+    → AreFrom stream bs g → AreFrom stream bs h
 all_same stream [] h g same are = tt
 all_same stream (b ∷ others) h g same are = (
   record {
@@ -74,7 +76,8 @@ handed_len stream b h is replied =
 
 handed_sum : (stream : ℕ) (bs : List Birth) (h : History) → AreFrom stream bs h → AreReplied h stream (stream + length bs)
     → handed_from (suc stream) bs h + sum_to (past h) stream ≡ sum_to (past h) (stream + length bs)
-handed_sum stream [] h are replied = let place : stream ≡ stream + length {A = Birth} [] = omega arith in omega (arith, ap (sum_to (past h)) place)
+handed_sum stream [] h are replied = let place : stream ≡ stream + length {A = Birth} [] =
+    omega arith in omega (arith, ap (sum_to (past h)) place)
 handed_sum stream (b ∷ others) h are replied =
     let number : client_of stream ≡ suc stream = omega arith in
     let here = subst (λ (l : ℕ). length (handed_to l b h) ≡ past h l) number

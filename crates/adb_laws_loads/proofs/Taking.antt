@@ -1,5 +1,6 @@
 -- When a server takes in an entry, in the words of what came before it.
-use Rattle.std.proofs.Common.{ℕ, ◌+◌, ◌≡◌, ◌<◌, ◌≤◌, true, false, cond, List, [], ◌∷◌, ◌++◌, length, zero, suc, sym, ◌∙◌, ap, subst, arith, eqb}
+use Rattle.std.proofs.Common.{ℕ, ◌+◌, ◌≡◌, ◌<◌, ◌≤◌, true, false, cond, List, [], ◌∷◌, ◌++◌, length, zero, suc, sym, ◌∙◌, ap, subst, arith}
+use Rattle.std.proofs.Common.{eqb}
 use Rattle.std.specs.Prelude.{Option, Some, None}
 use Rattle.adb_outside.specs.Tables.{Rows, listed, listed_at}
 use Rattle.adb_outside.specs.Serial.{is_serial}
@@ -62,7 +63,8 @@ abbrev pub AllMayCome : List Entry → History → Type 0
 AllMayCome [] g = Unit {0}
 AllMayCome (e ∷ inputs) g = MayCome g e × AllMayCome inputs (e ∷ g)
 
-pub all_more : (inputs more : List Entry) (g : History) → AllMayCome inputs g → AllMayCome more (came_onto inputs g) → AllMayCome (inputs ++ more) g
+pub all_more : (inputs more : List Entry) (g : History) → AllMayCome inputs g → AllMayCome more (came_onto inputs g)
+    → AllMayCome (inputs ++ more) g
 all_more [] more g all others = others
 all_more (e ∷ inputs) more g all others = (all.0, all_more inputs more (e ∷ g) all.1 others)
 

@@ -47,7 +47,8 @@ abbrev EachOfBytes : List (List ℕ) → Type 0
 EachOfBytes [] = Unit {0}
 EachOfBytes (payload ∷ payloads) = AreBytes payload × EachOfBytes payloads
 
-before_bytes : (n : ℕ) (held : List ℕ) (others : List (List ℕ)) → AreBytes held → EachOfBytes others → EachOfBytes (flows.write_before n held others)
+before_bytes : (n : ℕ) (held : List ℕ) (others : List (List ℕ)) → AreBytes held → EachOfBytes others
+    → EachOfBytes (flows.write_before n held others)
 before_bytes zero held others are each = tt
 before_bytes (suc n) held others are each = (front_bytes (suc n) held are, each)
 
@@ -55,7 +56,8 @@ writes_bytes : (k maxdata credit : ℕ) (held : List ℕ) → AreBytes held → 
 writes_bytes zero maxdata credit held are = tt
 writes_bytes (suc k) maxdata credit held are =
     let n : ℕ = flows.write_len maxdata credit held in
-    before_bytes n held (flows.writes k maxdata (credit - n) (drop n held)) are (writes_bytes k maxdata (credit - n) (drop n held) (back_bytes n held are))
+    before_bytes n held (flows.writes k maxdata (credit - n) (drop n held)) are
+    (writes_bytes k maxdata (credit - n) (drop n held) (back_bytes n held are))
 
 payloads_bytes : (flow : Flow) (maxdata : ℕ) (held : List ℕ) → AreBytes held → EachOfBytes (flows.payloads flow maxdata held)
 payloads_bytes (One window) maxdata held are = go window.outstanding
@@ -76,7 +78,8 @@ closes_if_texts over l None s h = h
 closes_if_texts false l (Some stream) s h = h
 closes_if_texts true l (Some stream) s h = ends_telling_texts l ClientClosed stream s h
 
-sends_up_texts : (l : ℕ) (stream : Stream) (client : Client) (payloads : List (List ℕ)) (s : State) → AreBytes client.held → EachOfBytes payloads
+sends_up_texts : (l : ℕ) (stream : Stream) (client : Client) (payloads : List (List ℕ)) (s : State)
+    → AreBytes client.held → EachOfBytes payloads
     → Texts s → Texts (flows.sends_up l stream client payloads s).state
 sends_up_texts l stream client payloads s held each h =
     closes_if_texts over l (up.streams l) up (all_up_texts l stream payloads noted each
@@ -91,7 +94,8 @@ sends_up_texts l stream client payloads s held each h =
     up : State
     up = (flows.all_go_up l stream payloads noted).state
 
-up_client_texts : (l : ℕ) (stream : Stream) (row : Option Client) (s : State) → ClientTexts row → Texts s → Texts (flows.up_client l stream row s).state
+up_client_texts : (l : ℕ) (stream : Stream) (row : Option Client) (s : State) → ClientTexts row → Texts s
+    → Texts (flows.up_client l stream row s).state
 up_client_texts l stream None s row h = h
 up_client_texts l stream (Some client) s row h = go (flows.is_streaming l client.about.phase)
   where
@@ -115,12 +119,14 @@ abbrev EachPayload : List Packet → Type 0
 EachPayload [] = Unit {0}
 EachPayload (p ∷ packets) = AreBytes p.payload × EachPayload packets
 
-online_texts : (t version maxdata : ℕ) (identity : Identity) (s : State) → Texts s → Texts (packets.goes_online t version maxdata identity s)
+online_texts : (t version maxdata : ℕ) (identity : Identity) (s : State) → Texts s
+    → Texts (packets.goes_online t version maxdata identity s)
 online_texts t version maxdata identity s h =
     mark_all_texts (to_link t (packets.with_sums (has_sums version)) s)
     (link_texts t (packets.with_sums (has_sums version)) s (λ x texts. record { rest = texts.rest; due = texts.due }) h)
 
-connects_texts : (t version maxdata : ℕ) (identity : Option Identity) (s : State) → Texts s → Texts (packets.connects t version maxdata identity s).state
+connects_texts : (t version maxdata : ℕ) (identity : Option Identity) (s : State) → Texts s
+    → Texts (packets.connects t version maxdata identity s).state
 connects_texts t version maxdata None s h = link_ends_texts t Broken s h
 connects_texts t version maxdata (Some identity) s h = go (is_connected t s.devices)
   where
@@ -162,13 +168,16 @@ hears_texts (Some client) c s h = go client.about.forwarded
 first_texts : (orphan : Bool) (l remote : ℕ) (word : Option ℕ) (stream : Stream) (s : State) → Texts s
     → Texts (packets.okay_first orphan l remote word stream s).state
 first_texts true l remote word stream s h = owe_texts stream.link (close_packet l remote) (to_stream l none_kept s) no_bytes h
-first_texts false l remote word stream s h = phase_texts stream.client (Streaming l) (packets.hears_okay (s.clients stream.client) stream.client s).state tt
+first_texts false l remote word stream s h = phase_texts stream.client (Streaming l)
+    (packets.hears_okay (s.clients stream.client) stream.client s).state tt
     (hears_texts (s.clients stream.client) stream.client s h)
 
-okay_texts : (l remote : ℕ) (word : Option ℕ) (stream : Stream) (s : State) → Texts s → Texts (packets.takes_okay l remote word stream s).state
+okay_texts : (l remote : ℕ) (word : Option ℕ) (stream : Stream) (s : State) → Texts s
+    → Texts (packets.takes_okay l remote word stream s).state
 okay_texts l remote word stream s h = go (remote == 0) (stream.part.remote == 0) (remote == stream.part.remote)
   where
-    go : (none unopened own : Bool) → Texts (cond none (quietly s) (cond unopened (packets.okay_first stream.part.orphan l remote word stream s)
+    go : (none unopened own : Bool)
+        → Texts (cond none (quietly s) (cond unopened (packets.okay_first stream.part.orphan l remote word stream s)
         (cond own (packets.okay_open l word stream s) (quietly s)))).state
     go true unopened own = h
     go false true own = first_texts stream.part.orphan l remote word stream s h
@@ -179,7 +188,8 @@ none_texts : (flow : Flow) (l : ℕ) (stream : Stream) (s : State) → Texts s �
 none_texts (One window) l stream s h = owe_texts stream.link (okay_packet l stream.part.remote) s no_bytes h
 none_texts (Credit credit) l stream s h = h
 
-accepts_texts : (l : ℕ) (payload : List ℕ) (stream : Stream) (s : State) → AreBytes payload → Texts s → Texts (packets.accepts l payload stream s).state
+accepts_texts : (l : ℕ) (payload : List ℕ) (stream : Stream) (s : State) → AreBytes payload → Texts s
+    → Texts (packets.accepts l payload stream s).state
 accepts_texts l [] stream s are h = none_texts stream.part.flow l stream s h
 accepts_texts l (b ∷ payload) stream s are h = due_texts stream.client (b ∷ payload) s are h
 
@@ -201,7 +211,8 @@ close_texts l remote stream s h = go (remote == 0 || remote == stream.part.remot
     go true = ends_row_texts l PeerClosed stream s h
     go false = h
 
-at_stream_texts : (t : ℕ) (row : Option Stream) (rule : Stream → State → Made) (s : State) → ((stream : Stream) → Texts (rule stream s).state) → Texts s
+at_stream_texts : (t : ℕ) (row : Option Stream) (rule : Stream → State → Made) (s : State)
+    → ((stream : Stream) → Texts (rule stream s).state) → Texts s
     → Texts (packets.at_stream t row rule s).state
 at_stream_texts t None rule s keeps h = h
 at_stream_texts t (Some stream) rule s keeps h = go (eqb stream.link t)
@@ -210,7 +221,8 @@ at_stream_texts t (Some stream) rule s keeps h = go (eqb stream.link t)
     go true = keeps stream
     go false = h
 
-open_texts : (t : ℕ) (command : Command) (p : Packet) (s : State) → AreBytes p.payload → Texts s → Texts (packets.treat_open t command p s).state
+open_texts : (t : ℕ) (command : Command) (p : Packet) (s : State) → AreBytes p.payload → Texts s
+    → Texts (packets.treat_open t command p s).state
 open_texts t Open p s are h = refuses_texts t p.arg0 s h
 open_texts t Okay p s are h = at_stream_texts t (s.streams p.arg1) (packets.takes_okay p.arg1 p.arg0 (credit_word p.payload)) s
     (λ stream. okay_texts p.arg1 p.arg0 (credit_word p.payload) stream s h) h
@@ -225,7 +237,8 @@ known_texts : (connected : Bool) (t : ℕ) (command : Command) (p : Packet) (s :
 known_texts true t command p s are h = open_texts t command p s are h
 known_texts false t command p s are h = h
 
-any_texts : (t : ℕ) (command : Command) (p : Packet) (s : State) → AreBytes p.payload → Texts s → Texts (packets.treat_any t command p s).state
+any_texts : (t : ℕ) (command : Command) (p : Packet) (s : State) → AreBytes p.payload → Texts s
+    → Texts (packets.treat_any t command p s).state
 any_texts t Cnxn p s are h = cnxn_texts t p.arg0 p.arg1 p.payload s h
 any_texts t Auth p s are h = unauthorized_texts t (at t s.devices.rows) s h
 any_texts t Stls p s are h = unauthorized_texts t (at t s.devices.rows) s h
@@ -242,7 +255,8 @@ all_texts : (t : ℕ) (ps : List Packet) (s : State) → EachPayload ps → Text
 all_texts t [] s each h = h
 all_texts t (p ∷ ps) s each h = all_texts t ps (packets.treat t p s).state each.1 (treat_texts (s.links t) t p s each.0 h)
 
-faulty_texts : (row : Option Link) (t : ℕ) (fault : Option PacketFault) (s : State) → Texts s → Texts (packets.faulty_on row t fault s).state
+faulty_texts : (row : Option Link) (t : ℕ) (fault : Option PacketFault) (s : State) → Texts s
+    → Texts (packets.faulty_on row t fault s).state
 faulty_texts None t fault s h = h
 faulty_texts (Some link) t None s h = h
 faulty_texts (Some link) t (Some fault) s h = link_ends_texts t Broken s h
@@ -288,7 +302,8 @@ receives_texts (Some link) t bytes s are row h =
     c = cut_packets (record { sums = link.sums }) all
 
     cuts : AreCut (cut_packets (record { sums = link.sums }) (link.rest ++ bytes))
-    cuts = cut_bytes (length (link.rest ++ bytes)) (record { sums = link.sums }) (link.rest ++ bytes) (both_bytes link.rest bytes row.rest are)
+    cuts = cut_bytes (length (link.rest ++ bytes)) (record { sums = link.sums }) (link.rest ++ bytes)
+        (both_bytes link.rest bytes row.rest are)
 
     after : State
     after = (packets.treat_all t c.given (to_link t (packets.with_rest c.rest) s)).state

@@ -31,7 +31,8 @@ use Rattle.adb_history.specs.Machine.{rule, step}
 use Rattle.adb_load.proofs.Records.{literal_bytes, word_bytes}
 use Rattle.adb_load.proofs.Records.{joined_bytes as both_bytes}
 use Rattle.adb_laws_loads.proofs.Texts.{no_bytes, back_bytes, HasTexts, ClientTexts}
-use Rattle.adb_laws_loads.proofs.Texts.{LinkTexts, Texts, client_texts, link_texts, owe_texts, due_texts, held_texts, closing_texts, closes_texts}
+use Rattle.adb_laws_loads.proofs.Texts.{LinkTexts, Texts, client_texts, link_texts, owe_texts, due_texts, held_texts, closing_texts}
+use Rattle.adb_laws_loads.proofs.Texts.{closes_texts}
 use Rattle.adb_laws_loads.proofs.Texts.{opens_texts, mark_all_texts}
 use Rattle.adb_laws_loads.proofs.TextRules.{ups_texts, receives_texts}
 
@@ -44,10 +45,11 @@ joins_texts c s h = record { clients = λ k. go k (eqb c k); links = h.links }
     go k false = h.clients k
 
 plugs_texts : (t : ℕ) (kind : Kind) (serial : List ℕ) (s : State) → Texts s → Texts (plugs_in t kind serial s).state
-plugs_texts t kind serial s h = owe_texts t server_cnxn (mark_all now) (literal_bytes server_cnxn.payload refl) (mark_all_texts now (record {
-  clients = h.clients;
-  links = λ k. go k (eqb t k);
-}))
+plugs_texts t kind serial s h = owe_texts t server_cnxn (mark_all now) (literal_bytes server_cnxn.payload refl)
+    (mark_all_texts now (record {
+      clients = h.clients;
+      links = λ k. go k (eqb t k);
+    }))
   where
     now : State
     now = record s { devices = attached kind serial s.devices; links = put_row t (Some new_link) s.links }
@@ -75,12 +77,13 @@ goes_on_texts (Some (what.Open transport service)) c s is h = opens_texts c tran
 goes_on_texts _ c s is h = absurd is
 
 asks_texts : (q : Asked) (c : ℕ) (s : State) → HasAskedTexts q → Texts s → Texts (asks q c s).state
-asks_texts q c s are h = goes_on_texts q.next c owed are.next (due_texts c q.replies now are.replies (client_texts c (has_asked q) s (λ x is texts. record {
-  held = are.rest;
-  due = texts.due;
-  mark = texts.mark;
-  phase = texts.phase;
-}) h))
+asks_texts q c s are h = goes_on_texts q.next c owed are.next
+    (due_texts c q.replies now are.replies (client_texts c (has_asked q) s (λ x is texts. record {
+      held = are.rest;
+      due = texts.due;
+      mark = texts.mark;
+      phase = texts.phase;
+    }) h))
   where
     now : State
     now = to_client c (has_asked q) s
@@ -97,8 +100,10 @@ reads_in_texts : (phase : Phase) (c : ℕ) (bytes : List ℕ) (client : Client) 
     → (phase ≡ Asking → HasAskedTexts (asks_with s.devices s.forwards bytes (asked_before client))) → Texts s
     → Texts (reads_in phase c bytes client s).state
 reads_in_texts Asking c bytes client s are texts asked h = asks_texts _ c s (asked refl) h
-reads_in_texts (Opening l) c bytes client s are texts asked h = held_texts c (client.held ++ bytes) s (both_bytes client.held bytes texts.held are) h
-reads_in_texts (Streaming l) c bytes client s are texts asked h = held_texts c (client.held ++ bytes) s (both_bytes client.held bytes texts.held are) h
+reads_in_texts (Opening l) c bytes client s are texts asked h =
+    held_texts c (client.held ++ bytes) s (both_bytes client.held bytes texts.held are) h
+reads_in_texts (Streaming l) c bytes client s are texts asked h =
+    held_texts c (client.held ++ bytes) s (both_bytes client.held bytes texts.held are) h
 reads_in_texts _ c bytes client s are texts asked h = h
 
 reads_texts : (c : ℕ) (bytes : List ℕ) (s : State) → AreBytes bytes → AsksTexts s c bytes → Texts s → Texts (reads c bytes s).state
@@ -138,12 +143,15 @@ lists_texts c [] client s texts h = due_texts c (offered s.devices client) (to_c
     (client_texts c unmarked s (λ x is held. record { held = held.held; due = held.due; mark = refl; phase = held.phase }) h)
 lists_texts c (b ∷ due) client s texts h = h
 
-left_texts : (phase : Phase) (due : List ℕ) (x : Client) → AreBytes due → x.about.phase ≡ phase → HasTexts x → ClientTexts (left_in phase due x)
+left_texts : (phase : Phase) (due : List ℕ) (x : Client) → AreBytes due → x.about.phase ≡ phase → HasTexts x
+    → ClientTexts (left_in phase due x)
 left_texts Closing due x are is texts = closing_texts due (record x { due = due }) are
 left_texts _ due x are is texts = record { held = texts.held; due = are; mark = texts.mark; phase = texts.phase }
 
 hands_texts : (c n : ℕ) (s : State) → Texts s → Texts (to_client c (hands n) s)
-hands_texts c n s h = client_texts c (hands n) s (λ x is texts. left_texts x.about.phase (drop n x.due) x (back_bytes n x.due texts.due) refl texts) h
+hands_texts c n s h =
+    client_texts c (hands n) s
+    (λ x is texts. left_texts x.about.phase (drop n x.due) x (back_bytes n x.due texts.due) refl texts) h
 
 credit_texts : (n l : ℕ) (stream : Stream) (s : State) → Texts s → Texts (tells_credit n l stream s).state
 credit_texts zero l stream s h = h
@@ -174,7 +182,8 @@ client_left_texts _ due s h = h
 
 takes_texts : (c n : ℕ) (row : Option Client) (s : State) → Texts s → Texts (takes_of c n row s).state
 takes_texts c n None s h = h
-takes_texts c n (Some client) s h = client_left_texts client.about.phase (length (drop n client.due)) (to_client c (hands n) s) (hands_texts c n s h)
+takes_texts c n (Some client) s h = client_left_texts client.about.phase (length (drop n client.due))
+    (to_client c (hands n) s) (hands_texts c n s h)
 
 puts_texts : (row : Option Client) (c n : ℕ) (s : State) → ClientTexts row → Texts s → Texts (puts_to row c n s).state
 puts_texts None c n s texts h = h

@@ -15,12 +15,14 @@ use Rattle.adb_client.specs.declared.phase.Phase.TheVariants.{Opening, Streaming
 use Rattle.adb_stream.specs.declared.row.Stream.{Stream}
 use Rattle.adb_reply.specs.Strings.{failed}
 use Rattle.adb_load.proofs.Records.{literal_bytes, words_bytes, joined_bytes as both_bytes}
-use Rattle.adb_history.specs.Rows.{Client, Link, State, to_client, to_link, to_stream, none_kept, with_due, with_held, in_phase, with_link_due}
+use Rattle.adb_history.specs.Rows.{Client, Link, State, to_client, to_link, to_stream, none_kept, with_due, with_held, in_phase}
+use Rattle.adb_history.specs.Rows.{with_link_due}
 use Rattle.adb_history.specs.Events.{then_also, quietly}
 use Rattle.adb_history.specs.declared.ending.Ending.{Ending}
 use Rattle.adb_history.specs.Links.{open_packet, close_packet, owe_link, is_credit}
 use Rattle.adb_history.specs.Clients.{closing_with, closing, closes, closes_with}
-use Rattle.adb_history.specs.Streams.{opens, asks_for, no_ids_left, draw, loses, client_loses, tells_end, ends_row, ends_telling, ends_if_of, ends_of, all_end}
+use Rattle.adb_history.specs.Streams.{opens, asks_for, no_ids_left, draw, loses, client_loses, tells_end, ends_row, ends_telling}
+use Rattle.adb_history.specs.Streams.{ends_if_of, ends_of, all_end}
 use Rattle.adb_history.specs.Streams.{stream_ids}
 use Rattle.adb_history.specs.Tracking.{marked, marked_in, mark_all}
 use Rattle.adb_history.specs.Losing.{forgets, link_ends}
@@ -84,7 +86,8 @@ client_texts c f s keeps h = record { clients = λ k. go k (eqb c k) refl; links
     go k true same = by_row k (s.clients k) refl same (h.clients k)
     go k false same = h.clients k
 
-pub link_texts : (t : ℕ) (f : Link → Option Link) (s : State) → ((x : Link) → HasLinkTexts x → LinkTexts (f x)) → Texts s → Texts (to_link t f s)
+pub link_texts : (t : ℕ) (f : Link → Option Link) (s : State) → ((x : Link) → HasLinkTexts x → LinkTexts (f x))
+    → Texts s → Texts (to_link t f s)
 link_texts t f s keeps h = record { clients = h.clients; links = λ k. go k (eqb t k) }
   where
     by_row : (row : Option Link) → LinkTexts row → LinkTexts (option_and_then f row)
@@ -143,14 +146,17 @@ opens_texts c t service s are h = go (s.drawn == stream_ids)
     asked = draw (is_credit t s.devices) c t s
 
     go : (full : Bool) → Texts (cond full (no_ids_left false c s) (asks_for (s.drawn + 1) c t service s)).state
-    go true = closes_with_texts c (failed (codes "no stream ids left")).bytes s (literal_bytes (failed (codes "no stream ids left")).bytes refl) h
-    go false = owe_texts t (open_packet (is_credit t s.devices) (s.drawn + 1) service) (to_client c (in_phase (Opening (s.drawn + 1))) asked)
+    go true = closes_with_texts c (failed (codes "no stream ids left")).bytes s
+        (literal_bytes (failed (codes "no stream ids left")).bytes refl) h
+    go false = owe_texts t (open_packet (is_credit t s.devices) (s.drawn + 1) service)
+        (to_client c (in_phase (Opening (s.drawn + 1))) asked)
         (both_bytes service (0 ∷ []) are (literal_bytes (0 ∷ []) refl)) (phase_texts c (Opening (s.drawn + 1)) asked tt h)
 
 loses_texts : (forwarded : Bool) (phase : Phase) (c : ℕ) (s : State) → Texts s → Texts (loses forwarded phase c s).state
 loses_texts forwarded (Streaming l) c s h = closes_texts c s h
 loses_texts true (Opening l) c s h = closes_texts c s h
-loses_texts false (Opening l) c s h = closes_with_texts c (failed (codes "closed")).bytes s (literal_bytes (failed (codes "closed")).bytes refl) h
+loses_texts false (Opening l) c s h = closes_with_texts c (failed (codes "closed")).bytes s
+    (literal_bytes (failed (codes "closed")).bytes refl) h
 loses_texts forwarded _ c s h = h
 
 client_loses_texts : (row : Option Client) (c : ℕ) (s : State) → Texts s → Texts (client_loses row c s).state

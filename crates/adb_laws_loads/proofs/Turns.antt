@@ -81,16 +81,19 @@ move_by Q p by plugged words word place within = go (slice_get p.live place) ref
 
 pub by_turn : (Q : Turn → Type 0) (p : Progress) → ByTurn Q p → Q (turn p)
 unfolding turn
-by_turn Q p by = go (nat_lt p.plugged all_devices) (nat_lt (length p.live) most_live && nat_lt p.begun p.streams) (nat_eq (length p.live) 0) refl refl refl
+by_turn Q p by = go (nat_lt p.plugged all_devices) (nat_lt (length p.live) most_live && nat_lt p.begun p.streams)
+    (nat_eq (length p.live) 0) refl refl refl
   where
     drawn : all_devices ≤ p.plugged → 0 < length p.live → Q (draw p)
     drawn plugged some = move_by Q p by plugged (pcg32 p.words).1 (pcg32 p.words).0 ((pcg32 p.words).0 % length p.live) (omega arith)
 
-    is_over : all_devices ≤ p.plugged → (nat_lt (length p.live) most_live && nat_lt p.begun p.streams) ≡ false → length p.live ≡ 0 → Q (stopped p)
+    is_over : all_devices ≤ p.plugged → (nat_lt (length p.live) most_live && nat_lt p.begun p.streams) ≡ false
+        → length p.live ≡ 0 → Q (stopped p)
     is_over plugged full empty = by.over plugged (no_live p.live empty)
         (not_below p.begun p.streams (not_both (nat_lt (length p.live) most_live) (nat_lt p.begun p.streams) full (grind (arith, empty))))
 
-    go : (plugs begins over : Bool) → nat_lt p.plugged all_devices ≡ plugs → (nat_lt (length p.live) most_live && nat_lt p.begun p.streams) ≡ begins
+    go : (plugs begins over : Bool) → nat_lt p.plugged all_devices ≡ plugs
+        → (nat_lt (length p.live) most_live && nat_lt p.begun p.streams) ≡ begins
         → nat_eq (length p.live) 0 ≡ over
         → Q (if plugs then plug_in p else (if begins then begin p else (if over then stopped p else draw p)))
     go true begins over at_plug at_begin at_end = by.plugs (below p.plugged all_devices at_plug)
@@ -120,8 +123,11 @@ by_moved Q word live by = go (goes_up word live) (nat_lt 0 live.down) refl refl
         else (if down then moved_down word (portion word live.down) live else ended word live)).act
         (if up then moved_up (portion word live.up) live
         else (if down then moved_down word (portion word live.down) live else ended word live)).after
-    go true down goes left = by.up (portion word live.up) (portion_some word live.up (below 0 live.up (first_holds _ _ goes))) (portion_most word live.up)
-    go false true goes left = by.down (portion word live.down) (portion_some word live.down (below 0 live.down left)) (portion_most word live.down)
+    go true down goes left =
+        by.up (portion word live.up) (portion_some word live.up (below 0 live.up (first_holds _ _ goes)))
+        (portion_most word live.up)
+    go false true goes left = by.down (portion word live.down) (portion_some word live.down (below 0 live.down left))
+        (portion_most word live.down)
     go false false goes left = by.ends (grind (arith, goes, left)) (grind (arith, left))
 
 -- ---- how far a load can be
@@ -194,7 +200,8 @@ turn_under_way p way = by_turn (λ t. IsUnderWay t.after) p (record {
     plugged = way.plugged;
     begun = way.begun;
     links = way.links;
-    live = after_keeps p.begun place (moved word live).after p.live (moved_begun p.begun word live (live_begun p way place live is)) way.live;
+    live = after_keeps p.begun place (moved word live).after p.live
+        (moved_begun p.begun word live (live_begun p way place live is)) way.live;
   };
 })
   where

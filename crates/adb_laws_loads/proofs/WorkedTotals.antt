@@ -18,7 +18,8 @@ use Rattle.adb_laws_loads.specs.Totals.{up_of, down_of, past_leads}
 abbrev spoken : History
 spoken =
     drained_from []
-    (shell_comes ++ Recv 1 (sends (write_packet 7 1 (codes "abc") ∷ [])) ∷ Read 1 (replicate 4097 97) ∷ Recv 1 (sends (okay_packet 7 1 ∷ [])) ∷ [])
+    (shell_comes ++ Recv 1 (sends (write_packet 7 1 (codes "abc") ∷ [])) ∷ Read 1 (replicate 4097 97)
+    ∷ Recv 1 (sends (okay_packet 7 1 ∷ [])) ∷ [])
 
 spoken_up : up_of spoken ≡ 4097
 unfolding meaning word_at identity_of last_value

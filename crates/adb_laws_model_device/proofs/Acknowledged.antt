@@ -20,8 +20,10 @@ use Rattle.adb_device_streams.specs.Stream.{Row, opened, row_took, row_acked, fi
 use Rattle.adb_device_streams.specs.Stream.{writes, is_done, okay, opening_word, row_past}
 use Rattle.adb_device_streams.specs.Link.{credit_word_in, link_of}
 use Rattle.adb_device_streams.specs.declared.link.Link.{Link}
-use Rattle.adb_daemon.specs.Serving.{Serving, Sent, with_sum, owing, granted, gone, sent_ack, sent_writes, settled_as, settled, named, closable, is_taken}
-use Rattle.adb_daemon.specs.Serving.{kind_for, credit_of, open_as, on_open, written_to, on_write, acked_to, on_okay, closed_to, on_close, served, all_gone}
+use Rattle.adb_daemon.specs.Serving.{Serving, Sent, with_sum, owing, granted, gone, sent_ack, sent_writes, settled_as, settled, named}
+use Rattle.adb_daemon.specs.Serving.{closable, is_taken}
+use Rattle.adb_daemon.specs.Serving.{kind_for, credit_of, open_as, on_open, written_to, on_write, acked_to, on_okay, closed_to, on_close}
+use Rattle.adb_daemon.specs.Serving.{served, all_gone}
 use Rattle.adb_daemon.specs.Device.{Device, Setting, step, treated, linked_to, served_on, first_device}
 use Rattle.adb_daemon.proofs.Rules.{named_is}
 use Rattle.adb_daemon.proofs.Owed.{written_host}
@@ -99,7 +101,8 @@ module _ (l n : ℕ) where
   writes_in p = count_from is_wrte l (p ∷ [])
 
   -- one OKAY to it
-  one_to : (sums : Bool) (own host : ℕ) (word : List ℕ) → host ≡ l → okays_to l (packets_of_sent (with_sum sums (okay own host word) ∷ [])) ≡ 1
+  one_to : (sums : Bool) (own host : ℕ) (word : List ℕ) → host ≡ l
+      → okays_to l (packets_of_sent (with_sum sums (okay own host word) ∷ [])) ≡ 1
   one_to sums own host word same = ap (λ b. cond b (1 + 0) 0) (eq-eqb host l same)
 
   -- an OPEN on a plain link
@@ -111,7 +114,8 @@ module _ (l n : ℕ) where
       go false e = tt
 
   -- one packet on the link
-  module _ (o w : ℕ) (link : Link) (plain : link.credit ≡ false) (p : Packet) (turn : IsInTurn l n o p) (s : Serving) (j : IsAnsweredSoFar o w s) where
+  module _ (o w : ℕ) (link : Link) (plain : link.credit ≡ false) (p : Packet) (turn : IsInTurn l n o p) (s : Serving)
+      (j : IsAnsweredSoFar o w s) where
     abbrev Before : Type 0
     Before = (1 ≤ o) × (1 + w ≤ okays_to l (packets_of_sent s.made))
 
@@ -164,7 +168,8 @@ module _ (l n : ℕ) where
               rises = settled_rises link (s.drawn + 1) row begun j.rises;
               none = still_none;
               has = settled_has (After (open_as link p (Some kind) s)) link (s.drawn + 1) row begun j.rises
-                  (λ apart found is host. let old = j.has found is host in (old.0, carry (asks l p) (open_as link p (Some kind) s) owes zeroth old.1))
+                  (λ apart found is host. let old = j.has found is host
+                  in (old.0, carry (asks l p) (open_as link p (Some kind) s) owes zeroth old.1))
                   (λ e host. (
                     opened_one link p plain,
                     (let first = turn.asked (ap is_open c) host in
@@ -233,7 +238,9 @@ module _ (l n : ℕ) where
                   (λ apart found here host. let old = j.has found here host in (
                     old.0,
                     elim (counted is_wrte l p) [
-                      | inl zeroth ↦ (let some = old.1.0 in let all = old.1.1 in (omega (arith, some), omega (arith, zeroth, all, sum, more)))
+                      | inl zeroth ↦
+                          (let some = old.1.0 in let all = old.1.1
+                          in (omega (arith, some), omega (arith, zeroth, all, sum, more)))
                       | inr one ↦ absurd (apart (turn.wrte one.0 one.1.0).1)
                     ],
                   ))
@@ -276,7 +283,8 @@ module _ (l n : ℕ) where
               rises = settled_rises link p.arg1 next mid j.rises;
               none = still_none;
               has = settled_has (After (acked_to link p (Some row) s)) link p.arg1 next mid j.rises
-                  (λ apart found here host. let old = j.has found here host in (old.0, carry 0 (acked_to link p (Some row) s) later zeroth old.1))
+                  (λ apart found here host. let old = j.has found here host
+                  in (old.0, carry 0 (acked_to link p (Some row) s) later zeroth old.1))
                   (λ e host.
                   let old = j.has row (ap (λ k. at k s.rows) (sym e) ∙ named_is p.arg0 (at p.arg1 s.rows) row is) host in
                   (one_acked row.flow (credit_word_in p.payload) old.0, carry 0 (acked_to link p (Some row) s) later zeroth old.1));
@@ -376,10 +384,12 @@ module _ (l n : ℕ) where
       go false e = by e (is_cnxn p.command)
 
   -- all packets
-  all_answered : (setting : Setting) → setting.credit ≡ false → (o w : ℕ) (packets : List Packet) → AreInTurn l n o packets → (d : Device) → IsSoFar o w d
+  all_answered : (setting : Setting) → setting.credit ≡ false → (o w : ℕ) (packets : List Packet)
+      → AreInTurn l n o packets → (d : Device) → IsSoFar o w d
       → IsSoFar (o + count_from is_open l packets) (w + count_from is_wrte l packets) (fold (step setting) d packets)
   all_answered setting plain o w [] turns d j =
-      subst (λ (k : ℕ). IsSoFar k (w + 0) d) (let e : o ≡ o + 0 = omega arith in e) (subst (λ (k : ℕ). IsSoFar o k d) (let e : w ≡ w + 0 = omega arith in e) j)
+      subst (λ (k : ℕ). IsSoFar k (w + 0) d) (let e : o ≡ o + 0 = omega arith in e)
+      (subst (λ (k : ℕ). IsSoFar o k d) (let e : w ≡ w + 0 = omega arith in e) j)
   all_answered setting plain o w (p ∷ packets) turns d j =
       let later = all_answered setting plain (o + opens_in p) (w + writes_in p) packets turns.1 (step setting d p)
       (step_answered setting plain o w p turns.0 d j) in

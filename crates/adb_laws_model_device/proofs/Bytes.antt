@@ -29,8 +29,10 @@ use Rattle.adb_device_streams.specs.Link.{credit_word_in, link_of}
 use Rattle.adb_device_streams.specs.declared.link.Link.{Link}
 use Rattle.adb_daemon.specs.Serving.{Serving, Sent, with_sum, owing, granted, sent_bytes, sent_ack}
 use Rattle.adb_daemon.specs.Serving.{sent_writes, sent_close, settled_as, settled, named, closable, is_taken}
-use Rattle.adb_daemon.specs.Serving.{kind_for, credit_of, open_as, on_open, written_to, on_write, acked_to, on_okay, closed_to, on_close, served}
-use Rattle.adb_daemon.specs.Device.{Device, Setting, step, treated, linked_to, served_on, identity_text, first_device, device_behind, own_cnxn}
+use Rattle.adb_daemon.specs.Serving.{kind_for, credit_of, open_as, on_open, written_to, on_write, acked_to, on_okay, closed_to, on_close}
+use Rattle.adb_daemon.specs.Serving.{served}
+use Rattle.adb_daemon.specs.Device.{Device, Setting, step, treated, linked_to, served_on, identity_text, first_device, device_behind}
+use Rattle.adb_daemon.specs.Device.{own_cnxn}
 use Rattle.adb_wire.specs.Header.{byte_sum_of}
 use Rattle.adb_daemon.proofs.Owed.{written_host}
 use Rattle.adb_laws_model_device.specs.Owed.{packets_of_sent, packets_owed}
@@ -83,12 +85,15 @@ written_fit (suc k) most row sums own fits small host word =
     (written_fit k most (row_past (next_payload most row) row) sums own fits small host word)
   where
     short : length (next_payload most row) ≤ MAX_PAYLOAD
-    short = (let room = room_short row.flow most in let took = length-take (room_of row.flow most) (unsent row) in omega (arith, fits, room, took))
+    short = (let room = room_short row.flow most in let took =
+        length-take (room_of row.flow most) (unsent row) in omega (arith, fits, room, took))
 
     next : List (List ℕ)
     next = writes_at k most (row_past (next_payload most row) row)
 
-    go : (b : Bool) → All Fits (map (λ payload. with_sum sums (wrte own host payload)) (writes_at k most (row_past (next_payload most row) row)))
+    go : (b : Bool)
+        → All Fits (map (λ payload. with_sum sums (wrte own host payload))
+        (writes_at k most (row_past (next_payload most row) row)))
         → All Fits (map (λ payload. with_sum sums (wrte own host payload))
         (if b then [] else next_payload most row ∷ writes_at k most (row_past (next_payload most row) row)))
     go true later = All-nil Fits
@@ -151,7 +156,8 @@ module _ (link : Link) (short : link.most ≤ MAX_PAYLOAD) (p : Packet) (words :
             drawn = small;
             all = All-append Fits s.made (with_sum link.sums (okay (s.drawn + 1) p.arg0 (opening_word (credit_of link p))) ∷ []) fine.all
                 (all_one (with_sum link.sums (okay (s.drawn + 1) p.arg0 (opening_word (credit_of link p))))
-                (okay_fits link.sums (s.drawn + 1) p.arg0 small words.arg0 (opening_word (credit_of link p)) (opening_short (credit_of link p))));
+                (okay_fits link.sums (s.drawn + 1) p.arg0 small words.arg0 (opening_word (credit_of link p))
+                (opening_short (credit_of link p))));
           })
 
       none : AreFine (open_as link p None s)
@@ -199,7 +205,8 @@ module _ (link : Link) (short : link.most ≤ MAX_PAYLOAD) (p : Packet) (words :
           short words.arg1 word
           (record {
             drawn = fine.drawn;
-            all = All-append Fits s.made (sent_ack link p.arg1 row.host row.flow (length p.payload)) fine.all (acked row.flow row.host (length p.payload) word);
+            all = All-append Fits s.made (sent_ack link p.arg1 row.host row.flow (length p.payload)) fine.all
+                (acked row.flow row.host (length p.payload) word);
           })
 
       at_row : (row : Row) (b : Bool) → (row.host == p.arg0) ≡ b → AreFine (written_to link p (if b then Some row else None) s)
@@ -265,10 +272,12 @@ fine_step setting d p words fine = go d.refused
     go false = by (is_cnxn p.command)
 
 -- all packets
-fine_all : (setting : Setting) (packets : List Packet) → All HasWords packets → (d : Device) → IsFine d → IsFine (fold (step setting) d packets)
+fine_all : (setting : Setting) (packets : List Packet) → All HasWords packets → (d : Device) → IsFine d
+    → IsFine (fold (step setting) d packets)
 fine_all setting [] all d fine = fine
 fine_all setting (p ∷ packets) all d fine =
-    fine_all setting packets (All-tail HasWords p packets all) (step setting d p) (fine_step setting d p (All-head HasWords p packets all) fine)
+    fine_all setting packets (All-tail HasWords p packets all) (step setting d p)
+    (fine_step setting d p (All-head HasWords p packets all) fine)
 
 -- its own CNXN
 cnxn_fits : (setting : Setting) → setting.most < 2 ^ 32 → Fits (own_cnxn setting)

@@ -1,5 +1,6 @@
 -- What was sent up a stream came to its service at the device.
-use Rattle.std.specs.Prelude.{ℕ, ◌+◌, ◌^◌, ◌≡◌, ◌≢◌, ◌<◌, ◌≤◌, ◌==◌, ◌||◌, ◌&&◌, if◌then◌else◌, Bool, true, false, cond, List, [], ◌∷◌, ◌++◌, fold, length}
+use Rattle.std.specs.Prelude.{ℕ, ◌+◌, ◌^◌, ◌≡◌, ◌≢◌, ◌<◌, ◌≤◌, ◌==◌, ◌||◌, ◌&&◌, if◌then◌else◌, Bool, true, false, cond, List, [], ◌∷◌}
+use Rattle.std.specs.Prelude.{◌++◌, fold, length}
 use Rattle.std.specs.Prelude.{nat_eq, Option, Some, None}
 use Rattle.std.proofs.Common.{refl, sym, ◌∙◌, ap, subst, arith, ◌⊎◌, inl, inr, append_assoc}
 use Rattle.std.specs.List.Sorted.{IsStrictlySortedBy}
@@ -17,11 +18,14 @@ use Rattle.adb_history.specs.Bytes.{sent}
 use Rattle.adb_history.specs.Machine.{History, IsLegal}
 use Rattle.adb_device_streams.specs.Asked.{Kind}
 use Rattle.adb_device_streams.specs.Service.{bytes_in, came_over, files_fed, files_opened}
-use Rattle.adb_device_streams.specs.Stream.{Row, opened, row_took, row_acked, row_past, row_past_all, row_written, writes, is_done, okay, opening_word}
+use Rattle.adb_device_streams.specs.Stream.{Row, opened, row_took, row_acked, row_past, row_past_all, row_written, writes, is_done, okay}
+use Rattle.adb_device_streams.specs.Stream.{opening_word}
 use Rattle.adb_device_streams.specs.Link.{credit_word_in, link_of}
 use Rattle.adb_device_streams.specs.declared.link.Link.{Link}
-use Rattle.adb_daemon.specs.Serving.{Serving, Ended, with_sum, owing, granted, ended_at, sent_ack, sent_writes, settled_as, settled, named, closable}
-use Rattle.adb_daemon.specs.Serving.{is_taken, kind_for, credit_of, open_as, on_open, written_to, on_write, acked_to, on_okay, closed_to, on_close, served}
+use Rattle.adb_daemon.specs.Serving.{Serving, Ended, with_sum, owing, granted, ended_at, sent_ack, sent_writes, settled_as, settled, named}
+use Rattle.adb_daemon.specs.Serving.{closable}
+use Rattle.adb_daemon.specs.Serving.{is_taken, kind_for, credit_of, open_as, on_open, written_to, on_write, acked_to, on_okay, closed_to}
+use Rattle.adb_daemon.specs.Serving.{on_close, served}
 use Rattle.adb_daemon.specs.Serving.{all_gone}
 use Rattle.adb_daemon.specs.Device.{Device, Setting, step, treated, linked_to, served_on, first_device, device_behind}
 use Rattle.adb_daemon.specs.Streams.{over_at}
@@ -66,13 +70,15 @@ module _ (l : ℕ) where
 
   carries_one : (p : Packet) → is_wrte p.command ≡ true → p.arg0 ≡ l → carries p ≡ p.payload
   carries_one p e f =
-      ap (λ b. cond (b && nat_eq p.arg0 l) (p.payload ++ []) []) e ∙ (ap (λ b. cond b (p.payload ++ []) []) (eq-eqb p.arg0 l f) ∙ append-nil p.payload)
+      ap (λ b. cond (b && nat_eq p.arg0 l) (p.payload ++ []) []) e
+      ∙ (ap (λ b. cond b (p.payload ++ []) []) (eq-eqb p.arg0 l f) ∙ append-nil p.payload)
 
   -- it carries nothing, or it is a write of the stream
   carried : (p : Packet) → (carries p ≡ []) ⊎ ((is_wrte p.command ≡ true) × (p.arg0 ≡ l))
   carried p = go (is_wrte p.command) refl (nat_eq p.arg0 l) refl
     where
-      go : (a : Bool) → is_wrte p.command ≡ a → (b : Bool) → nat_eq p.arg0 l ≡ b → (carries p ≡ []) ⊎ ((is_wrte p.command ≡ true) × (p.arg0 ≡ l))
+      go : (a : Bool) → is_wrte p.command ≡ a → (b : Bool) → nat_eq p.arg0 l ≡ b
+          → (carries p ≡ []) ⊎ ((is_wrte p.command ≡ true) × (p.arg0 ≡ l))
       go true e true f = inr (e, eqb-true p.arg0 l f)
       go true e false f =
           inl (ap (λ a. cond (a && nat_eq p.arg0 l) (p.payload ++ []) []) e ∙ ap (λ b. cond b (p.payload ++ []) []) f)
@@ -176,8 +182,11 @@ module _ (l n : ℕ) where
     -- those that have ended took a front still
     over_still : (ended : List Ended) → Over text ended → Over more ended
     over_still ended over e is host =
-        let front = over e is host in
-        (front.0 ++ carries l p, sym (append_assoc (bytes_in e.row.past) front.0 (carries l p)) ∙ ap (λ (x : List ℕ). x ++ carries l p) front.1)
+        let front = over e is host in (
+          front.0 ++ carries l p,
+          sym (append_assoc (bytes_in e.row.past) front.0 (carries l p))
+              ∙ ap (λ (x : List ℕ). x ++ carries l p) front.1,
+        )
 
     -- a packet that changes no row
     same : (s new : Serving) → new.rows ≡ s.rows → new.ended ≡ s.ended → carries l p ≡ [] → CameSoFar o text s → CameSoFar now more new
@@ -248,7 +257,8 @@ module _ (l n : ℕ) where
               by true f e = (let one : other ≡ row = cc in ap (λ (r : Row). r.host) (sym one) ∙ eqb-true other.host p.arg0 f)
               by false f e = let clash : None ≡ Some row = e in cc
 
-          took : (row : Row) → named p.arg0 (at p.arg1 s.rows) ≡ Some row → row.host ≡ p.arg0 → CameSoFar now more (written_to link p (Some row) s)
+          took : (row : Row) → named p.arg0 (at p.arg1 s.rows) ≡ Some row → row.host ≡ p.arg0
+              → CameSoFar now more (written_to link p (Some row) s)
           took row is sender =
               let ack = sent_ack link p.arg1 row.host row.flow (length p.payload) in
               let mid : Serving = record (owing ack s) { files = files_fed row.kind row.past (came_over p.payload s.files) } in
@@ -289,7 +299,8 @@ module _ (l n : ℕ) where
               let mid : Serving = granted p.arg1 (credit_word_in p.payload) s in
               let next : Row = row_acked (credit_word_in p.payload) row in
               let mine : p.arg1 ≡ n → row.host ≡ l → (1 ≤ now) × (bytes_in row.past ≡ more) =
-              λ here host. still zeroth s.rows j.live row (ap (λ k. at k s.rows) (sym here) ∙ named_is p.arg0 (at p.arg1 s.rows) row is) host in
+              λ here host. still zeroth s.rows j.live row
+              (ap (λ k. at k s.rows) (sym here) ∙ named_is p.arg0 (at p.arg1 s.rows) row is) host in
               record {
                 rises = settled_rises link p.arg1 next mid j.rises;
                 none = still_none j.none;
@@ -395,14 +406,17 @@ module _ (l n : ℕ) where
       → (opens : ℕ) × IsSoFar opens (text ++ carried_in l packets) (fold (step setting) d packets)
   all_came setting o text [] turns d j = (o, subst (λ (x : List ℕ). IsSoFar o x d) (sym (append-nil text)) j)
   all_came setting o text (p ∷ packets) turns d j =
-      let later = all_came setting (o + opens_in l p) (text ++ carries l p) packets turns.1 (step setting d p) (step_came setting o text p turns.0 d j) in (
+      let later = all_came setting (o + opens_in l p) (text ++ carries l p) packets turns.1 (step setting d p)
+      (step_came setting o text p turns.0 d j) in (
         later.0,
         subst (λ (x : List ℕ). IsSoFar later.0 x (fold (step setting) (step setting d p) packets))
-            (append_assoc text (carries l p) (carried_in l packets) ∙ ap (λ (x : List ℕ). text ++ x) (sym (carried_first l p packets))) later.1,
+            (append_assoc text (carries l p) (carried_in l packets)
+            ∙ ap (λ (x : List ℕ). text ++ x) (sym (carried_first l p packets))) later.1,
       )
 
 -- so all that a stream was sent came to its row, and a front of it to one that has ended
-pub took_carried : (setting : Setting) (l n : ℕ) (packets : List Packet) → AreInTurn l n 0 packets → (device_behind setting packets).refused ≡ false
+pub took_carried : (setting : Setting) (l n : ℕ) (packets : List Packet) → AreInTurn l n 0 packets
+    → (device_behind setting packets).refused ≡ false
     → TookCarried l n packets (device_behind setting packets).serving
 unfolding IsStrictlySortedBy
 took_carried setting l n packets turns sound =
@@ -423,4 +437,5 @@ took_carried setting l n packets turns sound =
 pub takes_carried : (setting : Setting) → setting.most < 2 ^ 32 → (h : History) → IsLegal h → IsJoined setting h → TakesCarried setting h
 takes_carried setting word h legal joined l b is =
     took_carried setting l (remote_of l b h) (sent 1 h)
-    (sent_in_turn (packets_owed setting) (model_is_plain setting) h legal (paired setting word h legal joined) l b is) (never_refused setting 1 h legal)
+    (sent_in_turn (packets_owed setting) (model_is_plain setting) h legal (paired setting word h legal joined) l b is)
+    (never_refused setting 1 h legal)

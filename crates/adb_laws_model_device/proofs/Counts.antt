@@ -45,7 +45,8 @@ module _ (is_such : Packet → Bool) where
 -- ---- how many packets of a command come from a stream
 module _ (is_such : Command → Bool) (l : ℕ) where
   -- those of a list are those of its first and those of the rest
-  pub count_first : (p : Packet) (ps : List Packet) → count_from is_such l (p ∷ ps) ≡ count_from is_such l (p ∷ []) + count_from is_such l ps
+  pub count_first : (p : Packet) (ps : List Packet) → count_from is_such l (p ∷ ps)
+      ≡ count_from is_such l (p ∷ []) + count_from is_such l ps
   count_first p ps = count_append is_such l (p ∷ []) ps
 
   -- a front has no more
@@ -53,7 +54,8 @@ module _ (is_such : Command → Bool) (l : ℕ) where
   count_more front rest = (let sum = count_append is_such l front rest in omega (arith, sum))
 
   pub count_front : (front all : List Packet) → ComeFirst front all → count_from is_such l front ≤ count_from is_such l all
-  count_front front all first = subst (λ (ps : List Packet). count_from is_such l front ≤ count_from is_such l ps) first.1 (count_more front first.0)
+  count_front front all first = subst (λ (ps : List Packet). count_from is_such l front ≤ count_from is_such l ps)
+      first.1 (count_more front first.0)
 
   -- one packet counts one, or nothing
   pub count_one : (p : Packet) → is_such p.command ≡ true → p.arg0 ≡ l → count_from is_such l (p ∷ []) ≡ 1

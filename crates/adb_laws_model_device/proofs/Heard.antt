@@ -14,7 +14,8 @@ use Rattle.adb_history.specs.Links.{credit_word}
 use Rattle.adb_history.specs.Streams.{stream_ids}
 use Rattle.adb_history.specs.Machine.{History, IsLegal}
 use Rattle.adb_history.specs.Bytes.{brought, sent}
-use Rattle.adb_history.specs.Births.{Birth, Opening, births, born, opening_by, opening_in, is_between, count_from, is_okay, is_wrte, is_open}
+use Rattle.adb_history.specs.Births.{Birth, Opening, births, born, opening_by, opening_in, is_between, count_from, is_okay, is_wrte}
+use Rattle.adb_history.specs.Births.{is_open}
 use Rattle.adb_history.specs.Fifo.{okays_in, IsOwn}
 use Rattle.adb_laws_births.specs.Births.{birth_place}
 use Rattle.adb_laws_births.specs.Brought.{ComeFirst, brought_grows}
@@ -50,7 +51,8 @@ module _ (l r : ℕ) where
       go false e c f le = le
 
   -- where all OKAYs come from one id, an open stream heard all of them
-  pub opened_hears : r ≢ 0 → (ps : List Packet) → All From ps → (o : Opening) → opening_in l ps ≡ Some o → okays_to l ps ≤ 1 + okays_in o.remote l o.later
+  pub opened_hears : r ≢ 0 → (ps : List Packet) → All From ps → (o : Opening) → opening_in l ps ≡ Some o
+      → okays_to l ps ≤ 1 + okays_in o.remote l o.later
   opened_hears some [] from o is = omega arith
   opened_hears some (p ∷ ps) from o is =
       by p.command refl is (λ e. opened_hears some ps (All-tail From p ps from) o e)
@@ -60,7 +62,8 @@ module _ (l r : ℕ) where
 
       other : is_okay p.command ≡ false → opening_in l ps ≡ Some o → Later → okays_to l (p ∷ ps) ≤ 1 + okays_in o.remote l o.later
       other e f later =
-          subst (λ (b : Bool). cond (b && nat_eq p.arg1 l) (1 + okays_to l ps) (okays_to l ps) ≤ 1 + okays_in o.remote l o.later) (sym e) (later f)
+          subst (λ (b : Bool). cond (b && nat_eq p.arg1 l) (1 + okays_to l ps) (okays_to l ps)
+          ≤ 1 + okays_in o.remote l o.later) (sym e) (later f)
 
       okay : (c : Bool) → nat_eq p.arg1 l ≡ c → (z : Bool) → (p.arg0 == 0) ≡ z → p.command ≡ Okay
           → cond (c && not z) (Some (record { remote = p.arg0; word = credit_word p.payload; later = ps })) (opening_in l ps) ≡ Some o
@@ -97,7 +100,8 @@ module _ (l r : ℕ) where
 -- ---- nothing is sent of a stream that is not born
 module _ (h : History) (l : ℕ) (unborn : born l h ≡ None) where
   -- an OPEN or a write is one of a stream that was born
-  has_birth : (p : Packet) → (is_open p.command ≡ true) ⊎ (is_wrte p.command ≡ true) → IsOwn h 1 p.command p → (b : Birth) × (born p.arg0 h ≡ Some b)
+  has_birth : (p : Packet) → (is_open p.command ≡ true) ⊎ (is_wrte p.command ≡ true) → IsOwn h 1 p.command p
+      → (b : Birth) × (born p.arg0 h ≡ Some b)
   has_birth p such own = by p.command refl such own
     where
       no : (c : Command) → is_open c ≡ false → is_wrte c ≡ false → (is_open c ≡ true) ⊎ (is_wrte c ≡ true) → ⊥
@@ -175,7 +179,8 @@ module _ (owes : RemoteEnd) (plain : IsPlain owes) where
       longer : length (brought 1 older) ≤ length (brought 1 (e ∷ older))
       longer = (let n = ap length grown.1 in let m = length-append (brought 1 older) grown.0 in omega (arith, n, m))
 
-      same : b.packets_before ≤ length (brought 1 older) → take b.packets_before (brought 1 (e ∷ older)) ≡ take b.packets_before (brought 1 older)
+      same : b.packets_before ≤ length (brought 1 older) → take b.packets_before (brought 1 (e ∷ older))
+          ≡ take b.packets_before (brought 1 older)
       same le = ap (take b.packets_before) (sym grown.1) ∙ take-append-le b.packets_before (brought 1 older) grown.0 le
 
       go : (born l older ≡ Some b) ⊎ IsBornNow l b e older → (born l older ≡ Some b → IsPlaced older l b) → IsPlaced (e ∷ older) l b

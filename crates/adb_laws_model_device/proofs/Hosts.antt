@@ -24,7 +24,8 @@ use Rattle.adb_device_streams.specs.Link.{credit_word_in, link_of}
 use Rattle.adb_device_streams.specs.declared.link.Link.{Link}
 use Rattle.adb_daemon.specs.Serving.{Serving, Sent, with_sum, owing, granted, gone, sent_ack}
 use Rattle.adb_daemon.specs.Serving.{sent_writes, sent_close, settled_as, settled, named, closable, is_taken}
-use Rattle.adb_daemon.specs.Serving.{kind_for, credit_of, open_as, on_open, written_to, on_write, acked_to, on_okay, closed_to, on_close, served}
+use Rattle.adb_daemon.specs.Serving.{kind_for, credit_of, open_as, on_open, written_to, on_write, acked_to, on_okay, closed_to, on_close}
+use Rattle.adb_daemon.specs.Serving.{served}
 use Rattle.adb_daemon.specs.Device.{Device, Setting, step, treated, linked_to, served_on, first_device, device_behind}
 use Rattle.adb_daemon.proofs.Rules.{named_is, closable_is}
 use Rattle.adb_daemon.proofs.Owed.{written_host}
@@ -58,7 +59,8 @@ module _ (l : ℕ) where
       → All (FromId id) (with_sum sums (okay own host word) ∷ [])
   one_okay id sums own host word is = All-cons (FromId id) (with_sum sums (okay own host word)) [] (λ e f. inl (is f)) (All-nil (FromId id))
 
-  one_close : (id : Option ℕ) (sums : Bool) (own host : ℕ) → (host ≡ l → id ≡ Some own) → All (FromId id) (with_sum sums (clse own host) ∷ [])
+  one_close : (id : Option ℕ) (sums : Bool) (own host : ℕ) → (host ≡ l → id ≡ Some own)
+      → All (FromId id) (with_sum sums (clse own host) ∷ [])
   one_close id sums own host is = All-cons (FromId id) (with_sum sums (clse own host)) [] (λ e f. inl (is f)) (All-nil (FromId id))
 
   -- a refusal
@@ -115,10 +117,12 @@ module _ (l : ℕ) where
 
   -- ---- packets
   module _ (link : Link) (p : Packet) (s : Serving) where
-    opened_hosted : (id : Option ℕ) (kind : Kind) → IsHosted id s → (p.arg0 ≡ l → id ≡ Some (s.drawn + 1)) → IsHosted id (open_as link p (Some kind) s)
+    opened_hosted : (id : Option ℕ) (kind : Kind) → IsHosted id s → (p.arg0 ≡ l → id ≡ Some (s.drawn + 1))
+        → IsHosted id (open_as link p (Some kind) s)
     opened_hosted id kind h mine =
         let hello = with_sum link.sums (okay (s.drawn + 1) p.arg0 (opening_word (credit_of link p))) ∷ [] in
-        let begun : Serving = record (granted (s.drawn + 1) (credit_of link p) (owing hello s)) { drawn = s.drawn + 1; files = files_opened kind s.files } in
+        let begun : Serving = record (granted (s.drawn + 1) (credit_of link p) (owing hello s))
+        { drawn = s.drawn + 1; files = files_opened kind s.files } in
         settled_hosted id link (s.drawn + 1) (opened p.arg0 kind s.files (credit_of link p)) begun
         (owing_hosted id s hello begun refl refl (one_okay id link.sums (s.drawn + 1) p.arg0 (opening_word (credit_of link p)) mine) h) mine
 
@@ -193,7 +197,8 @@ module _ (l : ℕ) where
       where
         go : (found : Option Row) → named p.arg0 (at p.arg1 s.rows) ≡ found → IsHosted id (acked_to link p found s)
         go None is = h
-        go (Some row) is = settled_hosted id link p.arg1 (row_acked (credit_word_in p.payload) row) (granted p.arg1 (credit_word_in p.payload) s)
+        go (Some row) is = settled_hosted id link p.arg1 (row_acked (credit_word_in p.payload) row)
+            (granted p.arg1 (credit_word_in p.payload) s)
             (record { rises = h.rises; rows = h.rows; made = h.made; some = h.some })
             (h.rows p.arg1 row (named_is p.arg0 (at p.arg1 s.rows) row is))
 
@@ -225,7 +230,8 @@ module _ (l : ℕ) where
   }
 
   -- any packet but an OPEN of the host's id
-  step_other : (id : Option ℕ) (setting : Setting) (d : Device) (p : Packet) → (is_open p.command ≡ true → p.arg0 ≢ l) → IsHosted id d.serving
+  step_other : (id : Option ℕ) (setting : Setting) (d : Device) (p : Packet) → (is_open p.command ≡ true → p.arg0 ≢ l)
+      → IsHosted id d.serving
       → IsHosted id (step setting d p).serving
   unfolding step
   step_other id setting d p other h = go d.refused
@@ -253,7 +259,10 @@ module _ (l : ℕ) where
       on (Some link) =
           subst (λ (k : Command). (id : Option ℕ) × IsHosted id (served k link p d.serving)) (sym c) (own_open link p d.serving h)
 
-      by : (b : Bool) → (id : Option ℕ) × IsHosted id (if b then linked_to (link_of setting.most setting.credit p) d else served_on d.link p d).serving
+      by : (b : Bool)
+          → (id : Option ℕ)
+          × IsHosted id
+          (if b then linked_to (link_of setting.most setting.credit p) d else served_on d.link p d).serving
       by true = (None, linked_hosted None d (link_of setting.most setting.credit p) h)
       by false = on d.link
 
@@ -271,7 +280,8 @@ module _ (l : ℕ) where
   open_command _ e = let clash : false ≡ true = e in cc
 
   -- behind all packets there is such an id
-  all_hosted : (setting : Setting) (packets : List Packet) (d : Device) (id : Option ℕ) → IsHosted id d.serving → Asks id (count_from is_open l packets)
+  all_hosted : (setting : Setting) (packets : List Packet) (d : Device) (id : Option ℕ) → IsHosted id d.serving
+      → Asks id (count_from is_open l packets)
       → (id : Option ℕ) × IsHosted id (fold (step setting) d packets).serving
   unfolding Asks
   all_hosted setting [] d id h asks = (id, h)
@@ -306,7 +316,9 @@ module _ (l : ℕ) where
     id = 1;
     some = λ e. omega (arith, e);
     sent = All-weaker (FromId None) (ComesFrom l 1)
-        (λ one from e f. elim (from e f) [ inl is ↦ absurd (let clash : None ≡ Some one.packet.arg0 = is in cc) | inr close ↦ inr close ]) s.made h.made;
+        (λ one from e f. elim (from e f)
+        [ inl is ↦ absurd (let clash : None ≡ Some one.packet.arg0 = is in cc) | inr close ↦ inr close ]) s.made
+        h.made;
     rows = λ own row is host. absurd (let clash : None ≡ Some own = h.rows own row is host in cc);
   }
   has_one (Some n) s h = record {
@@ -321,7 +333,8 @@ module _ (l : ℕ) where
       same m e = (let one : n ≡ m = cc in sym one)
 
   -- a host's id that was asked for once at most has one id of the device
-  pub one_id : (setting : Setting) (packets : List Packet) → count_from is_open l packets ≤ 1 → HasOneId l (device_behind setting packets).serving
+  pub one_id : (setting : Setting) (packets : List Packet) → count_from is_open l packets ≤ 1
+      → HasOneId l (device_behind setting packets).serving
   unfolding Asks IsStrictlySortedBy
   one_id setting packets once =
       let all = all_hosted setting packets (first_device setting) None
@@ -342,7 +355,8 @@ module _ (l : ℕ) where
   okay_from n one from e f = by one.packet.command e from
     where
       by : (c : Command) → is_okay c ≡ true
-          → (is_of_stream c ≡ true → one.packet.arg1 ≡ l → (one.packet.arg0 ≡ n) ⊎ ((is_clse c ≡ true) × (one.packet.arg0 ≡ 0))) → one.packet.arg0 ≡ n
+          → (is_of_stream c ≡ true → one.packet.arg1 ≡ l → (one.packet.arg0 ≡ n)
+          ⊎ ((is_clse c ≡ true) × (one.packet.arg0 ≡ 0))) → one.packet.arg0 ≡ n
       by commands.Okay is from = elim (from refl f) [ inl same ↦ same | inr close ↦ absurd (let clash : false ≡ true = close.0 in cc) ]
       by _ is from = let clash : false ≡ true = is in cc
 
@@ -353,7 +367,8 @@ module _ (l : ℕ) where
       (all_from n made (All-tail (ComesFrom l n) one made all))
 
   -- so it is acknowledged from one
-  pub come_from_one : (setting : Setting) (packets : List Packet) → count_from is_open l packets ≤ 1 → ComeFromOne l (packets_owed setting packets)
+  pub come_from_one : (setting : Setting) (packets : List Packet) → count_from is_open l packets ≤ 1
+      → ComeFromOne l (packets_owed setting packets)
   come_from_one setting packets once =
       let one = one_id setting packets once in
       record { id = one.id; some = one.some; all = all_from one.id (device_behind setting packets).serving.made one.sent }

@@ -58,7 +58,8 @@ sent_words h legal =
     All-weaker (λ p. IsOwn h 1 p.command p) HasWords (λ p own. own_words h legal p p.command own) (sent 1 h) ((no_crossing h legal).own 1)
 
 -- so a front of the bytes that a device owes is a front of its packets
-pub paired : (setting : Setting) → setting.most < 2 ^ 32 → (h : History) → IsLegal h → IsJoined setting h → IsPaired (packets_owed setting) h
+pub paired : (setting : Setting) → setting.most < 2 ^ 32 → (h : History) → IsLegal h → IsJoined setting h
+    → IsPaired (packets_owed setting) h
 paired setting word [] legal joined = tt
 paired setting word (e ∷ older) legal joined =
     let front : ComeFirst (brought 1 (e ∷ older)) (framed (bytes_received 1 (e ∷ older) ++ joined.1.0)).given =

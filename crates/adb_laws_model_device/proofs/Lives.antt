@@ -21,8 +21,10 @@ use Rattle.adb_device_streams.specs.Stream.{Row, opened, row_took, row_acked, ro
 use Rattle.adb_device_streams.specs.Stream.{writes, is_done, okay, clse, wrte, opening_word}
 use Rattle.adb_device_streams.specs.Link.{credit_word_in, link_of}
 use Rattle.adb_device_streams.specs.declared.link.Link.{Link}
-use Rattle.adb_daemon.specs.Serving.{Serving, Sent, with_sum, owing, granted, sent_ack, sent_writes, sent_close, settled_as, settled, named, closable, is_taken}
-use Rattle.adb_daemon.specs.Serving.{kind_for, credit_of, open_as, on_open, written_to, on_write, acked_to, on_okay, closed_to, on_close, served}
+use Rattle.adb_daemon.specs.Serving.{Serving, Sent, with_sum, owing, granted, sent_ack, sent_writes, sent_close, settled_as, settled, named}
+use Rattle.adb_daemon.specs.Serving.{closable, is_taken}
+use Rattle.adb_daemon.specs.Serving.{kind_for, credit_of, open_as, on_open, written_to, on_write, acked_to, on_okay, closed_to, on_close}
+use Rattle.adb_daemon.specs.Serving.{served}
 use Rattle.adb_daemon.specs.Device.{Device, Setting, step, treated, linked_to, served_on, first_device}
 use Rattle.adb_daemon.proofs.Rules.{named_is, closable_is}
 use Rattle.adb_daemon.proofs.Owed.{written_host}
@@ -52,7 +54,8 @@ module _ (n l : ℕ) where
   okays_app [] b = omega arith
   okays_app (one ∷ a) b = go (is_okay one.packet.command && is_between n l one.packet) (okays_app a b)
     where
-      go : (c : Bool) → okays (a ++ b) ≡ okays a + okays b → cond c (1 + okays (a ++ b)) (okays (a ++ b)) ≡ cond c (1 + okays a) (okays a) + okays b
+      go : (c : Bool) → okays (a ++ b) ≡ okays a + okays b → cond c (1 + okays (a ++ b)) (okays (a ++ b))
+          ≡ cond c (1 + okays a) (okays a) + okays b
       go true e = omega (arith, e)
       go false e = e
 
@@ -61,7 +64,8 @@ module _ (n l : ℕ) where
       ap (how_many (is_close_between n l)) (sent_append a b) ∙ many_append (is_close_between n l) (packets_of_sent a) (packets_of_sent b)
 
   -- writes are no OKAYs
-  none_written : (sums : Bool) (own host : ℕ) (payloads : List (List ℕ)) → okays (map (λ payload. with_sum sums (wrte own host payload)) payloads) ≡ 0
+  none_written : (sums : Bool) (own host : ℕ) (payloads : List (List ℕ))
+      → okays (map (λ payload. with_sum sums (wrte own host payload)) payloads) ≡ 0
   none_written sums own host [] = refl
   none_written sums own host (payload ∷ more) = none_written sums own host more
 
@@ -83,7 +87,8 @@ module _ (n l : ℕ) where
   goes_no_row z y le made more none (inr (inl some)) = inr (inl (let sum = closes_app made more in omega (arith, sum, some)))
   goes_no_row z y le made more none (inr (inr some)) = inr (inr (omega (arith, le, some)))
 
-  goes_lives : (z y : ℕ) → z ≤ y → (made more : List Sent) → okays more ≡ 0 → (rows new : List (ℕ × Row)) → at n new ≡ at n rows → Lives z made rows
+  goes_lives : (z y : ℕ) → z ≤ y → (made more : List Sent) → okays more ≡ 0 → (rows new : List (ℕ × Row))
+      → at n new ≡ at n rows → Lives z made rows
       → Lives y (made ++ more) new
   goes_lives z y le made more none rows new same (inl row) = inl (row.0, (same ∙ row.1.0, row.1.1))
   goes_lives z y le made more none rows new same (inr without_row) = inr (goes_no_row z y le made more none without_row)
@@ -114,7 +119,8 @@ module _ (n l : ℕ) where
     kept_lives : Lives z (s.made ++ sent_writes link q row) (put_at q (row_written link.most row) s.rows)
     kept_lives = go (cases_eq n q)
       where
-        here : (same : n ≡ q) → (row.host ≡ l) ⊎ NoRow z s.made → Lives z (s.made ++ sent_writes link q row) (put_at q (row_written link.most row) s.rows)
+        here : (same : n ≡ q) → (row.host ≡ l) ⊎ NoRow z s.made
+            → Lives z (s.made ++ sent_writes link q row) (put_at q (row_written link.most row) s.rows)
         here same (inl host) =
             inl (
               row_written link.most row,
@@ -149,13 +155,15 @@ module _ (n l : ℕ) where
             let is_one = one same host in
             omega (arith, sum, is_one))))
         here same (inr none) =
-            inr (goes_no_row z z (omega arith) (s.made ++ sent_writes link q row) (sent_close true link q (row_written link.most row).host) refl
+            inr (goes_no_row z z (omega arith) (s.made ++ sent_writes link q row)
+            (sent_close true link q (row_written link.most row).host) refl
             (goes_no_row z z (omega arith) s.made (sent_writes link q row) silent none))
 
         go : (n ≡ q) ⊎ (n ≡ q → ⊥) → Goal
         go (inl same) = here same (own (sym same))
         go (inr apart) =
-            goes_lives z z (omega arith) (s.made ++ sent_writes link q row) (sent_close true link q (row_written link.most row).host) refl s.rows
+            goes_lives z z (omega arith) (s.made ++ sent_writes link q row)
+            (sent_close true link q (row_written link.most row).host) refl s.rows
             (without q s.rows) ((puts_without q s.rows rises).others n apart)
             (goes_lives z z (omega arith) s.made (sent_writes link q row) silent s.rows s.rows refl (other (λ e. apart (sym e))))
 
@@ -291,7 +299,9 @@ module _ (n l : ℕ) where
             (ack_apart link p.arg1 row.host row.flow (length p.payload) (λ e g. apart e)) s.rows s.rows refl j.lives)
             (λ e. elim (cases_eq row.host l) [
               | inl host ↦ inl host
-              | inr apart ↦ inr (goes_no_row z z (omega arith) s.made ack (ack_apart link p.arg1 row.host row.flow (length p.payload) (λ g h. apart h))
+              | inr apart ↦ inr
+                  (goes_no_row z z (omega arith) s.made ack
+                  (ack_apart link p.arg1 row.host row.flow (length p.payload) (λ g h. apart h))
                   (other_row row (ap (λ k. at k s.rows) (sym e) ∙ place) apart))
             ])
 
@@ -390,7 +400,8 @@ module _ (n l : ℕ) where
         serving = alive_served z link p d.serving j.serving p.command refl;
       }
 
-      by : (b : Bool) → is_cnxn p.command ≡ b → Next (if b then linked_to (link_of setting.most setting.credit p) d else served_on d.link p d)
+      by : (b : Bool) → is_cnxn p.command ≡ b
+          → Next (if b then linked_to (link_of setting.most setting.credit p) d else served_on d.link p d)
       by true e = linked e (link_of setting.most setting.credit p)
       by false e = on d.link refl
 
@@ -413,7 +424,8 @@ module _ (n l : ℕ) where
 pub lives_or_closed : (setting : Setting) → LivesOrWasClosed setting
 unfolding IsStrictlySortedBy
 lives_or_closed setting n l packets once some =
-    let all = all_alive n l setting 0 0 (how_many (is_close_to n) packets) packets (omega (arith, once)) (omega arith) (first_device setting)
+    let all = all_alive n l setting 0 0 (how_many (is_close_to n) packets) packets (omega (arith, once)) (omega arith)
+    (first_device setting)
     (record {
       first = λ e. refl;
       quiet = λ e. refl;

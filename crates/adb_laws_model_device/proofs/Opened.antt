@@ -1,5 +1,6 @@
 -- An OPEN is answered: the next id of the device stands for it, whatever follows.
-use Rattle.std.specs.Prelude.{ℕ, ◌+◌, ◌≡◌, ◌≢◌, ◌<◌, ◌≤◌, ◌==◌, ◌||◌, ◌&&◌, if◌then◌else◌, Bool, true, false, cond, All, List, [], ◌∷◌, ◌++◌, map, fold}
+use Rattle.std.specs.Prelude.{ℕ, ◌+◌, ◌≡◌, ◌≢◌, ◌<◌, ◌≤◌, ◌==◌, ◌||◌, ◌&&◌, if◌then◌else◌, Bool, true, false, cond, All, List, [], ◌∷◌}
+use Rattle.std.specs.Prelude.{◌++◌, map, fold}
 use Rattle.std.specs.Prelude.{length, nat_eq, Option, Some, None}
 use Rattle.std.proofs.Common.{refl, sym, ◌∙◌, ap, subst, arith, ◌⊎◌, inl, inr}
 use Rattle.std.specs.List.Sorted.{IsStrictlySortedBy}
@@ -25,7 +26,8 @@ use Rattle.adb_device_streams.specs.Link.{credit_word_in, link_of}
 use Rattle.adb_device_streams.specs.declared.link.Link.{Link}
 use Rattle.adb_daemon.specs.Serving.{Serving, Sent, Ended, with_sum, owing, granted, ended_at}
 use Rattle.adb_daemon.specs.Serving.{sent_ack, sent_writes, sent_close, settled_as, settled, named, closable}
-use Rattle.adb_daemon.specs.Serving.{is_taken, kind_for, credit_of, open_as, on_open, written_to, on_write, acked_to, on_okay, closed_to, on_close, served}
+use Rattle.adb_daemon.specs.Serving.{is_taken, kind_for, credit_of, open_as, on_open, written_to, on_write, acked_to, on_okay, closed_to}
+use Rattle.adb_daemon.specs.Serving.{on_close, served}
 use Rattle.adb_daemon.specs.Serving.{all_gone}
 use Rattle.adb_daemon.specs.Device.{Device, Setting, step, treated, linked_to, served_on, first_device, device_behind}
 use Rattle.adb_daemon.specs.Streams.{over_at, writes_of, okays_of, is_closed, is_write, is_close, Writes, IsAcked}
@@ -40,7 +42,8 @@ use Rattle.adb_laws_model_device.specs.Opened.{IsFor, LivesFor, EndedFor, is_of_
 -- ---- an id that was not drawn
 module _ (own : ℕ) (some : 0 < own) where
   -- packet by packet
-  all_orderly : (setting : Setting) (packets : List Packet) (d : Device) → IsOrderly own d.serving → IsOrderly own (fold (step setting) d packets).serving
+  all_orderly : (setting : Setting) (packets : List Packet) (d : Device) → IsOrderly own d.serving
+      → IsOrderly own (fold (step setting) d packets).serving
   all_orderly setting [] d o = o
   all_orderly setting (p ∷ packets) d o = all_orderly setting packets (step setting d p) (step_orderly own some setting d p o)
 
@@ -51,7 +54,8 @@ module _ (own : ℕ) (some : 0 < own) where
       all_orderly setting packets (first_device setting) (record { rises = tt; fresh = λ above. (refl, refl); writes = (refl, refl, refl) })
 
 -- what sends no OKAY, no write and no CLSE from an id sends nothing of a stream from it
-none_goes : (own host : ℕ) (made : List Sent) → okays_of own made ≡ [] → writes_of own made ≡ 0 → is_closed own made ≡ false → All (GoesTo own host) made
+none_goes : (own host : ℕ) (made : List Sent) → okays_of own made ≡ [] → writes_of own made ≡ 0
+    → is_closed own made ≡ false → All (GoesTo own host) made
 none_goes own host [] okays count closed = All-nil (GoesTo own host)
 none_goes own host (one ∷ made) okays count closed =
     by one.packet.command refl (one.packet.arg0 == own) refl okays count closed (λ a b c. none_goes own host made a b c)
@@ -62,7 +66,8 @@ none_goes own host (one ∷ made) okays count closed =
     same : one.packet.arg0 ≡ own → (one.packet.arg0 == own) ≡ false → ⊥
     same e f = let clash : true ≡ false = sym (eq-eqb one.packet.arg0 own e) ∙ f in cc
 
-    other : (c : Command) → one.packet.command ≡ c → is_of_stream c ≡ false → All (GoesTo own host) made → All (GoesTo own host) (one ∷ made)
+    other : (c : Command) → one.packet.command ≡ c → is_of_stream c ≡ false → All (GoesTo own host) made
+        → All (GoesTo own host) (one ∷ made)
     other c e none rest =
         All-cons (GoesTo own host) one made (λ is from. absurd (let clash : false ≡ true = sym (ap is_of_stream e ∙ none) ∙ is in cc)) rest
 
@@ -97,7 +102,8 @@ module _ (own host : ℕ) (kind : Kind) (first : List Entry) where
       → All (GoesTo own host) (map (λ payload. with_sum sums (wrte q to payload)) payloads)
   goes_writes sums q to [] right = All-nil (GoesTo own host)
   goes_writes sums q to (payload ∷ more) right =
-      All-cons (GoesTo own host) (with_sum sums (wrte q to payload)) (map (λ payload. with_sum sums (wrte q to payload)) more) (λ is from. right from)
+      All-cons (GoesTo own host) (with_sum sums (wrte q to payload))
+      (map (λ payload. with_sum sums (wrte q to payload)) more) (λ is from. right from)
       (goes_writes sums q to more right)
 
   goes_one : (one : Sent) → (one.packet.arg0 ≡ own → one.packet.arg1 ≡ host) → All (GoesTo own host) (one ∷ [])
@@ -118,12 +124,14 @@ module _ (own host : ℕ) (kind : Kind) (first : List Entry) where
   -- it does so where nothing of the id changed
   stands_still : (rows new : List (ℕ × Row)) (ended over : List Ended) → at own new ≡ at own rows → over_at own over ≡ over_at own ended
       → Stands rows ended → Stands new over
-  stands_still rows new ended over same_row same_over (inl here) = inl (record { row = here.row; is = same_row ∙ here.is; opened = here.opened })
+  stands_still rows new ended over same_row same_over (inl here) =
+      inl (record { row = here.row; is = same_row ∙ here.is; opened = here.opened })
   stands_still rows new ended over same_row same_over (inr e) =
       inr (record { gone = same_row ∙ e.gone; over = e.over; is = same_over ∙ e.is; opened = e.opened })
 
   -- an OKAY that is owed is owed still
-  okays_more : (made more : List Sent) → 1 ≤ okays_in own host (packets_of_sent made) → 1 ≤ okays_in own host (packets_of_sent (made ++ more))
+  okays_more : (made more : List Sent) → 1 ≤ okays_in own host (packets_of_sent made)
+      → 1 ≤ okays_in own host (packets_of_sent (made ++ more))
   okays_more [] more some = absurd (omega (arith, some))
   okays_more (one ∷ made) more some = go (is_okay one.packet.command && is_between own host one.packet) some (λ e. okays_more made more e)
     where
@@ -154,12 +162,14 @@ module _ (own host : ℕ) (kind : Kind) (first : List Entry) where
   ready q s j = record { rises = j.rises; drawn = j.drawn; others = λ apart. j.stands; okay = j.okay; named = j.named }
 
   -- more became due, and of the rows nothing changed
-  owing_opened : (s new : Serving) (more : List Sent) → new.rows ≡ s.rows → new.ended ≡ s.ended → s.drawn ≤ new.drawn → new.made ≡ s.made ++ more
+  owing_opened : (s new : Serving) (more : List Sent) → new.rows ≡ s.rows → new.ended ≡ s.ended → s.drawn ≤ new.drawn
+      → new.made ≡ s.made ++ more
       → All (GoesTo own host) more → IsOpened s → IsOpened new
   owing_opened s new more rows ended drawn made goes j = record {
     rises = subst (λ (r : List (ℕ × Row)). IsRising r) (sym rows) j.rises;
     drawn = (let old = j.drawn in omega (arith, old, drawn));
-    stands = subst (λ (r : List (ℕ × Row)). Stands r new.ended) (sym rows) (subst (λ (x : List Ended). Stands s.rows x) (sym ended) j.stands);
+    stands = subst (λ (r : List (ℕ × Row)). Stands r new.ended) (sym rows)
+        (subst (λ (x : List Ended). Stands s.rows x) (sym ended) j.stands);
     okay = subst (λ (m : List Sent). 1 ≤ okays_in own host (packets_of_sent m)) (sym made) (okays_more s.made more j.okay);
     named = subst (λ (m : List Sent). All (GoesTo own host) m) (sym made) (All-append (GoesTo own host) s.made more j.named goes);
   }
@@ -186,10 +196,12 @@ module _ (own host : ℕ) (kind : Kind) (first : List Entry) where
         is = ap (λ k. at k (put_at q last s.rows)) here ∙ (puts_put_at q last s.rows).here;
         opened = last_for (sym here);
       })
-      | inr apart ↦ stands_still s.rows (put_at q last s.rows) s.ended s.ended ((puts_put_at q last s.rows).others own apart) refl (j.others apart)
+      | inr apart ↦ stands_still s.rows (put_at q last s.rows) s.ended s.ended
+          ((puts_put_at q last s.rows).others own apart) refl (j.others apart)
     ]
 
-    gone_stands : (closed : Bool) (lost : Row) → (q ≡ own → IsFor host kind first lost) → Stands (without q s.rows) (ended_at closed (q, lost) ∷ s.ended)
+    gone_stands : (closed : Bool) (lost : Row) → (q ≡ own → IsFor host kind first lost)
+        → Stands (without q s.rows) (ended_at closed (q, lost) ∷ s.ended)
     gone_stands closed lost right = elim (cases_eq own q) [
       | inl here ↦
           inr (record {
@@ -199,7 +211,8 @@ module _ (own host : ℕ) (kind : Kind) (first : List Entry) where
             opened = right (sym here);
           })
       | inr apart ↦
-          stands_still s.rows (without q s.rows) s.ended (ended_at closed (q, lost) ∷ s.ended) ((puts_without q s.rows j.rises).others own apart)
+          stands_still s.rows (without q s.rows) s.ended (ended_at closed (q, lost) ∷ s.ended)
+          ((puts_without q s.rows j.rises).others own apart)
           (other_over own (ended_at closed (q, lost)) s.ended (λ e. apart (sym e))) (j.others apart)
     ]
 
@@ -355,7 +368,8 @@ module _ (own host : ℕ) (kind : Kind) (first : List Entry) where
       go false = by (is_cnxn p.command)
 
   -- whatever follows
-  all_opened : (setting : Setting) → 0 < own → (packets : List Packet) (d : Device) → IsOpened d.serving → IsOpened (fold (step setting) d packets).serving
+  all_opened : (setting : Setting) → 0 < own → (packets : List Packet) (d : Device) → IsOpened d.serving
+      → IsOpened (fold (step setting) d packets).serving
   all_opened setting some [] d j = j
   all_opened setting some (p ∷ packets) d j = all_opened setting some packets (step setting d p) (step_opened setting some d p j)
 
@@ -411,7 +425,8 @@ module _ (setting : Setting) (front : List Packet) (p : Packet) (link : Link) (k
       go (one ∷ made) = by (is_okay one.packet.command && is_between own p.arg0 one.packet) (go made)
         where
           by : (b : Bool) → 1 ≤ okays_in own p.arg0 (packets_of_sent (made ++ hello))
-              → 1 ≤ cond b (1 + okays_in own p.arg0 (packets_of_sent (made ++ hello))) (okays_in own p.arg0 (packets_of_sent (made ++ hello)))
+              → 1 ≤ cond b (1 + okays_in own p.arg0 (packets_of_sent (made ++ hello)))
+              (okays_in own p.arg0 (packets_of_sent (made ++ hello)))
           by true some = omega arith
           by false some = some
 
@@ -429,11 +444,14 @@ module _ (setting : Setting) (front : List Packet) (p : Packet) (link : Link) (k
       }) (λ e. (refl, refl, refl))
 
   -- that is what the packet makes of it
-  opens : d.refused ≡ false → d.link ≡ Some link → p.command ≡ commands.Open → p.arg0 ≢ 0 → is_taken p.arg0 s.rows ≡ false → kind_for s.drawn p ≡ Some kind
+  opens : d.refused ≡ false → d.link ≡ Some link → p.command ≡ commands.Open → p.arg0 ≢ 0
+      → is_taken p.arg0 s.rows ≡ false → kind_for s.drawn p ≡ Some kind
       → (step setting d p).serving ≡ settled link own row begun
   opens sound linked command some free known =
       ap (λ (x : Device). x.serving) (step_open setting d p sound)
-      ∙ (ap (λ (c : Command). (if is_cnxn c then linked_to (link_of setting.most setting.credit p) d else served_on d.link p d).serving) command
+      ∙ (ap (λ (c : Command).
+      (if is_cnxn c then linked_to (link_of setting.most setting.credit p) d else served_on d.link p
+      d).serving) command
       ∙ (ap (λ (x : Option Link). (served_on x p d).serving) linked
       ∙ (ap (λ (c : Command). served c link p s) command
       ∙ (ap (λ (b : Bool). if b || is_taken p.arg0 s.rows then s else open_as link p (kind_for s.drawn p) s) (ne_eqb p.arg0 0 some)
@@ -445,9 +463,11 @@ pub answers_opens : (setting : Setting) → AnswersOpens setting
 answers_opens setting front p rest link kind sound linked command some free known =
     let d : Device = device_behind setting front in
     let own : ℕ = d.serving.drawn + 1 in
-    let begun = subst (λ (s : Serving). IsOpened own p.arg0 kind d.serving.files s) (sym (opens setting front p link kind sound linked command some free known))
+    let begun = subst (λ (s : Serving). IsOpened own p.arg0 kind d.serving.files s)
+    (sym (opens setting front p link kind sound linked command some free known))
     (begins setting front p link kind) in
     let all = all_opened own p.arg0 kind d.serving.files setting (omega arith) rest (step setting d p) begun in
     let last : IsOpened own p.arg0 kind d.serving.files (device_behind setting (front ++ p ∷ rest)).serving =
-    subst (λ (x : Device). IsOpened own p.arg0 kind d.serving.files x.serving) (sym (step_more setting (first_device setting) front (p ∷ rest))) all in
+    subst (λ (x : Device). IsOpened own p.arg0 kind d.serving.files x.serving)
+    (sym (step_more setting (first_device setting) front (p ∷ rest))) all in
     record { stands = last.stands; okay = last.okay; named = last.named }

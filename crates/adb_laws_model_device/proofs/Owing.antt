@@ -18,8 +18,10 @@ use Rattle.adb_device_streams.specs.Stream.{Row, opened, row_took, row_acked, ro
 use Rattle.adb_device_streams.specs.Link.{credit_word_in, link_of}
 use Rattle.adb_device_streams.specs.declared.link.Link.{Link}
 use Rattle.adb_outside.specs.Tables.{at}
-use Rattle.adb_daemon.specs.Serving.{Serving, Sent, with_sum, owing, granted, sent_ack, sent_writes, sent_close, settled_as, settled, named, closable, is_taken}
-use Rattle.adb_daemon.specs.Serving.{kind_for, credit_of, open_as, on_open, written_to, on_write, acked_to, on_okay, closed_to, on_close, served}
+use Rattle.adb_daemon.specs.Serving.{Serving, Sent, with_sum, owing, granted, sent_ack, sent_writes, sent_close, settled_as, settled, named}
+use Rattle.adb_daemon.specs.Serving.{closable, is_taken}
+use Rattle.adb_daemon.specs.Serving.{kind_for, credit_of, open_as, on_open, written_to, on_write, acked_to, on_okay, closed_to, on_close}
+use Rattle.adb_daemon.specs.Serving.{served}
 use Rattle.adb_daemon.specs.Device.{Device, Setting, step, treated, linked_to, served_on, first_device, device_behind}
 use Rattle.adb_daemon.proofs.Machines.{step_more}
 use Rattle.adb_laws_model_device.specs.Counts.{is_okay_to, okays_to}
@@ -34,7 +36,8 @@ sent_append [] b = refl
 sent_append (one ∷ a) b = ap (λ (ps : List Packet). one.packet ∷ ps) (sent_append a b)
 
 -- and so their OKAYs add up
-pub okays_sent : (l : ℕ) (a b : List Sent) → okays_to l (packets_of_sent (a ++ b)) ≡ okays_to l (packets_of_sent a) + okays_to l (packets_of_sent b)
+pub okays_sent : (l : ℕ) (a b : List Sent) → okays_to l (packets_of_sent (a ++ b))
+    ≡ okays_to l (packets_of_sent a) + okays_to l (packets_of_sent b)
 okays_sent l a b = ap (okays_to l) (sent_append a b) ∙ many_append (is_okay_to l) (packets_of_sent a) (packets_of_sent b)
 
 -- writes are no OKAYs
@@ -136,7 +139,9 @@ module _ (l : ℕ) (link : Link) (p : Packet) (s : Serving) where
       acked (flows.One window) host n le = one_okay l link.sums p.arg1 host [] (asks l p) le
       acked (flows.Credit credit) host n le = by (n == 0)
         where
-          by : (b : Bool) → okays_to l (packets_of_sent (if b then [] else with_sum link.sums (okay p.arg1 host (little_bytes 4 n)) ∷ [])) ≤ asks l p
+          by : (b : Bool)
+              → okays_to l (packets_of_sent
+              (if b then [] else with_sum link.sums (okay p.arg1 host (little_bytes 4 n)) ∷ [])) ≤ asks l p
           by true = omega arith
           by false = one_okay l link.sums p.arg1 host (little_bytes 4 n) (asks l p) le
 
@@ -154,7 +159,8 @@ module _ (l : ℕ) (link : Link) (p : Packet) (s : Serving) where
                 (λ e. write_asks c (ap (λ n. nat_eq n l) (sym (eqb-true row.host p.arg0 same)) ∙ e));
           })
 
-      at_row : (row : Row) (b : Bool) → (row.host == p.arg0) ≡ b → Owes l (asks l p) s.made (written_to link p (if b then Some row else None) s).made
+      at_row : (row : Row) (b : Bool) → (row.host == p.arg0) ≡ b
+          → Owes l (asks l p) s.made (written_to link p (if b then Some row else None) s).made
       at_row row true e = took row e
       at_row row false e = owes_none l (asks l p) s.made
 
@@ -167,7 +173,8 @@ module _ (l : ℕ) (link : Link) (p : Packet) (s : Serving) where
     where
       go : (found : Option Row) → Owes l (asks l p) s.made (acked_to link p found s).made
       go None = owes_none l (asks l p) s.made
-      go (Some row) = owes_settled l (asks l p) link p.arg1 (row_acked (credit_word_in p.payload) row) (granted p.arg1 (credit_word_in p.payload) s) s.made
+      go (Some row) = owes_settled l (asks l p) link p.arg1 (row_acked (credit_word_in p.payload) row)
+          (granted p.arg1 (credit_word_in p.payload) s) s.made
           (owes_none l (asks l p) s.made)
 
   owes_close : Owes l (asks l p) s.made (on_close p s).made
@@ -197,7 +204,9 @@ owes_step l setting d p = go d.refused
     on None = owes_none l (asks l p) d.serving.made
     on (Some link) = owes_served l link p d.serving p.command refl
 
-    by : (b : Bool) → Owes l (asks l p) d.serving.made (if b then linked_to (link_of setting.most setting.credit p) d else served_on d.link p d).serving.made
+    by : (b : Bool)
+        → Owes l (asks l p) d.serving.made
+        (if b then linked_to (link_of setting.most setting.credit p) d else served_on d.link p d).serving.made
     by true = linked (link_of setting.most setting.credit p)
     by false = on d.link
 
@@ -225,12 +234,15 @@ owes_all l setting d (p ∷ packets) =
     }
 
 -- what a device owed it owes still
-pub owed_grows : (setting : Setting) (packets more : List Packet) → ComeFirst (packets_owed setting packets) (packets_owed setting (packets ++ more))
+pub owed_grows : (setting : Setting) (packets more : List Packet)
+    → ComeFirst (packets_owed setting packets) (packets_owed setting (packets ++ more))
 owed_grows setting packets more =
     let later = owes_all 0 setting (device_behind setting packets) more in (
       packets_of_sent later.more,
       sym (sent_append (device_behind setting packets).serving.made later.more)
-          ∙ ap packets_of_sent (sym later.is ∙ sym (ap (λ (d : Device). d.serving.made) (step_more setting (first_device setting) packets more))),
+          ∙ ap packets_of_sent
+          (sym later.is
+          ∙ sym (ap (λ (d : Device). d.serving.made) (step_more setting (first_device setting) packets more))),
     )
 
 -- to a stream it owes no more OKAYs than one for each OPEN and one for each write

@@ -48,7 +48,8 @@ step_takes setting d p own sound = ap (λ (b : Bool). (if b then d else treated 
     on None = sound
     on (Some link) = sound
 
-    by : (b : Bool) → is_cnxn p.command ≡ b → (if b then linked_to (link_of setting.most setting.credit p) d else served_on d.link p d).refused ≡ false
+    by : (b : Bool) → is_cnxn p.command ≡ b
+        → (if b then linked_to (link_of setting.most setting.credit p) d else served_on d.link p d).refused ≡ false
     by true e = linked (link_of setting.most setting.credit p)
         (ap (λ (q : Packet). is_some (link_of setting.most setting.credit q)) (own e) ∙ makes_link setting.most setting.credit)
     by false e = on d.link
@@ -58,13 +59,15 @@ all_taken : (setting : Setting) (packets : List Packet) → All IsServers packet
     → (fold (step setting) d packets).refused ≡ false
 all_taken setting [] own d sound = sound
 all_taken setting (p ∷ packets) own d sound =
-    all_taken setting packets (All-tail IsServers p packets own) (step setting d p) (step_takes setting d p (All-head IsServers p packets own) sound)
+    all_taken setting packets (All-tail IsServers p packets own) (step setting d p)
+    (step_takes setting d p (All-head IsServers p packets own) sound)
 
 -- a device is never behind a refused CNXN of a server
 pub never_refused : (setting : Setting) (t : ℕ) (h : History) → IsLegal h → (device_behind setting (sent t h)).refused ≡ false
 never_refused setting t h legal =
     all_taken setting (sent t h)
-    (All-weaker (λ p. IsOwn h t p.command p) IsServers (λ p own. own_servers h t p p.command refl own) (sent t h) ((no_crossing h legal).own t))
+    (All-weaker (λ p. IsOwn h t p.command p) IsServers (λ p own. own_servers h t p p.command refl own) (sent t h)
+    ((no_crossing h legal).own t))
     (first_device setting) refl
 
 -- and the bytes have no fault

@@ -83,7 +83,8 @@ after_within l b h most within = go (opening_of l b h) refl
 -- ---- in time
 module _ (owes : RemoteEnd) (plain : IsPlain owes) where
   -- what an entry brings answers what was sent before
-  in_time : (e : Entry) (older : History) → IsLegal older → ComeFirst (brought 1 (e ∷ older)) (owes (sent 1 older)) → (l : ℕ) (b : Birth) → b.link ≡ 1
+  in_time : (e : Entry) (older : History) → IsLegal older → ComeFirst (brought 1 (e ∷ older)) (owes (sent 1 older))
+      → (l : ℕ) (b : Birth) → b.link ≡ 1
       → okays_after l b (e ∷ older) ≤ count_from is_wrte l (packets_of b.link older)
   in_time e older legal first l b own =
       after_within l b (e ∷ older) (count_from is_wrte l (packets_of b.link older))

@@ -72,7 +72,8 @@ opened_told l (p ∷ ps) o is = by p.command is (opened_told l ps o)
     other : opening_in l ps ≡ Some o → Later → length (told_in o.remote l o.later) ≤ writes_to l (p ∷ ps)
     other e later = (let one = later e in let more = many_tail (is_wrte_to l) p ps in omega (arith, one, more))
 
-    okay : (b : Bool) → cond b (Some (record { remote = p.arg0; word = credit_word p.payload; later = ps })) (opening_in l ps) ≡ Some o → Later
+    okay : (b : Bool) → cond b (Some (record { remote = p.arg0; word = credit_word p.payload; later = ps }))
+        (opening_in l ps) ≡ Some o → Later
         → length (told_in o.remote l o.later) ≤ writes_to l (p ∷ ps)
     okay true e later =
         let same : record { remote = p.arg0; word = credit_word p.payload; later = ps } ≡ o = cc in
@@ -84,7 +85,8 @@ opened_told l (p ∷ ps) o is = by p.command is (opened_told l ps o)
     closed true e later = absurd (let clash : None ≡ Some o = e in cc)
     closed false e later = other e later
 
-    by : (command : Command) → opening_by command l p ps (opening_in l ps) ≡ Some o → Later → length (told_in o.remote l o.later) ≤ writes_to l (p ∷ ps)
+    by : (command : Command) → opening_by command l p ps (opening_in l ps) ≡ Some o → Later
+        → length (told_in o.remote l o.later) ≤ writes_to l (p ∷ ps)
     by Okay e later = okay (nat_eq p.arg1 l && not (p.arg0 == 0)) e later
     by Clse e later = closed (is_between 0 l p) e later
     by Cnxn e later = absurd (let clash : None ≡ Some o = e in cc)
@@ -147,7 +149,8 @@ longer_front (x ∷ xs) (y ∷ ys) more rest e le =
 
 module _ (owes : RemoteEnd) (plain : IsPlain owes) where
   -- what the server acknowledged was brought, and so was written before
-  acked : (e : Entry) (older : History) → IsLegal (e ∷ older) → ComeFirst (brought 1 (e ∷ older)) (owes (sent 1 older)) → AllPlain (e ∷ older) → (l : ℕ)
+  acked : (e : Entry) (older : History) → IsLegal (e ∷ older)
+      → ComeFirst (brought 1 (e ∷ older)) (owes (sent 1 older)) → AllPlain (e ∷ older) → (l : ℕ)
       → count_from is_okay l (sent 1 (e ∷ older)) ≤ writes_to l (owes (sent 1 older))
   acked e older legal first all l = go (okay_owner (e ∷ older) l (sent 1 (e ∷ older)) ((no_crossing (e ∷ older) legal).own 1))
     where
@@ -155,7 +158,8 @@ module _ (owes : RemoteEnd) (plain : IsPlain owes) where
           → count_from is_okay l (sent 1 (e ∷ older)) ≤ writes_to l (owes (sent 1 older))
       go (inl none) = omega (arith, none)
       go (inr o) =
-          let window = subst (λ (c : Bool). IsWithinDown c l o.birth (e ∷ older)) (all l o.birth o.is) (keeps_down_window (e ∷ older) legal l o.birth o.is) in
+          let window = subst (λ (c : Bool). IsWithinDown c l o.birth (e ∷ older)) (all l o.birth o.is)
+          (keeps_down_window (e ∷ older) legal l o.birth o.is) in
           let few = within_all (length (handed_to l o.birth (e ∷ older))) (told_to l o.birth (e ∷ older)) in
           let told = told_within l o.birth (e ∷ older) in
           let mine : writes_to l (brought o.birth.link (e ∷ older)) ≡ writes_to l (brought 1 (e ∷ older)) =

@@ -107,7 +107,12 @@ module _ (l : ℕ) where
       at : (b : Bool) → nat_eq p.arg0 l ≡ b → p.command ≡ Wrte → IsOwn h 1 p.command p → (count_from is_wrte l ps ≡ 0) ⊎ HasTold h → Goal
       at true e command one later =
           let of = subst (λ (c : Command). IsOwn h 1 c p) command one in
-          inr (record { birth = of.birth; link = of.link; told = subst (λ (n : ℕ). remote_of n of.birth h ≢ 0) (eqb-true p.arg0 l e) of.told })
+          inr (record {
+            birth = of.birth;
+            link = of.link;
+            told =
+                subst (λ (n : ℕ). remote_of n of.birth h ≢ 0) (eqb-true p.arg0 l e) of.told;
+          })
       at false e command one (inr owner) = inr owner
       at false e command one (inl none) =
           inl (ap (λ c. cond (is_wrte c && nat_eq p.arg0 l) (1 + count_from is_wrte l ps) (count_from is_wrte l ps)) command
@@ -135,7 +140,8 @@ module _ (l : ℕ) where
     due_behind (e ∷ older) legal paired =
         go (write_told (e ∷ older) (packets_of 1 (e ∷ older)) ((owes_own (e ∷ older) legal).own 1)) (due_behind older legal.0 paired.0)
       where
-        go : (count_from is_wrte l (packets_of 1 (e ∷ older)) ≡ 0) ⊎ HasTold (e ∷ older) → Behind 0 (packets_of 1 older) → Behind 0 (packets_of 1 (e ∷ older))
+        go : (count_from is_wrte l (packets_of 1 (e ∷ older)) ≡ 0) ⊎ HasTold (e ∷ older)
+            → Behind 0 (packets_of 1 older) → Behind 0 (packets_of 1 (e ∷ older))
         go (inl none) before = behind_none (packets_of 1 (e ∷ older)) 0 none
         go (inr x) before =
             let first = (sends_first older legal.0 1).first in
@@ -170,7 +176,8 @@ module _ (l : ℕ) where
       )
 
   -- the writes of a stream go to the id that its device told
-  names_remote : (h : History) (b : Birth) → born l h ≡ Some b → (ps : List Packet) → All (λ p. IsOwn h 1 p.command p) ps → All (Names (remote_of l b h)) ps
+  names_remote : (h : History) (b : Birth) → born l h ≡ Some b → (ps : List Packet)
+      → All (λ p. IsOwn h 1 p.command p) ps → All (Names (remote_of l b h)) ps
   names_remote h b is [] own = All-nil (Names (remote_of l b h))
   names_remote h b is (p ∷ ps) own =
       All-cons (Names (remote_of l b h)) p ps
@@ -191,6 +198,7 @@ sent_in_turn owes plain h legal paired l b is =
     let first = (sends_first h legal 1).first in
     let crossing = no_crossing h legal in
     in_turn l (remote_of l b h) (sent 1 h) 0
-    (behind_front l (sent 1 h) first.0 0 (subst (λ (ps : List Packet). Behind l 0 ps) (sym first.1) (due_behind l owes plain h legal paired)))
+    (behind_front l (sent 1 h) first.0 0
+    (subst (λ (ps : List Packet). Behind l 0 ps) (sym first.1) (due_behind l owes plain h legal paired)))
     (names_remote l h b is (sent 1 h) (crossing.own 1))
     (let once = crossing.once 1 l in omega (arith, once))

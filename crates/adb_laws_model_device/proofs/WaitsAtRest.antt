@@ -23,7 +23,8 @@ use Rattle.adb_laws_model_device.proofs.Counts.{many_append}
 use Rattle.adb_laws_model_device.proofs.Timely.{timely}
 use Rattle.adb_laws_model_device.proofs.Heard.{opened_hears, placed}
 
-module _ (owes : RemoteEnd) (plain : IsPlain owes) (h : History) (legal : IsLegal h) (paired : IsPaired owes h) (still : IsStill owes h) where
+module _ (owes : RemoteEnd) (plain : IsPlain owes) (h : History) (legal : IsLegal h) (paired : IsPaired owes h)
+    (still : IsStill owes h) where
   module _ (l : ℕ) (b : Birth) (own : b.link ≡ 1) (birth : born l h ≡ Some b) where
     -- an OKAY to the stream comes from this id
     abbrev From : ℕ → Packet → Type 0
@@ -37,12 +38,14 @@ module _ (owes : RemoteEnd) (plain : IsPlain owes) (h : History) (legal : IsLega
         ids = plain.ids l (sent 1 h) ((no_crossing h legal).once 1 l)
 
         from : All (From ids.id) (brought b.link h)
-        from = subst (λ (t : ℕ). All (From ids.id) (brought t h)) (sym own) (subst (λ (ps : List Packet). All (From ids.id) ps) (sym still.brought_all) ids.all)
+        from = subst (λ (t : ℕ). All (From ids.id) (brought t h)) (sym own)
+            (subst (λ (ps : List Packet). All (From ids.id) ps) (sym still.brought_all) ids.all)
 
         none : okays_to l (take b.packets_before (brought 1 h)) ≡ 0
         none = (placed owes plain h legal paired l b birth own).none
 
-        parts : okays_to l (brought 1 h) ≡ okays_to l (take b.packets_before (brought 1 h)) + okays_to l (drop b.packets_before (brought 1 h))
+        parts : okays_to l (brought 1 h) ≡ okays_to l (take b.packets_before (brought 1 h))
+            + okays_to l (drop b.packets_before (brought 1 h))
         parts = ap (okays_to l) (sym (take-append-drop b.packets_before (brought 1 h)))
             ∙ many_append (is_okay_to l) (take b.packets_before (brought 1 h)) (drop b.packets_before (brought 1 h))
 

@@ -19,4 +19,5 @@ pub record TookCarried (l id : ℕ) (packets : List Packet) (s : Serving) : Type
 
 -- It is so of each stream that was born, at the id that the device told.
 abbrev pub TakesCarried : Setting → History → Type 0
-TakesCarried setting h = (l : ℕ) (b : Birth) → born l h ≡ Some b → TookCarried l (remote_of l b h) (sent 1 h) (device_behind setting (sent 1 h)).serving
+TakesCarried setting h = (l : ℕ) (b : Birth) → born l h ≡ Some b
+    → TookCarried l (remote_of l b h) (sent 1 h) (device_behind setting (sent 1 h)).serving

@@ -10,7 +10,8 @@ use Rattle.adb_laws_model_device.specs.Devices.{RemoteEnd}
 abbrev pub AllPlain : History → Type 0
 AllPlain h = (l : ℕ) (b : Birth) → born l h ≡ Some b → b.credit ≡ false
 
--- Each OKAY that the device is sent comes behind the write that it answers: with each packet there are no more of them than it had written before.
+-- Each OKAY that the device is sent comes behind the write that it answers: with each packet there are no more of
+-- them than it had written before.
 abbrev pub IsToldInTime : RemoteEnd → List Packet → Type 0
 IsToldInTime owes packets = (l : ℕ) (front : List Packet) (p : Packet) (rest : List Packet) → front ++ p ∷ rest ≡ packets
     → count_from is_okay l (front ++ p ∷ []) ≤ writes_to l (owes front)

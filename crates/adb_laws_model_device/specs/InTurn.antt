@@ -5,7 +5,8 @@ use Rattle.adb_history.specs.Bytes.{sent}
 use Rattle.adb_history.specs.Births.{Birth, born, remote_of, count_from, is_wrte, is_open}
 use Rattle.adb_history.specs.Machine.{History}
 
--- A packet comes in its turn, where the stream was asked for so often before: it is asked for once, and its writes come behind that, to one id.
+-- A packet comes in its turn, where the stream was asked for so often before: it is asked for once, and its writes
+-- come behind that, to one id.
 pub record IsInTurn (l id opens : ℕ) (p : Packet) : Type 0 where
   pub asked : is_open p.command ≡ true → p.arg0 ≡ l → opens ≡ 0
   pub wrte : is_wrte p.command ≡ true → p.arg0 ≡ l → (1 ≤ opens) × (p.arg1 ≡ id)

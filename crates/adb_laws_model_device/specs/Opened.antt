@@ -40,7 +40,8 @@ pub record EndedFor (own host : ℕ) (kind : Kind) (first : List Entry) (rows : 
   pub is : over_at own ended ≡ Some over
   pub opened : IsFor host kind first over.row
 
--- A stream was opened: the row of this id of the device, or the newest of it that has ended, is for that host's id, service and files; an OKAY
+-- A stream was opened: the row of this id of the device, or the newest of it that has ended, is for that host's id,
+-- service and files; an OKAY
 -- from this id to that one is owed; and all that is sent from this id goes to that one.
 pub record WasOpened (own host : ℕ) (kind : Kind) (first : List Entry) (s : Serving) : Type 0 where
   pub stands : LivesFor own host kind first s.rows ⊎ EndedFor own host kind first s.rows s.ended
@@ -49,7 +50,8 @@ pub record WasOpened (own host : ℕ) (kind : Kind) (first : List Entry) (s : Se
 
 -- An OPEN for a known service, of an id that is not 0 and of no live stream, opens a stream by the next id, whatever follows.
 abbrev pub AnswersOpens : Setting → Type 0
-AnswersOpens setting = (front : List Packet) (p : Packet) (rest : List Packet) (link : Link) (kind : Kind) → let d = device_behind setting front
+AnswersOpens setting = (front : List Packet) (p : Packet) (rest : List Packet) (link : Link) (kind : Kind)
+    → let d = device_behind setting front
     in d.refused ≡ false → d.link ≡ Some link → p.command ≡ commands.Open → p.arg0 ≢ 0 → is_taken p.arg0 d.serving.rows ≡ false
     → kind_for d.serving.drawn p ≡ Some kind
     → WasOpened (d.serving.drawn + 1) p.arg0 kind d.serving.files (device_behind setting (front ++ p ∷ rest)).serving

@@ -42,9 +42,11 @@ is_close_to n p = is_clse p.command && nat_eq p.arg1 n
 abbrev pub is_cnxn_packet : Packet → Bool
 is_cnxn_packet p = is_cnxn p.command
 
--- Where the device owes an OKAY from n to l, the row of n lives for that host, or the device closed it, or its host did; its host said who it is
+-- Where the device owes an OKAY from n to l, the row of n lives for that host, or the device closed it, or its host
+-- did; its host said who it is
 -- once at most.
 abbrev pub LivesOrWasClosed : Setting → Type 0
-LivesOrWasClosed setting = (n l : ℕ) (packets : List Packet) → how_many is_cnxn_packet packets ≤ 1 → 1 ≤ okays_in n l (packets_owed setting packets)
+LivesOrWasClosed setting = (n l : ℕ) (packets : List Packet) → how_many is_cnxn_packet packets ≤ 1
+    → 1 ≤ okays_in n l (packets_owed setting packets)
     → ((row : Row) × ((at n (device_behind setting packets).serving.rows ≡ Some row) × (row.host ≡ l)))
     ⊎ ((1 ≤ how_many (is_close_between n l) (packets_owed setting packets)) ⊎ (1 ≤ how_many (is_close_to n) packets))

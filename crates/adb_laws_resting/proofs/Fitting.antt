@@ -29,7 +29,8 @@ step_sums None new told h = tt
 step_sums (Some old) None told h = tt
 step_sums (Some old) (Some new) told h = h.sums
 
-read_out_at : (old new : Option Port) → StaysRead old new → SumsStay (option_map link_row old) (option_map link_row new) → IsReadOutAt old → IsReadOutAt new
+read_out_at : (old new : Option Port) → StaysRead old new → SumsStay (option_map link_row old)
+    (option_map link_row new) → IsReadOutAt old → IsReadOutAt new
 read_out_at None None read sums h = tt
 read_out_at (Some old) None read sums h = tt
 read_out_at None (Some port) read sums h = absurd read

@@ -42,7 +42,8 @@ module _ (h : History) (t : ℕ) (bytes : List ℕ) (legal : IsLegal (Recv t byt
 
   end_of : (now : Link) → ruled.links t ≡ Some now → IsLeft now ((state (Recv t bytes ∷ h)).links t)
   end_of now there =
-      left now (spelled_to t (ups ruled).told) (ruled.links t) ((state (Recv t bytes ∷ h)).links t) there (ups_keep.links t) (ups_keep.linked t)
+      left now (spelled_to t (ups ruled).told) (ruled.links t) ((state (Recv t bytes ∷ h)).links t) there
+      (ups_keep.links t) (ups_keep.linked t)
 
   module _ (link : Link) (here : (state h).links t ≡ Some link) where
     before : ReadTie (is_lost t h) (Some link) (bytes_received t h)

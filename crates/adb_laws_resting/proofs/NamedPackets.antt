@@ -14,7 +14,8 @@ use Rattle.adb_history.specs.Rows.{Link, State, to_link}
 use Rattle.adb_history.specs.Events.{quietly}
 use Rattle.adb_history.specs.declared.ending.Ending.TheVariants.{Broken}
 use Rattle.adb_history.specs.Links.{credit_word, is_connected}
-use Rattle.adb_history.specs.Packets.{takes_okay, takes_write, takes_close, treat_open, treat_any, treat_on, treat, treat_all, faulty_on, with_rest}
+use Rattle.adb_history.specs.Packets.{takes_okay, takes_write, takes_close, treat_open, treat_any, treat_on, treat, treat_all, faulty_on}
+use Rattle.adb_history.specs.Packets.{with_rest}
 use Rattle.adb_history.specs.Packets.{receives_cut, receives_on, receives}
 use Rattle.adb_history.specs.Linked.{IsLinked}
 use Rattle.adb_history.specs.Moves.{serves}
@@ -23,7 +24,8 @@ use Rattle.adb_history.proofs.PacketMoves.{treat_on_kept}
 use Rattle.adb_hub_tables.specs.Tracked.{IsAmong}
 use Rattle.adb_laws_resting.specs.Named.{named_also, named_by, granted_by, granted, cut_behind}
 use Rattle.adb_laws_resting.proofs.NamedRows.{kept_of, all_same}
-use Rattle.adb_laws_resting.proofs.NamedRules.{PassesWith, Passes, passes_plain, passes_same, more_passes, passes_before, passes_behind, passes_if}
+use Rattle.adb_laws_resting.proofs.NamedRules.{PassesWith, Passes, passes_plain, passes_same, more_passes, passes_before, passes_behind}
+use Rattle.adb_laws_resting.proofs.NamedRules.{passes_if}
 use Rattle.adb_laws_resting.proofs.NamedRules.{cnxn_passes, unauthorized_passes, refuses_passes}
 use Rattle.adb_laws_resting.proofs.NamedRules.{at_stream_passes, okay_passes, write_passes, close_passes, link_ends_passes}
 
@@ -66,11 +68,13 @@ module _ (ids : List ℕ) (t : ℕ) where
       omega (arith, given)
 
   module _ (s : State) (h : IsLinked s) where
-    treat_open_passes : (command : Command) (p : Packet) → IsNamed s command p.arg1 → PassesWith ids (granted_by command p) s (treat_open t command p s).state
+    treat_open_passes : (command : Command) (p : Packet) → IsNamed s command p.arg1
+        → PassesWith ids (granted_by command p) s (treat_open t command p s).state
     treat_open_passes Open p named = refuses_passes ids s h t p.arg0
     treat_open_passes Okay p named =
         at_stream_passes ids s h t p.arg1 (s.streams p.arg1) (takes_okay p.arg1 p.arg0 (credit_word p.payload)) refl
-        (λ stream is of. okay_passes ids s h p.arg1 p.arg0 (credit_word p.payload) stream is (named stream is of) (granted_by Okay p) (grants p))
+        (λ stream is of. okay_passes ids s h p.arg1 p.arg0 (credit_word p.payload) stream is (named stream is of)
+        (granted_by Okay p) (grants p))
     treat_open_passes Wrte p named =
         at_stream_passes ids s h t p.arg1 (s.streams p.arg1) (takes_write p.arg1 p.arg0 p.payload) refl
         (λ stream is of. write_passes ids s h p.arg1 p.arg0 p.payload stream is)
@@ -82,9 +86,11 @@ module _ (ids : List ℕ) (t : ℕ) where
     if_connected_passes : (command : Command) (p : Packet) → IsNamed s command p.arg1
         → PassesWith ids (granted_by command p) s (cond (is_connected t s.devices) (treat_open t command p s) (quietly s)).state
     if_connected_passes command p named =
-        passes_if ids s (is_connected t s.devices) (treat_open t command p s) (quietly s) (λ e. treat_open_passes command p named) (λ e. passes_same ids s)
+        passes_if ids s (is_connected t s.devices) (treat_open t command p s) (quietly s)
+        (λ e. treat_open_passes command p named) (λ e. passes_same ids s)
 
-    treat_any_passes : (command : Command) (p : Packet) → IsNamed s command p.arg1 → PassesWith ids (granted_by command p) s (treat_any t command p s).state
+    treat_any_passes : (command : Command) (p : Packet) → IsNamed s command p.arg1
+        → PassesWith ids (granted_by command p) s (treat_any t command p s).state
     treat_any_passes Cnxn p named = cnxn_passes ids s h t p.arg0 p.arg1 p.payload
     treat_any_passes Auth p named = unauthorized_passes ids s h t (at t s.devices.rows) refl
     treat_any_passes Stls p named = unauthorized_passes ids s h t (at t s.devices.rows) refl
@@ -93,7 +99,8 @@ module _ (ids : List ℕ) (t : ℕ) where
     treat_any_passes Wrte p named = if_connected_passes Wrte p named
     treat_any_passes Clse p named = if_connected_passes Clse p named
 
-    treat_on_passes : (o : Option Link) (p : Packet) → IsNamed s p.command p.arg1 → PassesWith ids (granted_by p.command p) s (treat_on o t p s).state
+    treat_on_passes : (o : Option Link) (p : Packet) → IsNamed s p.command p.arg1
+        → PassesWith ids (granted_by p.command p) s (treat_on o t p s).state
     treat_on_passes None p named = passes_same ids s
     treat_on_passes (Some link) p named = treat_any_passes p.command p named
 
@@ -103,12 +110,14 @@ module _ (ids : List ℕ) (t : ℕ) where
     pub passes : PassesWith ids more s now
     pub linked : IsLinked now
 
-  pub treats_all : (packets : List Packet) (s : State) → IsLinked s → AllNamed s (named_by packets) → Treats (granted packets) s (treat_all t packets s).state
+  pub treats_all : (packets : List Packet) (s : State) → IsLinked s → AllNamed s (named_by packets)
+      → Treats (granted packets) s (treat_all t packets s).state
   treats_all [] s h all = record { passes = passes_same ids s; linked = h }
   treats_all (p ∷ packets) s h all =
       let next : State = (treat t p s).state in
       let others : List ℕ = named_by packets in
-      let first : PassesWith ids (granted_by p.command p) s next = treat_on_passes s h (s.links t) p (named_first s p.command p.arg1 others all) in
+      let first : PassesWith ids (granted_by p.command p) s next =
+      treat_on_passes s h (s.links t) p (named_first s p.command p.arg1 others all) in
       let rest : Treats (granted packets) next (treat_all t packets next).state =
       treats_all packets next (treated_linked t p s h) (named_after s next others first (named_behind s p.command p.arg1 others all)) in
       record { passes = more_passes ids s next (treat_all t packets next).state first rest.passes; linked = rest.linked }
@@ -140,7 +149,8 @@ module _ (ids : List ℕ) (t : ℕ) where
       passes_behind ids s treated (receives_cut t c s).state packets.passes (faulty_passes (treated.links t) c.fault treated packets.linked)
 
   pub receives_passes : (bytes : List ℕ) (link : Link) (s : State) → IsLinked s → s.links t ≡ Some link
-      → AllNamed s (named_by (cut_behind link bytes).given) → PassesWith ids (granted (cut_behind link bytes).given) s (receives t bytes s).state
+      → AllNamed s (named_by (cut_behind link bytes).given) → PassesWith ids (granted (cut_behind link bytes).given) s
+      (receives t bytes s).state
   receives_passes bytes link s h is all =
       subst (λ (o : Option Link). PassesWith ids (granted (cut_behind link bytes).given) s (receives_on o t bytes s).state) (sym is)
       (cut_passes (cut_behind link bytes) s h all)

@@ -1,5 +1,6 @@
 -- What the rows of clients and streams were before a rule, where packets name the streams of some ids.
-use Rattle.std.proofs.Common.{ℕ, ◌+◌, ◌≡◌, ◌≤◌, arith, Bool, true, false, cond, List, [], ◌∷◌, ◌++◌, Option, Some, None, refl, sym, ◌∙◌, ap, subst, eqb}
+use Rattle.std.proofs.Common.{ℕ, ◌+◌, ◌≡◌, ◌≤◌, arith, Bool, true, false, cond, List, [], ◌∷◌, ◌++◌, Option, Some, None, refl, sym, ◌∙◌, ap}
+use Rattle.std.proofs.Common.{subst, eqb}
 use Rattle.std.specs.Prelude.{option_and_then, option_map}
 use Rattle.std.proofs.lemmas.Bool.{eqb-true}
 use Rattle.adb_outside.specs.Tables.{Rows, change_row}
@@ -149,8 +150,12 @@ module _ (ids : List ℕ) where
   pub more_then : {m n : ℕ → ℕ} (a b c : Kept) → AllWere m a b → AllWere n b c → AllWere (λ l. m l + n l) a c
   more_then a b c h k = record {
     drawn = k.drawn ∙ h.drawn;
-    streams = λ l stream is. (let late = k.streams l stream is in stream_then l (a.streams l) (b.streams l) stream late (h.streams l late.old late.is));
-    clients = λ n client is. (let late = k.clients n client is in client_then (a.clients n) (b.clients n) client late (h.clients n late.old late.is));
+    streams = λ l stream is.
+        (let late = k.streams l stream is in stream_then l (a.streams l) (b.streams l) stream late
+        (h.streams l late.old late.is));
+    clients = λ n client is.
+        (let late = k.clients n client is in client_then (a.clients n) (b.clients n) client late
+        (h.clients n late.old late.is));
   }
 
   -- where so much credit is no more than that
@@ -206,7 +211,8 @@ module _ (ids : List ℕ) where
   }
 
   -- ---- clients
-  pub owes_were : (c : ℕ) (bytes : List ℕ) (x : Kept) → AllWere no_credit x (record x { clients = change_row c (option_and_then (with_due bytes)) x.clients })
+  pub owes_were : (c : ℕ) (bytes : List ℕ) (x : Kept) → AllWere no_credit x
+      (record x { clients = change_row c (option_and_then (with_due bytes)) x.clients })
   owes_were c bytes x = client_changes c (with_due bytes) x changed
     where
       changed : (old now : Client) → x.clients c ≡ Some old → with_due bytes old ≡ Some now → ClientWas (Some old) now
@@ -218,7 +224,9 @@ module _ (ids : List ℕ) where
   closing_was : (due : List ℕ) (old now : Client) → closing_with due old ≡ Some now → ClientWas (Some old) now
   closing_was [] old now is = absurd (let clash : None ≡ Some now = is in cc)
   closing_was (b ∷ due) old now is =
-      let row : record old { about = record old.about { phase = Closing; mark = false; want = None }; held = []; due = b ∷ due } ≡ now = cc in
+      let row : record old
+      { about = record old.about { phase = Closing; mark = false; want = None }; held = []; due = b ∷ due }
+      ≡ now = cc in
       subst (ClientWas (Some old)) row (record {
         old = old;
         is = refl;
@@ -266,7 +274,8 @@ module _ (ids : List ℕ) where
   pub goes_were : (l : ℕ) (x : Kept) → AllWere no_credit x (record x { streams = change_row l (option_and_then none_kept) x.streams })
   goes_were l x = stream_changes l none_kept x (λ old now there is. absurd (let clash : None ≡ Some now = is in cc))
 
-  -- A flow is followed by one of its kind, with so much credit more at most: of a stream that packets name, or to one that lets the same go up.
+  -- A flow is followed by one of its kind, with so much credit more at most: of a stream that packets name, or to one
+  -- that lets the same go up.
   pub record Follows (l more : ℕ) (old now : Flow) : Type 0 where
     pub credit : has_credit now ≡ has_credit old
     pub most : credit_to_send now ≤ credit_to_send old + more

@@ -1,5 +1,6 @@
 -- What the rules of a packet make of the rows, and of the devices of the streams that are still there.
-use Rattle.std.proofs.Common.{ℕ, ◌+◌, ◌≡◌, ◌≤◌, arith, Bool, true, false, cond, not, ◌&&◌, ◌||◌, zero, suc, List, [], ◌∷◌, ◌++◌, length, min, Option, Some, None, refl, sym}
+use Rattle.std.proofs.Common.{ℕ, ◌+◌, ◌≡◌, ◌≤◌, arith, Bool, true, false, cond, not, ◌&&◌, ◌||◌, zero, suc, List, [], ◌∷◌, ◌++◌, length}
+use Rattle.std.proofs.Common.{min, Option, Some, None, refl, sym}
 use Rattle.std.proofs.Common.{◌∙◌, ap, subst, eqb}
 use Rattle.std.specs.Prelude.{codes, nat_eq, nat_lt, unwrap_or}
 use Rattle.std.proofs.lemmas.Bool.{eqb-true}
@@ -31,7 +32,8 @@ use Rattle.adb_history.specs.Clients.{owe_client, closes}
 use Rattle.adb_history.specs.Streams.{loses, client_loses, ends_row, ends_telling, ends_if_of, ends_of, all_end}
 use Rattle.adb_history.specs.Flow.{is_over, with_flow}
 use Rattle.adb_history.specs.Losing.{forgets, link_ends}
-use Rattle.adb_history.specs.Packets.{least_version, least_maxdata, streams_end_first, goes_online, connects, cnxn, unauthorized_from, unauthorized}
+use Rattle.adb_history.specs.Packets.{least_version, least_maxdata, streams_end_first, goes_online, connects, cnxn, unauthorized_from}
+use Rattle.adb_history.specs.Packets.{unauthorized}
 use Rattle.adb_history.specs.Packets.{refuses_open, at_stream, with_remote, hears_okay, opened, orphan_opened, okay_open}
 use Rattle.adb_history.specs.Packets.{okay_first, takes_okay, accepts_none, accepts, takes_write, takes_close}
 use Rattle.adb_history.specs.Orderly.{phase_for}
@@ -45,7 +47,8 @@ use Rattle.adb_history.proofs.LinkMoves.{IsCleared, all_cleared, first_cleared, 
 use Rattle.adb_history.proofs.PacketMoves.{hears_streams}
 use Rattle.adb_hub_tables.specs.Tracked.{IsAmong}
 use Rattle.adb_laws_resting.specs.Named.{credit_to_send, no_credit}
-use Rattle.adb_laws_resting.proofs.NamedRows.{kept_of, LetsSame, Follows, AllWere, all_same, all_then, more_then, none_before, none_behind, all_within}
+use Rattle.adb_laws_resting.proofs.NamedRows.{kept_of, LetsSame, Follows, AllWere, all_same, all_then, more_then, none_before, none_behind}
+use Rattle.adb_laws_resting.proofs.NamedRows.{all_within}
 use Rattle.adb_laws_resting.proofs.NamedRows.{owes_were, closes_were, opens_were, marks_were, goes_were, parts_were}
 
 -- ---- flows
@@ -75,13 +78,15 @@ more_accepted n (Credit credit) = omega arith
 -- what was accepted changes nothing of what may go up
 lets_accepted : (n : ℕ) (flow : Flow) → LetsSame flow (accepted n flow)
 lets_accepted n (One window) = record { payloads = λ maxdata held. refl; over = same_over (One window) (accepted n (One window)) refl }
-lets_accepted n (Credit credit) = record { payloads = λ maxdata held. refl; over = same_over (Credit credit) (accepted n (Credit credit)) refl }
+lets_accepted n (Credit credit) =
+    record { payloads = λ maxdata held. refl; over = same_over (Credit credit) (accepted n (Credit credit)) refl }
 
 module _ (ids : List ℕ) where
   abbrev pub Were : State → State → Type 0
   Were s now = AllWere ids no_credit (kept_of s) (kept_of now)
 
-  -- The rows were there before, the streams with so much credit more at most, and of the streams that are still there the devices are as they were.
+  -- The rows were there before, the streams with so much credit more at most, and of the streams that are still there
+  -- the devices are as they were.
   pub record PassesWith (more : ℕ → ℕ) (s now : State) : Type 0 where
     pub rows : AllWere ids more (kept_of s) (kept_of now)
     pub devices : (l : ℕ) (stream : Stream) → now.streams l ≡ Some stream → at stream.link now.devices.rows ≡ at stream.link s.devices.rows
@@ -90,7 +95,8 @@ module _ (ids : List ℕ) where
   abbrev pub Passes : State → State → Type 0
   Passes s now = PassesWith no_credit s now
 
-  pub passes_plain : {more : ℕ → ℕ} (s now : State) → now.devices ≡ s.devices → AllWere ids more (kept_of s) (kept_of now) → PassesWith more s now
+  pub passes_plain : {more : ℕ → ℕ} (s now : State) → now.devices ≡ s.devices
+      → AllWere ids more (kept_of s) (kept_of now) → PassesWith more s now
   passes_plain s now same rows = record { rows = rows; devices = λ l stream is. ap (λ devices. at stream.link devices.rows) same }
 
   pub passes_same : {more : ℕ → ℕ} (s : State) → PassesWith more s s
@@ -120,7 +126,8 @@ module _ (ids : List ℕ) where
   pub passes_within : {more : ℕ → ℕ} (s now : State) → Passes s now → PassesWith more s now
   passes_within s now h = record { rows = all_within ids (kept_of s) (kept_of now) h.rows; devices = h.devices }
 
-  pub passes_if : {more : ℕ → ℕ} (s : State) (b : Bool) (m n : Made) → (b ≡ true → PassesWith more s m.state) → (b ≡ false → PassesWith more s n.state)
+  pub passes_if : {more : ℕ → ℕ} (s : State) (b : Bool) (m n : Made) → (b ≡ true → PassesWith more s m.state)
+      → (b ≡ false → PassesWith more s n.state)
       → PassesWith more s (cond b m n).state
   passes_if s true m n one other = one refl
   passes_if s false m n one other = other refl
@@ -137,7 +144,12 @@ module _ (ids : List ℕ) where
   follows_acknowledged : (l : ℕ) {more : ℕ} (word : Option ℕ) (flow : Flow) → IsAmong l ids → unwrap_or word 0 ≤ more
       → Follows ids l more flow (acknowledged word flow)
   follows_acknowledged l word flow named enough =
-      record { credit = credit_acknowledged word flow; most = omega (arith, more_acknowledged word flow, enough); lets = λ none. absurd (none named) }
+      record {
+        credit = credit_acknowledged word flow;
+        most =
+            omega (arith, more_acknowledged word flow, enough);
+        lets = λ none. absurd (none named);
+      }
 
   -- ---- a stream ends
   loses_were : (forwarded : Bool) (phase : Phase) (c : ℕ) (s : State) → Were s (loses forwarded phase c s).state
@@ -159,7 +171,8 @@ module _ (ids : List ℕ) where
       let gone : State = to_stream l none_kept s in
       let now : State = (client_loses (s.clients stream.client) stream.client gone).state in
       subst (λ (x : State). AllWere ids no_credit (kept_of s) (kept_of x)) (sym (ends_state l ending stream s))
-      (all_then ids (kept_of s) (kept_of gone) (kept_of now) (goes_were ids l (kept_of s)) (client_loses_were (s.clients stream.client) stream.client gone))
+      (all_then ids (kept_of s) (kept_of gone) (kept_of now) (goes_were ids l (kept_of s))
+      (client_loses_were (s.clients stream.client) stream.client gone))
 
   ends_row_devices : (l : ℕ) (ending : Ending) (stream : Stream) (s : State) → (ends_row l ending stream s).state.devices ≡ s.devices
   ends_row_devices l ending stream s =
@@ -189,7 +202,8 @@ module _ (ids : List ℕ) where
   ends_of_were t zero ending s = all_same ids (kept_of s)
   ends_of_were t (suc k) ending s =
       let now : State = (ends_of t k ending s).state in
-      all_then ids (kept_of s) (kept_of now) (kept_of (ends_if_of t (suc k) ending (now.streams (suc k)) now).state) (ends_of_were t k ending s)
+      all_then ids (kept_of s) (kept_of now) (kept_of (ends_if_of t (suc k) ending (now.streams (suc k)) now).state)
+      (ends_of_were t k ending s)
       (ends_if_were t (suc k) ending (now.streams (suc k)) now)
 
   module _ (s : State) (h : IsLinked s) where
@@ -220,7 +234,8 @@ module _ (ids : List ℕ) where
     connects_passes : (t version maxdata : ℕ) (who : Option Identity) → Passes s (connects t version maxdata who s).state
     connects_passes t version maxdata None = link_ends_passes t Broken
     connects_passes t version maxdata (Some identity) = record {
-      rows = all_then ids (kept_of s) (kept_of now) (kept_of (goes_online t version maxdata identity now)) (first_were (is_connected t s.devices) t)
+      rows = all_then ids (kept_of s) (kept_of now) (kept_of (goes_online t version maxdata identity now))
+          (first_were (is_connected t s.devices) t)
           (marks_were ids (kept_of now));
       devices = λ l stream is.
           ap (λ devices. at stream.link (changed t row devices).rows) left.devices
@@ -238,14 +253,16 @@ module _ (ids : List ℕ) where
 
     pub cnxn_passes : (t version maxdata : ℕ) (banner : List ℕ) → Passes s (cnxn t version maxdata banner s).state
     cnxn_passes t version maxdata banner =
-        passes_if s (nat_lt version least_version || nat_lt maxdata least_maxdata) (link_ends t Broken s) (connects t version maxdata (identity_of banner) s)
+        passes_if s (nat_lt version least_version || nat_lt maxdata least_maxdata) (link_ends t Broken s)
+        (connects t version maxdata (identity_of banner) s)
         (λ e. link_ends_passes t Broken) (λ e. connects_passes t version maxdata (identity_of banner))
 
     -- a device that is not connected has no stream
     waiting_passes : (t : ℕ) (row : Row) → at t s.devices.rows ≡ Some row → row.state ≡ Offline → Passes s (unauthorized_from t Offline s)
     waiting_passes t row is offline = record {
       rows = marks_were ids (kept_of s);
-      devices = λ l stream there. changed_other_at t unauthorized_row s.devices h.rows.rises stream.link (λ same. waits (h.on l stream there) same);
+      devices = λ l stream there. changed_other_at t unauthorized_row s.devices h.rows.rises stream.link
+          (λ same. waits (h.on l stream there) same);
     }
       where
         waits : {stream : Stream} → OnLink s.devices stream → stream.link ≡ t → ⊥
@@ -273,7 +290,8 @@ module _ (ids : List ℕ) where
         → PassesWith more s (at_stream t o rule s).state
     at_stream_passes t l None rule is makes = passes_same s
     at_stream_passes t l (Some stream) rule is makes =
-        passes_if s (nat_eq stream.link t) (rule stream s) (quietly s) (λ e. makes stream is (eqb-true stream.link t e)) (λ e. passes_same s)
+        passes_if s (nat_eq stream.link t) (rule stream s) (quietly s)
+        (λ e. makes stream is (eqb-true stream.link t e)) (λ e. passes_same s)
 
     -- ---- WRTE and CLSE
     accepts_none_passes : (flow : Flow) (l : ℕ) (stream : Stream) → Passes s (accepts_none flow l stream s).state
@@ -291,7 +309,8 @@ module _ (ids : List ℕ) where
         (parts_were ids l stream part (kept_of s) is (follows_accepted l n stream.part.flow))
         (owes_were ids stream.client (b ∷ payload) (kept_of taken)))
 
-    pub write_passes : (l remote : ℕ) (payload : List ℕ) (stream : Stream) → s.streams l ≡ Some stream → Passes s (takes_write l remote payload stream s).state
+    pub write_passes : (l remote : ℕ) (payload : List ℕ) (stream : Stream) → s.streams l ≡ Some stream
+        → Passes s (takes_write l remote payload stream s).state
     write_passes l remote payload stream is =
         let late : Made = ends_telling l OutOfTurn stream s in
         let taken : Made = accepts l payload stream s in
@@ -331,7 +350,8 @@ module _ (ids : List ℕ) where
       asked_for : stream.part.orphan ≡ false → stream.part.remote ≡ 0 → (client : Client) → s.clients stream.client ≡ Some client
           → client.about.phase ≡ Opening l
       asked_for owned new client there =
-          let owner : OwnerIn false s.clients l stream = subst (λ (b : Bool). OwnerIn b s.clients l stream) owned (h.owned.owned.stream l stream is).owner in
+          let owner : OwnerIn false s.clients l stream = subst (λ (b : Bool). OwnerIn b s.clients l stream) owned
+          (h.owned.owned.stream l stream is).owner in
           let same : owner.client ≡ client = (let both : Some owner.client ≡ Some client = sym owner.is ∙ there in cc) in
           ap (λ (x : Client). x.about.phase) (sym same) ∙ (owner.phase ∙ ap (phase_for l) new)
 
@@ -357,7 +377,8 @@ module _ (ids : List ℕ) where
           here : (hears_okay (s.clients stream.client) stream.client s).state.streams l ≡ Some stream
           here = ap (λ streams. streams l) (hears_streams (s.clients stream.client) stream.client s) ∙ is
 
-          asked : (old : Client) → (hears_okay (s.clients stream.client) stream.client s).state.clients stream.client ≡ Some old → old.about.phase ≡ Opening l
+          asked : (old : Client) → (hears_okay (s.clients stream.client) stream.client s).state.clients stream.client
+              ≡ Some old → old.about.phase ≡ Opening l
           asked = hears_asked (s.clients stream.client) stream.client refl (asked_for owned new)
 
       first_passes : (orphan : Bool) → stream.part.orphan ≡ orphan → stream.part.remote ≡ 0
@@ -377,5 +398,6 @@ module _ (ids : List ℕ) where
           let again : Made = okay_open l word stream s in
           let later : Made = cond (eqb remote stream.part.remote) again (quietly s) in
           passes_if s (eqb remote 0) (quietly s) (cond (eqb stream.part.remote 0) first later) (λ e. passes_same s)
-          (λ e. passes_if s (eqb stream.part.remote 0) first later (λ new. first_passes stream.part.orphan refl (eqb-true stream.part.remote 0 new))
+          (λ e. passes_if s (eqb stream.part.remote 0) first later
+          (λ new. first_passes stream.part.orphan refl (eqb-true stream.part.remote 0 new))
           (λ e. passes_if s (eqb remote stream.part.remote) again (quietly s) (λ e. okay_open_passes) (λ e. passes_same s)))

@@ -1,5 +1,6 @@
 -- Behind a piece only the streams that its packets name may send up, and what is still there is as it was.
-use Rattle.std.proofs.Common.{ℕ, ◌≡◌, ◌<◌, ◌≤◌, ◌⊎◌, inl, inr, true, false, zero, suc, List, Option, Some, None, refl, sym, ◌∙◌, ap, subst, arith}
+use Rattle.std.proofs.Common.{ℕ, ◌≡◌, ◌<◌, ◌≤◌, ◌⊎◌, inl, inr, true, false, zero, suc, List, Option, Some, None, refl, sym, ◌∙◌, ap, subst}
+use Rattle.std.proofs.Common.{arith}
 use Rattle.std.specs.Prelude.{is_some, option_map, unwrap_or}
 use Rattle.adb_registry.specs.declared.row.Row.{Row}
 use Rattle.adb_wire.specs.declared.packets.Packet.{Packet}
@@ -52,7 +53,8 @@ has_open l (Streaming k) is = is
 has_open l _ is = absurd (let clash : false ≡ true = is in cc)
 
 module _ (ids : List ℕ) (more : ℕ → ℕ) (s now : State) (h : PassesWith ids more s now) where
-  same_maxdata : (l : ℕ) (stream : Stream) → now.streams l ≡ Some stream → maxdata_of stream.link now.devices ≡ maxdata_of stream.link s.devices
+  same_maxdata : (l : ℕ) (stream : Stream) → now.streams l ≡ Some stream
+      → maxdata_of stream.link now.devices ≡ maxdata_of stream.link s.devices
   same_maxdata l stream is = ap (λ (o : Option Row). unwrap_or (option_map (λ row. row.maxdata) o) 0) (h.devices l stream is)
 
   pub all_stay : AllStay more s now
@@ -183,5 +185,6 @@ module _ (t : ℕ) (bytes : List ℕ) (link : Link) (s : State) (h : IsLinked s)
   }
 
 -- ---- in every legal history
-pub all_leave_still : (h : History) → IsLegal h → (t : ℕ) (link : Link) → (state h).links t ≡ Some link → (bytes : List ℕ) → LeavesStill t bytes link (state h)
+pub all_leave_still : (h : History) → IsLegal h → (t : ℕ) (link : Link) → (state h).links t ≡ Some link
+    → (bytes : List ℕ) → LeavesStill t bytes link (state h)
 all_leave_still h legal t link here bytes = leaves_still t bytes link (state h) (all_linked h legal) here (all_still h legal)

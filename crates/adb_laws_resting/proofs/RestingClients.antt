@@ -21,10 +21,12 @@ use Rattle.adb_history.specs.Flow.{is_streaming}
 use Rattle.adb_history.specs.Forwarding.{bound_by, put_forward}
 use Rattle.adb_history.specs.Asking.{Asked, asks_with}
 use Rattle.adb_history.specs.Losing.{orphaned, stream_fails, stream_of, client_fails, input_ends, client_ends, only_client, stops}
-use Rattle.adb_history.specs.Reading.{comes, comes_in_vain, enters_by, tracks, awaits, goes_on, asked_before, has_asked, asks, reads_in, reads_from}
+use Rattle.adb_history.specs.Reading.{comes, comes_in_vain, enters_by, tracks, awaits, goes_on, asked_before, has_asked, asks, reads_in}
+use Rattle.adb_history.specs.Reading.{reads_from}
 use Rattle.adb_history.specs.Reading.{bound_for, bound_in, bound_at}
 use Rattle.adb_laws_resting.specs.Resting.{has_open_stream, is_open_phase}
-use Rattle.adb_laws_resting.proofs.RestingRows.{AllCalm, here_change, LetsSame, KeepsPassing, NeverStreams, idle_calm, closes_calm, dropped_calm, due_calm}
+use Rattle.adb_laws_resting.proofs.RestingRows.{AllCalm, here_change, LetsSame, KeepsPassing, NeverStreams, idle_calm, closes_calm}
+use Rattle.adb_laws_resting.proofs.RestingRows.{dropped_calm, due_calm}
 use Rattle.adb_laws_resting.proofs.RestingRows.{unopened_calm, comes_calm, stream_calm, gone_calm, draws_calm}
 
 pub closes_with_calm : (c : ℕ) (bytes : List ℕ) (s : State) → AllCalm s → AllCalm (closes_with c bytes s).state
@@ -41,8 +43,10 @@ asks_for_calm : (l c t : ℕ) (service : List ℕ) (s : State) → AllCalm s →
 asks_for_calm l c t service s h = draws_calm (is_credit t s.devices) c t (to_client c (in_phase (Opening l)) s) none
     (idle_calm c (in_phase (Opening l)) s (opening_idle l) h)
   where
-    none : (m : ℕ) (client : Client) → (to_client c (in_phase (Opening l)) s).clients c ≡ Some client → is_streaming m client.about.phase ≡ true → ⊥
-    none m client is streaming = let was = here_change c (in_phase (Opening l)) s.clients client is in opening_idle l m was.old client was.to streaming
+    none : (m : ℕ) (client : Client) → (to_client c (in_phase (Opening l)) s).clients c ≡ Some client
+        → is_streaming m client.about.phase ≡ true → ⊥
+    none m client is streaming = let was = here_change c (in_phase (Opening l)) s.clients client is
+        in opening_idle l m was.old client was.to streaming
 
 no_ids_calm : (forwarded : Bool) (c : ℕ) (s : State) → AllCalm s → AllCalm (no_ids_left forwarded c s).state
 no_ids_calm true c s h = dropped_calm c s h
@@ -78,7 +82,9 @@ awaits_idle want m old new is streaming =
     cc
 
 stops_calm : (c : ℕ) (s : State) → AllCalm (stops c s).state
-stops_calm c s = closes_calm c (record s { clients = only_client c s.clients; streams = λ _. None; devices = record s.devices { rows = [] } })
+stops_calm c s =
+    closes_calm c
+    (record s { clients = only_client c s.clients; streams = λ _. None; devices = record s.devices { rows = [] } })
     (λ m stream client there here streaming. absurd (let clash : None ≡ Some stream = there in cc))
 
 goes_on_calm : (next : Option Next) (c : ℕ) (s : State) → AllCalm s → AllCalm (goes_on next c s).state
@@ -103,7 +109,8 @@ module _ (c : ℕ) (s : State) (unopened : has_open_stream (s.clients c) ≡ fal
       goes_on_calm q.next c (to_client c (with_due q.replies) asked) (due_calm c q.replies asked
       (unopened_calm c (λ y. record y { about = record y.about { selected = q.selected }; held = q.rest }) s (λ y. refl) unopened h))
 
-  reads_in_calm : (phase : Phase) (bytes : List ℕ) (client : Client) → is_open_phase phase ≡ false → AllCalm (reads_in phase c bytes client s).state
+  reads_in_calm : (phase : Phase) (bytes : List ℕ) (client : Client) → is_open_phase phase ≡ false
+      → AllCalm (reads_in phase c bytes client s).state
   reads_in_calm Asking bytes client e = asks_calm (asks_with s.devices s.forwards bytes (asked_before client))
   reads_in_calm (Opening l) bytes client e = unopened_calm c (λ y. record y { held = client.held ++ bytes }) s (λ y. refl) unopened h
   reads_in_calm (Streaming l) bytes client e = absurd (let clash : true ≡ false = e in cc)
@@ -160,7 +167,8 @@ orphaned_calm l stream s is h = stream_calm l (with_stream_part (orphaned stream
           flow = subst (λ f. LetsSame old.part.flow f) flow (record { payloads = λ m held. refl; idle = refl });
         }
 
-stream_fails_calm : (phase : Phase) (cause : Cause) (s : State) → AllCalm s → AllCalm (stream_fails phase cause (stream_of phase s.streams) s).state
+stream_fails_calm : (phase : Phase) (cause : Cause) (s : State) → AllCalm s
+    → AllCalm (stream_fails phase cause (stream_of phase s.streams) s).state
 stream_fails_calm (Streaming l) cause s h = by_row (s.streams l)
   where
     by_row : (o : Option Stream) → AllCalm (stream_fails (Streaming l) cause o s).state

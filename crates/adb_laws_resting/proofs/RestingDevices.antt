@@ -1,5 +1,6 @@
 -- No device takes more than the server: a CNXN alone says how much it takes, and no more is kept of it.
-use Rattle.std.proofs.Common.{ℕ, ◌+◌, ◌≡◌, ◌≤◌, Bool, true, false, cond, All, List, [], ◌∷◌, min, Option, Some, None, refl, sym, ◌∙◌, subst, arith}
+use Rattle.std.proofs.Common.{ℕ, ◌+◌, ◌≡◌, ◌≤◌, Bool, true, false, cond, All, List, [], ◌∷◌, min, Option, Some, None, refl, sym, ◌∙◌, subst}
+use Rattle.std.proofs.Common.{arith}
 use Rattle.std.specs.Prelude.{option_map, unwrap_or}
 use Rattle.std.specs.Ordering.{nat_cmp, is_eq}
 use Rattle.std.proofs.lemmas.List.Elements.{All-nil, All-head, All-tail}
@@ -57,15 +58,19 @@ changed_sized t f devices keeps all = at_row (at t devices.rows) refl
         All-put_at IsSized devices.rows t (f row) (keeps row within) all
 
 -- ---- moves
-ends_sized : (l : ℕ) (ending : Ending) (stream : Stream) (s : State) → AreSized s.devices → AreSized (ends_row l ending stream s).state.devices
+ends_sized : (l : ℕ) (ending : Ending) (stream : Stream) (s : State) → AreSized s.devices
+    → AreSized (ends_row l ending stream s).state.devices
 ends_sized l ending stream s h =
     subst (λ (x : State). AreSized x.devices)
     (sym (ends_state l ending stream s ∙ client_loses_frame (s.clients stream.client) stream.client (to_stream l none_kept s))) h
 
-all_end_sized : (t : ℕ) (ending : Ending) (s : State) (w : List Event) → AreSized s.devices → After (λ s w. AreSized s.devices) w (all_end t ending s)
-all_end_sized t ending s w h = all_end_kept {P = λ s w. AreSized s.devices} (λ l ending stream s w is h. ends_sized l ending stream s h) t ending s w h
+all_end_sized : (t : ℕ) (ending : Ending) (s : State) (w : List Event) → AreSized s.devices
+    → After (λ s w. AreSized s.devices) w (all_end t ending s)
+all_end_sized t ending s w h = all_end_kept {P = λ s w. AreSized s.devices}
+    (λ l ending stream s w is h. ends_sized l ending stream s h) t ending s w h
 
-link_ends_sized : (t : ℕ) (ending : Ending) (s : State) (w : List Event) → AreSized s.devices → After (λ s w. AreSized s.devices) w (link_ends t ending s)
+link_ends_sized : (t : ℕ) (ending : Ending) (s : State) (w : List Event) → AreSized s.devices
+    → After (λ s w. AreSized s.devices) w (link_ends t ending s)
 link_ends_sized t ending s w h = all_end_sized t ending (forgets t s) w (All-without IsSized t s.devices.rows h)
 
 first_sized : (b : Bool) (t : ℕ) (s : State) → AreSized s.devices → AreSized (streams_end_first b t s).state.devices

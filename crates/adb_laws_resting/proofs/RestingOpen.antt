@@ -1,5 +1,6 @@
 -- What comes from a client that has its stream open goes up that stream alone.
-use Rattle.std.proofs.Common.{ℕ, ◌≡◌, ◌≢◌, ◌≤◌, ◌<◌, zero, suc, true, List, [], ◌++◌, Option, Some, None, refl, sym, ◌∙◌, ap, subst, arith, ◌⊎◌, inl, inr}
+use Rattle.std.proofs.Common.{ℕ, ◌≡◌, ◌≢◌, ◌≤◌, ◌<◌, zero, suc, true, List, [], ◌++◌, Option, Some, None, refl, sym, ◌∙◌, ap, subst, arith}
+use Rattle.std.proofs.Common.{◌⊎◌, inl, inr}
 use Rattle.std.proofs.lemmas.Bool.{eqb-true}
 use Rattle.adb_outside.specs.Tables.{Rows}
 use Rattle.adb_outside.specs.declared.kinds.Cause.TheVariants.{Eof}
@@ -26,7 +27,8 @@ order : (a b : ℕ) → (a ≤ b) ⊎ (b < a)
 order a b = grind arith
 
 -- a number under which something is kept was drawn
-kept_drawn : {A : Type 0} (drawn l : ℕ) (rows : Rows (Option A)) (row : A) → IsDrawnOnly drawn rows → rows l ≡ Some row → (0 < l) × (l ≤ drawn)
+kept_drawn : {A : Type 0} (drawn l : ℕ) (rows : Rows (Option A)) (row : A) → IsDrawnOnly drawn rows
+    → rows l ≡ Some row → (0 < l) × (l ≤ drawn)
 kept_drawn drawn zero rows row h is = absurd (let clash : None ≡ Some row = sym h.zero ∙ is in cc)
 kept_drawn drawn (suc l) rows row h is = (omega arith, by_order (order (suc l) drawn))
   where
@@ -62,14 +64,17 @@ module _ (s : State) (calm : AllCalm s) (h : IsOrderly s) where
 
     read_state : (bytes : List ℕ) → (rule (Read c bytes) s).state ≡ to_client c (with_held (x.client.held ++ bytes)) s
     read_state bytes =
-        ap (λ (o : Option Client). (reads_from o c bytes s).state) x.here ∙ ap (λ (p : Phase). (reads_in p c bytes x.client s).state) x.in_phase
+        ap (λ (o : Option Client). (reads_from o c bytes s).state) x.here
+        ∙ ap (λ (p : Phase). (reads_in p c bytes x.client s).state) x.in_phase
 
     ends_state : (rule (End c Eof) s).state ≡ to_client c input_ended s
     ends_state = ap (λ (o : Option Client). (client_ends c Eof o s).state) x.here ∙ ap (λ (p : Phase). input_ends p c s) x.in_phase
 
     read_goes_up : (bytes : List ℕ) → GoesUpBy l (Read c bytes) s
     read_goes_up bytes =
-        ap ups (read_state bytes) ∙ (goes_up (λ y. record y { held = x.client.held ++ bytes }) (λ y. refl) ∙ sym (ap (up l) (read_state bytes)))
+        ap ups (read_state bytes)
+        ∙ (goes_up (λ y. record y { held = x.client.held ++ bytes }) (λ y. refl)
+        ∙ sym (ap (up l) (read_state bytes)))
 
     end_goes_up : GoesUpBy l (End c Eof) s
     end_goes_up =

@@ -1,5 +1,6 @@
 -- Changes of rows by which no stream may send that could not send before.
-use Rattle.std.proofs.Common.{ℕ, ◌+◌, ◌≡◌, ◌≢◌, ◌-◌, zero, suc, Bool, true, false, cond, ◌&&◌, List, [], ◌∷◌, ◌++◌, length, drop, Option, Some, None, refl, sym}
+use Rattle.std.proofs.Common.{ℕ, ◌+◌, ◌≡◌, ◌≢◌, ◌-◌, zero, suc, Bool, true, false, cond, ◌&&◌, List, [], ◌∷◌, ◌++◌, length, drop, Option}
+use Rattle.std.proofs.Common.{Some, None, refl, sym}
 use Rattle.std.proofs.Common.{◌∙◌, ap, subst, arith, ◌⊎◌, inl, inr}
 use Rattle.std.specs.Prelude.{option_and_then, option_map}
 use Rattle.std.proofs.lemmas.Bool.{ne_eqb, eq-eqb, cases_eq}
@@ -51,7 +52,12 @@ pub before_change : {A : Type 0} (n : ℕ) (f : A → Option A) (rows : Rows (Op
 before_change n f rows q new is = by_place (cases_eq n q)
   where
     by_place : ◌⊎◌ (n ≡ q) (n ≢ q) → ((n ≡ q) × WasChanged f (rows q) new) ⊎ (rows q ≡ Some new)
-    by_place (inl same) = inl (same, was_changed f (rows q) new (sym (ap (λ b. cond b (option_and_then f (rows q)) (rows q)) (eq-eqb n q same)) ∙ is))
+    by_place (inl same) =
+        inl (
+          same,
+          was_changed f (rows q) new
+              (sym (ap (λ b. cond b (option_and_then f (rows q)) (rows q)) (eq-eqb n q same)) ∙ is),
+        )
     by_place (inr other) = inr (sym (ap (λ b. cond b (option_and_then f (rows q)) (rows q)) (ne_eqb n q other)) ∙ is)
 
 pub here_change : {A : Type 0} (n : ℕ) (f : A → Option A) (rows : Rows (Option A)) (new : A)
@@ -66,7 +72,8 @@ before_put n row rows q new is = by_place (cases_eq n q)
   where
     by_place : ◌⊎◌ (n ≡ q) (n ≢ q) → ((n ≡ q) × (row ≡ new)) ⊎ (rows q ≡ Some new)
     by_place (inl same) =
-        let both : Some row ≡ Some new = sym (ap (λ b. cond b (Some row) (rows q)) (eq-eqb n q same)) ∙ is in inl (same, (let e = both in cc))
+        let both : Some row ≡ Some new = sym (ap (λ b. cond b (Some row) (rows q)) (eq-eqb n q same))
+        ∙ is in inl (same, (let e = both in cc))
     by_place (inr other) = inr (sym (ap (λ b. cond b (Some row) (rows q)) (ne_eqb n q other)) ∙ is)
 
 -- ---- a client changes
@@ -86,12 +93,14 @@ module _ {m : ℕ} {old new : Client} (same : SendsSame m old new) where
 
 -- what a change of a client leaves as it was
 abbrev pub KeepsSending : (m c : ℕ) → (Client → Option Client) → State → Type 0
-KeepsSending m c f s = (old new : Client) → s.clients c ≡ Some old → f old ≡ Some new → is_streaming m new.about.phase ≡ true → SendsSame m old new
+KeepsSending m c f s = (old new : Client) → s.clients c ≡ Some old → f old ≡ Some new
+    → is_streaming m new.about.phase ≡ true → SendsSame m old new
 
 pub client_calm : (m c : ℕ) (f : Client → Option Client) (s : State) → KeepsSending m c f s → CalmAt m s → CalmAt m (to_client c f s)
 client_calm m c f s keeps h stream client there here streaming = by_row (before_change c f s.clients stream.client client here)
   where
-    by_row : ((c ≡ stream.client) × WasChanged f (s.clients stream.client) client) ⊎ (s.clients stream.client ≡ Some client) → IsCalm s.devices client stream
+    by_row : ((c ≡ stream.client) × WasChanged f (s.clients stream.client) client)
+        ⊎ (s.clients stream.client ≡ Some client) → IsCalm s.devices client stream
     by_row (inl (same, was)) =
         let kept = keeps was.old client (ap s.clients same ∙ was.is) was.to streaming in
         same_calm kept s.devices stream (h stream was.old there was.is kept.streaming)
@@ -103,7 +112,8 @@ pub record StaysSame (old new : Client) : Type 0 where
   pub held : new.held ≡ old.held
   pub ended : new.about.ended ≡ old.about.ended
 
-pub stays_calm : (c : ℕ) (g : Client → Client) (s : State) → ((y : Client) → StaysSame y (g y)) → AllCalm s → AllCalm (to_client c (λ y. Some (g y)) s)
+pub stays_calm : (c : ℕ) (g : Client → Client) (s : State) → ((y : Client) → StaysSame y (g y)) → AllCalm s
+    → AllCalm (to_client c (λ y. Some (g y)) s)
 stays_calm c g s same h m = client_calm m c (λ y. Some (g y)) s keeps (h m)
   where
     keeps : KeepsSending m c (λ y. Some (g y)) s
@@ -144,7 +154,9 @@ idle_calm c f s never h m = client_calm m c f s (λ old new is to streaming. abs
 pub closing_idle : (due : List ℕ) (m : ℕ) (old new : Client) → closing_with due old ≡ Some new → is_streaming m new.about.phase ≡ true → ⊥
 closing_idle [] m old new is streaming = let clash : None ≡ Some new = is in cc
 closing_idle (b ∷ due) m old new is streaming =
-    let made : record old { about = record old.about { phase = Closing; mark = false; want = None }; held = []; due = b ∷ due } ≡ new = cc in
+    let made : record old
+    { about = record old.about { phase = Closing; mark = false; want = None }; held = []; due = b ∷ due } ≡ new =
+    cc in
     let clash : false ≡ true = ap (λ (x : Client). is_streaming m x.about.phase) made ∙ streaming in
     cc
 
@@ -156,9 +168,11 @@ dropped_calm c s h = idle_calm c none_kept s (λ m old new is streaming. let cla
 
 -- ---- a client comes
 pub comes_calm : (forwarded : Bool) (c : ℕ) (s : State) → AllCalm s → AllCalm (comes forwarded c s)
-comes_calm forwarded c s h m stream client there here streaming = by_row (before_put c (new_client forwarded c) s.clients stream.client client here)
+comes_calm forwarded c s h m stream client there here streaming =
+    by_row (before_put c (new_client forwarded c) s.clients stream.client client here)
   where
-    by_row : ((c ≡ stream.client) × (new_client forwarded c ≡ client)) ⊎ (s.clients stream.client ≡ Some client) → IsCalm s.devices client stream
+    by_row : ((c ≡ stream.client) × (new_client forwarded c ≡ client)) ⊎ (s.clients stream.client ≡ Some client)
+        → IsCalm s.devices client stream
     by_row (inl (same, row)) = absurd (let clash : false ≡ true = ap (λ (y : Client). is_streaming m y.about.phase) row ∙ streaming in cc)
     by_row (inr row) = h m stream client there row streaming
 
@@ -212,7 +226,8 @@ gone_calm l s h = stream_calm l none_kept s (λ old new is to. absurd (let clash
 
 -- a stream is drawn for a client that has none open
 pub draws_calm : (credit : Bool) (c t : ℕ) (s : State)
-    → ((m : ℕ) (client : Client) → s.clients c ≡ Some client → is_streaming m client.about.phase ≡ true → ⊥) → AllCalm s → AllCalm (draw credit c t s)
+    → ((m : ℕ) (client : Client) → s.clients c ≡ Some client → is_streaming m client.about.phase ≡ true → ⊥)
+    → AllCalm s → AllCalm (draw credit c t s)
 draws_calm credit c t s none h m stream client there here streaming =
     by_row (before_put (s.drawn + 1) (new_stream (s.drawn + 1) c t (new_flow credit)) s.streams m stream there)
   where
@@ -243,11 +258,18 @@ nothing_to (Credit credit) maxdata held is = nothing_long (length held) maxdata 
 abbrev pub TakesNoMore : DeviceTable → DeviceTable → Type 0
 TakesNoMore old new = (t : ℕ) → (maxdata_of t new ≡ maxdata_of t old) ⊎ (maxdata_of t new ≡ 0)
 
-pub devices_calm : (devices : DeviceTable) (s : State) → TakesNoMore s.devices devices → AllCalm s → AllCalm (record s { devices = devices })
+pub devices_calm : (devices : DeviceTable) (s : State) → TakesNoMore s.devices devices → AllCalm s
+    → AllCalm (record s { devices = devices })
 devices_calm devices s fewer h m stream client there here streaming = by_link (h m stream client there here streaming) (fewer stream.link)
   where
-    by_link : IsCalm s.devices client stream → (maxdata_of stream.link devices ≡ maxdata_of stream.link s.devices) ⊎ (maxdata_of stream.link devices ≡ 0)
+    by_link : IsCalm s.devices client stream → (maxdata_of stream.link devices ≡ maxdata_of stream.link s.devices)
+        ⊎ (maxdata_of stream.link devices ≡ 0)
         → IsCalm devices client stream
-    by_link old (inl same) = record { nothing = ap (λ n. payloads stream.part.flow n client.held) same ∙ old.nothing; goes_on = old.goes_on }
+    by_link old (inl same) =
+        record {
+          nothing = ap (λ n. payloads stream.part.flow n client.held) same ∙ old.nothing;
+          goes_on =
+              old.goes_on;
+        }
     by_link old (inr none) =
         record { nothing = nothing_to stream.part.flow (maxdata_of stream.link devices) client.held none; goes_on = old.goes_on }

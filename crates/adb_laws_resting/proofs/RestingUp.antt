@@ -1,5 +1,6 @@
 -- Where one stream alone may send, the up rule for all streams is that for this one.
-use Rattle.std.proofs.Common.{ℕ, ◌≡◌, ◌≢◌, ◌≤◌, ◌<◌, zero, suc, Bool, true, false, cond, [], Option, Some, None, refl, sym, ◌∙◌, ap, arith, ◌⊎◌, inl, inr}
+use Rattle.std.proofs.Common.{ℕ, ◌≡◌, ◌≢◌, ◌≤◌, ◌<◌, zero, suc, Bool, true, false, cond, [], Option, Some, None, refl, sym, ◌∙◌, ap, arith}
+use Rattle.std.proofs.Common.{◌⊎◌, inl, inr}
 use Rattle.std.proofs.lemmas.Bool.{cases_eq}
 use Rattle.adb_stream.specs.declared.row.Stream.{Stream}
 use Rattle.adb_history.specs.Rows.{Client, State, with_held, with_stream_part}
@@ -18,7 +19,8 @@ module _ (l : ℕ) (s : State) (x : Sending l s) (calm : IsCalm s.devices x.clie
     streams = same_rows s.streams l (with_stream_part (with_flow x.stream.part.flow x.stream.part)) x.stream x.there refl i;
   }
 
-  sends_nothing : sends_up l x.stream x.client (payloads x.stream.part.flow (maxdata_of x.stream.link s.devices) x.client.held) s ≡ quietly s
+  sends_nothing : sends_up l x.stream x.client
+      (payloads x.stream.part.flow (maxdata_of x.stream.link s.devices) x.client.held) s ≡ quietly s
   sends_nothing =
       ap (λ ps. sends_up l x.stream x.client ps s) calm.nothing
       ∙ (ap (λ (t : State). closes_if (is_over x.client.about.ended x.client.held x.stream.part.flow) l (t.streams l) t) same_noted
@@ -29,12 +31,15 @@ module _ (l : ℕ) (s : State) (x : Sending l s) (calm : IsCalm s.devices x.clie
 up_still : (l : ℕ) (s : State) → IsCalmAt l s → up l s ≡ quietly s
 up_still l s h = at_stream (s.streams l) refl
   where
-    at_client : (stream : Stream) → s.streams l ≡ Some stream → (o : Option Client) → s.clients stream.client ≡ o → up_client l stream o s ≡ quietly s
+    at_client : (stream : Stream) → s.streams l ≡ Some stream → (o : Option Client) → s.clients stream.client ≡ o
+        → up_client l stream o s ≡ quietly s
     at_client stream there None here = refl
     at_client stream there (Some client) here = by_test (is_streaming l client.about.phase) refl
       where
         by_test : (b : Bool) → is_streaming l client.about.phase ≡ b
-            → cond b (sends_up l stream client (payloads stream.part.flow (maxdata_of stream.link s.devices) client.held) s) (quietly s) ≡ quietly s
+            → cond b (sends_up l stream client
+            (payloads stream.part.flow (maxdata_of stream.link s.devices) client.held) s) (quietly s)
+            ≡ quietly s
         by_test false is = refl
         by_test true is =
             let x : Sending l s = record { stream = stream; client = client; there = there; here = here; streaming = is } in

@@ -47,11 +47,13 @@ module _ (old new : Tables) (fit : IsFit old) (reached : IsReached (state_of old
   })
 
   -- a link is unplugged
-  pub unplugged : (t : ℕ) → is_some (s.links t) ≡ true → state_of new ≡ (link_ends t Lost s).state → (cause : Cause) → Makes (Detach t cause) old new
+  pub unplugged : (t : ℕ) → is_some (s.links t) ≡ true → state_of new ≡ (link_ends t Lost s).state → (cause : Cause)
+      → Makes (Detach t cause) old new
   unplugged t there state cause = rule_made (Detach t cause) old new fit (record {
     uses = uses;
     state = state ∙ ends (s.links t) there;
-    sums = λ k. subst (λ (next : State). SumsStay (s.links k) (next.links k)) (ends (s.links t) there) (sums_link_ends s (within s reached) t Lost k);
+    sums = λ k. subst (λ (next : State). SumsStay (s.links k) (next.links k)) (ends (s.links t) there)
+        (sums_link_ends s (within s reached) t Lost k);
     rests = (sends_nothing s reached).detach t cause;
   })
     where
@@ -60,7 +62,8 @@ module _ (old new : Tables) (fit : IsFit old) (reached : IsReached (state_of old
       ends (Some link) there = refl
 
 -- and where it is not there nothing is made
-pub none_unplugged : (old : Tables) → IsFit old → IsReached (state_of old) → (t : ℕ) → is_some ((state_of old).links t) ≡ false → (cause : Cause)
+pub none_unplugged : (old : Tables) → IsFit old → IsReached (state_of old) → (t : ℕ)
+    → is_some ((state_of old).links t) ≡ false → (cause : Cause)
     → Makes (Detach t cause) old old
 none_unplugged old fit reached t gone cause = record {
   state = stays ((state_of old).links t) gone ∙ sym ((sends_nothing (state_of old) reached).detach t cause);

@@ -37,5 +37,6 @@ module _ (rows : List (ℕ × Row)) (forwards : List (ℕ × ForwardRow)) (none 
   }
 
   -- What follows a request that can be done can be done.
-  pub answer_sound : (selected : Option ℕ) (request : Request) → IsSoundRequest request → CanFollow forwards (answer rows forwards selected request).next
+  pub answer_sound : (selected : Option ℕ) (request : Request) → IsSoundRequest request
+      → CanFollow forwards (answer rows forwards selected request).next
   answer_sound = answer_all soundly

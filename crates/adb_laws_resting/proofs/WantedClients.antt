@@ -1,5 +1,6 @@
 -- A client wants a forward only while it waits for the listener.
-use Rattle.std.proofs.Common.{ℕ, ◌+◌, ◌≡◌, Bool, true, false, cond, List, [], ◌∷◌, ◌++◌, drop, Option, Some, None, refl, sym, ◌∙◌, ap, subst, eqb}
+use Rattle.std.proofs.Common.{ℕ, ◌+◌, ◌≡◌, Bool, true, false, cond, List, [], ◌∷◌, ◌++◌, drop, Option, Some, None, refl, sym, ◌∙◌, ap}
+use Rattle.std.proofs.Common.{subst, eqb}
 use Rattle.std.proofs.Common.{◌⊎◌, inl, inr}
 use Rattle.std.specs.Prelude.{option_and_then, option_map, codes}
 use Rattle.adb_outside.specs.Tables.{Rows, change_row}
@@ -73,7 +74,8 @@ same_wants c f clients same h = change_wants c (λ x. Some (f x)) clients keeps 
         made_wants (f old) new to
         (subst (λ (p : Phase). WantsIn p (f old).about.want) (sym (same old).0) (subst (WantsIn old.about.phase) (sym (same old).1) wants))
 
-due_wants : (c : ℕ) (bytes : List ℕ) (clients : Rows (Option Client)) → AllWant clients → AllWant (change_row c (option_and_then (with_due bytes)) clients)
+due_wants : (c : ℕ) (bytes : List ℕ) (clients : Rows (Option Client)) → AllWant clients
+    → AllWant (change_row c (option_and_then (with_due bytes)) clients)
 due_wants c bytes clients h = same_wants c (λ x. record x { due = x.due ++ bytes }) clients (λ x. (refl, refl)) h
 
 none_wants : (c : ℕ) (clients : Rows (Option Client)) → AllWant clients → AllWant (change_row c (option_and_then none_kept) clients)
@@ -82,7 +84,9 @@ none_wants c clients h = change_wants c none_kept clients (λ old new is to want
 closing_with_wants : (due : List ℕ) (old new : Client) → closing_with due old ≡ Some new → Wants new
 closing_with_wants [] old new to = absurd (let clash : None ≡ Some new = to in cc)
 closing_with_wants (b ∷ due) old new to =
-    made_wants (record old { about = record old.about { phase = Closing; mark = false; want = None }; held = []; due = b ∷ due }) new to refl
+    made_wants (record old
+    { about = record old.about { phase = Closing; mark = false; want = None }; held = []; due = b ∷ due }) new
+    to refl
 
 closes_wants : (c : ℕ) (clients : Rows (Option Client)) → AllWant clients → AllWant (change_row c (option_and_then closing) clients)
 closes_wants c clients h = change_wants c closing clients (λ old new is to wants. closing_with_wants old.due old new to) h
@@ -99,9 +103,11 @@ module _ (c : ℕ) (clients : Rows (Option Client)) (client : Client) (is : clie
     (h : AllWant clients) where
   none_before : (old : Client) → clients c ≡ Some old → old.about.want ≡ None
   none_before old e =
-      let same : client ≡ old = (let both : Some client ≡ Some old = sym is ∙ e in cc) in ap (λ (x : Client). x.about.want) (sym same) ∙ none
+      let same : client ≡ old = (let both : Some client ≡ Some old = sym is ∙ e in cc)
+      in ap (λ (x : Client). x.about.want) (sym same) ∙ none
 
-  goes_wants : (f : Client → Client) → ((x : Client) → x.about.want ≡ None → Wants (f x)) → AllWant (change_row c (option_and_then (λ x. Some (f x))) clients)
+  goes_wants : (f : Client → Client) → ((x : Client) → x.about.want ≡ None → Wants (f x))
+      → AllWant (change_row c (option_and_then (λ x. Some (f x))) clients)
   goes_wants f wants =
       change_wants c (λ x. Some (f x)) clients (λ old new e to was. made_wants (f old) new to (wants old (none_before old e))) h
 
@@ -128,7 +134,8 @@ loses_wants : (forwarded : Bool) (phase : Phase) (c : ℕ) (s : State) → AllWa
 loses_wants forwarded (Streaming l) c s h = closes_wants c s.clients h
 loses_wants true (Opening l) c s h = closes_wants c s.clients h
 loses_wants false (Opening l) c s h =
-    closes_wants c (to_client c (with_due (failed (codes "closed")).bytes) s).clients (due_wants c (failed (codes "closed")).bytes s.clients h)
+    closes_wants c (to_client c (with_due (failed (codes "closed")).bytes) s).clients
+    (due_wants c (failed (codes "closed")).bytes s.clients h)
 loses_wants true _ c s h = h
 loses_wants false _ c s h = h
 
@@ -136,7 +143,8 @@ client_loses_wants : (o : Option Client) (c : ℕ) (s : State) → AllWant s.cli
 client_loses_wants None c s h = h
 client_loses_wants (Some client) c s h = loses_wants client.about.forwarded client.about.phase c s h
 
-ends_wants : (l : ℕ) (ending : Ending) (stream : Stream) (s : State) → AllWant s.clients → AllWant (ends_row l ending stream s).state.clients
+ends_wants : (l : ℕ) (ending : Ending) (stream : Stream) (s : State) → AllWant s.clients
+    → AllWant (ends_row l ending stream s).state.clients
 ends_wants l ending stream s h =
     subst (λ (x : State). AllWant x.clients) (sym (ends_state l ending stream s))
     (client_loses_wants (s.clients stream.client) stream.client (to_stream l none_kept s) h)
@@ -164,7 +172,9 @@ module _ (s : State) (h : IsWaited s) where
 
   awaits_wants : (c : ℕ) (want : Want) → AllWant (to_client c (awaits want) s).clients
   awaits_wants c want = change_wants c (awaits want) s.clients
-      (λ old new is to wants. made_wants (record old { about = record old.about { phase = Binding; want = Some want }; held = [] }) new to tt) h.wants
+      (λ old new is to wants. made_wants
+      (record old { about = record old.about { phase = Binding; want = Some want }; held = [] }) new to tt)
+      h.wants
 
   draws_wants : (c l : ℕ) (client : Client) → s.clients c ≡ Some client → client.about.phase ≡ Asking
       → AllWant (to_client c (in_phase (Opening l)) s).clients
@@ -177,7 +187,8 @@ module _ (s : State) (h : IsWaited s) where
   opens_wants l stream is new =
       let of = client_of s l stream is new.1 h.owned in
       let opening : of.client.about.phase ≡ Opening l = of.phase ∙ ap (phase_for l) new.0 in
-      goes_wants stream.client s.clients of.client of.is (wants_there (Opening l) of.client opening (h.wants stream.client of.client of.is)) h.wants
+      goes_wants stream.client s.clients of.client of.is
+      (wants_there (Opening l) of.client opening (h.wants stream.client of.client of.is)) h.wants
       (λ x. record x { about = record x.about { phase = Streaming l } }) (λ x none. none)
 
 -- A client wants a forward only while it waits for the listener, through each move.
@@ -186,8 +197,14 @@ waited_moves = record {
   owes = λ t p check s w of h. record { owned = owned_moves.owes t p check s w of h.owned; wants = h.wants };
   due = λ c bytes s w h. record { owned = owned_moves.due c bytes s w h.owned; wants = due_wants c bytes s.clients h.wants };
   closes = λ c x s w is free h. record { owned = owned_moves.closes c x s w is free h.owned; wants = closes_wants c s.clients h.wants };
-  tracks = λ c x long s w is asking h. record { owned = owned_moves.tracks c x long s w is asking h.owned; wants = tracks_wants s h c x long is asking };
-  awaits = λ c x want s w is asking h. record { owned = owned_moves.awaits c x want s w is asking h.owned; wants = awaits_wants s h c want };
+  tracks = λ c x long s w is asking h.
+      record {
+        owned = owned_moves.tracks c x long s w is asking h.owned;
+        wants =
+            tracks_wants s h c x long is asking;
+      };
+  awaits = λ c x want s w is asking h.
+      record { owned = owned_moves.awaits c x want s w is asking h.owned; wants = awaits_wants s h c want };
   drops = λ c x s w is none h. record { owned = owned_moves.drops c x s w is none h.owned; wants = none_wants c s.clients h.wants };
   holds = λ c x bytes s w is has h. record {
     owned = owned_moves.holds c x bytes s w is has h.owned;
@@ -235,7 +252,8 @@ waited_moves = record {
   };
   online = λ t version maxdata identity s w h. record {
     owned = owned_moves.online t version maxdata identity s w h.owned;
-    wants = marks_wants (streams_end_first (is_connected t s.devices) t s).state.clients (first_wants (is_connected t s.devices) t s h.wants);
+    wants = marks_wants (streams_end_first (is_connected t s.devices) t s).state.clients
+        (first_wants (is_connected t s.devices) t s h.wants);
   };
   unauthorized = λ t row s w is offline h. record {
     owned = owned_moves.unauthorized t row s w is offline h.owned;
@@ -274,7 +292,8 @@ module _ (s : State) (h : IsWaited s) where
     where
       asked_wants : (c : ℕ) (q : Asked) → AllWant (to_client c (has_asked q) s).clients
       asked_wants c q =
-          same_wants c (λ x. record x { about = record x.about { selected = q.selected }; held = q.rest }) s.clients (λ x. (refl, refl)) h.wants
+          same_wants c (λ x. record x { about = record x.about { selected = q.selected }; held = q.rest }) s.clients
+          (λ x. (refl, refl)) h.wants
   begins_waited _ may = h
 
 all_waited : (h : History) → IsLegal h → IsWaited (state h)

@@ -1,5 +1,6 @@
 -- Each forward of a history is one that can be, and so is each that a client waits for.
-use Rattle.std.proofs.Common.{ℕ, ◌≡◌, ◌<◌, Bool, true, false, cond, List, [], ◌∷◌, ◌++◌, length, Option, Some, None, is_some, refl, sym, subst, arith, eqb}
+use Rattle.std.proofs.Common.{ℕ, ◌≡◌, ◌<◌, Bool, true, false, cond, List, [], ◌∷◌, ◌++◌, length, Option, Some, None, is_some, refl, sym}
+use Rattle.std.proofs.Common.{subst, arith, eqb}
 use Rattle.std.proofs.Common.{◌||◌, ◌&&◌, not, codes, zero, suc}
 use Rattle.std.specs.Prelude.{◌==◌, is_none}
 use Rattle.std.proofs.lemmas.List.Elements.{All-nil, All-filter}
@@ -30,7 +31,8 @@ IsForward entry = IsSpecification entry.0 entry.1.remote
 
 -- ---- forwards
 module _ (devices : DeviceTable) (forwards : List (ℕ × ForwardRow)) (all : AreForwards forwards) where
-  put_forwards : (local transport : ℕ) (remote : List ℕ) → IsSpecification local remote → AreForwards (put_forward local transport remote devices forwards)
+  put_forwards : (local transport : ℕ) (remote : List ℕ) → IsSpecification local remote
+      → AreForwards (put_forward local transport remote devices forwards)
   put_forwards local transport remote can = by_row (at transport devices.rows)
     where
       by_row : (o : Option Row) → AreForwards (forwards_with local transport remote o forwards)
@@ -54,7 +56,11 @@ module _ (devices : DeviceTable) (forwards : List (ℕ × ForwardRow)) (all : Ar
       stands (suc n) rest more e = omega arith
 
       bound : Binding
-      bound = record { reply = codes "OKAYOKAY" ++ told_port want.local port; forwards = put_forward port want.transport want.remote devices forwards }
+      bound = record {
+        reply = codes "OKAYOKAY" ++ told_port want.local port;
+        forwards =
+            put_forward port want.transport want.remote devices forwards;
+      }
 
       by_port : (unbound : Bool) → is_unbound want.local port forwards ≡ unbound → (gone full : Bool)
           → AreForwards (cond unbound (record { reply = (failed (codes "cannot bind listener")).bytes; forwards = forwards })
@@ -77,7 +83,8 @@ newly_sound : (forwards : List (ℕ × ForwardRow)) (before after : Option Next)
 newly_sound forwards None after h = h refl
 newly_sound forwards (Some next) after h = tt
 
-put_wanted : (c : ℕ) (o : Option Want) (waits : Rows (Option Want)) → IsWanted o → ((k : ℕ) → IsWanted (waits k)) → (k : ℕ) → IsWanted (put_row c o waits k)
+put_wanted : (c : ℕ) (o : Option Want) (waits : Rows (Option Want)) → IsWanted o → ((k : ℕ) → IsWanted (waits k))
+    → (k : ℕ) → IsWanted (put_row c o waits k)
 put_wanted c o waits can all k = by_test (eqb c k)
   where
     by_test : (here : Bool) → IsWanted (cond here o (waits k))
@@ -95,7 +102,8 @@ module _ (older : History) (b : Book) (h : IsSoundBook b) where
   abbrev devices : DeviceTable
   devices = devices_if b.killed older
 
-  asked_sound : (asking : Bool) (bytes : List ℕ) (q : Asked) → q.next ≡ None → IsSoundNext b.forwards (asked_with asking devices b.forwards bytes q).next
+  asked_sound : (asking : Bool) (bytes : List ℕ) (q : Asked) → q.next ≡ None
+      → IsSoundNext b.forwards (asked_with asking devices b.forwards bytes q).next
   asked_sound true bytes q none =
       sound_asked devices b.forwards (none_at_zero b.forwards h.forwards) bytes q (subst (IsSoundNext b.forwards) (sym none) tt)
   asked_sound false bytes q none = subst (IsSoundNext b.forwards) (sym none) tt

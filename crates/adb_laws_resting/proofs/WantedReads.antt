@@ -1,5 +1,6 @@
 -- What follows the requests of a client can be done.
-use Rattle.std.proofs.Common.{ℕ, ◌+◌, ◌-◌, ◌*◌, ◌≡◌, ◌≤◌, ◌<◌, ◌^◌, ◌++◌, Bool, true, false, cond, ◌&&◌, zero, suc, List, [], ◌∷◌, length, take, drop}
+use Rattle.std.proofs.Common.{ℕ, ◌+◌, ◌-◌, ◌*◌, ◌≡◌, ◌≤◌, ◌<◌, ◌^◌, ◌++◌, Bool, true, false, cond, ◌&&◌, zero, suc, List, [], ◌∷◌, length}
+use Rattle.std.proofs.Common.{take, drop}
 use Rattle.std.proofs.Common.{Option, Some, None, Less, refl, sym, ◌∙◌, ap, arith, nat_lt, nat_le}
 use Rattle.std.specs.Ordering.{is_eq}
 use Rattle.std.specs.Cmp.{nat_cmp_is}
@@ -86,7 +87,8 @@ KeepsSound forwards others = (q : Asked) → IsSoundNext forwards q.next → IsS
 
 module _ (forwards : List (ℕ × ForwardRow)) (others : Asked → Asked) (later : KeepsSound forwards others) (q : Asked)
     (h : IsSoundNext forwards q.next) where
-  next_sound : (next : Next) (reply : List ℕ) (size : ℕ) → CanFollow forwards next → IsSoundNext forwards (after_next next reply size others q).next
+  next_sound : (next : Next) (reply : List ℕ) (size : ℕ) → CanFollow forwards next
+      → IsSoundNext forwards (after_next next reply size others q).next
   next_sound (Select id) reply size can = later (record (replied reply size q) { selected = Some id }) h
   next_sound _ reply size can = can
 
@@ -104,9 +106,11 @@ module _ (devices : DeviceTable) (forwards : List (ℕ × ForwardRow)) (none : a
   -- What follows the requests that are read can be done.
   pub sound_next : (k : ℕ) (q : Asked) → IsSoundNext forwards q.next → IsSoundNext forwards (reads_on devices forwards k q).next
   sound_next zero q h = h
-  sound_next (suc k) q h = found_sound (reads_on devices forwards k) (λ x now. sound_next k x now) (request_at q.rest) (request_short q.rest) q h
+  sound_next (suc k) q h = found_sound (reads_on devices forwards k) (λ x now. sound_next k x now) (request_at q.rest)
+      (request_short q.rest) q h
 
-  pub sound_asked : (bytes : List ℕ) (q : Asked) → IsSoundNext forwards q.next → IsSoundNext forwards (asks_with devices forwards bytes q).next
+  pub sound_asked : (bytes : List ℕ) (q : Asked) → IsSoundNext forwards q.next
+      → IsSoundNext forwards (asks_with devices forwards bytes q).next
   sound_asked bytes q h = sound_next (length (q.rest ++ bytes)) (record q { rest = q.rest ++ bytes }) h
 
 -- ---- no forward stands at port 0

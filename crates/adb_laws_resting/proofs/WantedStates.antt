@@ -16,7 +16,8 @@ use Rattle.adb_laws_resting.proofs.WantedForwards.{book_sound}
 use Rattle.adb_laws_resting.proofs.WantedClients.{WantsIn, all_want}
 
 -- What follows what a client asks can be done, over a table of forwards.
-pub sound_over_table : (devices : DeviceTable) (forwards : List (ℕ × ForwardRow)) → IsForwardTable forwards → (client : Client) (bytes : List ℕ)
+pub sound_over_table : (devices : DeviceTable) (forwards : List (ℕ × ForwardRow)) → IsForwardTable forwards
+    → (client : Client) (bytes : List ℕ)
     → IsSoundNext forwards (asks_with devices forwards bytes (asked_before client)).next
 sound_over_table devices forwards table client bytes =
     sound_asked devices forwards (none_at_zero forwards (table_forwards forwards table)) bytes (asked_before client) tt
@@ -37,5 +38,6 @@ module _ (h : History) (legal : IsLegal h) where
   can_be_done = record {
     wanted = λ c client is want wants. subst IsWanted wants (want_sound c client is);
     forwards = all_forwards;
-    follows = λ client bytes. sound_asked (state h).devices (state h).forwards (none_at_zero (state h).forwards all_forwards) bytes (asked_before client) tt;
+    follows = λ client bytes. sound_asked (state h).devices (state h).forwards
+        (none_at_zero (state h).forwards all_forwards) bytes (asked_before client) tt;
   }

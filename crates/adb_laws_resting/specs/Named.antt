@@ -60,7 +60,8 @@ pub record HoldsAs (l : ℕ) (before : Option Client) (now : Client) : Type 0 wh
   pub is : before ≡ Some old
   pub held : is_for l now.about.phase ≡ true → now.held ≡ old.held
 
--- What a stream was that is still there, and its client: its device takes as many bytes in one packet, and gave credit for no more than so many.
+-- What a stream was that is still there, and its client: its device takes as many bytes in one packet, and gave
+-- credit for no more than so many.
 pub record StaysAs (l more : ℕ) (before after : State) (now : Stream) : Type 0 where
   pub old : Stream
   pub is : before.streams l ≡ Some old
@@ -92,7 +93,8 @@ pub record Adds (p : Packet) (t : ℕ) (s : State) (ids next : List ℕ) : Type 
   pub live : (l : ℕ) → IsAmong l next → IsAmong l ids ⊎ (is_some (s.streams l) ≡ true)
   pub named : p.command ≡ Okay → (stream : Stream) → s.streams p.arg1 ≡ Some stream → stream.link ≡ t → IsAmong p.arg1 next
 
--- What more bytes of a link leave of a state in which no stream has anything to send up: only the streams of the link may that an OKAY names.
+-- What more bytes of a link leave of a state in which no stream has anything to send up: only the streams of the link
+-- may that an OKAY names.
 pub record LeavesStill (t : ℕ) (bytes : List ℕ) (link : Link) (s : State) : Type 0 where
   pub stays : AllStay (granted (cut_behind link bytes).given) s (receives t bytes s).state
   pub still : (l : ℕ) → (IsAmong l (named_by (cut_behind link bytes).given) → ⊥) → IsStill l (receives t bytes s).state

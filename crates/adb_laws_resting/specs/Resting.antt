@@ -57,7 +57,8 @@ pub record SendsNothingBy (s : State) : Type 0 where
   pub put : (c : ℕ) (bytes : List ℕ) → StepIsRule (Put c bytes) s
   pub send : (t : ℕ) (bytes : List ℕ) → StepIsRule (Send t bytes) s
 
--- What comes from a client that has its stream open goes up that stream alone. Its end in order sends nothing more: what it holds can't go up now.
+-- What comes from a client that has its stream open goes up that stream alone. Its end in order sends nothing more:
+-- what it holds can't go up now.
 pub record GoesUpAlone (s : State) : Type 0 where
   pub read : (c l : ℕ) (bytes : List ℕ) → IsClientIn s c (Streaming l) → StepGoesUp l (Read c bytes) s
   pub read_by : (c l : ℕ) (bytes : List ℕ) → IsClientIn s c (Streaming l) → GoesUpBy l (Read c bytes) s

@@ -51,4 +51,5 @@ IsWanted (Some want) = IsRemote want.remote
 pub record CanBeDone (s : State) : Type 0 where
   pub wanted : (c : ℕ) (client : Client) → s.clients c ≡ Some client → (want : Want) → client.about.want ≡ Some want → IsRemote want.remote
   pub forwards : AreForwards s.forwards
-  pub follows : (client : Client) (bytes : List ℕ) → IsSoundNext s.forwards (asks_with s.devices s.forwards bytes (asked_before client)).next
+  pub follows : (client : Client) (bytes : List ℕ) → IsSoundNext s.forwards
+      (asks_with s.devices s.forwards bytes (asked_before client)).next

@@ -29,7 +29,8 @@ first_stands setting = record {
   apart = λ own row is. refl;
   more = own_cnxn setting ∷ [];
   is = refl;
-  fine = All-cons (IsFine (λ l. true ≡ true)) (own_cnxn setting) [] (record { worth = tt; host = λ e. cc }) (All-nil (IsFine (λ l. true ≡ true)));
+  fine = All-cons (IsFine (λ l. true ≡ true)) (own_cnxn setting) [] (record { worth = tt; host = λ e. cc })
+      (All-nil (IsFine (λ l. true ≡ true)));
   cost = (let short = identity_short setting.credit in omega (arith, short));
 }
 
@@ -41,7 +42,8 @@ whole : (setting : Setting) (packets : List Packet) → Stands any [] (130 + ans
 whole setting packets = behind_stands any [] 130 setting packets (first_device setting) (all_any packets) (first_stands setting)
 
 -- no id has both a row that lives and one that has ended, and those that have one were drawn
-pub rows_apart : (setting : Setting) (packets : List Packet) (own : ℕ) (row : Row) → at own (device_behind setting packets).serving.rows ≡ Some row
+pub rows_apart : (setting : Setting) (packets : List Packet) (own : ℕ) (row : Row)
+    → at own (device_behind setting packets).serving.rows ≡ Some row
     → over_at own (device_behind setting packets).serving.ended ≡ None
 rows_apart setting packets own row is = (whole setting packets).apart own row is
 
@@ -77,7 +79,8 @@ answers_alone setting q front more all = record {
       cost = omega arith;
     }
 
-    stands : Stands q (device_behind setting front).serving.made (row_tolls q (device_behind setting front).serving.rows + answer_tolls more) 0
+    stands : Stands q (device_behind setting front).serving.made
+        (row_tolls q (device_behind setting front).serving.rows + answer_tolls more) 0
         (device_behind setting (front ++ more)).serving
     stands =
         subst (λ (d : Device). Stands q (device_behind setting front).serving.made

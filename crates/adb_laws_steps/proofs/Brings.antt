@@ -26,11 +26,14 @@ use Rattle.adb_history.specs.Clients.{owe_client}
 use Rattle.adb_history.specs.Streams.{ends_row, ends_telling}
 use Rattle.adb_history.specs.Flow.{with_flow}
 use Rattle.adb_history.specs.Losing.{link_ends}
-use Rattle.adb_history.specs.Packets.{least_version, least_maxdata, goes_online, streams_end_first, connects, cnxn, unauthorized_from, unauthorized, at_stream}
-use Rattle.adb_history.specs.Packets.{with_remote, hears_okay, opened, orphan_opened, okay_open, okay_first, takes_okay, accepts, takes_write, takes_close}
+use Rattle.adb_history.specs.Packets.{least_version, least_maxdata, goes_online, streams_end_first, connects, cnxn, unauthorized_from}
+use Rattle.adb_history.specs.Packets.{unauthorized, at_stream}
+use Rattle.adb_history.specs.Packets.{with_remote, hears_okay, opened, orphan_opened, okay_open, okay_first, takes_okay, accepts}
+use Rattle.adb_history.specs.Packets.{takes_write, takes_close}
 use Rattle.adb_history.specs.Packets.{treat_open, treat_any, treat_on, treat, treat_all, faulty_on, faulty, with_rest, receives_cut}
 use Rattle.adb_laws_steps.specs.Tolls.{IsWorth, IsWorthwhile}
-use Rattle.adb_laws_steps.proofs.Costs.{InRange, Costs, costs_quiet, costs_aside, costs_then, costs_after, costs_within, quiets_row, quiets_gone, costs_owe}
+use Rattle.adb_laws_steps.proofs.Costs.{InRange, Costs, costs_quiet, costs_aside, costs_then, costs_after, costs_within, quiets_row}
+use Rattle.adb_laws_steps.proofs.Costs.{quiets_gone, costs_owe}
 use Rattle.adb_laws_steps.proofs.Ends.{ends_row_costs, ends_telling_costs, all_end_costs, link_ends_costs}
 
 -- ---- CNXN, AUTH and STLS
@@ -41,7 +44,8 @@ end_first_costs true t s range = all_end_costs t Lost s range
 connects_costs : (t version maxdata : ℕ) (o : Option Identity) (s : State) → InRange s → Costs 0 0 s (connects t version maxdata o s)
 connects_costs t version maxdata None s range = link_ends_costs t Broken s range
 connects_costs t version maxdata (Some identity) s range =
-    costs_then 0 0 0 0 s (streams_end_first (is_connected t s.devices) t s) (λ (x : State). quietly (goes_online t version maxdata identity x))
+    costs_then 0 0 0 0 s (streams_end_first (is_connected t s.devices) t s)
+    (λ (x : State). quietly (goes_online t version maxdata identity x))
     (end_first_costs (is_connected t s.devices) t s range)
     (λ later. let x : State = (streams_end_first (is_connected t s.devices) t s).state in
     costs_aside 0 x (quietly (goes_online t version maxdata identity x)) later refl refl (omega arith))
@@ -81,7 +85,8 @@ opened_costs l remote word stream s range =
     opens : (x : State) → InRange x → Costs 0 0 x (quietly (to_client stream.client (in_phase (Streaming l))
         (to_stream l (with_stream_part (with_remote remote (with_flow (first_credit word stream.part.flow) stream.part))) x)))
     opens x later =
-        let row = quiets_row x later l (with_stream_part (with_remote remote (with_flow (first_credit word stream.part.flow) stream.part))) in
+        let row = quiets_row x later l
+        (with_stream_part (with_remote remote (with_flow (first_credit word stream.part.flow) stream.part))) in
         let cost = row.cost in
         record { range = row.range; cost = omega (arith, cost) }
 
@@ -111,7 +116,8 @@ takes_okay_costs l remote word stream s range is = go (remote == 0) (stream.part
     go false false false = costs_quiet s range
 
 -- ---- WRTE and CLSE
-accepts_costs : (l : ℕ) (payload : List ℕ) (stream : Stream) (s : State) → InRange s → payload ≢ [] → Costs 0 0 s (accepts l payload stream s)
+accepts_costs : (l : ℕ) (payload : List ℕ) (stream : Stream) (s : State) → InRange s → payload ≢ []
+    → Costs 0 0 s (accepts l payload stream s)
 accepts_costs l [] stream s range some = absurd (some refl)
 accepts_costs l (b ∷ payload) stream s range some =
     let later : State = to_stream l (with_stream_part (with_flow (accepted (length (b ∷ payload)) stream.part.flow) stream.part)) s in
@@ -129,7 +135,8 @@ takes_write_costs l remote payload stream s range is some =
     go false true = ends_telling_costs l OutOfTurn stream s range is
     go false false = accepts_costs l payload stream s range some
 
-takes_close_costs : (l remote : ℕ) (stream : Stream) (s : State) → InRange s → s.streams l ≡ Some stream → Costs 0 0 s (takes_close l remote stream s)
+takes_close_costs : (l remote : ℕ) (stream : Stream) (s : State) → InRange s → s.streams l ≡ Some stream
+    → Costs 0 0 s (takes_close l remote stream s)
 takes_close_costs l remote stream s range is = go (remote == 0 || remote == stream.part.remote)
   where
     go : (b : Bool) → Costs 0 0 s (cond b (ends_row l PeerClosed stream s) (quietly s))
@@ -160,7 +167,8 @@ treat_open_costs t Clse p s range worth =
     (λ stream is. takes_close_costs p.arg1 p.arg0 stream s range is)
 treat_open_costs t _ p s range worth = costs_quiet s range
 
-treat_any_costs : (t : ℕ) (command : Command) (p : Packet) (s : State) → InRange s → IsWorth command p.payload → Costs 0 0 s (treat_any t command p s)
+treat_any_costs : (t : ℕ) (command : Command) (p : Packet) (s : State) → InRange s → IsWorth command p.payload
+    → Costs 0 0 s (treat_any t command p s)
 treat_any_costs t Cnxn p s range worth = cnxn_costs t p.arg0 p.arg1 p.payload s range
 treat_any_costs t Auth p s range worth = unauthorized_costs t (at t s.devices.rows) s range
 treat_any_costs t Stls p s range worth = unauthorized_costs t (at t s.devices.rows) s range
@@ -197,7 +205,8 @@ faulty_costs None t fault s range = costs_quiet s range
 faulty_costs (Some link) t None s range = costs_quiet s range
 faulty_costs (Some link) t (Some fault) s range = link_ends_costs t Broken s range
 
-pub cut_costs : (t : ℕ) (c : Cut PacketFormat Packet PacketFault) (s : State) → InRange s → All IsWorthwhile c.given → Costs 0 0 s (receives_cut t c s)
+pub cut_costs : (t : ℕ) (c : Cut PacketFormat Packet PacketFault) (s : State) → InRange s → All IsWorthwhile c.given
+    → Costs 0 0 s (receives_cut t c s)
 cut_costs t c s range worth =
     costs_then 0 0 0 0 s (treat_all t c.given (to_link t (with_rest c.rest) s)) (faulty t c.fault)
     (costs_after 0 0 0 s (to_link t (with_rest c.rest) s) (treat_all t c.given (to_link t (with_rest c.rest) s))

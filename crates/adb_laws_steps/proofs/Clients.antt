@@ -1,5 +1,6 @@
 -- The clients of streams, and what these carry.
-use Rattle.std.specs.Prelude.{ℕ, ◌+◌, ◌≡◌, ◌≢◌, ◌≤◌, ◌<◌, ◌&&◌, zero, suc, Bool, true, false, cond, nat_eq, nat_lt, is_some, All, List, [], ◌∷◌, ◌++◌}
+use Rattle.std.specs.Prelude.{ℕ, ◌+◌, ◌≡◌, ◌≢◌, ◌≤◌, ◌<◌, ◌&&◌, zero, suc, Bool, true, false, cond, nat_eq, nat_lt, is_some, All, List, []}
+use Rattle.std.specs.Prelude.{◌∷◌, ◌++◌}
 use Rattle.std.specs.Prelude.{length, Option, Some, None, slice_get}
 use Rattle.std.proofs.Common.{refl, sym, ap, subst, arith, ◌∙◌, ◌⊎◌, inl, inr}
 use Rattle.std.proofs.lemmas.Bool.{cases_eq, eqb-true}
@@ -42,7 +43,8 @@ asked_for_stays e older b a =
       head = a.head ∙ sym (ap (λ q. q.used) same);
     }
 
-asked_now : (c : ℕ) (bytes : List ℕ) (older : History) → 0 < c → (before after : Option Next) → (asked c (Read c bytes ∷ older)).next ≡ after
+asked_now : (c : ℕ) (bytes : List ℕ) (older : History) → 0 < c → (before after : Option Next)
+    → (asked c (Read c bytes ∷ older)).next ≡ after
     → All (IsAskedFor (Read c bytes ∷ older)) (birth_by c (asked c (Read c bytes ∷ older)).used older (newly before after))
 asked_now c bytes older some None (Some (what.Open t service)) is =
     let b : Birth = record {
@@ -54,13 +56,15 @@ asked_now c bytes older some None (Some (what.Open t service)) is =
       head = (asked c (Read c bytes ∷ older)).used;
       packets_before = length (brought t older);
     } in
-    All-cons (IsAskedFor (Read c bytes ∷ older)) b [] (record { some = some; next = is; head = refl }) (All-nil (IsAskedFor (Read c bytes ∷ older)))
+    All-cons (IsAskedFor (Read c bytes ∷ older)) b [] (record { some = some; next = is; head = refl })
+    (All-nil (IsAskedFor (Read c bytes ∷ older)))
 asked_now c bytes older some _ _ is = All-nil (IsAskedFor (Read c bytes ∷ older))
 
 all_stay : (e : Entry) (older : History) → All (IsAskedFor older) (births older) → All (IsAskedFor (e ∷ older)) (births older)
 all_stay e older all = All-weaker (IsAskedFor older) (IsAskedFor (e ∷ older)) (λ b a. asked_for_stays e older b a) (births older) all
 
-none_born : (e : Entry) (older : History) → births_at e older ≡ [] → All (IsAskedFor older) (births older) → All (IsAskedFor (e ∷ older)) (births (e ∷ older))
+none_born : (e : Entry) (older : History) → births_at e older ≡ [] → All (IsAskedFor older) (births older)
+    → All (IsAskedFor (e ∷ older)) (births (e ∷ older))
 none_born e older none all =
     All-append (IsAskedFor (e ∷ older)) (births older) (births_at e older) (all_stay e older all)
     (subst (λ (bs : List Birth). All (IsAskedFor (e ∷ older)) bs) (sym none) (All-nil (IsAskedFor (e ∷ older))))
@@ -111,7 +115,8 @@ lived_read l c (e ∷ older) = go (lived_read l c older) (is_some (ending_of l o
 
 module _ (h : History) (legal : IsLegal h) where
   -- a stream of another link carries nothing on this one
-  none_carried : (l : ℕ) (b : Birth) → born l h ≡ Some b → b.link ≢ 1 → (ps : List Packet) → All (λ p. IsOwn h 1 p.command p) ps → carried_in l ps ≡ []
+  none_carried : (l : ℕ) (b : Birth) → born l h ≡ Some b → b.link ≢ 1 → (ps : List Packet)
+      → All (λ p. IsOwn h 1 p.command p) ps → carried_in l ps ≡ []
   none_carried l b birth other [] own = refl
   none_carried l b birth other (p ∷ ps) own =
       go p.command refl (All-head (λ p. IsOwn h 1 p.command p) p ps own) (nat_eq p.arg0 l) refl
@@ -119,7 +124,8 @@ module _ (h : History) (legal : IsLegal h) where
     where
       skip : (c : Command) → p.command ≡ c → is_wrte c ≡ false → (m : Bool) → carried_in l ps ≡ []
           → cond (is_wrte p.command && m) (p.payload ++ carried_in l ps) (carried_in l ps) ≡ []
-      skip c e lacks m none = ap (λ (b : Bool). cond (b && m) (p.payload ++ carried_in l ps) (carried_in l ps)) (ap is_wrte e ∙ lacks) ∙ none
+      skip c e lacks m none = ap (λ (b : Bool). cond (b && m) (p.payload ++ carried_in l ps) (carried_in l ps))
+          (ap is_wrte e ∙ lacks) ∙ none
 
       go : (c : Command) → p.command ≡ c → IsOwn h 1 c p → (m : Bool) → nat_eq p.arg0 l ≡ m → carried_in l ps ≡ []
           → cond (is_wrte p.command && m) (p.payload ++ carried_in l ps) (carried_in l ps) ≡ []
@@ -136,7 +142,8 @@ module _ (h : History) (legal : IsLegal h) where
       go Stls e of m f none = absurd of
 
   module _ (carried : OfEachStream h (λ l b. IsCarried l b h)) where
-    pub carried_within : (l : ℕ) (b : Birth) → born l h ≡ Some b → length (carried_in l (packets_of 1 h)) + b.head ≤ length (bytes_read b.client h)
+    pub carried_within : (l : ℕ) (b : Birth) → born l h ≡ Some b
+        → length (carried_in l (packets_of 1 h)) + b.head ≤ length (bytes_read b.client h)
     carried_within l b birth = go (cases_eq b.link 1)
       where
         is : IsCarried l b h

@@ -42,7 +42,8 @@ pub costs_quiet : (s : State) → InRange s → Costs 0 0 s (quietly s)
 costs_quiet s range = record { range = range; cost = omega arith }
 
 -- nothing changes of the streams
-pub costs_aside : (n : ℕ) (s : State) (m : Made) → InRange s → m.state.streams ≡ s.streams → m.state.drawn ≡ s.drawn → tolls m.told ≤ n → Costs n 0 s m
+pub costs_aside : (n : ℕ) (s : State) (m : Made) → InRange s → m.state.streams ≡ s.streams → m.state.drawn ≡ s.drawn
+    → tolls m.told ≤ n → Costs n 0 s m
 costs_aside n s m range streams drawn le =
     let same : still m.state ≡ still s =
     ap (λ (r : Rows (Option Stream)). close_tolls r m.state.drawn) streams ∙ ap (λ (k : ℕ). close_tolls s.streams k) drawn in record {
@@ -52,7 +53,8 @@ costs_aside n s m range streams drawn le =
     }
 
 -- one part after another
-pub costs_then : (a b k l : ℕ) (s : State) (m : Made) (rule : State → Made) → Costs a k s m → (InRange m.state → Costs b l m.state (rule m.state))
+pub costs_then : (a b k l : ℕ) (s : State) (m : Made) (rule : State → Made) → Costs a k s m
+    → (InRange m.state → Costs b l m.state (rule m.state))
     → Costs (a + b) (k + l) s (then_also m rule)
 costs_then a b k l s m rule first next =
     let second = next first.range in
@@ -111,7 +113,8 @@ module _ (s : State) (range : InRange s) where
       let here : close_toll (change_row l (option_and_then none_kept) s.streams l) + 24 ≤ close_toll (s.streams l) =
       (let e = ap close_toll (here_row l none_kept ∙ ap (option_and_then none_kept) is) in
       let old = ap close_toll is in omega (arith, e, old)) in
-      let less = sum_less (λ k. close_toll (s.streams k)) (λ k. close_toll (change_row l (option_and_then none_kept) s.streams k)) l 24 s.drawn
+      let less = sum_less (λ k. close_toll (s.streams k))
+      (λ k. close_toll (change_row l (option_and_then none_kept) s.streams k)) l 24 s.drawn
       (others_kept l none_kept) here (some (cases_eq l 0)) (within (cases_lt s.drawn l)) in
       record { range = in_range l none_kept; cost = omega (arith, less) }
     where

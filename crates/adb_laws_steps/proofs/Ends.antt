@@ -14,11 +14,13 @@ use Rattle.adb_history.specs.declared.ending.Ending.TheVariants.{ClientFailed, S
 use Rattle.adb_history.specs.Links.{close_packet, owe_link}
 use Rattle.adb_history.specs.Streams.{loses, client_loses, tells_end, ends_row, ends_telling, ends_if_of, ends_of, all_end}
 use Rattle.adb_history.specs.Tracking.{mark_all}
-use Rattle.adb_history.specs.Losing.{forgets, link_ends, orphaned, stream_fails, stream_of, client_fails, input_ends, client_ends, tells_stop, all_stop, stops}
+use Rattle.adb_history.specs.Losing.{forgets, link_ends, orphaned, stream_fails, stream_of, client_fails, input_ends, client_ends}
+use Rattle.adb_history.specs.Losing.{tells_stop, all_stop, stops}
 use Rattle.adb_history.specs.Machine.{unplugs_on}
 use Rattle.adb_laws_steps.specs.Tolls.{tolls}
 use Rattle.adb_laws_steps.proofs.Sums.{sum_none}
-use Rattle.adb_laws_steps.proofs.Costs.{InRange, Costs, tolls_append, costs_quiet, costs_aside, costs_then, costs_after, costs_within, quiets_row, quiets_gone}
+use Rattle.adb_laws_steps.proofs.Costs.{InRange, Costs, tolls_append, costs_quiet, costs_aside, costs_then, costs_after, costs_within}
+use Rattle.adb_laws_steps.proofs.Costs.{quiets_row, quiets_gone}
 use Rattle.adb_laws_steps.proofs.Costs.{costs_owe}
 
 -- ---- the client of a stream that ended
@@ -56,7 +58,8 @@ ends_telling_costs l ending stream s range is =
     (λ later. ends_row_costs l ending stream _ later is))
 
 -- ---- all streams of a link end
-ends_if_costs : (t l : ℕ) (ending : Ending) (o : Option Stream) (s : State) → InRange s → s.streams l ≡ o → Costs 0 0 s (ends_if_of t l ending o s)
+ends_if_costs : (t l : ℕ) (ending : Ending) (o : Option Stream) (s : State) → InRange s → s.streams l ≡ o
+    → Costs 0 0 s (ends_if_of t l ending o s)
 ends_if_costs t l ending None s range is = costs_quiet s range
 ends_if_costs t l ending (Some stream) s range is = go (nat_eq stream.link t)
   where
@@ -67,7 +70,8 @@ ends_if_costs t l ending (Some stream) s range is = go (nat_eq stream.link t)
 ends_of_costs : (t k : ℕ) (ending : Ending) (s : State) → InRange s → Costs 0 0 s (ends_of t k ending s)
 ends_of_costs t zero ending s range = costs_quiet s range
 ends_of_costs t (suc k) ending s range =
-    costs_then 0 0 0 0 s (ends_of t k ending s) (λ (x : State). ends_if_of t (suc k) ending (x.streams (suc k)) x) (ends_of_costs t k ending s range)
+    costs_then 0 0 0 0 s (ends_of t k ending s) (λ (x : State). ends_if_of t (suc k) ending (x.streams (suc k)) x)
+    (ends_of_costs t k ending s range)
     (λ later. ends_if_costs t (suc k) ending ((ends_of t k ending s).state.streams (suc k)) (ends_of t k ending s).state later refl)
 
 pub all_end_costs : (t : ℕ) (ending : Ending) (s : State) → InRange s → Costs 0 0 s (all_end t ending s)
@@ -76,15 +80,18 @@ all_end_costs t ending s range = ends_of_costs t s.drawn ending s range
 pub link_ends_costs : (t : ℕ) (ending : Ending) (s : State) → InRange s → Costs 0 0 s (link_ends t ending s)
 link_ends_costs t ending s range =
     costs_then 0 0 0 0 s (all_end t ending (forgets t s)) (λ (x : State). quietly (mark_all x))
-    (costs_after 0 0 0 s (forgets t s) _ (record { range = range; cost = omega arith }) (λ later. all_end_costs t ending (forgets t s) later))
-    (λ later. let x : State = (all_end t ending (forgets t s)).state in costs_aside 0 x (quietly (mark_all x)) later refl refl (omega arith))
+    (costs_after 0 0 0 s (forgets t s) _ (record { range = range; cost = omega arith })
+    (λ later. all_end_costs t ending (forgets t s) later))
+    (λ later. let x : State = (all_end t ending (forgets t s)).state
+    in costs_aside 0 x (quietly (mark_all x)) later refl refl (omega arith))
 
 pub unplugs_costs : (o : Option Link) (t : ℕ) (s : State) → InRange s → Costs 0 0 s (unplugs_on o t s)
 unplugs_costs None t s range = costs_quiet s range
 unplugs_costs (Some link) t s range = link_ends_costs t _ s range
 
 -- ---- the end of a client
-stream_fails_costs : (phase : Phase) (cause : Cause) (s : State) → InRange s → Costs 0 0 s (stream_fails phase cause (stream_of phase s.streams) s)
+stream_fails_costs : (phase : Phase) (cause : Cause) (s : State) → InRange s
+    → Costs 0 0 s (stream_fails phase cause (stream_of phase s.streams) s)
 stream_fails_costs (Streaming l) cause s range = go (s.streams l) refl
   where
     go : (o : Option Stream) → s.streams l ≡ o → Costs 0 0 s (stream_fails (Streaming l) cause o s)
@@ -105,7 +112,8 @@ stream_fails_costs (Opening l) cause s range = go (s.streams l)
     go : (o : Option Stream) → Costs 0 0 s (stream_fails (Opening l) cause o s)
     go None = costs_quiet s range
     go (Some stream) =
-        costs_after 0 0 0 s (to_stream l (with_stream_part (orphaned stream.part)) s) _ (quiets_row s range l (with_stream_part (orphaned stream.part)))
+        costs_after 0 0 0 s (to_stream l (with_stream_part (orphaned stream.part)) s) _
+        (quiets_row s range l (with_stream_part (orphaned stream.part)))
         (λ later. costs_aside 0 (to_stream l (with_stream_part (orphaned stream.part)) s) (stream_fails (Opening l) cause (Some stream) s)
         later refl refl (omega arith))
 stream_fails_costs _ cause s range = costs_quiet s range

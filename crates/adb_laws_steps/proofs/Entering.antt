@@ -24,13 +24,16 @@ use Rattle.adb_history.specs.Streams.{stream_ids, draw, asks_for, no_ids_left, o
 use Rattle.adb_history.specs.Clients.{owe_client}
 use Rattle.adb_history.specs.Flow.{with_flow}
 use Rattle.adb_history.specs.Asking.{Asked, asks_with}
-use Rattle.adb_history.specs.Reading.{comes, comes_in_vain, enters_by, enters, plugs_in, goes_on, asked_before, has_asked, asks, reads_in, reads_from, reads}
+use Rattle.adb_history.specs.Reading.{comes, comes_in_vain, enters_by, enters, plugs_in, goes_on, asked_before, has_asked, asks, reads_in}
+use Rattle.adb_history.specs.Reading.{reads_from, reads}
 use Rattle.adb_history.specs.Reading.{bound_for, bound_in, bound_at, bound}
-use Rattle.adb_history.specs.Handing.{lists_first, hands, tells_credit, tells_handed, stream_hands, stream_left, client_left, takes_of, puts_to, puts}
+use Rattle.adb_history.specs.Handing.{lists_first, hands, tells_credit, tells_handed, stream_hands, stream_left, client_left, takes_of}
+use Rattle.adb_history.specs.Handing.{puts_to, puts}
 use Rattle.adb_laws_steps.specs.Sums.{sum_to}
 use Rattle.adb_laws_steps.specs.Tolls.{toll, close_toll, close_tolls}
 use Rattle.adb_laws_steps.proofs.Sums.{sum_within}
-use Rattle.adb_laws_steps.proofs.Costs.{InRange, Costs, Quiets, costs_quiet, costs_aside, costs_then, costs_after, costs_within, quiets_row, costs_owe}
+use Rattle.adb_laws_steps.proofs.Costs.{InRange, Costs, Quiets, costs_quiet, costs_aside, costs_then, costs_after, costs_within, quiets_row}
+use Rattle.adb_laws_steps.proofs.Costs.{costs_owe}
 use Rattle.adb_laws_steps.proofs.Ends.{stops_costs}
 
 -- ---- a stream is drawn
@@ -105,10 +108,12 @@ asks_costs q c s range =
     (costs_aside 0 s (owe_client c q.replies (to_client c (has_asked q) s)) range refl refl (omega arith))
     (λ later. goes_on_costs q.next c (owe_client c q.replies (to_client c (has_asked q) s)).state later)
 
-reads_in_costs : (phase : Phase) (c : ℕ) (bytes : List ℕ) (client : Client) (s : State) → InRange s → Costs 0 0 s (reads_in phase c bytes client s)
+reads_in_costs : (phase : Phase) (c : ℕ) (bytes : List ℕ) (client : Client) (s : State) → InRange s
+    → Costs 0 0 s (reads_in phase c bytes client s)
 reads_in_costs Asking c bytes client s range = asks_costs (asks_with s.devices s.forwards bytes (asked_before client)) c s range
 reads_in_costs (Opening l) c bytes client s range = costs_aside 0 s (reads_in (Opening l) c bytes client s) range refl refl (omega arith)
-reads_in_costs (Streaming l) c bytes client s range = costs_aside 0 s (reads_in (Streaming l) c bytes client s) range refl refl (omega arith)
+reads_in_costs (Streaming l) c bytes client s range = costs_aside 0 s (reads_in (Streaming l) c bytes client s) range
+    refl refl (omega arith)
 reads_in_costs _ c bytes client s range = costs_quiet s range
 
 reads_from_costs : (o : Option Client) (c : ℕ) (bytes : List ℕ) (s : State) → InRange s → Costs 0 0 s (reads_from o c bytes s)
@@ -125,7 +130,8 @@ enters_by_costs c (Some row) s range = go (is_connected row.transport s.devices)
   where
     go : (b : Bool) → Costs 0 0 s (cond b (opens true c row.transport row.remote (comes true c s)) (quietly (comes_in_vain s)))
     go true =
-        costs_after 0 0 0 s (comes true c s) (opens true c row.transport row.remote (comes true c s)) (record { range = range; cost = omega arith })
+        costs_after 0 0 0 s (comes true c s) (opens true c row.transport row.remote (comes true c s))
+        (record { range = range; cost = omega arith })
         (λ later. opens_costs true c row.transport row.remote (comes true c s) later)
     go false = costs_aside 0 s (quietly (comes_in_vain s)) range refl refl (omega arith)
 

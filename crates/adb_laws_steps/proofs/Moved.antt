@@ -69,13 +69,16 @@ module _ (before : History) where
   other_client c n ended open_yet same =
       let clash : true ≡ false = sym ended ∙ (ap (λ (k : ℕ). has_ended k before) (sym same) ∙ open_yet) in cc
 
-  pub handled_same : (c : ℕ) → has_ended c before ≡ true → (more : History) → AreSteps before more → handled c (more ++ before) ≡ handled c before
+  pub handled_same : (c : ℕ) → has_ended c before ≡ true → (more : History) → AreSteps before more
+      → handled c (more ++ before) ≡ handled c before
   handled_same c ended [] steps = refl
   handled_same c ended (Read n bytes ∷ more) steps =
-      ap (λ (b : Bool). length (cond b (bytes_read c (more ++ before) ++ bytes) (bytes_read c (more ++ before))) + length (bytes_put c (more ++ before)))
+      ap (λ (b : Bool). length (cond b (bytes_read c (more ++ before) ++ bytes) (bytes_read c (more ++ before)))
+      + length (bytes_put c (more ++ before)))
       (ne_eqb n c (other_client c n ended steps.2)) ∙ handled_same c ended more steps.0
   handled_same c ended (Put n bytes ∷ more) steps =
-      ap (λ (b : Bool). length (bytes_read c (more ++ before)) + length (cond b (bytes_put c (more ++ before) ++ bytes) (bytes_put c (more ++ before))))
+      ap (λ (b : Bool). length (bytes_read c (more ++ before))
+      + length (cond b (bytes_put c (more ++ before) ++ bytes) (bytes_put c (more ++ before))))
       (ne_eqb n c (other_client c n ended steps.2)) ∙ handled_same c ended more steps.0
   handled_same c ended (Recv t bytes ∷ more) steps = handled_same c ended more steps.0
   handled_same c ended (Send t bytes ∷ more) steps = handled_same c ended more steps.0
@@ -111,7 +114,8 @@ steps_move before _ steps = absurd steps
 
 -- ---- one client has more
 module _ (before : History) (here : is_lost 1 before ≡ false) where
-  put_drawn : (older : History) → IsLegal older → (c : ℕ) (bytes : List ℕ) (o : Option Client) → (state older).clients c ≡ o → MayPut (state older) o bytes
+  put_drawn : (older : History) → IsLegal older → (c : ℕ) (bytes : List ℕ) (o : Option Client)
+      → (state older).clients c ≡ o → MayPut (state older) o bytes
       → (0 < c) × (c ≤ (state older).joined)
   put_drawn older legal c bytes None is may = absurd may
   put_drawn older legal c bytes (Some client) is may =
@@ -159,7 +163,8 @@ module _ (before : History) (here : is_lost 1 before ≡ false) where
   puts_more : (older : History) (c : ℕ) (bytes : List ℕ) → 0 < c → c ≤ came_count before
       → all_put older + length bytes ≤ all_put (Put c bytes ∷ older)
   puts_more older c bytes some le =
-      sum_less (λ k. length (bytes_put k (Put c bytes ∷ older))) (λ k. length (bytes_put k older)) c (length bytes) (came_count before) others mine some le
+      sum_less (λ k. length (bytes_put k (Put c bytes ∷ older))) (λ k. length (bytes_put k older)) c (length bytes)
+      (came_count before) others mine some le
     where
       others : (k : ℕ) → k ≢ c → length (bytes_put k older) ≡ length (bytes_put k (Put c bytes ∷ older))
       others k other =
@@ -193,7 +198,8 @@ module _ (before : History) (here : is_lost 1 before ≡ false) where
   moves_counted (Recv t bytes ∷ more) legal steps =
       let older = moves_counted more legal.0 steps.0 in
       let all : bytes_received 1 (Recv t bytes ∷ (more ++ before)) ≡ bytes_received 1 (more ++ before) ++ bytes =
-      ap (λ (b : Bool). cond (b && not (is_lost 1 (more ++ before))) (bytes_received 1 (more ++ before) ++ bytes) (bytes_received 1 (more ++ before)))
+      ap (λ (b : Bool). cond (b && not (is_lost 1 (more ++ before))) (bytes_received 1 (more ++ before) ++ bytes)
+      (bytes_received 1 (more ++ before)))
       (eq-eqb t 1 steps.2)
       ∙ ap (λ (b : Bool). cond (not b) (bytes_received 1 (more ++ before) ++ bytes) (bytes_received 1 (more ++ before)))
       (lost_same before more steps.0 ∙ here) in
@@ -251,7 +257,8 @@ module _ (before more : History) (steps : AreSteps before more) where
       omega (arith, below, one)
     where
       go : (b : Bool) → has_ended (suc n) before ≡ b
-          → length (bytes_put (suc n) (more ++ before)) ≤ length (bytes_put (suc n) before) + cond b 0 (length (bytes_put (suc n) (more ++ before)))
+          → length (bytes_put (suc n) (more ++ before)) ≤ length (bytes_put (suc n) before)
+          + cond b 0 (length (bytes_put (suc n) (more ++ before)))
       go true is = let same = put_same before (suc n) is more steps in omega (arith, same)
       go false is = omega arith
 

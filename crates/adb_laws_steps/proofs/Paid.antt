@@ -1,5 +1,6 @@
 -- All that moves from a time at which nothing is on its way to the next is paid by the clients.
-use Rattle.std.specs.Prelude.{ℕ, ◌+◌, ◌*◌, ◌≡◌, ◌≤◌, ◌<◌, zero, suc, Bool, true, false, cond, is_some, All, List, [], ◌∷◌, ◌++◌, length, Option, Some, None}
+use Rattle.std.specs.Prelude.{ℕ, ◌+◌, ◌*◌, ◌≡◌, ◌≤◌, ◌<◌, zero, suc, Bool, true, false, cond, is_some, All, List, [], ◌∷◌, ◌++◌, length}
+use Rattle.std.specs.Prelude.{Option, Some, None}
 use Rattle.std.proofs.Common.{refl, sym, ap, arith, ◌∙◌, ◌⊎◌, inl, inr}
 use Rattle.std.proofs.lemmas.List.{length-append}
 use Rattle.std.proofs.lemmas.List.Elements.{All-nil, All-cons, All-head, All-tail}
@@ -34,7 +35,8 @@ use Rattle.adb_laws_steps.proofs.Parts.{total, total_append, part, IsWithin, cov
 use Rattle.adb_laws_steps.proofs.Receives.{bytes_append, made_size}
 use Rattle.adb_laws_steps.proofs.Answering.{rows_rise}
 use Rattle.adb_laws_steps.proofs.Sizes.{size, stream_share, shared, spelled_size, packet_tolls_within}
-use Rattle.adb_laws_steps.proofs.Streams.{alone, costs, due_now, due_since, legal_before, made_now, more_drawn, q, shares_in, streams_paid, told_since}
+use Rattle.adb_laws_steps.proofs.Streams.{alone, costs, due_now, due_since, legal_before, made_now, more_drawn, q, shares_in, streams_paid}
+use Rattle.adb_laws_steps.proofs.Streams.{told_since}
 use Rattle.adb_laws_steps.proofs.Tolls.{tolls_paid}
 use Rattle.adb_laws_steps.proofs.Watched.{closes_kept, is_watched, keeps, rows_kept}
 use Rattle.adb_laws_steps.proofs.Written.{total_written}
@@ -46,13 +48,15 @@ three_sums a b c (suc n) = let below = three_sums a b c n in omega (arith, below
 
 module _ (before h : History) where
   both_pay : (n : ℕ) → sum_to (λ c. of_here before c (handled c h)) n + 28 * sum_to (λ c. of_here before c (length (bytes_put c h))) n
-      + sum_to (λ c. of_here before c (stream_pays (asked c h).next (asked c h).used (length (bytes_read c h)) + 25 * length (bytes_put c h))) n
+      + sum_to (λ c. of_here before c
+      (stream_pays (asked c h).next (asked c h).used (length (bytes_read c h)) + 25 * length (bytes_put c h))) n
       ≤ sum_to (λ c. of_here before c (pays c h)) n
   both_pay zero = omega arith
   both_pay (suc n) = let below = both_pay n in let one = go (has_ended (suc n) before) in omega (arith, below, one)
     where
       go : (b : Bool) → cond b 0 (handled (suc n) h) + 28 * cond b 0 (length (bytes_put (suc n) h))
-          + cond b 0 (stream_pays (asked (suc n) h).next (asked (suc n) h).used (length (bytes_read (suc n) h)) + 25 * length (bytes_put (suc n) h))
+          + cond b 0 (stream_pays (asked (suc n) h).next (asked (suc n) h).used (length (bytes_read (suc n) h)) + 25
+          * length (bytes_put (suc n) h))
           ≤ cond b 0 (pays (suc n) h)
       go true = omega arith
       go false = omega arith
@@ -113,9 +117,11 @@ module _ (setting : Setting) (before more : History) (s : Settles setting before
       omega (arith, all, now, old, whole, both)
 
   -- ---- what its device sent since
-  taken_size : length (bytes_received 1 (more ++ before)) ≡ length (bytes_received 1 before) + length (sent_bytes (alone setting before more s).made)
+  taken_size : length (bytes_received 1 (more ++ before)) ≡ length (bytes_received 1 before)
+      + length (sent_bytes (alone setting before more s).made)
   taken_size =
-      let now : length (bytes_received 1 (more ++ before)) ≡ length (sent_bytes (device_behind setting (sent 1 (more ++ before))).serving.made) =
+      let now : length (bytes_received 1 (more ++ before)) ≡ length
+      (sent_bytes (device_behind setting (sent 1 (more ++ before))).serving.made) =
       ap (length {A = ℕ}) s.taken_now in
       let old : length (bytes_received 1 before) ≡ length (sent_bytes (device_behind setting (sent 1 before)).serving.made) =
       ap (length {A = ℕ}) s.taken_before in
@@ -130,7 +136,8 @@ module _ (setting : Setting) (before more : History) (s : Settles setting before
   rows_paid =
       rows_kept (q setting before more s) (state (more ++ before)).drawn (device_behind setting (sent 1 before)).serving.rows
       (rows_rise setting (sent 1 before))
-      (λ l. let one = ids l (sent 1 before) ((no_crossing before legal_old).once 1 l) in (one.id, λ own row is host. one.rows own row is host))
+      (λ l. let one = ids l (sent 1 before) ((no_crossing before legal_old).once 1 l)
+      in (one.id, λ own row is host. one.rows own row is host))
       (λ own row is on. watched_drawn row.host on)
 
   -- ---- tolls of the server
@@ -141,7 +148,8 @@ module _ (setting : Setting) (before more : History) (s : Settles setting before
       let paid = tolls_paid before more s.legal worth in
       let same = plugged_same before more s.steps in
       let puts : puts_made (more ++ before) + sum_to (λ c. length (bytes_put c before)) (came_count before)
-      ≤ puts_made before + sum_to (λ c. length (bytes_put c (more ++ before))) (came_count before) = puts_within before s.here more s.legal s.steps in
+      ≤ puts_made before + sum_to (λ c. length (bytes_put c (more ++ before))) (came_count before) =
+      puts_within before s.here more s.legal s.steps in
       let kept : close_tolls (state before).streams (state before).drawn + 24 * (state (more ++ before)).drawn
       ≤ sum_to (λ l. keeps (q setting before more s) l) (state (more ++ before)).drawn + 24 * (state before).drawn =
       closes_kept before (state (more ++ before)).drawn more_now in
@@ -160,7 +168,8 @@ module _ (setting : Setting) (before more : History) (s : Settles setting before
       let tolled = packet_tolls_within 1 (told_since more before).0 in
       let shares : total stream_share (λ p. p.arg0) (due_since setting before more s)
       ≤ sum_to (λ l. part stream_share (λ p. p.arg0) l (due_since setting before more s)) (state (more ++ before)).drawn =
-      covered stream_share (λ p. p.arg0) (state (more ++ before)).drawn (due_since setting before more s) (shares_in setting before more s) in
+      covered stream_share (λ p. p.arg0) (state (more ++ before)).drawn (due_since setting before more s)
+      (shares_in setting before more s) in
       let written = total_written (packets_of_sent (alone setting before more s).made) in
       let writes : total write_len (λ p. p.arg1) (packets_of_sent (alone setting before more s).made)
       ≤ sum_to (λ l. part write_len (λ p. p.arg1) l (packets_of_sent (alone setting before more s).made)) (state (more ++ before)).drawn =
@@ -169,7 +178,8 @@ module _ (setting : Setting) (before more : History) (s : Settles setting before
       (alone setting before more s).fine) in
       let sums : sum_to (costs setting before more s) (state (more ++ before)).drawn
       ≡ sum_to (λ l. part stream_share (λ p. p.arg0) l (due_since setting before more s)) (state (more ++ before)).drawn
-      + 25 * sum_to (λ l. part write_len (λ p. p.arg1) l (packets_of_sent (alone setting before more s).made)) (state (more ++ before)).drawn
+      + 25 * sum_to (λ l. part write_len (λ p. p.arg1) l (packets_of_sent (alone setting before more s).made))
+      (state (more ++ before)).drawn
       + 2 * sum_to (λ l. keeps (q setting before more s) l) (state (more ++ before)).drawn =
       three_sums (λ l. part stream_share (λ p. p.arg0) l (due_since setting before more s))
       (λ l. part write_len (λ p. p.arg1) l (packets_of_sent (alone setting before more s).made)) (λ l. keeps (q setting before more s) l)
@@ -183,10 +193,13 @@ module _ (setting : Setting) (before more : History) (s : Settles setting before
   pub clients_pay : ClientsPay before more
   clients_pay =
       let moves : moved more + sum_to (λ c. handled c before) (came_count before) + on_link before
-      ≤ sum_to (λ c. handled c (more ++ before)) (came_count before) + on_link (more ++ before) = moves_counted before s.here more s.legal s.steps in
+      ≤ sum_to (λ c. handled c (more ++ before)) (came_count before) + on_link (more ++ before) =
+      moves_counted before s.here more s.legal s.steps in
       let link = link_paid in
       let streams : sum_to (costs setting before more s) (state (more ++ before)).drawn
-      ≤ sum_to (λ c. of_here before c (stream_pays (asked c (more ++ before)).next (asked c (more ++ before)).used (length (bytes_read c (more ++ before)))
+      ≤ sum_to (λ c. of_here before c
+      (stream_pays (asked c (more ++ before)).next (asked c (more ++ before)).used
+      (length (bytes_read c (more ++ before)))
       + 25 * length (bytes_put c (more ++ before)))) (came_count before) =
       streams_paid setting before more s carried in
       let mine = handled_here before more s.steps (came_count before) in

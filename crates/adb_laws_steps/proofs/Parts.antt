@@ -87,7 +87,8 @@ module _ (Of : ℕ → ℕ → Type 0) (apart : (l k c : ℕ) → Of l c → Of 
           spare l le (inl none) = inl none
           spare l le (inr x) =
               let other : x.c ≢ one.c =
-              λ same. (let two : l ≡ suc n = apart l (suc n) one.c (subst (λ (c : ℕ). Of l c) same x.is) one.is in omega (arith, two, le)) in
+              λ same. (let two : l ≡ suc n = apart l (suc n) one.c (subst (λ (c : ℕ). Of l c) same x.is) one.is
+              in omega (arith, two, le)) in
               let e = others x.c other in
               let much = x.le in
               inr (record { c = x.c; is = x.is; some = x.some; within = x.within; le = omega (arith, e, much) })

@@ -49,7 +49,8 @@ okay_names own l id (p ∷ packets) all some =
     (λ more. okay_names own l id packets (All-tail (OkaysFrom l id) p packets all) more)
   where
     go : (a : Bool) → is_okay p.command ≡ a → (m : Bool) → nat_eq p.arg0 own ≡ m → (n : Bool) → nat_eq p.arg1 l ≡ n
-        → 1 ≤ cond (a && (m && n)) (1 + okays_in own l packets) (okays_in own l packets) → (1 ≤ okays_in own l packets → own ≡ id) → own ≡ id
+        → 1 ≤ cond (a && (m && n)) (1 + okays_in own l packets) (okays_in own l packets)
+        → (1 ≤ okays_in own l packets → own ≡ id) → own ≡ id
     go true e true f true g some later =
         sym (eqb-true p.arg0 own f) ∙ All-head (OkaysFrom l id) p packets all e (eqb-true p.arg1 l g)
     go _ e _ f _ g some later = later some
@@ -94,12 +95,15 @@ module _ (setting : Setting) (laws : DeviceLaws setting) (h : History) (legal : 
         let same : own ≡ id.id = id.rows own row is host in
         let there : at id.id (device_behind setting (sent 1 h)).serving.rows ≡ Some row =
         ap (λ (n : ℕ). at n (device_behind setting (sent 1 h)).serving.rows) (sym same) ∙ is in
-        let w = subst (λ (o : Option Row). Writes id.id (device_behind setting (sent 1 h)).serving.made (device_behind setting (sent 1 h)).serving.acks o
+        let w = subst
+        (λ (o : Option Row). Writes id.id (device_behind setting (sent 1 h)).serving.made
+        (device_behind setting (sent 1 h)).serving.acks o
         (over_at id.id (device_behind setting (sent 1 h)).serving.ended)) there (laws.write (sent 1 h) id.id positive) in
         front_short id.id row (device_behind setting (sent 1 h)).serving.made w.0
 
     -- one that has ended
-    module _ (own : ℕ) (e : Ended) (is : over_at own (device_behind setting (sent 1 h)).serving.ended ≡ Some e) (host : e.row.host ≡ l) where
+    module _ (own : ℕ) (e : Ended) (is : over_at own (device_behind setting (sent 1 h)).serving.ended ≡ Some e)
+        (host : e.row.host ≡ l) where
       drawn : (0 < own) × (own ≤ (device_behind setting (sent 1 h)).serving.drawn)
       drawn = over_drawn own e is
 
@@ -109,7 +113,8 @@ module _ (setting : Setting) (laws : DeviceLaws setting) (h : History) (legal : 
       gone : at own (device_behind setting (sent 1 h)).serving.rows ≡ None
       gone = go (at own (device_behind setting (sent 1 h)).serving.rows) refl
         where
-          go : (o : Option Row) → at own (device_behind setting (sent 1 h)).serving.rows ≡ o → at own (device_behind setting (sent 1 h)).serving.rows ≡ None
+          go : (o : Option Row) → at own (device_behind setting (sent 1 h)).serving.rows ≡ o
+              → at own (device_behind setting (sent 1 h)).serving.rows ≡ None
           go None there = there
           go (Some row) there = absurd (let clash : None ≡ Some e = sym (rows_apart setting (sent 1 h) own row there) ∙ is in cc)
 
@@ -138,7 +143,8 @@ module _ (setting : Setting) (laws : DeviceLaws setting) (h : History) (legal : 
       over_wrote =
           let w = subst (λ (o : Option Ended). Writes own (device_behind setting (sent 1 h)).serving.made
           (device_behind setting (sent 1 h)).serving.acks None o) is
-          (subst (λ (o : Option Row). Writes own (device_behind setting (sent 1 h)).serving.made (device_behind setting (sent 1 h)).serving.acks o
+          (subst (λ (o : Option Row). Writes own (device_behind setting (sent 1 h)).serving.made
+          (device_behind setting (sent 1 h)).serving.acks o
           (over_at own (device_behind setting (sent 1 h)).serving.ended)) gone (laws.write (sent 1 h) own drawn.0)) in
           let few = front_short e.own e.row (device_behind setting (sent 1 h)).serving.made w.1.writes in
           let same = ap (λ (n : ℕ). length (written n (device_behind setting (sent 1 h)).serving.made)) w.0 in
@@ -146,7 +152,8 @@ module _ (setting : Setting) (laws : DeviceLaws setting) (h : History) (legal : 
           omega (arith, few, same, mine)
 
   -- a client that was answered was put all that was written to its stream
-  pub answered_put : (c : ℕ) (service text before put : List ℕ) → (a : IsAnswered (device_behind setting (sent 1 h)).serving h c service text before put)
+  pub answered_put : (c : ℕ) (service text before put : List ℕ)
+      → (a : IsAnswered (device_behind setting (sent 1 h)).serving h c service text before put)
       → writes_to a.number (packets_owed setting (sent 1 h)) ≤ length put
   answered_put c service text before put a =
       let mine = part_written a.number (id a.number).id (device_behind setting (sent 1 h)).serving.made (id a.number).sent in
@@ -166,7 +173,8 @@ module _ (setting : Setting) (laws : DeviceLaws setting) (h : History) (legal : 
           ≤ length (service_answer row.kind row.first row.past).bytes) e.row_is
           (over_wrote a.number a.served.own e.over e.is (ap (λ (row : Row). row.host) e.row_is ∙ a.served.host))
 
-pub writes_put : (setting : Setting) (laws : DeviceLaws setting) (h : History) → IsLegal h → ClientsAreAnswered setting h → WritesWerePut setting h
+pub writes_put : (setting : Setting) (laws : DeviceLaws setting) (h : History) → IsLegal h
+    → ClientsAreAnswered setting h → WritesWerePut setting h
 writes_put setting laws h legal answered rest here killed few none l b birth link known open_yet =
     let for_it = asked_for h (all_asked_for h legal none) l b birth in
     let next : (asked b.client h).next ≡ Some (Open 1 b.service) =

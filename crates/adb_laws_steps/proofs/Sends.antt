@@ -55,12 +55,15 @@ module _ (h : History) (legal : IsLegal h) where
   pub all_within : (ps : List Packet) → All (λ p. IsOwn h 1 p.command p) ps → All (IsWithin stream_share (λ p. p.arg0) (state h).drawn) ps
   all_within [] all = All-nil (IsWithin stream_share (λ p. p.arg0) (state h).drawn)
   all_within (p ∷ ps) all =
-      All-cons (IsWithin stream_share (λ p. p.arg0) (state h).drawn) p ps (go p.command refl (All-head (λ p. IsOwn h 1 p.command p) p ps all))
+      All-cons (IsWithin stream_share (λ p. p.arg0) (state h).drawn) p ps
+      (go p.command refl (All-head (λ p. IsOwn h 1 p.command p) p ps all))
       (all_within ps (All-tail (λ p. IsOwn h 1 p.command p) p ps all))
     where
       none : (c : Command) → p.command ≡ c → cond (is_wrte c) (53 * length p.payload) 0 + cond (is_open c) (76 + length p.payload) 0 ≡ 0
           → stream_share p ≡ 0
-      none c e zeroth = ap (λ (k : Command). cond (is_wrte k) (53 * length p.payload) 0 + cond (is_open k) (76 + length p.payload) 0) e ∙ zeroth
+      none c e zeroth =
+          ap (λ (k : Command). cond (is_wrte k) (53 * length p.payload) 0
+          + cond (is_open k) (76 + length p.payload) 0) e ∙ zeroth
 
       go : (c : Command) → p.command ≡ c → IsOwn h 1 c p → IsWithin stream_share (λ p. p.arg0) (state h).drawn p
       go Open e of = inr (drawn_for p.arg0 of.birth of.is)

@@ -1,5 +1,6 @@
 -- What a model device serves behind what it owed: the tolls of what becomes due, against the CLSEs of the rows that live.
-use Rattle.std.specs.Prelude.{ℕ, ◌+◌, ◌==◌, ◌≡◌, ◌≢◌, ◌≤◌, ◌<◌, ◌||◌, if◌then◌else◌, Bool, true, false, All, List, [], ◌∷◌, ◌++◌, length, map, fold, cond, Option}
+use Rattle.std.specs.Prelude.{ℕ, ◌+◌, ◌==◌, ◌≡◌, ◌≢◌, ◌≤◌, ◌<◌, ◌||◌, if◌then◌else◌, Bool, true, false, All, List, [], ◌∷◌, ◌++◌, length}
+use Rattle.std.specs.Prelude.{map, fold, cond, Option}
 use Rattle.std.specs.Prelude.{Some, None, zero, suc, option_map, unwrap_or}
 use Rattle.std.specs.List.Sorted.{IsStrictlySortedBy}
 use Rattle.std.specs.BTreeMap.{is_at}
@@ -20,14 +21,17 @@ use Rattle.adb_stream.specs.declared.flow.Flow.{Flow}
 use Rattle.adb_stream.specs.declared.flow.Flow.TheVariants as flows
 use Rattle.adb_device_streams.specs.Asked.{Kind}
 use Rattle.adb_device_streams.specs.Service.{came_over, files_fed, files_opened}
-use Rattle.adb_device_streams.specs.Stream.{Row, opened, row_took, row_acked, row_past, row_past_all, row_written, writes, writes_at, next_payload, unsent, is_done}
+use Rattle.adb_device_streams.specs.Stream.{Row, opened, row_took, row_acked, row_past, row_past_all, row_written, writes, writes_at}
+use Rattle.adb_device_streams.specs.Stream.{next_payload, unsent, is_done}
 use Rattle.adb_device_streams.specs.Stream.{opening_word, wrte, okay, clse}
 use Rattle.adb_device_streams.specs.Link.{link_of, credit_word_in}
 use Rattle.adb_device_streams.specs.declared.link.Link.{Link}
 use Rattle.adb_daemon.specs.Streams.{over_at}
 use Rattle.adb_daemon.proofs.Standing.{other_over}
-use Rattle.adb_daemon.specs.Serving.{Serving, Ended, Sent, ended_at, with_sum, owing, granted, kept, gone, sent_writes, sent_close, settled_as, settled, credit_of, open_as, is_taken}
-use Rattle.adb_daemon.specs.Serving.{kind_for, on_open, named, sent_ack, written_to, acked_to, on_okay, closed_to, closable, on_close, all_gone, served}
+use Rattle.adb_daemon.specs.Serving.{Serving, Ended, Sent, ended_at, with_sum, owing, granted, kept, gone, sent_writes, sent_close}
+use Rattle.adb_daemon.specs.Serving.{settled_as, settled, credit_of, open_as, is_taken}
+use Rattle.adb_daemon.specs.Serving.{kind_for, on_open, named, sent_ack, written_to, acked_to, on_okay, closed_to, closable, on_close}
+use Rattle.adb_daemon.specs.Serving.{all_gone, served}
 use Rattle.adb_daemon.specs.Device.{Setting, Device, linked_to, served_on, step}
 use Rattle.adb_laws_steps.specs.Tolls.{toll}
 use Rattle.adb_laws_steps.specs.Owed.{answer_toll, answer_tolls, asks, sent_tolls, IsFine, AsksFor, row_toll, row_tolls}
@@ -46,7 +50,8 @@ fewer_drawn drawn own (inl zeroth) = inl zeroth
 fewer_drawn drawn own (inr past) = inr (omega (arith, past))
 
 there_drawn : (own : ℕ) (row : Row) (s : Serving)
-    → ((k : ℕ) → IsUndrawn s.drawn k → (at k s.rows ≡ None) × (over_at k s.ended ≡ None)) → at own s.rows ≡ Some row → (0 < own) × (own ≤ s.drawn)
+    → ((k : ℕ) → IsUndrawn s.drawn k → (at k s.rows ≡ None) × (over_at k s.ended ≡ None)) → at own s.rows ≡ Some row
+    → (0 < own) × (own ≤ s.drawn)
 there_drawn own row s fresh is = (some (cases_eq own 0), within (cases_lt s.drawn own))
   where
     some : (own ≡ 0) ⊎ (own ≡ 0 → ⊥) → 0 < own
@@ -122,7 +127,8 @@ module _ (q : ℕ → Bool) (base : List Sent) where
   }
 
   -- more becomes due
-  owes : (n m left : ℕ) (more : List Sent) (s : Serving) → All (IsFine P) more → sent_tolls more ≤ m → Stands n left s → Stands (n + m) left (owing more s)
+  owes : (n m left : ℕ) (more : List Sent) (s : Serving) → All (IsFine P) more → sent_tolls more ≤ m → Stands n left s
+      → Stands (n + m) left (owing more s)
   owes n m left more s fine le h = record {
     rises = h.rises;
     fresh = h.fresh;
@@ -158,7 +164,8 @@ module _ (q : ℕ → Bool) (base : List Sent) where
     more = h.more;
     is = h.is;
     fine = h.fine;
-    cost = (let cost = h.cost in let sum = put_tolls own row s.rows h.rises in let most = toll_at_most row in omega (arith, cost, sum, most));
+    cost = (let cost = h.cost in let sum = put_tolls own row s.rows h.rises in let most =
+        toll_at_most row in omega (arith, cost, sum, most));
   }
 
   keeps_there : (n left : ℕ) (own : ℕ) (row old : Row) (s : Serving) → at own s.rows ≡ Some old → row.host ≡ old.host → Stands n left s
@@ -212,7 +219,8 @@ module _ (q : ℕ → Bool) (base : List Sent) where
     cost = (let cost = h.cost in let sum = left_tolls own s.rows in omega (arith, cost, sum));
   }
 
-  goes_there : (n left : ℕ) (closed : Bool) (own : ℕ) (row old : Row) (s : Serving) → at own s.rows ≡ Some old → P old.host → Stands n left s
+  goes_there : (n left : ℕ) (closed : Bool) (own : ℕ) (row old : Row) (s : Serving) → at own s.rows ≡ Some old
+      → P old.host → Stands n left s
       → Stands n (left + 24) (gone closed own row s)
   goes_there n left closed own row old s is host h = record {
     rises = without_rises own s.rows h.rises;
@@ -235,7 +243,8 @@ module _ (q : ℕ → Bool) (base : List Sent) where
       × (sent_tolls (map (λ payload. with_sum link.sums (wrte own host payload)) (writes_at k link.most row)) ≡ 0)
   writes_fine link own host zero row ok = (All-nil (IsFine P), refl)
   writes_fine link own host (suc k) row ok =
-      go (next_payload link.most row) (writes_at k link.most (row_past (next_payload link.most row) row)) (length (next_payload link.most row) == 0) refl
+      go (next_payload link.most row) (writes_at k link.most (row_past (next_payload link.most row) row))
+      (length (next_payload link.most row) == 0) refl
       (writes_fine link own host k (row_past (next_payload link.most row) row) ok)
     where
       some : (payload : List ℕ) → (length payload == 0) ≡ false → (payload ≢ []) × (toll commands.Wrte payload ≡ 0)
@@ -261,7 +270,8 @@ module _ (q : ℕ → Bool) (base : List Sent) where
   same_host [] row = refl
   same_host (payload ∷ more) row = same_host more (row_past payload row)
 
-  wrote : (n left : ℕ) (link : Link) (own : ℕ) (row : Row) (s : Serving) → P row.host → Stands n left s → Stands n left (owing (sent_writes link own row) s)
+  wrote : (n left : ℕ) (link : Link) (own : ℕ) (row : Row) (s : Serving) → P row.host → Stands n left s
+      → Stands n left (owing (sent_writes link own row) s)
   wrote n left link own row s host h =
       let w = writes_fine link own row.host (length (unsent row)) row host in
       let none = w.1 in
@@ -276,7 +286,8 @@ module _ (q : ℕ → Bool) (base : List Sent) where
   okay_fine link own host word =
       All-cons (IsFine P) (with_sum link.sums (okay own host word)) [] (record { worth = tt; host = λ e. cc }) (All-nil (IsFine P))
 
-  settles : (n left : ℕ) (link : Link) (own : ℕ) (row : Row) (s : Serving) → P row.host → (0 < own) × (own ≤ s.drawn) → over_at own s.ended ≡ None
+  settles : (n left : ℕ) (link : Link) (own : ℕ) (row : Row) (s : Serving) → P row.host → (0 < own) × (own ≤ s.drawn)
+      → over_at own s.ended ≡ None
       → Stands n left s → Stands (n + 24) left (settled link own row s)
   settles n left link own row s host drawn none h = go (is_done (row_written link.most row))
     where
@@ -294,7 +305,8 @@ module _ (q : ℕ → Bool) (base : List Sent) where
           (owes n 24 left (sent_close true link own (row_written link.most row).host) (owing (sent_writes link own row) s)
           (close_fine link own (row_written link.most row).host) (omega arith) later)
 
-  settles_there : (n : ℕ) (link : Link) (own : ℕ) (row old : Row) (s : Serving) → at own s.rows ≡ Some old → P old.host → row.host ≡ old.host
+  settles_there : (n : ℕ) (link : Link) (own : ℕ) (row old : Row) (s : Serving) → at own s.rows ≡ Some old
+      → P old.host → row.host ≡ old.host
       → Stands n 0 s → Stands n 0 (settled link own row s)
   settles_there n link own row old s is host same h = go (is_done (row_written link.most row))
     where
@@ -318,7 +330,8 @@ module _ (q : ℕ → Bool) (base : List Sent) where
   word_short None = omega arith
   word_short (Some given) = omega arith
 
-  open_stands : (n : ℕ) (link : Link) (p : Packet) (kind : Option Kind) (s : Serving) → P p.arg0 → Stands n 0 s → Stands (n + 52) 0 (open_as link p kind s)
+  open_stands : (n : ℕ) (link : Link) (p : Packet) (kind : Option Kind) (s : Serving) → P p.arg0 → Stands n 0 s
+      → Stands (n + 52) 0 (open_as link p kind s)
   open_stands n link p None s host h =
       within (n + 24) (n + 52) 0 0 (open_as link p None s) (omega arith)
       (owes n 24 0 (with_sum link.sums (clse 0 p.arg0) ∷ []) s (close_fine link 0 p.arg0) (omega arith) h)
@@ -388,7 +401,8 @@ module _ (q : ℕ → Bool) (base : List Sent) where
       go false = let size : length (little_bytes 4 k) ≡ 4 = refl in (okay_fine link own host (little_bytes 4 k), omega (arith, size))
 
   write_stands : (n : ℕ) (link : Link) (p : Packet) (found : Option Row) (s : Serving) → P p.arg0
-      → ((row : Row) → found ≡ Some row → (at p.arg1 s.rows ≡ Some row) × (row.host ≡ p.arg0)) → Stands n 0 s → Stands (n + 28) 0 (written_to link p found s)
+      → ((row : Row) → found ≡ Some row → (at p.arg1 s.rows ≡ Some row) × (row.host ≡ p.arg0)) → Stands n 0 s
+      → Stands (n + 28) 0 (written_to link p found s)
   write_stands n link p None s host there h = within n (n + 28) 0 0 s (omega arith) h
   write_stands n link p (Some row) s host there h =
       let is = (there row refl).0 in
@@ -396,12 +410,23 @@ module _ (q : ℕ → Bool) (base : List Sent) where
       let ack = ack_fine link p.arg1 row.host row.flow (length p.payload) in
       let okayed = owes n 28 0 (sent_ack link p.arg1 row.host row.flow (length p.payload)) s ack.0 ack.1 h in
       settles_there (n + 28) link p.arg1 (row_took (came_over p.payload s.files) row) row
-      (record (owing (sent_ack link p.arg1 row.host row.flow (length p.payload)) s) { files = files_fed row.kind row.past (came_over p.payload s.files) })
+      (record (owing (sent_ack link p.arg1 row.host row.flow (length p.payload)) s)
+      { files = files_fed row.kind row.past (came_over p.payload s.files) })
       is for_it refl
-      (record { rises = okayed.rises; fresh = okayed.fresh; apart = okayed.apart; more = okayed.more; is = okayed.is; fine = okayed.fine; cost = okayed.cost })
+      (record {
+        rises = okayed.rises;
+        fresh = okayed.fresh;
+        apart = okayed.apart;
+        more = okayed.more;
+        is =
+            okayed.is;
+        fine = okayed.fine;
+        cost = okayed.cost;
+      })
 
   ack_stands : (n : ℕ) (link : Link) (p : Packet) (found : Option Row) (s : Serving) → P p.arg0
-      → ((row : Row) → found ≡ Some row → (at p.arg1 s.rows ≡ Some row) × (row.host ≡ p.arg0)) → Stands n 0 s → Stands n 0 (acked_to link p found s)
+      → ((row : Row) → found ≡ Some row → (at p.arg1 s.rows ≡ Some row) × (row.host ≡ p.arg0)) → Stands n 0 s
+      → Stands n 0 (acked_to link p found s)
   ack_stands n link p None s host there h = h
   ack_stands n link p (Some row) s host there h =
       let is = (there row refl).0 in
@@ -415,7 +440,8 @@ module _ (q : ℕ → Bool) (base : List Sent) where
   close_stands n own None s there h = h
   close_stands n own (Some row) s there h = goes n 0 false own row s (there_drawn own row s h.fresh (there row refl)) h
 
-  named_as : (p : Packet) (s : Serving) (row : Row) → named p.arg0 (at p.arg1 s.rows) ≡ Some row → (at p.arg1 s.rows ≡ Some row) × (row.host ≡ p.arg0)
+  named_as : (p : Packet) (s : Serving) (row : Row) → named p.arg0 (at p.arg1 s.rows) ≡ Some row
+      → (at p.arg1 s.rows ≡ Some row) × (row.host ≡ p.arg0)
   named_as p s row is = (named_there p.arg0 (at p.arg1 s.rows) row is, named_host p.arg0 (at p.arg1 s.rows) row is)
 
   served_stands : (n : ℕ) (command : Command) (link : Link) (p : Packet) (s : Serving) → (asks command ≡ true → P p.arg0) → Stands n 0 s

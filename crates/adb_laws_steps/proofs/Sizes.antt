@@ -46,7 +46,8 @@ length_header : (head : Head) → length (header_bytes head) ≡ 24
 length_header head = refl
 
 pub length_spelling : (p : Packet) (check : ℕ) → length (spelling p check) ≡ 24 + length p.payload
-length_spelling p check = length-append (header_bytes (head_for p check)) p.payload ∙ ap (λ (n : ℕ). n + length p.payload) (length_header (head_for p check))
+length_spelling p check = length-append (header_bytes (head_for p check)) p.payload
+    ∙ ap (λ (n : ℕ). n + length p.payload) (length_header (head_for p check))
 
 pub spelled_size : (t : ℕ) (events : List Event) → length (spelled_to t events) ≡ total size (λ p. p.arg0) (packets_to t events)
 spelled_size t [] = refl

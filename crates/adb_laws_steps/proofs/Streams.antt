@@ -64,9 +64,11 @@ more_births : (more before : History) → length (births before) ≤ length (bir
 more_births [] before = omega arith
 more_births (e ∷ more) before = go (births (e ∷ (more ++ before))) (births_at e (more ++ before)) refl (more_births more before)
   where
-    go : (all : List Birth) (now : List Birth) → all ≡ births (more ++ before) ++ now → length (births before) ≤ length (births (more ++ before))
+    go : (all : List Birth) (now : List Birth) → all ≡ births (more ++ before) ++ now
+        → length (births before) ≤ length (births (more ++ before))
         → length (births before) ≤ length all
-    go all now is le = let long = ap (length {A = Birth}) is in let sum = length-append (births (more ++ before)) now in omega (arith, le, long, sum)
+    go all now is le = let long = ap (length {A = Birth}) is in let sum =
+        length-append (births (more ++ before)) now in omega (arith, le, long, sum)
 
 pub more_drawn : (more before : History) → IsLegal (more ++ before) → (state before).drawn ≤ (state (more ++ before)).drawn
 more_drawn more before legal =
@@ -91,7 +93,8 @@ asks_once p ps on none =
     omega (arith, counts)
 
 -- a packet that asks is of a stream that was born
-own_drawn : (h : History) (legal : IsLegal h) (c : Command) (p : Packet) → IsOwn h 1 c p → asks c ≡ true → (0 < p.arg0) × (p.arg0 ≤ (state h).drawn)
+own_drawn : (h : History) (legal : IsLegal h) (c : Command) (p : Packet) → IsOwn h 1 c p → asks c ≡ true
+    → (0 < p.arg0) × (p.arg0 ≤ (state h).drawn)
 own_drawn h legal Cnxn p of on = absurd (let clash : false ≡ true = on in cc)
 own_drawn h legal Clse p of on = absurd (let clash : false ≡ true = on in cc)
 own_drawn h legal Auth p of on = absurd of
@@ -128,7 +131,8 @@ unasked_share l (p ∷ ps) none = go p.command refl (nat_eq p.arg0 l) refl none 
         sym (ap (λ (b : Bool). cond b (1 + count_from asks l ps) (count_from asks l ps)) test) ∙ none in
         omega (arith, counts)
 
-    free : (c : Command) → p.command ≡ c → (m : Bool) → cond (is_wrte c) (53 * length p.payload) 0 + cond (is_open c) (76 + length p.payload) 0 ≡ 0
+    free : (c : Command) → p.command ≡ c → (m : Bool) → cond (is_wrte c) (53 * length p.payload) 0
+        + cond (is_open c) (76 + length p.payload) 0 ≡ 0
         → part stream_share (λ p. p.arg0) l ps ≡ 0
         → cond m (cond (is_wrte p.command) (53 * length p.payload) 0 + cond (is_open p.command) (76 + length p.payload) 0) 0
         + part stream_share (λ p. p.arg0) l ps ≡ 0
@@ -141,7 +145,8 @@ unasked_share l (p ∷ ps) none = go p.command refl (nat_eq p.arg0 l) refl none 
             omega (arith, same, zeroth, later)
         by false = omega (arith, later)
 
-    go : (c : Command) → p.command ≡ c → (m : Bool) → nat_eq p.arg0 l ≡ m → count_from asks l (p ∷ ps) ≡ 0 → part stream_share (λ p. p.arg0) l ps ≡ 0
+    go : (c : Command) → p.command ≡ c → (m : Bool) → nat_eq p.arg0 l ≡ m → count_from asks l (p ∷ ps) ≡ 0
+        → part stream_share (λ p. p.arg0) l ps ≡ 0
         → cond m (cond (is_wrte p.command) (53 * length p.payload) 0 + cond (is_open p.command) (76 + length p.payload) 0) 0
         + part stream_share (λ p. p.arg0) l ps ≡ 0
     go Open e true f none later = absurd (clash Open e refl f none)
@@ -164,7 +169,8 @@ unwatched_writes q l (one ∷ made) fine off =
   where
     go : (m : Bool) → nat_eq one.packet.arg1 l ≡ m → (w : Bool) → is_wrte one.packet.command ≡ w
         → part write_len (λ p. p.arg1) l (packets_of_sent made) ≡ 0
-        → cond m (cond (is_wrte one.packet.command) (length one.packet.payload) 0) 0 + part write_len (λ p. p.arg1) l (packets_of_sent made) ≡ 0
+        → cond m (cond (is_wrte one.packet.command) (length one.packet.payload) 0) 0
+        + part write_len (λ p. p.arg1) l (packets_of_sent made) ≡ 0
     go false f w e later = omega (arith, later)
     go true f false e later = let len = ap (λ (b : Bool). cond b (length one.packet.payload) 0) e in omega (arith, len, later)
     go true f true e later =
@@ -209,10 +215,12 @@ module _ (setting : Setting) (before more : History) (s : Settles setting before
   shares_in = all_within (more ++ before) s.legal due_since own_since
 
   -- what the device made since
-  pub alone : AnswersAlone q due_since (device_behind setting (sent 1 before)).serving (device_behind setting (sent 1 before ++ due_since)).serving
+  pub alone : AnswersAlone q due_since (device_behind setting (sent 1 before)).serving
+      (device_behind setting (sent 1 before ++ due_since)).serving
   alone = answers_alone setting q (sent 1 before) due_since (all_watched (more ++ before) s.legal q due_since own_since unasked)
 
-  pub made_now : (device_behind setting (sent 1 (more ++ before))).serving.made ≡ (device_behind setting (sent 1 before)).serving.made ++ alone.made
+  pub made_now : (device_behind setting (sent 1 (more ++ before))).serving.made
+      ≡ (device_behind setting (sent 1 before)).serving.made ++ alone.made
   made_now = ap (λ (ps : List Packet). (device_behind setting ps).serving.made) (sym sent_both) ∙ alone.is
 
   -- ---- a stream that is watched
@@ -233,7 +241,8 @@ module _ (setting : Setting) (before more : History) (s : Settles setting before
         go (inl there) = lives ((state before).streams l) refl there
         go (inr past) = s.fresh l b is past.0
 
-    share : part stream_share (λ p. p.arg0) l due_since ≤ 53 * length (carried_in l (packets_of 1 (more ++ before))) + (77 + length b.service)
+    share : part stream_share (λ p. p.arg0) l due_since ≤ 53 * length (carried_in l (packets_of 1 (more ++ before)))
+        + (77 + length b.service)
     share =
         let all = share_now (more ++ before) s.legal l b is in
         let both : part stream_share (λ p. p.arg0) l (packets_of 1 (more ++ before))
@@ -250,7 +259,8 @@ module _ (setting : Setting) (before more : History) (s : Settles setting before
         + part write_len (λ p. p.arg1) l (packets_of_sent alone.made) =
         ap (λ (made : List Sent). part write_len (λ p. p.arg1) l (packets_of_sent made)) made_now
         ∙ (ap (part write_len (λ p. p.arg1) l) (sent_append (device_behind setting (sent 1 before)).serving.made alone.made)
-        ∙ part_append write_len (λ p. p.arg1) l (packets_of_sent (device_behind setting (sent 1 before)).serving.made) (packets_of_sent alone.made)) in
+        ∙ part_append write_len (λ p. p.arg1) l (packets_of_sent (device_behind setting (sent 1 before)).serving.made)
+        (packets_of_sent alone.made)) in
         omega (arith, put, named, both)
 
   -- ---- each stream
@@ -279,11 +289,14 @@ module _ (setting : Setting) (before more : History) (s : Settles setting before
         let second = wrote l b is on in
         let keep : keeps q l ≡ 24 = ap (λ (b : Bool). cond b 24 0) on in
         let pays : client_pays b.client
-        ≡ stream_pays (asked b.client (more ++ before)).next (asked b.client (more ++ before)).used (length (bytes_read b.client (more ++ before)))
+        ≡ stream_pays (asked b.client (more ++ before)).next (asked b.client (more ++ before)).used
+        (length (bytes_read b.client (more ++ before)))
         + 25 * length (bytes_put b.client (more ++ before)) =
         ap (λ (t : Bool). cond t 0 (stream_pays (asked b.client (more ++ before)).next (asked b.client (more ++ before)).used
         (length (bytes_read b.client (more ++ before))) + 25 * length (bytes_put b.client (more ++ before)))) (client_here l b is on) in
-        let asks_it = ap (λ (o : Option Next). stream_pays o (asked b.client (more ++ before)).used (length (bytes_read b.client (more ++ before))))
+        let asks_it =
+        ap (λ (o : Option Next). stream_pays o (asked b.client (more ++ before)).used
+        (length (bytes_read b.client (more ++ before))))
         for_it.next in
         omega (arith, head, within, first, second, keep, pays, asks_it)
 

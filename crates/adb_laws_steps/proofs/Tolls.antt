@@ -64,9 +64,11 @@ rule_costs (Detach t cause) older legal worth range = unplugs_costs ((state olde
 rule_costs (Put c bytes) older legal worth range = puts_costs c (length bytes) (state older) range
 rule_costs e older legal worth range = costs_aside 0 (state older) (rule e (state older)) range refl refl (omega arith)
 
-step_costs : (e : Entry) (older : History) → IsLegal older → BringWorth (e ∷ older) → Costs (toll_of e + 0) 0 (state older) (step (state older) e)
+step_costs : (e : Entry) (older : History) → IsLegal older → BringWorth (e ∷ older)
+    → Costs (toll_of e + 0) 0 (state older) (step (state older) e)
 step_costs e older legal worth =
-    costs_then (toll_of e) 0 0 0 (state older) (rule e (state older)) ups (rule_costs e older legal worth (all_owned older legal).rows.streams)
+    costs_then (toll_of e) 0 0 0 (state older) (rule e (state older)) ups
+    (rule_costs e older legal worth (all_owned older legal).rows.streams)
     (λ later. up_all_costs (rule e (state older)).state.drawn (rule e (state older)).state later)
 
 puts_more : (e : Entry) (older : History)

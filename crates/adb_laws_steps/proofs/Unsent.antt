@@ -1,5 +1,6 @@
 -- A stream that is gone asks for nothing more.
-use Rattle.std.specs.Prelude.{ℕ, ◌+◌, ◌≡◌, ◌≢◌, ◌≤◌, ◌<◌, ◌&&◌, Bool, true, false, cond, is_some, nat_eq, List, [], ◌∷◌, ◌++◌, Option, None, option_and_then}
+use Rattle.std.specs.Prelude.{ℕ, ◌+◌, ◌≡◌, ◌≢◌, ◌≤◌, ◌<◌, ◌&&◌, Bool, true, false, cond, is_some, nat_eq, List, [], ◌∷◌, ◌++◌, Option, None}
+use Rattle.std.specs.Prelude.{option_and_then}
 use Rattle.std.proofs.Common.{refl, sym, ◌∙◌, ap, arith, inl, inr}
 use Rattle.std.proofs.lemmas.Bool.{ne_eqb}
 use Rattle.adb_outside.specs.Tables.{Rows, change_row}
@@ -32,7 +33,8 @@ pub record StaysUnsent (l : ℕ) (h g : History) : Type 0 where
   pub asked : count_from asks l (packets_of 1 g) ≡ count_from asks l (packets_of 1 h)
 
 module _ (l : ℕ) (some : 0 < l) where
-  row_gone : (rows : Rows (Option Stream)) (k : ℕ) (f : Stream → Option Stream) → rows l ≡ None → change_row k (option_and_then f) rows l ≡ None
+  row_gone : (rows : Rows (Option Stream)) (k : ℕ) (f : Stream → Option Stream) → rows l ≡ None
+      → change_row k (option_and_then f) rows l ≡ None
   row_gone rows k f none = go (nat_eq k l)
     where
       go : (b : Bool) → cond b (option_and_then f (rows l)) (rows l) ≡ None
@@ -50,7 +52,8 @@ module _ (l : ℕ) (some : 0 < l) where
   told_unasked : (w : List Event) (e : Event) → count_from asks l (packets_to 1 w) ≡ 0 → count_from asks l (packets_to 1 (e ∷ [])) ≡ 0
       → count_from asks l (packets_to 1 (w ++ e ∷ [])) ≡ 0
   told_unasked w e before now =
-      let all : count_from asks l (packets_to 1 (w ++ e ∷ [])) ≡ count_from asks l (packets_to 1 w) + count_from asks l (packets_to 1 (e ∷ [])) =
+      let all : count_from asks l (packets_to 1 (w ++ e ∷ []))
+      ≡ count_from asks l (packets_to 1 w) + count_from asks l (packets_to 1 (e ∷ [])) =
       ap (count_from asks l) (packets_append 1 w (e ∷ [])) ∙ count_append asks l (packets_to 1 w) (packets_to 1 (e ∷ [])) in
       omega (arith, all, before, now)
 
@@ -115,7 +118,8 @@ module _ (l : ℕ) (some : 0 < l) where
   one_unsent : (e : Entry) (older : History) → (state older).streams l ≡ None → l ≤ (state older).drawn
       → IsUnsent l (state (e ∷ older)) (told_at e older)
   one_unsent e older gone le =
-      step_kept (plain_moves unsent_plain) e (state older) [] (begins e (state older) [] (record { gone = gone; drawn = le; unasked = refl }))
+      step_kept (plain_moves unsent_plain) e (state older) []
+      (begins e (state older) [] (record { gone = gone; drawn = le; unasked = refl }))
 
   pub all_unsent : (more h : History) → (state h).streams l ≡ None → l ≤ (state h).drawn → StaysUnsent l h (more ++ h)
   all_unsent [] h gone le = record { gone = gone; drawn = le; asked = refl }

@@ -9,7 +9,8 @@ use Rattle.adb_history.specs.Rows.{Client, State, with_stream_part}
 use Rattle.adb_history.specs.Events.{quietly}
 use Rattle.adb_history.specs.declared.ending.Ending.TheVariants.{ClientClosed}
 use Rattle.adb_history.specs.Links.{maxdata_of}
-use Rattle.adb_history.specs.Flow.{write_len, write_before, writes, payloads, total, with_flow, goes_up, all_go_up, flow_after, noted, is_over, closes_if, sends_up}
+use Rattle.adb_history.specs.Flow.{write_len, write_before, writes, payloads, total, with_flow, goes_up, all_go_up, flow_after, noted}
+use Rattle.adb_history.specs.Flow.{is_over, closes_if, sends_up}
 use Rattle.adb_history.specs.Flow.{is_streaming, up_client, up_stream, up, up_all}
 use Rattle.adb_laws_steps.specs.Tolls.{toll}
 use Rattle.adb_laws_steps.proofs.Costs.{InRange, Costs, Quiets, costs_quiet, costs_aside, costs_then, costs_after, quiets_row}
@@ -42,7 +43,8 @@ payloads_some (One window) maxdata held = go window.outstanding
     go false = writes_some 1 maxdata maxdata held
 payloads_some (Credit credit) maxdata held = writes_some (length held) maxdata credit.to_send held
 
-all_go_up_costs : (l : ℕ) (stream : Stream) (all : List (List ℕ)) (s : State) → InRange s → AllSome all → Costs 0 0 s (all_go_up l stream all s)
+all_go_up_costs : (l : ℕ) (stream : Stream) (all : List (List ℕ)) (s : State) → InRange s → AllSome all
+    → Costs 0 0 s (all_go_up l stream all s)
 all_go_up_costs l stream [] s range some = costs_quiet s range
 all_go_up_costs l stream (payload ∷ more) s range some =
     costs_then 0 0 0 0 s (goes_up l stream payload s) (all_go_up l stream more)
@@ -58,11 +60,14 @@ sends_up_costs : (l : ℕ) (stream : Stream) (client : Client) (all : List (List
     → Costs 0 0 s (sends_up l stream client all s)
 sends_up_costs l stream client all s range some =
     costs_then 0 0 0 0 s (all_go_up l stream all (noted l stream client.held all s))
-    (λ (x : State). closes_if (is_over client.about.ended (drop (total all) client.held) (flow_after all stream.part.flow)) l (x.streams l) x)
+    (λ (x : State). closes_if
+    (is_over client.about.ended (drop (total all) client.held) (flow_after all stream.part.flow)) l
+    (x.streams l) x)
     (costs_after 0 0 0 s (noted l stream client.held all s) _ quiet
     (λ later. all_go_up_costs l stream all (noted l stream client.held all s) later some))
     (λ later. closes_if_costs (is_over client.about.ended (drop (total all) client.held) (flow_after all stream.part.flow)) l
-    ((all_go_up l stream all (noted l stream client.held all s)).state.streams l) (all_go_up l stream all (noted l stream client.held all s)).state
+    ((all_go_up l stream all (noted l stream client.held all s)).state.streams l)
+    (all_go_up l stream all (noted l stream client.held all s)).state
     later refl)
   where
     quiet : Quiets 0 s (noted l stream client.held all s)
@@ -74,7 +79,10 @@ up_client_costs : (l : ℕ) (stream : Stream) (o : Option Client) (s : State) �
 up_client_costs l stream None s range = costs_quiet s range
 up_client_costs l stream (Some client) s range = go (is_streaming l client.about.phase)
   where
-    go : (b : Bool) → Costs 0 0 s (cond b (sends_up l stream client (payloads stream.part.flow (maxdata_of stream.link s.devices) client.held) s) (quietly s))
+    go : (b : Bool)
+        → Costs 0 0 s
+        (cond b (sends_up l stream client (payloads stream.part.flow (maxdata_of stream.link s.devices) client.held)
+        s) (quietly s))
     go true = sends_up_costs l stream client _ s range (payloads_some stream.part.flow (maxdata_of stream.link s.devices) client.held)
     go false = costs_quiet s range
 

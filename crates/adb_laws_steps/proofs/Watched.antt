@@ -1,5 +1,6 @@
 -- Streams that lived at a time or were drawn since, which pay for the CLSEs of both ends.
-use Rattle.std.specs.Prelude.{ℕ, ◌+◌, ◌*◌, ◌≡◌, ◌≢◌, ◌≤◌, ◌<◌, ◌||◌, ◌&&◌, zero, suc, Bool, true, false, cond, is_some, nat_lt, All, List, [], ◌∷◌, Option, Some, None}
+use Rattle.std.specs.Prelude.{ℕ, ◌+◌, ◌*◌, ◌≡◌, ◌≢◌, ◌≤◌, ◌<◌, ◌||◌, ◌&&◌, zero, suc, Bool, true, false, cond, is_some, nat_lt, All, List}
+use Rattle.std.specs.Prelude.{[], ◌∷◌, Option, Some, None}
 use Rattle.std.specs.Prelude.{option_map, unwrap_or}
 use Rattle.std.specs.BTreeMap.{is_at}
 use Rattle.std.specs.Map.{values_of}
@@ -32,7 +33,8 @@ module _ (before : History) (drawn : ℕ) where
       → (is_some ((state before).streams l) ≡ true) ⊎ (((state before).drawn < l) × (l ≤ drawn))
   is_watched l is = go (is_some ((state before).streams l)) refl (nat_lt (state before).drawn l) refl (nat_lt l (drawn + 1)) refl is
     where
-      go : (a : Bool) → is_some ((state before).streams l) ≡ a → (b : Bool) → nat_lt (state before).drawn l ≡ b → (c : Bool) → nat_lt l (drawn + 1) ≡ c
+      go : (a : Bool) → is_some ((state before).streams l) ≡ a → (b : Bool) → nat_lt (state before).drawn l ≡ b
+          → (c : Bool) → nat_lt l (drawn + 1) ≡ c
           → (a || (b && c)) ≡ true → (is_some ((state before).streams l) ≡ true) ⊎ (((state before).drawn < l) × (l ≤ drawn))
       go true e b f c g is = inl e
       go false e true f true g is =
@@ -66,12 +68,14 @@ module _ (before : History) (drawn : ℕ) where
       within (inr e) = e
 
   -- ---- they pay for the CLSEs of the server
-  kept_live : sum_to (λ l. close_toll ((state before).streams l)) (state before).drawn ≤ sum_to (λ l. keeps (watched before drawn) l) (state before).drawn
+  kept_live : sum_to (λ l. close_toll ((state before).streams l)) (state before).drawn
+      ≤ sum_to (λ l. keeps (watched before drawn) l) (state before).drawn
   kept_live =
       sum_within (λ l. close_toll ((state before).streams l)) (λ l. keeps (watched before drawn) l) (state before).drawn
       (λ l some le. go l ((state before).streams l) refl)
     where
-      go : (l : ℕ) (o : Option Stream) → (state before).streams l ≡ o → close_toll ((state before).streams l) ≤ keeps (watched before drawn) l
+      go : (l : ℕ) (o : Option Stream) → (state before).streams l ≡ o
+          → close_toll ((state before).streams l) ≤ keeps (watched before drawn) l
       go l None is = let none = ap close_toll is in omega (arith, none)
       go l (Some x) is =
           let toll = ap close_toll is in
@@ -79,7 +83,8 @@ module _ (before : History) (drawn : ℕ) where
           omega (arith, toll, keep)
 
   kept_fresh : (n : ℕ) → (state before).drawn ≤ n → n ≤ drawn
-      → sum_to (λ l. keeps (watched before drawn) l) (state before).drawn + 24 * n ≤ sum_to (λ l. keeps (watched before drawn) l) n + 24 * (state before).drawn
+      → sum_to (λ l. keeps (watched before drawn) l) (state before).drawn + 24 * n
+      ≤ sum_to (λ l. keeps (watched before drawn) l) n + 24 * (state before).drawn
   kept_fresh zero past le =
       let none : (state before).drawn ≡ 0 = omega (arith, past) in
       let same = ap (λ (n : ℕ). sum_to (λ l. keeps (watched before drawn) l) n) none in
@@ -128,7 +133,9 @@ module _ (q : ℕ → Bool) where
   none_at_all rows [] all within = refl
   none_at_all rows (e ∷ es) all within =
       let here : at e.0 rows ≡ Some e.1 = All-head (λ (e : ℕ × Row). at e.0 rows ≡ Some e.1) e es all in
-      let none : row_toll q e.1 ≡ 0 = toll_or_none e.1 (λ on. (let w = within e.0 e.1 here on in let some = w.0 in let le = w.1 in omega (arith, some, le))) in
+      let none : row_toll q e.1 ≡ 0 =
+      toll_or_none e.1
+      (λ on. (let w = within e.0 e.1 here on in let some = w.0 in let le = w.1 in omega (arith, some, le))) in
       let later = none_at_all rows es (All-tail (λ (e : ℕ × Row). at e.0 rows ≡ Some e.1) e es all) within in
       let sum = sum_by-cons (row_toll q) e.1 (values_of es) in
       omega (arith, none, later, sum)
@@ -140,7 +147,8 @@ module _ (q : ℕ → Bool) where
       go (at (ones (suc n)).0 rows) refl (λ xs xs_rise xs_ones xs_within. rows_kept n xs xs_rise xs_ones xs_within)
     where
       -- where no row is for the last number, they are within the others
-      fewer : (xs : List (ℕ × Row)) → AreWithin (suc n) xs → ((own : ℕ) (row : Row) → at own xs ≡ Some row → row.host ≢ suc n) → AreWithin n xs
+      fewer : (xs : List (ℕ × Row)) → AreWithin (suc n) xs →
+          ((own : ℕ) (row : Row) → at own xs ≡ Some row → row.host ≢ suc n) → AreWithin n xs
       fewer xs all other own row is on =
           let w = all own row is on in
           let apart = other own row is in
@@ -162,13 +170,15 @@ module _ (q : ℕ → Bool) where
               let one : r ≡ row = cc in
               ap (λ (x : Row). x.host) one ∙ same
 
-          stood : (own : ℕ) (row : Row) → at own (without (ones (suc n)).0 rows) ≡ Some row → (own ≢ (ones (suc n)).0) × (at own rows ≡ Some row)
+          stood : (own : ℕ) (row : Row) → at own (without (ones (suc n)).0 rows) ≡ Some row
+              → (own ≢ (ones (suc n)).0) × (at own rows ≡ Some row)
           stood own row is = find (cases_eq own (ones (suc n)).0)
             where
               find : (own ≡ (ones (suc n)).0) ⊎ (own ≢ (ones (suc n)).0) → (own ≢ (ones (suc n)).0) × (at own rows ≡ Some row)
               find (inl same) =
                   absurd (let clash : None ≡ Some row =
-                  sym (puts_without (ones (suc n)).0 rows rises).here ∙ (ap (λ (k : ℕ). at k (without (ones (suc n)).0 rows)) (sym same) ∙ is) in cc)
+                  sym (puts_without (ones (suc n)).0 rows rises).here
+                  ∙ (ap (λ (k : ℕ). at k (without (ones (suc n)).0 rows)) (sym same) ∙ is) in cc)
               find (inr other) = (other, sym ((puts_without (ones (suc n)).0 rows rises).others own other) ∙ is)
 
           by : (r.host ≡ suc n) ⊎ (r.host ≢ suc n) → row_tolls q rows ≤ keeps q (suc n) + sum_to (λ l. keeps q l) n

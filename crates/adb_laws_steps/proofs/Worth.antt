@@ -36,7 +36,8 @@ others_bring_none h legal one (suc t) other = ((received h legal).fresh (suc t) 
 all_fine : (P : ℕ → Type 0) (made : List Sent) → All (IsFine P) made → All IsWorthwhile (packets_of_sent made)
 all_fine P [] fine = All-nil IsWorthwhile
 all_fine P (one ∷ more) fine =
-    All-cons IsWorthwhile one.packet (packets_of_sent more) (All-head (IsFine P) one more fine).worth (all_fine P more (All-tail (IsFine P) one more fine))
+    All-cons IsWorthwhile one.packet (packets_of_sent more) (All-head (IsFine P) one more fine).worth
+    (all_fine P more (All-tail (IsFine P) one more fine))
 
 pub owed_worth : (setting : Setting) (packets : List Packet) → All IsWorthwhile (packets_owed setting packets)
 owed_worth setting packets = all_fine (λ l. true ≡ true) (device_behind setting packets).serving.made (all_worth setting packets)
@@ -53,4 +54,5 @@ brings_worth setting h legal pairs one t = go (cases_eq t 1)
     go : (t ≡ 1) ⊎ (t ≢ 1) → All IsWorthwhile (brought t h)
     go (inl same) = subst (λ (k : ℕ). All IsWorthwhile (brought k h)) (sym same) (first_worth setting h pairs)
     go (inr other) =
-        subst (λ (bytes : List ℕ). All IsWorthwhile (framed bytes).given) (sym (others_bring_none h legal one t other)) (All-nil IsWorthwhile)
+        subst (λ (bytes : List ℕ). All IsWorthwhile (framed bytes).given)
+        (sym (others_bring_none h legal one t other)) (All-nil IsWorthwhile)

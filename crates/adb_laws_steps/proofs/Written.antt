@@ -43,7 +43,8 @@ part_written l id (one ∷ more) all =
         longer = let sum = length-append (payload_of id one) (written id more) in omega (arith, sum)
 
         none : (m : Bool) → cond (is_wrte one.packet.command) (length one.packet.payload) 0 ≡ 0
-            → cond m (cond (is_wrte one.packet.command) (length one.packet.payload) 0) 0 + part write_len (λ p. p.arg1) l (packets_of_sent more)
+            → cond m (cond (is_wrte one.packet.command) (length one.packet.payload) 0) 0
+            + part write_len (λ p. p.arg1) l (packets_of_sent more)
             ≤ length (written id (one ∷ more))
         none true zeroth = let long = longer in omega (arith, zeroth, le, long)
         none false zeroth = let long = longer in omega (arith, le, long)
@@ -88,7 +89,8 @@ okays_from l id (one ∷ more) all =
     clash : (c : Command) → one.packet.command ≡ c → is_okay c ≡ false → OkaysFrom l id one.packet
     clash c e lacks is to = absurd (let x : true ≡ false = sym is ∙ (ap is_okay e ∙ lacks) in cc)
 
-    from : one.packet.command ≡ Okay → (one.packet.arg0 ≡ id) ⊎ ((is_clse one.packet.command ≡ true) × (one.packet.arg0 ≡ 0)) → one.packet.arg0 ≡ id
+    from : one.packet.command ≡ Okay → (one.packet.arg0 ≡ id)
+        ⊎ ((is_clse one.packet.command ≡ true) × (one.packet.arg0 ≡ 0)) → one.packet.arg0 ≡ id
     from e (inl same) = same
     from e (inr closes) = absurd (let x : false ≡ true = sym (ap is_clse e) ∙ closes.0 in cc)
 

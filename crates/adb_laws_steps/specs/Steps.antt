@@ -27,7 +27,8 @@ NoneEnters [] = Unit {0}
 NoneEnters (Enter c port ∷ older) = ⊥
 NoneEnters (_ ∷ older) = NoneEnters older
 
--- Steps lead from one time at which nothing is on its way to another. The streams that live at the first, and those that are born since, are of clients whose
+-- Steps lead from one time at which nothing is on its way to another. The streams that live at the first, and those
+-- that are born since, are of clients whose
 -- input had not ended then; and such a client was put all that the device wrote to its stream.
 pub record Settles (setting : Setting) (before more : History) : Type 0 where
   pub short : setting.most < 2 ^ 32
@@ -47,7 +48,8 @@ pub record Settles (setting : Setting) (before more : History) : Type 0 where
   pub put : (l : ℕ) (b : Birth) → born l (more ++ before) ≡ Some b → has_ended b.client before ≡ false
       → writes_to l (packets_owed setting (sent 1 (more ++ before))) ≤ length (bytes_put b.client (more ++ before))
 
--- what the stream of a client costs, which asked for a service in so many bytes and wrote so many: its OPEN, a CLSE of each end, and for each byte past its
+-- what the stream of a client costs, which asked for a service in so many bytes and wrote so many: its OPEN, a CLSE
+-- of each end, and for each byte past its
 -- requests a write with its OKAY
 abbrev pub stream_pays : Option Next → (used read : ℕ) → ℕ
 stream_pays (Some (Open transport service)) used read = 125 + length service + 53 * (read - used)
@@ -61,7 +63,8 @@ pays c h = handled c h + stream_pays (asked c h).next (asked c h).used (length (
 abbrev pub ClientsPay : (before more : History) → Type 0
 ClientsPay before more = moved more ≤ sum_to (λ c. of_here before c (pays c (more ++ before))) (came_count before)
 
--- At rest each client whose input did not end, and which asked for a service that its device knows, was put all that the device wrote to its stream; where the
+-- At rest each client whose input did not end, and which asked for a service that its device knows, was put all that
+-- the device wrote to its stream; where the
 -- link stays, no kill stands, an id was left for each stream, and no client came through a forward.
 abbrev pub WritesWerePut : Setting → History → Type 0
 WritesWerePut setting h = IsAtRest setting h → is_lost 1 h ≡ false → is_killed h ≡ false → length (births h) ≤ stream_ids → NoneEnters h

@@ -12,7 +12,8 @@ use Rattle.adb_history.specs.Book.{plugged_count}
 use Rattle.adb_history.specs.Bytes.{brought}
 use Rattle.adb_laws_steps.specs.Sums.{sum_to}
 
--- the bytes of a packet; a WRTE pays for its own by those that it carries, and where it carries none costs the OKAY too that answers it; an OPEN is paid by
+-- the bytes of a packet; a WRTE pays for its own by those that it carries, and where it carries none costs the OKAY
+-- too that answers it; an OPEN is paid by
 -- its stream
 abbrev pub toll : Command → List ℕ → ℕ
 toll Open payload = 0

@@ -50,17 +50,20 @@ few_writes setting packets own some lives overs =
         → Writes own (device_behind setting packets).serving.made (device_behind setting packets).serving.acks o x
         → writes_of own (device_behind setting packets).serving.made ≤ acks_of own (device_behind setting packets).serving.acks
     go (Some row) is x over writes =
-        one_within row.flow (writes_of own (device_behind setting packets).serving.made) _ (acks_of own (device_behind setting packets).serving.acks) _
+        one_within row.flow (writes_of own (device_behind setting packets).serving.made) _
+        (acks_of own (device_behind setting packets).serving.acks) _
         (lives row is) writes.2
     go None is (Some e) over writes =
-        one_within e.row.flow (writes_of own (device_behind setting packets).serving.made) _ (acks_of own (device_behind setting packets).serving.acks) _
+        one_within e.row.flow (writes_of own (device_behind setting packets).serving.made) _
+        (acks_of own (device_behind setting packets).serving.acks) _
         (overs e over) writes.2
     go None is None over writes = (let none = writes.2 in omega (arith, none))
 
 -- ---- the one id of a host's id
 module _ (own l : ℕ) where
   -- a write to the host's id is one from this one, and so goes to where all from this one go
-  write_to : (host : ℕ) (made : List Sent) → All (GoesTo own host) made → All (ComesFrom l own) made → 1 ≤ writes_to l (packets_of_sent made) → l ≡ host
+  write_to : (host : ℕ) (made : List Sent) → All (GoesTo own host) made → All (ComesFrom l own) made
+      → 1 ≤ writes_to l (packets_of_sent made) → l ≡ host
   write_to host [] goes comes some = absurd (omega (arith, some))
   write_to host (one ∷ made) goes comes some =
       by one.packet.command refl (nat_eq one.packet.arg1 l) refl some
@@ -99,7 +102,8 @@ module _ (setting : Setting) (plain : setting.credit ≡ false) (l : ℕ) (packe
       let o = behind_orderly one.id some_id setting packets in
       let fresh = o.fresh above in
       let writes : Writes one.id (device_behind setting packets).serving.made (device_behind setting packets).serving.acks None None =
-      subst (λ (r : Option Row). Writes one.id (device_behind setting packets).serving.made (device_behind setting packets).serving.acks r None) fresh.0
+      subst (λ (r : Option Row). Writes one.id (device_behind setting packets).serving.made
+      (device_behind setting packets).serving.acks r None) fresh.0
       (subst (λ (e : Option Ended). Writes one.id (device_behind setting packets).serving.made (device_behind setting packets).serving.acks
       (at one.id (device_behind setting packets).serving.rows) e) fresh.1 o.writes) in
       writes.2
@@ -117,14 +121,17 @@ module _ (setting : Setting) (plain : setting.credit ≡ false) (l : ℕ) (packe
           let made = made_link setting (λ (p : Packet). Unit {0}) w.by.front (every w.by.front) w.by.link w.by.linked in
           link_plain setting.most made.0 w.by.link (ap (λ (c : Bool). link_of setting.most c made.0) (sym plain) ∙ made.1.1.1)
 
-      go : (n : ℕ) → writes_to l (packets_owed setting packets) ≡ n → writes_to l (packets_owed setting packets) ≤ 1 + count_from is_okay l packets
+      go : (n : ℕ) → writes_to l (packets_owed setting packets) ≡ n
+          → writes_to l (packets_owed setting packets) ≤ 1 + count_from is_okay l packets
       go zero none = omega (arith, none)
       go (suc n) some =
-          let host : l ≡ w.by.asking.arg0 = write_to one.id l w.by.asking.arg0 (device_behind setting packets).serving.made w.opened.named one.sent
+          let host : l ≡ w.by.asking.arg0 = write_to one.id l w.by.asking.arg0
+          (device_behind setting packets).serving.made w.opened.named one.sent
           (omega (arith, some)) in
           let few = few_writes setting packets one.id some_id (λ row is. w.credit row is ∙ no_credit) (λ e is. w.over e is ∙ no_credit) in
           let acks : acks_of one.id (device_behind setting packets).serving.acks ≤ 1 + okays_in l one.id w.by.rest =
-          subst (λ (k : ℕ). acks_of one.id (device_behind setting packets).serving.acks ≤ 1 + okays_in k one.id w.by.rest) (sym host) w.few in
+          subst (λ (k : ℕ). acks_of one.id (device_behind setting packets).serving.acks
+          ≤ 1 + okays_in k one.id w.by.rest) (sym host) w.few in
           let okays = okays_some one.id l w.by.rest in
           let last : count_from is_okay l w.by.rest ≤ count_from is_okay l packets =
           subst (λ (ps : List Packet). count_from is_okay l w.by.rest ≤ count_from is_okay l ps) w.by.is

@@ -34,7 +34,9 @@ known_by drawn p kind is = go (drawn == 2 ^ 32 - 1) is
 settled_more : (link : Link) (q : ℕ) (row : Row) (s : Serving) → (more : List Sent) × ((settled link q row s).made ≡ s.made ++ more)
 settled_more link q row s = go (is_done (row_written link.most row))
   where
-    go : (b : Bool) → (more : List Sent) × ((settled_as b link q (row_written link.most row) (owing (sent_writes link q row) s)).made ≡ s.made ++ more)
+    go : (b : Bool)
+        → (more : List Sent)
+        × ((settled_as b link q (row_written link.most row) (owing (sent_writes link q row) s)).made ≡ s.made ++ more)
     go false = (sent_writes link q row, refl)
     go true = (
       sent_writes link q row ++ sent_close true link q (row_written link.most row).host,
@@ -88,14 +90,18 @@ module _ (setting : Setting) (own : ℕ) (packets : List Packet) (sound : (devic
       (let e : 0 + okays_in f.asking.arg0 own f.rest ≡ okays_in f.asking.arg0 own f.rest = omega arith in e) (so_far.serving sound)
 
   -- ---- what is owed
-  pub opened_so : WasOpened own f.asking.arg0 f.drawing.kind (device_behind setting f.front).serving.files (device_behind setting packets).serving
+  pub opened_so : WasOpened own f.asking.arg0 f.drawing.kind (device_behind setting f.front).serving.files
+      (device_behind setting packets).serving
   opened_so =
-      subst (λ (n : ℕ). WasOpened n f.asking.arg0 f.drawing.kind (device_behind setting f.front).serving.files (device_behind setting packets).serving) f.number
+      subst (λ (n : ℕ). WasOpened n f.asking.arg0 f.drawing.kind (device_behind setting f.front).serving.files
+      (device_behind setting packets).serving) f.number
       (subst (λ (ps : List Packet).
-      WasOpened ((device_behind setting f.front).serving.drawn + 1) f.asking.arg0 f.drawing.kind (device_behind setting f.front).serving.files
+      WasOpened ((device_behind setting f.front).serving.drawn + 1) f.asking.arg0 f.drawing.kind
+      (device_behind setting f.front).serving.files
       (device_behind setting ps).serving)
       f.is
-      (answers_opens setting f.front f.asking f.rest f.drawing.link f.drawing.kind f.drawing.sound f.drawing.linked f.drawing.command f.drawing.some
+      (answers_opens setting f.front f.asking f.rest f.drawing.link f.drawing.kind f.drawing.sound f.drawing.linked
+      f.drawing.command f.drawing.some
       f.drawing.free f.drawing.known))
 
   -- the OKAY is owed first
@@ -103,11 +109,14 @@ module _ (setting : Setting) (own : ℕ) (packets : List Packet) (sound : (devic
       ≡ packets_owed setting f.front ++ okay own f.asking.arg0 (opening_word (credit_of f.drawing.link f.asking)) ∷ more)
   greets_first =
       let begun : Serving = begun_by f.drawing.link f.asking f.drawing.kind (device_behind setting f.front).serving in
-      let row : Row = opened f.asking.arg0 f.drawing.kind (device_behind setting f.front).serving.files (credit_of f.drawing.link f.asking) in
+      let row : Row = opened f.asking.arg0 f.drawing.kind (device_behind setting f.front).serving.files
+      (credit_of f.drawing.link f.asking) in
       let settles = settled_more f.drawing.link ((device_behind setting f.front).serving.drawn + 1) row begun in
-      let later : ComeFirst (packets_owed setting (f.front ++ f.asking ∷ [])) (packets_owed setting ((f.front ++ f.asking ∷ []) ++ f.rest)) =
+      let later : ComeFirst (packets_owed setting (f.front ++ f.asking ∷ []))
+      (packets_owed setting ((f.front ++ f.asking ∷ []) ++ f.rest)) =
       owed_grows setting (f.front ++ f.asking ∷ []) f.rest in
-      let one : Packet = okay ((device_behind setting f.front).serving.drawn + 1) f.asking.arg0 (opening_word (credit_of f.drawing.link f.asking)) in
+      let one : Packet = okay ((device_behind setting f.front).serving.drawn + 1) f.asking.arg0
+      (opening_word (credit_of f.drawing.link f.asking)) in
       let at_once : packets_owed setting (f.front ++ f.asking ∷ [])
       ≡ (packets_owed setting f.front ++ one ∷ []) ++ packets_of_sent settles.0 =
       ap (λ (d : Device). packets_of_sent d.serving.made) (step_more setting (first_device setting) f.front (f.asking ∷ []))
@@ -121,7 +130,9 @@ module _ (setting : Setting) (own : ℕ) (packets : List Packet) (sound : (devic
         sym (ap (packets_owed setting) whole)
             ∙ (sym later.1
             ∙ (ap (λ (ps : List Packet). ps ++ later.0) at_once
-            ∙ (ap (λ (n : ℕ). ((packets_owed setting f.front ++ okay n f.asking.arg0 (opening_word (credit_of f.drawing.link f.asking)) ∷ [])
+            ∙ (ap (λ (n : ℕ).
+            ((packets_owed setting f.front ++ okay n f.asking.arg0
+            (opening_word (credit_of f.drawing.link f.asking)) ∷ [])
             ++ packets_of_sent settles.0) ++ later.0) f.number
             ∙ (append_assoc (packets_owed setting f.front ++ okay own f.asking.arg0 (opening_word (credit_of f.drawing.link f.asking)) ∷ [])
             (packets_of_sent settles.0) later.0

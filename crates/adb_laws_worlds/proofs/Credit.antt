@@ -1,5 +1,6 @@
 -- A model device without credit in bytes has streams without it.
-use Rattle.std.specs.Prelude.{ℕ, ◌^◌, ◌≡◌, ◌<◌, ◌||◌, Bool, true, false, cond, nat_lt, is_some, option_map, reverse, All, List, [], ◌∷◌, Option, Some, None}
+use Rattle.std.specs.Prelude.{ℕ, ◌^◌, ◌≡◌, ◌<◌, ◌||◌, Bool, true, false, cond, nat_lt, is_some, option_map, reverse, All, List, [], ◌∷◌}
+use Rattle.std.specs.Prelude.{Option, Some, None}
 use Rattle.std.proofs.Common.{zero, suc, refl, sym, ◌∙◌, ap, subst, eqb, inl, inr}
 use Rattle.std.specs.List.{list_any}
 use Rattle.std.proofs.lemmas.List.Elements.{All-nil, All-cons, All-head, All-tail}
@@ -64,7 +65,8 @@ plugged_plain : (t : ℕ) (h : History) (row : Row) → plugged t h ≡ Some row
 plugged_plain t [] row is = let clash : None ≡ Some row = is in cc
 plugged_plain t (Attach n kind serial ∷ older) row is = go (eqb n t) is (plugged_plain t older row)
   where
-    go : (b : Bool) → cond b (Some (new_row t kind serial)) (plugged t older) ≡ Some row → (plugged t older ≡ Some row → row.identity ≡ None)
+    go : (b : Bool) → cond b (Some (new_row t kind serial)) (plugged t older) ≡ Some row
+        → (plugged t older ≡ Some row → row.identity ≡ None)
         → row.identity ≡ None
     go true e later = let same : new_row t kind serial ≡ row = cc in ap (λ (r : Row). r.identity) (sym same)
     go false e later = later e
@@ -85,11 +87,14 @@ module _ (row : Row) (none : row.identity ≡ None) where
       go false = ap names_credit none
 
 device_plain : (t : ℕ) (h : History) → All IsPlainCnxn (brought t h) → is_credit_row (device_of t h) ≡ false
-device_plain t h plain = go (is_lost t h || (is_some (framed (bytes_received t h)).fault || list_any is_refused (brought t h))) (plugged t h) refl
+device_plain t h plain =
+    go (is_lost t h || (is_some (framed (bytes_received t h)).fault || list_any is_refused (brought t h)))
+    (plugged t h) refl
   where
     last : (p : Packet) → last_cnxn (brought t h) ≡ Some p → names_credit (identity_of p.payload) ≡ false
     last p is =
-        let found = found_holds (λ p. is_cnxn p.command) IsPlainCnxn (reverse (brought t h)) p is (all_reverse IsPlainCnxn (brought t h) plain) in
+        let found = found_holds (λ p. is_cnxn p.command) IsPlainCnxn (reverse (brought t h)) p is
+        (all_reverse IsPlainCnxn (brought t h) plain) in
         found.0 found.1
 
     go : (b : Bool) (o : Option Row) → plugged t h ≡ o
@@ -99,7 +104,8 @@ device_plain t h plain = go (is_lost t h || (is_some (framed (bytes_received t h
     go false (Some row) is = by_plain row (plugged_plain t h row is) (last_cnxn (brought t h)) (brought t h) last
 
 -- so no stream that is asked for on it has credit
-pub no_credit_at : (h : History) → IsLegal h → (t : ℕ) → is_credit_row (at t (state h).devices.rows) ≡ false → is_credit t (devices h) ≡ false
+pub no_credit_at : (h : History) → IsLegal h → (t : ℕ) → is_credit_row (at t (state h).devices.rows) ≡ false
+    → is_credit t (devices h) ≡ false
 no_credit_at h legal t none = ap (λ d. is_credit t d) (sym (all_books h legal).devices) ∙ none
 
 no_credit : (h : History) → IsLegal h → (t : ℕ) → All IsPlainCnxn (brought t h) → is_credit t (devices h) ≡ false
@@ -116,7 +122,8 @@ no_credit h legal t plain = no_credit_at h legal t (go (state h).stopped refl)
 -- a birth has the credit of its link as it is then
 pub birth_credit : (e : Entry) (older : History) (b : Birth) → births_at e older ≡ b ∷ [] → b.credit ≡ is_credit b.link (devices older)
 birth_credit (Read c bytes) older b is =
-    let x = by_request c (asked c (Read c bytes ∷ older)).used older (newly (asked c older).next (asked c (Read c bytes ∷ older)).next) b is in
+    let x = by_request c (asked c (Read c bytes ∷ older)).used older
+    (newly (asked c older).next (asked c (Read c bytes ∷ older)).next) b is in
     ap (λ (y : Birth). y.credit) x.birth ∙ sym (ap (λ (y : Birth). is_credit y.link (devices older)) x.birth)
 birth_credit (Enter c port) older b is =
     let x = by_forward c older (at port (forwards older)) b is in
@@ -150,5 +157,6 @@ module _ (setting : Setting) (plain : setting.credit ≡ false) where
   ]
 
 -- so the streams of a device without credit have none
-pub first_are_plain : (setting : Setting) → setting.most < 2 ^ 32 → setting.credit ≡ false → (h : History) → IsLegal h → IsJoined setting h → FirstArePlain h
+pub first_are_plain : (setting : Setting) → setting.most < 2 ^ 32 → setting.credit ≡ false → (h : History) → IsLegal h
+    → IsJoined setting h → FirstArePlain h
 first_are_plain setting short plain h legal tied = first_plain setting plain h legal (paired setting short h legal tied)

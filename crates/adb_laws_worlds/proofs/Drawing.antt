@@ -1,5 +1,6 @@
 -- Which packet of the host draws an id of the device.
-use Rattle.std.specs.Prelude.{ℕ, ◌+◌, ◌≡◌, ◌≢◌, ◌<◌, ◌≤◌, ◌==◌, ◌||◌, if◌then◌else◌, Bool, true, false, List, [], ◌∷◌, ◌++◌, fold, length, is_some}
+use Rattle.std.specs.Prelude.{ℕ, ◌+◌, ◌≡◌, ◌≢◌, ◌<◌, ◌≤◌, ◌==◌, ◌||◌, if◌then◌else◌, Bool, true, false, List, [], ◌∷◌, ◌++◌, fold, length}
+use Rattle.std.specs.Prelude.{is_some}
 use Rattle.std.specs.Prelude.{Option, Some, None}
 use Rattle.std.proofs.Common.{refl, sym, ◌∙◌, ap, arith, ◌⊎◌, inl, inr}
 use Rattle.std.proofs.lemmas.Bool.{cases_lt, eq-eqb}
@@ -13,7 +14,8 @@ use Rattle.adb_device_streams.specs.Service.{came_over, files_fed, files_opened}
 use Rattle.adb_device_streams.specs.Stream.{Row, opened, row_took, row_acked, row_written, is_done, okay, opening_word}
 use Rattle.adb_device_streams.specs.Link.{credit_word_in, link_of}
 use Rattle.adb_device_streams.specs.declared.link.Link.{Link}
-use Rattle.adb_daemon.specs.Serving.{Serving, with_sum, owing, granted, sent_ack, sent_writes, settled_as, settled, named, closable, is_taken}
+use Rattle.adb_daemon.specs.Serving.{Serving, with_sum, owing, granted, sent_ack, sent_writes, settled_as, settled, named, closable}
+use Rattle.adb_daemon.specs.Serving.{is_taken}
 use Rattle.adb_daemon.specs.Serving.{kind_for, credit_of, open_as, on_open, written_to, acked_to, closed_to, served}
 use Rattle.adb_daemon.specs.Device.{Device, Setting, step, treated, linked_to, served_on}
 
@@ -28,7 +30,8 @@ settled_drawn link q row s = go (is_done (row_written link.most row))
 -- what is served when an OPEN of a known service is told its id, and the stream that settles then
 abbrev pub begun_by : Link → Packet → Kind → Serving → Serving
 begun_by link p kind s =
-    record (granted (s.drawn + 1) (credit_of link p) (owing (with_sum link.sums (okay (s.drawn + 1) p.arg0 (opening_word (credit_of link p))) ∷ []) s)) {
+    record (granted (s.drawn + 1) (credit_of link p)
+    (owing (with_sum link.sums (okay (s.drawn + 1) p.arg0 (opening_word (credit_of link p))) ∷ []) s)) {
       drawn = s.drawn + 1;
       files = files_opened kind s.files;
     }
@@ -115,7 +118,8 @@ draws setting d p = go d.refused refl
     on sound None is = inl refl
     on sound (Some link) is = on_link sound link is p.command refl
 
-    by : d.refused ≡ false → (b : Bool) → Goal (if b then linked_to (link_of setting.most setting.credit p) d else served_on d.link p d).serving
+    by : d.refused ≡ false → (b : Bool)
+        → Goal (if b then linked_to (link_of setting.most setting.credit p) d else served_on d.link p d).serving
     by sound true = linked_now (link_of setting.most setting.credit p)
     by sound false = on sound d.link refl
 
@@ -162,12 +166,14 @@ found setting own (p ∷ packets) d below reached =
     go (cases_lt (step setting d p).serving.drawn own) (λ lt. found setting own packets (step setting d p) lt reached)
   where
     here : own ≤ (step setting d p).serving.drawn
-        → ((step setting d p).serving.drawn ≡ d.serving.drawn) ⊎ IsDrawing d p (step setting d p).serving → Found setting own d (p ∷ packets)
+        → ((step setting d p).serving.drawn ≡ d.serving.drawn) ⊎ IsDrawing d p (step setting d p).serving
+        → Found setting own d (p ∷ packets)
     here le (inl same) = absurd (omega (arith, le, same, below))
     here le (inr x) =
         let next : (step setting d p).serving.drawn ≡ d.serving.drawn + 1 =
         ap (λ (s : Serving). s.drawn) x.makes
-        ∙ settled_drawn x.link (d.serving.drawn + 1) (opened p.arg0 x.kind d.serving.files (credit_of x.link p)) (begun_by x.link p x.kind d.serving) in
+        ∙ settled_drawn x.link (d.serving.drawn + 1) (opened p.arg0 x.kind d.serving.files (credit_of x.link p))
+        (begun_by x.link p x.kind d.serving) in
         record { front = []; asking = p; rest = packets; is = refl; number = omega (arith, next, le, below); drawing = x }
 
     go : ((step setting d p).serving.drawn < own) ⊎ (own ≤ (step setting d p).serving.drawn)

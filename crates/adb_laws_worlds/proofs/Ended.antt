@@ -1,5 +1,6 @@
 -- A stream that its model device closed: its client was told the whole answer of its service.
-use Rattle.std.specs.Prelude.{ℕ, ◌+◌, ◌^◌, ◌≡◌, ◌≢◌, ◌<◌, ◌==◌, ◌&&◌, ◌||◌, Bool, true, false, cond, nat_eq, All, List, [], ◌∷◌, ◌++◌, take, Option, Some, None}
+use Rattle.std.specs.Prelude.{ℕ, ◌+◌, ◌^◌, ◌≡◌, ◌≢◌, ◌<◌, ◌==◌, ◌&&◌, ◌||◌, Bool, true, false, cond, nat_eq, All, List, [], ◌∷◌, ◌++◌, take}
+use Rattle.std.specs.Prelude.{Option, Some, None}
 use Rattle.std.proofs.Common.{zero, suc, refl, sym, ◌∙◌, ap, subst, arith, append_assoc, ◌⊎◌, inl, inr}
 use Rattle.std.specs.List.{list_any}
 use Rattle.std.proofs.lemmas.Bool.{eq-eqb, eqb-true}
@@ -9,7 +10,8 @@ use Rattle.adb_outside.specs.Tables.{at}
 use Rattle.adb_wire.specs.declared.command.Command.{Command}
 use Rattle.adb_wire.specs.declared.command.Command.TheVariants as commands
 use Rattle.adb_wire.specs.declared.packets.Packet.{Packet}
-use Rattle.adb_history.specs.Births.{Birth, Opening, born, since, opening_of, remote_in, is_between, is_close_of, before_close, is_clse, is_wrte, told_in}
+use Rattle.adb_history.specs.Births.{Birth, Opening, born, since, opening_of, remote_in, is_between, is_close_of, before_close, is_clse}
+use Rattle.adb_history.specs.Births.{is_wrte, told_in}
 use Rattle.adb_history.specs.Births.{told_before, told_before_close, joined}
 use Rattle.adb_history.specs.Bytes.{brought, sent}
 use Rattle.adb_history.specs.declared.ending.Ending.TheVariants.{PeerClosed}
@@ -96,7 +98,8 @@ closes_of r l c e = by c.command refl (nat_eq c.arg0 0) refl (nat_eq c.arg0 r) r
     no : false ≡ true → ⊥
     no f = let clash = f in cc
 
-    by : (k : Command) → c.command ≡ k → (z : Bool) → nat_eq c.arg0 0 ≡ z → (n : Bool) → nat_eq c.arg0 r ≡ n → (t : Bool) → nat_eq c.arg1 l ≡ t
+    by : (k : Command) → c.command ≡ k → (z : Bool) → nat_eq c.arg0 0 ≡ z → (n : Bool) → nat_eq c.arg0 r ≡ n
+        → (t : Bool) → nat_eq c.arg1 l ≡ t
         → (is_clse k && ((z && t) || (n && t))) ≡ true → ClosesOf r l c
     by commands.Clse k true z n m true t e = record { command = k; from = (inl (eqb-true c.arg0 0 z), eqb-true c.arg1 l t) }
     by commands.Clse k false z true m true t e = record { command = k; from = (inr (eqb-true c.arg0 r m), eqb-true c.arg1 l t) }
@@ -140,7 +143,8 @@ none_told_of n l (one ∷ made) none = go (is_of n one) refl none (none_told_of 
     apart true e f later = absurd (let clash : true ≡ false = sym (eq-eqb one.packet.arg0 n (eqb-true one.packet.arg0 n e)) ∙ f in cc)
     apart false e f later = both (is_wrte one.packet.command)
       where
-        both : (a : Bool) → cond (a && false) (one.packet.payload ∷ told_in n l (packets_of_sent made)) (told_in n l (packets_of_sent made)) ≡ []
+        both : (a : Bool) → cond (a && false) (one.packet.payload ∷ told_in n l (packets_of_sent made))
+            (told_in n l (packets_of_sent made)) ≡ []
         both true = later
         both false = later
 
@@ -174,7 +178,8 @@ told_both n l [] ys = refl
 told_both n l (p ∷ xs) ys = go (is_wrte p.command && is_between n l p) (told_both n l xs ys)
   where
     go : (b : Bool) → told_in n l (xs ++ ys) ≡ told_in n l xs ++ told_in n l ys
-        → cond b (p.payload ∷ told_in n l (xs ++ ys)) (told_in n l (xs ++ ys)) ≡ cond b (p.payload ∷ told_in n l xs) (told_in n l xs) ++ told_in n l ys
+        → cond b (p.payload ∷ told_in n l (xs ++ ys)) (told_in n l (xs ++ ys))
+        ≡ cond b (p.payload ∷ told_in n l xs) (told_in n l xs) ++ told_in n l ys
     go true e = ap (λ (payloads : List (List ℕ)). p.payload ∷ payloads) e
     go false e = e
 
@@ -253,7 +258,8 @@ module _ (setting : Setting) (short : setting.most < 2 ^ 32) (h : History) (lega
       (drawn_if_acked o.remote some setting (sent 1 h) l (okay_owed setting h legal still l b own o opened))
       (λ x. sym (okay_to o.remote x.asking.arg0 l (packets_owed setting (sent 1 h))
       (all_go o.remote x.asking.arg0 (device_behind setting (sent 1 h)).serving.made
-      (opened_so setting o.remote (sent 1 h) (never_refused setting 1 h legal) x).named) (okay_owed setting h legal still l b own o opened)))
+      (opened_so setting o.remote (sent 1 h) (never_refused setting 1 h legal) x).named)
+      (okay_owed setting h legal still l b own o opened)))
       ((no_crossing h legal).once 1 l)
 
   closes_it : ClosesOf o.remote l cut.close
@@ -274,13 +280,15 @@ module _ (setting : Setting) (short : setting.most < 2 ^ 32) (h : History) (lega
           absurd (let clash : true ≡ false = sym is ∙ none in cc)
 
   closed_there : is_closed o.remote (device_behind setting (sent 1 h)).serving.made ≡ true
-  closed_there = was_closed o.remote (device_behind setting (sent 1 h)).serving.made front cut.close cut.rest whole closes_it.command from_its
+  closed_there = was_closed o.remote (device_behind setting (sent 1 h)).serving.made front cut.close cut.rest whole
+      closes_it.command from_its
 
   -- what was told before the close is all that was told
   told_all : told_in o.remote l cut.front ≡ told_in o.remote l o.later
   told_all =
       let after : told_in o.remote l cut.rest ≡ [] =
-      none_after o.remote l (device_behind setting (sent 1 h)).serving.made front cut.close cut.rest (closes_last setting (sent 1 h) o.remote some) whole
+      none_after o.remote l (device_behind setting (sent 1 h)).serving.made front cut.close cut.rest
+      (closes_last setting (sent 1 h) o.remote some) whole
       closes_it.command from_its in
       let close_is : told_in o.remote l (cut.close ∷ cut.rest) ≡ [] =
       ap (λ (k : Command). cond (is_wrte k && is_between o.remote l cut.close) (cut.close.payload ∷ told_in o.remote l cut.rest)
@@ -305,7 +313,8 @@ module _ (setting : Setting) (short : setting.most < 2 ^ 32) (h : History) (lega
 
   has_ended : HasEnded
   has_ended =
-      go (at o.remote (device_behind setting (sent 1 h)).serving.rows) refl (over_at o.remote (device_behind setting (sent 1 h)).serving.ended) refl
+      go (at o.remote (device_behind setting (sent 1 h)).serving.rows) refl
+      (over_at o.remote (device_behind setting (sent 1 h)).serving.ended) refl
       (streams_write o.remote some setting (sent 1 h))
     where
       go : (x : Option Row) → at o.remote (device_behind setting (sent 1 h)).serving.rows ≡ x
@@ -317,7 +326,8 @@ module _ (setting : Setting) (short : setting.most < 2 ^ 32) (h : History) (lega
         over = e;
         is = over;
         gone = is;
-        closed = sym writes.1.closed ∙ (ap (λ (n : ℕ). is_closed n (device_behind setting (sent 1 h)).serving.made) writes.0 ∙ closed_there);
+        closed = sym writes.1.closed
+            ∙ (ap (λ (n : ℕ). is_closed n (device_behind setting (sent 1 h)).serving.made) writes.0 ∙ closed_there);
         tells = writes.1;
         own_is = writes.0;
       }
@@ -343,7 +353,8 @@ module _ (setting : Setting) (short : setting.most < 2 ^ 32) (h : History) (lega
   answer_is =
       let all = has_ended.tells.whole has_ended.closed in
       sym (ap joined (told_whole setting short h legal tied still l b birth own o opened))
-      ∙ (sym (bytes_told o.remote l (device_behind setting (sent 1 h)).serving.made (all_go_to setting short h legal tied still l b birth own o opened))
+      ∙ (sym (bytes_told o.remote l (device_behind setting (sent 1 h)).serving.made
+      (all_go_to setting short h legal tied still l b birth own o opened))
       ∙ (sym (ap (λ (n : ℕ). written n (device_behind setting (sent 1 h)).serving.made) has_ended.own_is)
       ∙ (has_ended.tells.writes.written
       ∙ (sym (append-nil has_ended.over.row.sent)

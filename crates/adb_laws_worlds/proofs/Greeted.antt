@@ -1,5 +1,6 @@
 -- A server says to each link first who it is, and says it once.
-use Rattle.std.specs.Prelude.{ℕ, ◌+◌, ◌%◌, ◌^◌, ◌≡◌, ◌<◌, ◌≤◌, Bool, true, false, cond, All, List, [], ◌∷◌, ◌++◌, sum, nat_eq, Option, Some, None}
+use Rattle.std.specs.Prelude.{ℕ, ◌+◌, ◌%◌, ◌^◌, ◌≡◌, ◌<◌, ◌≤◌, Bool, true, false, cond, All, List, [], ◌∷◌, ◌++◌, sum, nat_eq, Option, Some}
+use Rattle.std.specs.Prelude.{None}
 use Rattle.std.proofs.Common.{refl, sym, ◌∙◌, ap, subst, arith, ◌⊎◌, inl, inr}
 use Rattle.std.proofs.lemmas.Bool.{cases_lt, cases_eq, eq-eqb, ne_eqb}
 use Rattle.std.proofs.lemmas.List.Elements.{All-nil, All-cons, All-append, All-weaker, All-head, All-tail}
@@ -149,7 +150,8 @@ module _ (older : History) (legal : IsLegal older) where
         rest = (ups (rule e (state older)).state).told;
         other = ups_other e l;
         check = sum server_cnxn.payload % 2 ^ 32;
-        says = ap (λ (n : ℕ). due_to_link n server_cnxn (sum server_cnxn.payload % 2 ^ 32) ∷ (ups (rule e (state older)).state).told) number;
+        says = ap (λ (n : ℕ). due_to_link n server_cnxn (sum server_cnxn.payload % 2 ^ 32)
+            ∷ (ups (rule e (state older)).state).told) number;
         more = refl;
       })
 
@@ -194,21 +196,25 @@ greets_links (e ∷ older) legal t = record {
     -- the link was there before
     later : packets_of t (e ∷ older) ≡ packets_of t older ++ packets_to t (told_at e older) → greets t (told_at e older) ≡ 0
         → BeginsOnce (packets_of t older) → BeginsOnce (packets_of t (e ∷ older))
-    later is none b = subst (λ (ps : List Packet). BeginsOnce ps) (sym is) (begins_more (packets_of t older) (packets_to t (told_at e older)) none b)
+    later is none b = subst (λ (ps : List Packet). BeginsOnce ps) (sym is)
+        (begins_more (packets_of t older) (packets_to t (told_at e older)) none b)
 
     -- it is plugged in now
-    now : (rest : List Event) (check : ℕ) → All SaysOther rest → told_at e older ≡ due_to_link (plugged_count older + 1) server_cnxn check ∷ rest
+    now : (rest : List Event) (check : ℕ) → All SaysOther rest
+        → told_at e older ≡ due_to_link (plugged_count older + 1) server_cnxn check ∷ rest
         → t ≡ plugged_count older + 1 → packets_of t older ≡ [] → BeginsOnce (packets_of t (e ∷ older))
     now rest check other says here none = record {
       rest = packets_to t rest;
       is = packets_append t (told older) (told_at e older) ∙ (ap (λ (ps : List Packet). ps ++ packets_to t (told_at e older)) none
           ∙ (ap (packets_to t) says
-          ∙ ap (λ (b : Bool). cond b (server_cnxn ∷ packets_to t rest) (packets_to t rest)) (eq-eqb (plugged_count older + 1) t (sym here))));
+          ∙ ap (λ (b : Bool). cond b (server_cnxn ∷ packets_to t rest) (packets_to t rest))
+          (eq-eqb (plugged_count older + 1) t (sym here))));
       once = none_greeted t rest other;
     }
 
     -- another is
-    beside : (rest : List Event) (check : ℕ) → All SaysOther rest → told_at e older ≡ due_to_link (plugged_count older + 1) server_cnxn check ∷ rest
+    beside : (rest : List Event) (check : ℕ) → All SaysOther rest
+        → told_at e older ≡ due_to_link (plugged_count older + 1) server_cnxn check ∷ rest
         → (plugged_count older + 1 ≡ t → ⊥) → greets t (told_at e older) ≡ 0
     beside rest check other says apart =
         ap (greets t) says
@@ -218,7 +224,8 @@ greets_links (e ∷ older) legal t = record {
     go : 0 < t → t ≤ plugged_count (e ∷ older) → Says older legal.0 e → IsGreeted t older → BeginsOnce (packets_of t (e ∷ older))
     go some le (inl x) before =
         let same = x.same in
-        later (packets_append t (told older) (told_at e older)) (none_greeted t (told_at e older) x.other) (before.plugged some (omega (arith, le, same)))
+        later (packets_append t (told older) (told_at e older)) (none_greeted t (told_at e older) x.other)
+        (before.plugged some (omega (arith, le, same)))
     go some le (inr x) before = by (cases_eq (plugged_count older + 1) t)
       where
         by : (plugged_count older + 1 ≡ t) ⊎ (plugged_count older + 1 ≡ t → ⊥) → BeginsOnce (packets_of t (e ∷ older))

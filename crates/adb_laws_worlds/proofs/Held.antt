@@ -18,7 +18,8 @@ use Rattle.adb_laws_worlds.proofs.Opening.{all_are_open}
 use Rattle.adb_laws_worlds.proofs.Settled.{open_are_settled}
 use Rattle.adb_laws_worlds.proofs.Single.{live_on_first, all_plain_of_one}
 
-module _ (setting : Setting) (short : setting.most < 2 ^ 32) (some : 0 < setting.most) (plain : setting.credit ≡ false) (h : History) (legal : IsLegal h)
+module _ (setting : Setting) (short : setting.most < 2 ^ 32) (some : 0 < setting.most)
+    (plain : setting.credit ≡ false) (h : History) (legal : IsLegal h)
     (tied : IsJoined setting h) (one : HasOneDevice h) (rest : IsAtRest setting h) where
   -- a stream that lives has settled
   pub settles : (l : ℕ) (x : Stream) → (state h).streams l ≡ Some x → HasSettled setting h l x
@@ -28,7 +29,8 @@ module _ (setting : Setting) (short : setting.most < 2 ^ 32) (some : 0 < setting
       record {
         birth = kept.birth;
         is = kept.is;
-        settled = open_are_settled setting short some plain h legal tied (all_plain_of_one setting short plain h legal tied one) rest l kept.birth x kept.is own
+        settled = open_are_settled setting short some plain h legal tied
+            (all_plain_of_one setting short plain h legal tied one) rest l kept.birth x kept.is own
             live (all_are_open setting short h legal tied rest.still l kept.birth x kept.is own live);
       }
 
@@ -41,7 +43,8 @@ module _ (setting : Setting) (short : setting.most < 2 ^ 32) (some : 0 < setting
       let same : settled.settled.served.client ≡ client = cc in
       ap (λ (k : Client). k.held) (sym same) ∙ settled.settled.held
 
-  by_phase : (phase : Phase) → phase ≢ Asking → (c : ℕ) (client : Client) → (state h).clients c ≡ Some client → IsResting phase (state h) c client
+  by_phase : (phase : Phase) → phase ≢ Asking → (c : ℕ) (client : Client) → (state h).clients c ≡ Some client
+      → IsResting phase (state h) c client
       → client.held ≡ []
   by_phase Asking asks c client here rests = absurd (asks refl)
   by_phase (Opening l) asks c client here rests = none_of_stream c l client here rests

@@ -1,5 +1,6 @@
 -- The OKAYs of a server come to each stream of its model device in time.
-use Rattle.std.specs.Prelude.{ℕ, ◌+◌, ◌^◌, ◌≡◌, ◌<◌, ◌≤◌, ◌==◌, ◌&&◌, if◌then◌else◌, Bool, true, false, cond, nat_eq, All, List, [], ◌∷◌, ◌++◌}
+use Rattle.std.specs.Prelude.{ℕ, ◌+◌, ◌^◌, ◌≡◌, ◌<◌, ◌≤◌, ◌==◌, ◌&&◌, if◌then◌else◌, Bool, true, false, cond, nat_eq, All, List, [], ◌∷◌}
+use Rattle.std.specs.Prelude.{◌++◌}
 use Rattle.std.proofs.Common.{refl, sym, ◌∙◌, ap, subst, arith, ◌⊎◌, inl, inr, append_assoc}
 use Rattle.std.proofs.lemmas.Bool.{cases_lt, eq-eqb, eqb-true}
 use Rattle.std.proofs.lemmas.List.Elements.{All-nil, All-cons, All-head, All-tail}
@@ -41,7 +42,8 @@ all_front P [] ys all = All-nil P
 all_front P (x ∷ xs) ys all = All-cons P x xs (All-head P x (xs ++ ys) all) (all_front P xs ys (All-tail P x (xs ++ ys) all))
 
 -- what stands last in a list is some of it
-pub rest_counts : (l : ℕ) (front : List Packet) (p : Packet) (rest : List Packet) → count_from is_okay l rest ≤ count_from is_okay l (front ++ p ∷ rest)
+pub rest_counts : (l : ℕ) (front : List Packet) (p : Packet) (rest : List Packet)
+    → count_from is_okay l rest ≤ count_from is_okay l (front ++ p ∷ rest)
 rest_counts l front p rest =
     let sum = count_append is_okay l front (p ∷ rest) in
     let first = count_first is_okay l p rest in
@@ -79,7 +81,8 @@ module _ (own host : ℕ) where
         | inr close ↦ absurd (let clash : false ≡ true = sym (ap is_clse c) ∙ close.0 in cc)
       ]
 
-      go : (a : Bool) → is_okay one.packet.command ≡ a → (b : Bool) → nat_eq one.packet.arg0 own ≡ b → (c : Bool) → nat_eq one.packet.arg1 host ≡ c
+      go : (a : Bool) → is_okay one.packet.command ≡ a → (b : Bool) → nat_eq one.packet.arg0 own ≡ b → (c : Bool)
+          → nat_eq one.packet.arg1 host ≡ c
           → 1 ≤ cond (a && (b && c)) (1 + okays_in own host (packets_of_sent made)) (okays_in own host (packets_of_sent made))
           → (1 ≤ okays_in own host (packets_of_sent made) → own ≡ id) → own ≡ id
       go true e true f true g s later =
@@ -147,7 +150,8 @@ module _ (setting : Setting) (h : History) (legal : IsLegal h) (pairs : IsPaired
         ap (count_from is_open w.by.asking.arg0) whole in
         omega (arith, all, fewer, same)) in
         let one = one_id w.by.asking.arg0 setting (front ++ p ∷ []) once in
-        let same : own ≡ one.id = id_is own w.by.asking.arg0 one.id (device_behind setting (front ++ p ∷ [])).serving.made one.sent w.opened.okay in
+        let same : own ≡ one.id = id_is own w.by.asking.arg0 one.id
+        (device_behind setting (front ++ p ∷ [])).serving.made one.sent w.opened.okay in
         let mine : All (ComesFrom w.by.asking.arg0 own) (device_behind setting (front ++ p ∷ [])).serving.made =
         subst (λ (n : ℕ). All (ComesFrom w.by.asking.arg0 n) (device_behind setting (front ++ p ∷ [])).serving.made) (sym same) one.sent in
         let more = grown w.by.asking.arg0 in
@@ -164,19 +168,23 @@ module _ (setting : Setting) (h : History) (legal : IsLegal h) (pairs : IsPaired
         omega (arith, few, some_of, last, acked, writes)
 
     -- no OKAY comes to the stream before the write that it answers
-    in_time : acks_of own (device_behind setting (front ++ p ∷ [])).serving.acks ≤ 1 + writes_of own (device_behind setting front).serving.made
+    in_time : acks_of own (device_behind setting (front ++ p ∷ [])).serving.acks
+        ≤ 1 + writes_of own (device_behind setting front).serving.made
     in_time = go (cases_lt (device_behind setting (front ++ p ∷ [])).serving.drawn own)
       where
         sound : (device_behind setting (front ++ p ∷ [])).refused ≡ false
         sound = sound_before setting (front ++ p ∷ []) rest
             (subst (λ (ps : List Packet). (device_behind setting ps).refused ≡ false) (sym whole) (never_refused setting 1 h legal))
 
-        go : ((device_behind setting (front ++ p ∷ [])).serving.drawn < own) ⊎ (own ≤ (device_behind setting (front ++ p ∷ [])).serving.drawn)
-            → acks_of own (device_behind setting (front ++ p ∷ [])).serving.acks ≤ 1 + writes_of own (device_behind setting front).serving.made
+        go : ((device_behind setting (front ++ p ∷ [])).serving.drawn < own)
+            ⊎ (own ≤ (device_behind setting (front ++ p ∷ [])).serving.drawn)
+            → acks_of own (device_behind setting (front ++ p ∷ [])).serving.acks
+            ≤ 1 + writes_of own (device_behind setting front).serving.made
         go (inl above) = (let none = ((behind_untaken own setting (front ++ p ∷ [])).fresh above).1 in omega (arith, none))
         go (inr reached) = drawn_in_time (was_asked setting (front ++ p ∷ []) own some sound reached)
 
 -- so in a joined history all come in time
-pub acked_in_time : (setting : Setting) → setting.most < 2 ^ 32 → (h : History) → IsLegal h → IsJoined setting h → AllPlain h → AllAckedInTime setting h
+pub acked_in_time : (setting : Setting) → setting.most < 2 ^ 32 → (h : History) → IsLegal h → IsJoined setting h
+    → AllPlain h → AllAckedInTime setting h
 acked_in_time setting word h legal joined plain own some front p rest is =
     in_time setting h legal (paired setting word h legal joined) plain own some front p rest is

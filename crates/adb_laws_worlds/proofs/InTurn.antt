@@ -1,5 +1,6 @@
 -- No stream of a model device ends by a write out of turn.
-use Rattle.std.specs.Prelude.{ℕ, ◌+◌, ◌-◌, ◌^◌, ◌≡◌, ◌≢◌, ◌<◌, ◌≤◌, ◌&&◌, ◌||◌, not, Bool, true, false, cond, nat_eq, nat_lt, nat_le, List, [], ◌∷◌, ◌++◌}
+use Rattle.std.specs.Prelude.{ℕ, ◌+◌, ◌-◌, ◌^◌, ◌≡◌, ◌≢◌, ◌<◌, ◌≤◌, ◌&&◌, ◌||◌, not, Bool, true, false, cond, nat_eq, nat_lt, nat_le, List}
+use Rattle.std.specs.Prelude.{[], ◌∷◌, ◌++◌}
 use Rattle.std.specs.Prelude.{length, drop}
 use Rattle.std.specs.Prelude.{Some}
 use Rattle.std.proofs.Common.{refl, sym, ◌∙◌, ap, subst, arith}
@@ -86,7 +87,8 @@ module _ (b : Birth) (plain : b.credit ≡ false) (l : ℕ) where
           let one : writes_to l (p ∷ ps) ≡ 1 + writes_to l ps =
           counts p ps remote (sym (regroup (is_wrte p.command) (not (nat_eq remote 0)) (is_between remote l p)) ∙ e) in
           let none : writes_to l ps ≤ 0 = omega (arith, one, few) in
-          ap (λ (c : Bool). c || writes_early_in b remote l (written + length p.payload) handed given ps) (in_time (all (omega (arith, one))))
+          ap (λ (c : Bool). c || writes_early_in b remote l (written + length p.payload) handed given ps)
+          (in_time (all (omega (arith, one))))
           ∙ rest (written + length p.payload) remote (omega (arith, none)) (λ some. absurd (omega (arith, none, some)))
       go false e rest =
           let fewer = less in
@@ -97,7 +99,8 @@ joined_within : (n : ℕ) (payloads : List (List ℕ)) → length payloads ≤ w
 joined_within n [] le = omega arith
 joined_within n (payload ∷ payloads) le = go (nat_le (length payload) n) refl le (joined_within (n - length payload) payloads)
   where
-    go : (t : Bool) → nat_le (length payload) n ≡ t → length (payload ∷ payloads) ≤ cond t (1 + whole_within (n - length payload) payloads) 0
+    go : (t : Bool) → nat_le (length payload) n ≡ t → length (payload ∷ payloads)
+        ≤ cond t (1 + whole_within (n - length payload) payloads) 0
         → (length payloads ≤ whole_within (n - length payload) payloads → length (joined payloads) ≤ n - length payload)
         → length (payload ++ joined payloads) ≤ n
     go true e le later =
@@ -128,7 +131,8 @@ module _ (setting : Setting) (short : setting.most < 2 ^ 32) (plain : setting.cr
           → (writes_to l (brings 1 x.entry x.older) ≤ 1)
           × (1 ≤ writes_to l (brings 1 x.entry x.older) → length (joined (told_to l c x.older)) ≤ length (handed_to l c x.older))
       at_most c was first =
-          let allowed = writes_as_allowed setting plain l (sent 1 x.older) ((no_crossing x.older time.0).once 1 l) (never_refused setting 1 x.older time.0) in
+          let allowed = writes_as_allowed setting plain l (sent 1 x.older) ((no_crossing x.older time.0).once 1 l)
+          (never_refused setting 1 x.older time.0) in
           let front = many_front (is_wrte_to l) (brought 1 (x.entry ∷ x.older)) (packets_owed setting (sent 1 x.older)) pairs.1 in
           let grown = brought_grows 1 x.entry x.older in
           let sum = many_append (is_wrte_to l) (brought 1 x.older) grown.0 in
@@ -136,7 +140,8 @@ module _ (setting : Setting) (short : setting.most < 2 ^ 32) (plain : setting.cr
           let new : writes_to l (brings 1 x.entry x.older) ≡ writes_to l grown.0 =
           ap (writes_to l) (ap (drop (length (brought 1 x.older))) (sym grown.1) ∙ drop-append_seam (brought 1 x.older) grown.0) in
           let told = told_within l c x.older in
-          let told_first : writes_to l (brought c.link x.older) ≡ writes_to l (brought 1 x.older) = ap (λ (t : ℕ). writes_to l (brought t x.older)) first in
+          let told_first : writes_to l (brought c.link x.older) ≡ writes_to l (brought 1 x.older) =
+          ap (λ (t : ℕ). writes_to l (brought t x.older)) first in
           let credit = first_are_plain setting short plain x.older time.0 then_tied.0 l c was first in
           let window : length (okays_of l (sent c.link x.older)) ≤ whole_within (length (handed_to l c x.older)) (told_to l c x.older) =
           subst (λ (k : Bool). IsWithinDown k l c x.older) credit (keeps_down_window x.older time.0 l c was) in
@@ -159,10 +164,12 @@ module _ (setting : Setting) (short : setting.most < 2 ^ 32) (plain : setting.cr
           let none : writes_early l by.birth x.entry x.older ≡ false =
           ap (λ (t : ℕ). writes_early_in by.birth (remote_of l by.birth x.older) l (length (joined (told_to l by.birth x.older)))
           (length (handed_to l by.birth x.older)) (given_to l by.birth x.older) (brings t x.entry x.older)) first
-          ∙ not_early by.birth credit l (brings 1 x.entry x.older) (remote_of l by.birth x.older) (length (joined (told_to l by.birth x.older)))
+          ∙ not_early by.birth credit l (brings 1 x.entry x.older) (remote_of l by.birth x.older)
+          (length (joined (told_to l by.birth x.older)))
           (length (handed_to l by.birth x.older)) (given_to l by.birth x.older) few.0 few.1 in
           let both : true ≡ false = sym by.cause ∙ none in
           cc
 
-pub all_in_turn : (setting : Setting) → setting.most < 2 ^ 32 → setting.credit ≡ false → (h : History) → IsLegal h → IsJoined setting h → AllInTurn h
+pub all_in_turn : (setting : Setting) → setting.most < 2 ^ 32 → setting.credit ≡ false → (h : History) → IsLegal h
+    → IsJoined setting h → AllInTurn h
 all_in_turn setting short plain h legal tied l b birth own = in_turn setting short plain h legal tied l b birth own

@@ -1,5 +1,6 @@
 -- Where nothing is on its way, each stream that was asked for a service that its model device knows was opened.
-use Rattle.std.specs.Prelude.{ℕ, ◌+◌, ◌-◌, ◌^◌, ◌≡◌, ◌≢◌, ◌<◌, ◌≤◌, ◌==◌, ◌&&◌, if◌then◌else◌, not, Bool, true, false, cond, nat_eq, nat_lt, is_some, fold, All}
+use Rattle.std.specs.Prelude.{ℕ, ◌+◌, ◌-◌, ◌^◌, ◌≡◌, ◌≢◌, ◌<◌, ◌≤◌, ◌==◌, ◌&&◌, if◌then◌else◌, not, Bool, true, false, cond, nat_eq, nat_lt}
+use Rattle.std.specs.Prelude.{is_some, fold, All}
 use Rattle.std.specs.Prelude.{List, [], ◌∷◌, ◌++◌, length, take, drop, slice_get, Option, Some, None}
 use Rattle.std.specs.Option.{option_or}
 use Rattle.std.proofs.Common.{zero, suc, refl, sym, ◌∙◌, ap, subst, arith, ◌⊎◌, inl, inr}
@@ -14,7 +15,8 @@ use Rattle.adb_wire.specs.declared.packets.Packet.{Packet}
 use Rattle.adb_stream.specs.declared.row.Stream.{Stream}
 use Rattle.adb_capture.specs.declared.entry.Entry.{Entry}
 use Rattle.adb_capture.specs.declared.entry.Entry.TheVariants.{Enter, Read}
-use Rattle.adb_history.specs.Births.{Birth, born, births, births_at, since, opening_by, opening_in, is_between, count_from, is_okay, is_clse, is_open}
+use Rattle.adb_history.specs.Births.{Birth, born, births, births_at, since, opening_by, opening_in, is_between, count_from, is_okay}
+use Rattle.adb_history.specs.Births.{is_clse, is_open}
 use Rattle.adb_history.specs.Bytes.{brought, sent}
 use Rattle.adb_history.specs.Events.{ending_in}
 use Rattle.adb_history.specs.declared.ending.Ending.{Ending}
@@ -50,7 +52,8 @@ use Rattle.adb_laws_worlds.specs.Known.{KnownAreOpened}
 use Rattle.adb_laws_worlds.proofs.Asked.{opened_so}
 use Rattle.adb_laws_worlds.proofs.Drawing.{begun_by, draws, settled_drawn, IsDrawing}
 use Rattle.adb_laws_worlds.proofs.Named.{all_go, okay_to, drawn_if_acked}
-use Rattle.adb_laws_worlds.proofs.Opening.{IsFirst, asking, open_command, sound, some_id, linked, parts, none_before, else_okays, else_closes}
+use Rattle.adb_laws_worlds.proofs.Opening.{IsFirst, asking, open_command, sound, some_id, linked, parts, none_before, else_okays}
+use Rattle.adb_laws_worlds.proofs.Opening.{else_closes}
 use Rattle.adb_laws_worlds.proofs.Refusals.{opened_unrefused}
 use Rattle.adb_laws_worlds.proofs.Splits.{okays_append, at_split}
 use Rattle.adb_laws_worlds.proofs.Told.{named_service}
@@ -78,7 +81,8 @@ drawn_few setting (p ∷ packets) d = go (draws setting d p) (drawn_few setting 
     go (inr x) few =
         let next : (step setting d p).serving.drawn ≡ d.serving.drawn + 1 =
         ap (λ (s : Serving). s.drawn) x.makes
-        ∙ settled_drawn x.link (d.serving.drawn + 1) (opened p.arg0 x.kind d.serving.files (credit_of x.link p)) (begun_by x.link p x.kind d.serving) in
+        ∙ settled_drawn x.link (d.serving.drawn + 1) (opened p.arg0 x.kind d.serving.files (credit_of x.link p))
+        (begun_by x.link p x.kind d.serving) in
         let one : how_many asks (p ∷ packets) ≡ 1 + how_many asks packets =
         ap (λ (c : Command). cond (is_open c) (1 + how_many asks packets) (how_many asks packets)) x.command in
         omega (arith, few, next, one)
@@ -93,7 +97,8 @@ sum_same : (k : ℕ) (p : Packet) (ps : List Packet) → ((l : ℕ) → 0 < l �
 sum_same zero p ps none = refl
 sum_same (suc k) p ps none =
     let here : count_from is_open (suc k) (p ∷ ps) ≡ count_from is_open (suc k) ps =
-    ap (λ (b : Bool). cond b (1 + count_from is_open (suc k) ps) (count_from is_open (suc k) ps)) (none (suc k) (omega arith) (omega arith)) in
+    ap (λ (b : Bool). cond b (1 + count_from is_open (suc k) ps) (count_from is_open (suc k) ps))
+    (none (suc k) (omega arith) (omega arith)) in
     let rest = sum_same k p ps (λ l some le. none l some (omega (arith, le))) in
     omega (arith, here, rest)
 
@@ -101,7 +106,8 @@ and_false : (b : Bool) → (b && false) ≡ false
 and_false true = refl
 and_false false = refl
 
-sum_more : (k : ℕ) (p : Packet) (ps : List Packet) → is_open p.command ≡ true → 0 < p.arg0 → p.arg0 ≤ k → 1 + sum_opens k ps ≤ sum_opens k (p ∷ ps)
+sum_more : (k : ℕ) (p : Packet) (ps : List Packet) → is_open p.command ≡ true → 0 < p.arg0 → p.arg0 ≤ k
+    → 1 + sum_opens k ps ≤ sum_opens k (p ∷ ps)
 sum_more zero p ps asked some le = absurd (omega (arith, some, le))
 sum_more (suc k) p ps asked some le = go (cases_eq p.arg0 (suc k)) (λ below. sum_more k p ps asked some below)
   where
@@ -113,12 +119,14 @@ sum_more (suc k) p ps asked some le = go (cases_eq p.arg0 (suc k)) (λ below. su
         ∙ ap (λ (b : Bool). cond b (1 + count_from is_open (suc k) ps) (count_from is_open (suc k) ps)) (eq-eqb p.arg0 (suc k) is) in
         let rest : sum_opens k (p ∷ ps) ≡ sum_opens k ps =
         sum_same k p ps (λ l more below.
-        ap (λ (b : Bool). is_open p.command && b) (ne_eqb p.arg0 l (λ same. omega (arith, same, is, below))) ∙ and_false (is_open p.command)) in
+        ap (λ (b : Bool). is_open p.command && b) (ne_eqb p.arg0 l (λ same. omega (arith, same, is, below)))
+        ∙ and_false (is_open p.command)) in
         omega (arith, here, rest)
     go (inr other) later =
         let rest = later (omega (arith, le, other)) in
         let here : count_from is_open (suc k) (p ∷ ps) ≡ count_from is_open (suc k) ps =
-        ap (λ (b : Bool). cond (is_open p.command && b) (1 + count_from is_open (suc k) ps) (count_from is_open (suc k) ps)) (ne_eqb p.arg0 (suc k) other)
+        ap (λ (b : Bool). cond (is_open p.command && b) (1 + count_from is_open (suc k) ps)
+        (count_from is_open (suc k) ps)) (ne_eqb p.arg0 (suc k) other)
         ∙ ap (λ (b : Bool). cond b (1 + count_from is_open (suc k) ps) (count_from is_open (suc k) ps)) (and_false (is_open p.command)) in
         omega (arith, here, rest)
 
@@ -154,7 +162,8 @@ opened_some own l (p ∷ ps) some okays closes cnxns =
     okay : (to : Bool) → nat_eq p.arg1 l ≡ to → (zeroth : Bool) → (p.arg0 == 0) ≡ zeroth → (from : Bool) → nat_eq p.arg0 own ≡ from
         → 1 ≤ cond (from && to) (1 + okays_in own l ps) (okays_in own l ps)
         → (1 ≤ okays_in own l ps → is_some (opening_in l ps) ≡ true)
-        → is_some (cond (to && not zeroth) (Some (record { remote = p.arg0; word = credit_word p.payload; later = ps })) (opening_in l ps)) ≡ true
+        → is_some (cond (to && not zeroth)
+        (Some (record { remote = p.arg0; word = credit_word p.payload; later = ps })) (opening_in l ps)) ≡ true
     okay true e false f from g n later = refl
     okay true e true f true g n later = absurd (some (sym (eqb-true p.arg0 own g) ∙ eqb-true p.arg0 0 f))
     okay true e true f false g n later = later n
@@ -170,7 +179,8 @@ opened_some own l (p ∷ ps) some okays closes cnxns =
         → 1 ≤ cond (is_okay c && is_between own l p) (1 + okays_in own l ps) (okays_in own l ps)
         → cond (is_clse c && is_between 0 l p) (1 + how_many (is_close_between 0 l) ps) (how_many (is_close_between 0 l) ps) ≡ 0
         → cond (is_cnxn c) (1 + how_many is_cnxn_packet ps) (how_many is_cnxn_packet ps) ≡ 0
-        → (1 ≤ okays_in own l ps → how_many (is_close_between 0 l) ps ≡ 0 → how_many is_cnxn_packet ps ≡ 0 → is_some (opening_in l ps) ≡ true)
+        → (1 ≤ okays_in own l ps → how_many (is_close_between 0 l) ps ≡ 0 → how_many is_cnxn_packet ps ≡ 0
+        → is_some (opening_in l ps) ≡ true)
         → is_some (opening_by c l p ps (opening_in l ps)) ≡ true
     by Okay k n m i later = okay (nat_eq p.arg1 l) refl (p.arg0 == 0) refl (nat_eq p.arg0 own) refl n (λ more. later more m i)
     by Clse k n m i later = closed (is_between 0 l p) m (λ none. later n none i)
@@ -204,7 +214,8 @@ module _ (e : Entry) (older : History) (legal : IsLegal (e ∷ older)) (l : ℕ)
       go : (o : Option Ending) → ending_in l (told_at e older) ≡ o → ending_of l (e ∷ older) ≡ None
       go None is =
           ending_append l (told older) (told_at e older)
-          ∙ (ap (λ (o : Option Ending). option_or o (ending_in l (told_at e older))) ((all_endings older legal.0 l).undrawn (inr above)) ∙ is)
+          ∙ (ap (λ (o : Option Ending). option_or o (ending_in l (told_at e older)))
+          ((all_endings older legal.0 l).undrawn (inr above)) ∙ is)
       go (Some y) is =
           let x = ends_at l e older y legal is in
           absurd (let clash : None ≡ Some x.row = sym ((orderly older legal.0).streams.above l above) ∙ x.is in cc)
@@ -217,7 +228,8 @@ module _ (e : Entry) (older : History) (legal : IsLegal (e ∷ older)) (l : ℕ)
           let drawn = (all_births (e ∷ older) legal).drawn in
           let number = now.number in
           let within = now.within in
-          let more : length (births (e ∷ older)) ≡ length (births older) + length (births_at e older) = length-append (births older) (births_at e older) in
+          let more : length (births (e ∷ older)) ≡ length (births older) + length (births_at e older) =
+          length-append (births older) (births_at e older) in
           let one : length (births_at e older) ≡ 1 = ap length now.is in
           omega (arith, drawn, number, within, more, one)
 
@@ -233,7 +245,8 @@ module _ (e : Entry) (older : History) (legal : IsLegal (e ∷ older)) (l : ℕ)
       let same : kept.birth ≡ b = (let both : Some kept.birth ≡ Some b = sym kept.is ∙ birth in cc) in
       let on : lives.0.link ≡ 1 = kept.link ∙ (ap (λ (c : Birth). c.link) same ∙ own) in
       let connected : is_connected 1 (state (e ∷ older)).devices ≡ true =
-      ap (λ (t : ℕ). is_connected t (state (e ∷ older)).devices) (sym on) ∙ ((orderly (e ∷ older) legal).stream l lives.0 lives.1).connected in
+      ap (λ (t : ℕ). is_connected t (state (e ∷ older)).devices) (sym on)
+      ∙ ((orderly (e ∷ older) legal).stream l lives.0 lives.1).connected in
       subst (λ (ps : List Packet). 1 ≤ how_many is_cnxn_packet ps) (brings_none e older b now.is) (said_who (e ∷ older) legal 1 connected)
 
 -- so its device's CNXN came before
@@ -256,12 +269,15 @@ said_before (e ∷ older) legal l b is own = go (born_when l b e older is) (λ w
     longer : length (brought 1 older) ≤ length (brought 1 (e ∷ older))
     longer = (let n = ap length grown.1 in let m = length-append (brought 1 older) grown.0 in omega (arith, n, m))
 
-    same : b.packets_before ≤ length (brought 1 older) → take b.packets_before (brought 1 (e ∷ older)) ≡ take b.packets_before (brought 1 older)
+    same : b.packets_before ≤ length (brought 1 older) → take b.packets_before (brought 1 (e ∷ older))
+        ≡ take b.packets_before (brought 1 older)
     same le = ap (take b.packets_before) (sym grown.1) ∙ take-append-le b.packets_before (brought 1 older) grown.0 le
 
     go : (born l older ≡ Some b) ⊎ IsBornNow l b e older
-        → (born l older ≡ Some b → (b.packets_before ≤ length (brought 1 older)) × (1 ≤ how_many is_cnxn_packet (take b.packets_before (brought 1 older))))
-        → (b.packets_before ≤ length (brought 1 (e ∷ older))) × (1 ≤ how_many is_cnxn_packet (take b.packets_before (brought 1 (e ∷ older))))
+        → (born l older ≡ Some b → (b.packets_before ≤ length (brought 1 older))
+        × (1 ≤ how_many is_cnxn_packet (take b.packets_before (brought 1 older))))
+        → (b.packets_before ≤ length (brought 1 (e ∷ older)))
+        × (1 ≤ how_many is_cnxn_packet (take b.packets_before (brought 1 (e ∷ older))))
     go (inl was) before =
         let p = before was in (
           (let le = p.0 in omega (arith, le, longer)),
@@ -273,7 +289,8 @@ said_before (e ∷ older) legal l b is own = go (born_when l b e older is) (λ w
         ap (λ (n : ℕ). take n (brought 1 older)) place
         ∙ (ap (take (length (brought 1 older))) (sym (append-nil (brought 1 older))) ∙ take-append_seam (brought 1 older) []) in (
           omega (arith, place, longer),
-          subst (λ (ps : List Packet). 1 ≤ how_many is_cnxn_packet ps) (sym (same (omega (arith, place)) ∙ all)) (said e older legal l b is now own),
+          subst (λ (ps : List Packet). 1 ≤ how_many is_cnxn_packet ps) (sym (same (omega (arith, place)) ∙ all))
+              (said e older legal l b is now own),
         )
 
 -- ---- the stream
@@ -342,21 +359,25 @@ module _ (setting : Setting) (short : setting.most < 2 ^ 32) (h : History) (lega
   answered : IsAnswered
   unfolding first
   answered =
-      by (device_behind setting first.front).link refl (linked setting short h legal tied still l b birth own) (service_of b.service) refl known
+      by (device_behind setting first.front).link refl (linked setting short h legal tied still l b birth own)
+      (service_of b.service) refl known
     where
       by : (o : Option Link) → (device_behind setting first.front).link ≡ o → is_some o ≡ true
           → (k : Option Kind) → service_of b.service ≡ k → is_some k ≡ true → IsAnswered
       by None is there k kind some_kind = absurd (let clash : false ≡ true = there in cc)
       by (Some link) is there None kind some_kind = absurd (let clash : false ≡ true = some_kind in cc)
       by (Some link) is there (Some k) kind some_kind =
-          let o = answers_opens setting first.front first.p first.rest link k (sound setting short h legal tied still l b birth own) is command some free
+          let o = answers_opens setting first.front first.p first.rest link k
+          (sound setting short h legal tied still l b birth own) is command some free
           (kind_is ∙ kind) in
           record {
             id = (device_behind setting first.front).serving.drawn + 1;
             nonzero = λ e. omega (arith, e);
-            okay = subst (λ (n : ℕ). 1 ≤ okays_in ((device_behind setting first.front).serving.drawn + 1) n (packets_owed setting (sent 1 h))) first.from
+            okay = subst (λ (n : ℕ). 1 ≤ okays_in ((device_behind setting first.front).serving.drawn + 1) n
+                (packets_owed setting (sent 1 h))) first.from
                 (subst (λ (ps : List Packet).
-                1 ≤ okays_in ((device_behind setting first.front).serving.drawn + 1) first.p.arg0 (packets_owed setting ps)) first.is o.okay);
+                1 ≤ okays_in ((device_behind setting first.front).serving.drawn + 1) first.p.arg0
+                (packets_owed setting ps)) first.is o.okay);
           }
 
   positive : 0 < answered.id
@@ -390,7 +411,8 @@ module _ (setting : Setting) (short : setting.most < 2 ^ 32) (h : History) (lega
       okay : 1 ≤ okays_in answered.id l (packets_owed setting (sent 1 h))
       okay = answered.okay
 
-      okays : okays_in answered.id l (packets_owed setting (sent 1 h)) ≡ okays_in answered.id l (take b.packets_before (brought 1 h) ++ since b h)
+      okays : okays_in answered.id l (packets_owed setting (sent 1 h))
+          ≡ okays_in answered.id l (take b.packets_before (brought 1 h) ++ since b h)
       okays = ap (okays_in answered.id l) whole
 
       all_okays : okays_in answered.id l (take b.packets_before (brought 1 h) ++ since b h)
@@ -398,7 +420,8 @@ module _ (setting : Setting) (short : setting.most < 2 ^ 32) (h : History) (lega
       all_okays = okays_append answered.id l (take b.packets_before (brought 1 h)) (since b h)
 
       okays_before : okays_in answered.id l (take b.packets_before (brought 1 h)) ≡ 0
-      okays_before = else_okays l answered.id (take b.packets_before (brought 1 h)) (none_before setting short h legal tied still l b birth own)
+      okays_before = else_okays l answered.id (take b.packets_before (brought 1 h))
+          (none_before setting short h legal tied still l b birth own)
 
       closes : how_many (is_close_between 0 l) (packets_owed setting (sent 1 h))
           ≡ how_many (is_close_between 0 l) (take b.packets_before (brought 1 h) ++ since b h)
@@ -422,8 +445,10 @@ module _ (setting : Setting) (short : setting.most < 2 ^ 32) (h : History) (lega
       all_cnxns =
           ap (how_many is_cnxn_packet) (sym (take-append-drop b.packets_before (brought 1 h)))
           ∙ (many_append is_cnxn_packet (take b.packets_before (brought 1 h)) (drop b.packets_before (brought 1 h))
-          ∙ ap (λ (t : ℕ). how_many is_cnxn_packet (take b.packets_before (brought 1 h)) + how_many is_cnxn_packet (drop b.packets_before (brought t h)))
+          ∙ ap (λ (t : ℕ). how_many is_cnxn_packet (take b.packets_before (brought 1 h))
+          + how_many is_cnxn_packet (drop b.packets_before (brought t h)))
           (sym own))
 
-pub known_are_opened : (setting : Setting) → setting.most < 2 ^ 32 → (h : History) → IsLegal h → IsJoined setting h → KnownAreOpened setting h
+pub known_are_opened : (setting : Setting) → setting.most < 2 ^ 32 → (h : History) → IsLegal h → IsJoined setting h
+    → KnownAreOpened setting h
 known_are_opened setting short h legal tied still l b birth own known = opened_now setting short h legal tied still l b birth own known

@@ -28,7 +28,8 @@ module _ (setting : Setting) (P : Packet → Type 0) where
   unfolding step
   step_made d p holds made = go d.refused
     where
-      linked : is_cnxn p.command ≡ true → (link : Option Link) → link_of setting.most setting.credit p ≡ link → IsMadeBy setting P (linked_to link d).link
+      linked : is_cnxn p.command ≡ true → (link : Option Link) → link_of setting.most setting.credit p ≡ link
+          → IsMadeBy setting P (linked_to link d).link
       linked e None is = made
       linked e (Some link) is = (p, (holds, (e, is)))
 
@@ -45,7 +46,8 @@ module _ (setting : Setting) (P : Packet → Type 0) where
       go true = made
       go false = by (is_cnxn p.command) refl
 
-  all_made : (packets : List Packet) → All P packets → (d : Device) → IsMadeBy setting P d.link → IsMadeBy setting P (fold (step setting) d packets).link
+  all_made : (packets : List Packet) → All P packets → (d : Device) → IsMadeBy setting P d.link
+      → IsMadeBy setting P (fold (step setting) d packets).link
   all_made [] all d made = made
   all_made (p ∷ packets) all d made =
       all_made packets (All-tail P p packets all) (step setting d p) (step_made d p (All-head P p packets all) made)
@@ -57,7 +59,8 @@ module _ (setting : Setting) (P : Packet → Type 0) where
       subst (λ (o : Option Link). IsMadeBy setting P o) is (all_made packets all (first_device setting) tt)
 
 -- a write on a link has no more bytes than the lesser of both limits
-link_most : (most : ℕ) (credit : Bool) (p : Packet) (link : Link) → link_of most credit p ≡ Some link → link.most ≡ min (min p.arg1 MAX_PAYLOAD) most
+link_most : (most : ℕ) (credit : Bool) (p : Packet) (link : Link) → link_of most credit p ≡ Some link
+    → link.most ≡ min (min p.arg1 MAX_PAYLOAD) most
 link_most most credit p link is = by (identity_of p.payload) (unless _ (link_to most credit p (identity_of p.payload)) is)
   where
     most_in : Option Link → ℕ
@@ -83,11 +86,13 @@ own_servers h t p commands.Stls c own = absurd own
 own_servers h t p _ c own = λ e. absurd (let clash : false ≡ true = sym (ap is_cnxn c) ∙ e in cc)
 
 -- so a device that takes bytes at all has a link to its server on which it may write
-pub link_takes : (setting : Setting) (h : History) → IsLegal h → 0 < setting.most → (link : Link) → (device_behind setting (sent 1 h)).link ≡ Some link
+pub link_takes : (setting : Setting) (h : History) → IsLegal h → 0 < setting.most → (link : Link)
+    → (device_behind setting (sent 1 h)).link ≡ Some link
     → 0 < link.most
 link_takes setting h legal some link is =
     let made = made_link setting IsServers (sent 1 h)
-    (All-weaker (λ p. IsOwn h 1 p.command p) IsServers (λ p own. own_servers h 1 p p.command refl own) (sent 1 h) ((no_crossing h legal).own 1)) link is in
+    (All-weaker (λ p. IsOwn h 1 p.command p) IsServers (λ p own. own_servers h 1 p p.command refl own) (sent 1 h)
+    ((no_crossing h legal).own 1)) link is in
     let most = link_most setting.most setting.credit made.0 link made.1.1.1 in
     let same : made.0.arg1 ≡ MAX_PAYLOAD = ap (λ (p : Packet). p.arg1) (made.1.0 made.1.1.0) in
     omega (arith, most, same, some)

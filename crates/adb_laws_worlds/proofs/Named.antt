@@ -1,5 +1,6 @@
 -- Which stream of the server an id of its model device is for.
-use Rattle.std.specs.Prelude.{ℕ, ◌+◌, ◌≡◌, ◌<◌, ◌≤◌, ◌==◌, ◌&&◌, if◌then◌else◌, Bool, true, false, cond, nat_eq, All, List, [], ◌∷◌, ◌++◌, Option, None}
+use Rattle.std.specs.Prelude.{ℕ, ◌+◌, ◌≡◌, ◌<◌, ◌≤◌, ◌==◌, ◌&&◌, if◌then◌else◌, Bool, true, false, cond, nat_eq, All, List, [], ◌∷◌, ◌++◌}
+use Rattle.std.specs.Prelude.{Option, None}
 use Rattle.std.proofs.Common.{refl, sym, ◌∙◌, ap, subst, arith, ◌⊎◌, inl, inr}
 use Rattle.std.proofs.lemmas.Bool.{cases_lt, eqb-true}
 use Rattle.std.proofs.lemmas.List.Elements.{All-nil, All-cons, All-head, All-tail}
@@ -39,18 +40,21 @@ module _ (own : ℕ) (some : 0 < own) where
       → own ≤ (device_behind setting packets).serving.drawn
   drawn_if_acked setting packets l sends = go (cases_lt (device_behind setting packets).serving.drawn own)
     where
-      silent : (at own (device_behind setting packets).serving.rows ≡ None) × (over_at own (device_behind setting packets).serving.ended ≡ None)
+      silent : (at own (device_behind setting packets).serving.rows ≡ None)
+          × (over_at own (device_behind setting packets).serving.ended ≡ None)
           → okays_of own (device_behind setting packets).serving.made ≡ []
       silent fresh =
           subst (λ (r : Option Row). IsAcked own (device_behind setting packets).serving.made r None) fresh.0
-          (subst (λ (e : Option Ended). IsAcked own (device_behind setting packets).serving.made (at own (device_behind setting packets).serving.rows) e)
+          (subst (λ (e : Option Ended). IsAcked own (device_behind setting packets).serving.made
+          (at own (device_behind setting packets).serving.rows) e)
           fresh.1
           (all_acknowledged setting packets own))
 
       go : ((device_behind setting packets).serving.drawn < own) ⊎ (own ≤ (device_behind setting packets).serving.drawn)
           → own ≤ (device_behind setting packets).serving.drawn
       go (inl above) =
-          let none = none_in l (device_behind setting packets).serving.made (silent ((behind_orderly own some setting packets).fresh above)) in
+          let none = none_in l (device_behind setting packets).serving.made
+          (silent ((behind_orderly own some setting packets).fresh above)) in
           absurd (omega (arith, none, sends))
       go (inr le) = le
 
@@ -63,7 +67,8 @@ module _ (own host : ℕ) where
   pub all_go : (made : List Sent) → All (GoesTo own host) made → All Goes (packets_of_sent made)
   all_go [] all = All-nil Goes
   all_go (one ∷ made) all =
-      All-cons Goes one.packet (packets_of_sent made) (All-head (GoesTo own host) one made all) (all_go made (All-tail (GoesTo own host) one made all))
+      All-cons Goes one.packet (packets_of_sent made) (All-head (GoesTo own host) one made all)
+      (all_go made (All-tail (GoesTo own host) one made all))
 
   -- where an OKAY goes to an id, it is that one
   pub okay_to : (l : ℕ) (ps : List Packet) → All Goes ps → 1 ≤ okays_in own l ps → l ≡ host

@@ -1,11 +1,13 @@
 -- Where nothing is on its way, each stream of a server that lives is open.
-use Rattle.std.specs.Prelude.{ℕ, ◌+◌, ◌^◌, ◌≡◌, ◌≢◌, ◌<◌, ◌≤◌, ◌==◌, ◌&&◌, not, Bool, true, false, cond, nat_eq, nat_lt, is_some, fold, All, List, [], ◌∷◌}
+use Rattle.std.specs.Prelude.{ℕ, ◌+◌, ◌^◌, ◌≡◌, ◌≢◌, ◌<◌, ◌≤◌, ◌==◌, ◌&&◌, not, Bool, true, false, cond, nat_eq, nat_lt, is_some, fold, All}
+use Rattle.std.specs.Prelude.{List, [], ◌∷◌}
 use Rattle.std.specs.Prelude.{◌++◌, length, take, drop}
 use Rattle.std.specs.Prelude.{Contains, Option, Some, None}
 use Rattle.std.proofs.Common.{zero, suc, refl, sym, ◌∙◌, ap, subst, arith, ◌⊎◌, inl, inr}
 use Rattle.std.proofs.lemmas.Bool.{cases_lt, eq-eqb, eqb-true}
 use Rattle.std.proofs.lemmas.List.{length-append, take-append-le, take-append-drop}
-use Rattle.std.proofs.lemmas.List.Elements.{All-nil, All-cons, All-head, All-tail, All-take, All-contains, Contains-append_left, Contains-append_right}
+use Rattle.std.proofs.lemmas.List.Elements.{All-nil, All-cons, All-head, All-tail, All-take, All-contains, Contains-append_left}
+use Rattle.std.proofs.lemmas.List.Elements.{Contains-append_right}
 use Rattle.adb_wire.specs.declared.command.Command.{Command}
 use Rattle.adb_wire.specs.declared.command.Command.TheVariants.{Cnxn, Open, Okay, Wrte, Clse, Auth, Stls}
 use Rattle.adb_wire.specs.declared.packets.Packet.{Packet}
@@ -70,12 +72,18 @@ module _ (l : ℕ) where
   pending_tail p ps pending = by p.command refl pending
     where
       Goal : Command → Type 0
-      Goal c = IsPending l ps × (((own : ℕ) → own ≢ 0 → (is_okay c && is_between own l p) ≡ false) × ((is_clse c && is_between 0 l p) ≡ false))
+      Goal c = IsPending l ps
+          × (((own : ℕ) → own ≢ 0 → (is_okay c && is_between own l p) ≡ false)
+          × ((is_clse c && is_between 0 l p) ≡ false))
 
       okay : (a : Bool) → nat_eq p.arg1 l ≡ a → (z : Bool) → (p.arg0 == 0) ≡ z
-          → ((later : List Packet) → cond (a && not z) (Some (record { remote = p.arg0; word = credit_word p.payload; later = ps ++ later }))
+          → ((later : List Packet)
+          → cond (a && not z)
+          (Some (record { remote = p.arg0; word = credit_word p.payload; later = ps ++ later }))
           (opening_in l (ps ++ later)) ≡ opening_in l later) → Goal Okay
-      okay true e false f h = absurd (let clash : Some (record { remote = p.arg0; word = credit_word p.payload; later = ps ++ [] }) ≡ None = h [] in cc)
+      okay true e false f h =
+          absurd (let clash : Some (record { remote = p.arg0; word = credit_word p.payload; later = ps ++ [] })
+          ≡ None = h [] in cc)
       okay true e true f h = (h, ((λ own some. from own some (nat_eq p.arg0 own) refl), refl))
         where
           from : (own : ℕ) → own ≢ 0 → (b : Bool) → nat_eq p.arg0 own ≡ b → (b && nat_eq p.arg1 l) ≡ false
@@ -87,7 +95,8 @@ module _ (l : ℕ) where
           to true = e
           to false = refl
 
-      closed : (b : Bool) → is_between 0 l p ≡ b → ((later : List Packet) → cond b None (opening_in l (ps ++ later)) ≡ opening_in l later) → Goal Clse
+      closed : (b : Bool) → is_between 0 l p ≡ b
+          → ((later : List Packet) → cond b None (opening_in l (ps ++ later)) ≡ opening_in l later) → Goal Clse
       closed true e h = absurd (
           let none : is_some (opening_in l (probe l ∷ [])) ≡ false = ap is_some (sym (h (probe l ∷ []))) in
           let clash : true ≡ false = sym (opens_one l) ∙ none in cc)
@@ -96,7 +105,9 @@ module _ (l : ℕ) where
       other : (c : Command) → is_okay c ≡ false → is_clse c ≡ false → IsPending l ps → Goal c
       other c e f h = (h, ((λ own some. ap (λ (b : Bool). b && is_between own l p) e), ap (λ (b : Bool). b && is_between 0 l p) f))
 
-      by : (c : Command) → p.command ≡ c → ((later : List Packet) → opening_by c l p (ps ++ later) (opening_in l (ps ++ later)) ≡ opening_in l later) → Goal c
+      by : (c : Command) → p.command ≡ c
+          → ((later : List Packet) → opening_by c l p (ps ++ later) (opening_in l (ps ++ later)) ≡ opening_in l later)
+          → Goal c
       by Okay k h = okay (nat_eq p.arg1 l) refl (p.arg0 == 0) refl h
       by Clse k h = closed (is_between 0 l p) refl h
       by Cnxn k h = absurd (
@@ -118,12 +129,14 @@ module _ (l : ℕ) where
   pending_closes [] pending = refl
   pending_closes (p ∷ ps) pending =
       let one = pending_tail p ps pending in
-      ap (λ (b : Bool). cond b (1 + how_many (is_close_between 0 l) ps) (how_many (is_close_between 0 l) ps)) one.1.1 ∙ pending_closes ps one.0
+      ap (λ (b : Bool). cond b (1 + how_many (is_close_between 0 l) ps) (how_many (is_close_between 0 l) ps)) one.1.1
+      ∙ pending_closes ps one.0
 
   -- nor among packets that go elsewhere
   pub else_okays : (own : ℕ) (ps : List Packet) → All (NotTo l) ps → okays_in own l ps ≡ 0
   else_okays own [] all = refl
-  else_okays own (p ∷ ps) all = by p.command refl (nat_eq p.arg0 own) (nat_eq p.arg1 l) refl (else_okays own ps (All-tail (NotTo l) p ps all))
+  else_okays own (p ∷ ps) all = by p.command refl (nat_eq p.arg0 own) (nat_eq p.arg1 l) refl
+      (else_okays own ps (All-tail (NotTo l) p ps all))
     where
       by : (c : Command) → p.command ≡ c → (a b : Bool) → nat_eq p.arg1 l ≡ b → okays_in own l ps ≡ 0
           → cond (is_okay c && (a && b)) (1 + okays_in own l ps) (okays_in own l ps) ≡ 0
@@ -170,7 +183,8 @@ first_of is_such l (q ∷ ps) some = go (is_such q.command) refl (nat_eq q.arg0 
       none = ap (λ (b : Bool). cond b (1 + count_from is_such l f.front) (count_from is_such l f.front)) e ∙ f.none;
     }
 
-    go : (a : Bool) → is_such q.command ≡ a → (b : Bool) → nat_eq q.arg0 l ≡ b → 1 ≤ cond (a && b) (1 + count_from is_such l ps) (count_from is_such l ps)
+    go : (a : Bool) → is_such q.command ≡ a → (b : Bool) → nat_eq q.arg0 l ≡ b
+        → 1 ≤ cond (a && b) (1 + count_from is_such l ps) (count_from is_such l ps)
         → (1 ≤ count_from is_such l ps → IsFirst is_such l ps) → IsFirst is_such l (q ∷ ps)
     go true e true f s more = record { front = []; p = q; rest = ps; is = refl; such = e; from = eqb-true q.arg0 l f; none = refl }
     go true e false f s more = later (ap (λ (a : Bool). a && nat_eq q.arg0 l) e ∙ f) (more s)
@@ -178,7 +192,8 @@ first_of is_such l (q ∷ ps) some = go (is_such q.command) refl (nat_eq q.arg0 
 
 -- ---- the server asked
 -- the OPEN of each stream became due
-pub was_due : (h : History) → AsksAtOnce h → (l : ℕ) (b : Birth) → born l h ≡ Some b → Contains (packets_of b.link h) (open_packet b.credit l b.service)
+pub was_due : (h : History) → AsksAtOnce h → (l : ℕ) (b : Birth) → born l h ≡ Some b
+    → Contains (packets_of b.link h) (open_packet b.credit l b.service)
 was_due [] asks zero b is = absurd (let clash : None ≡ Some b = is in cc)
 was_due [] asks (suc k) b is = absurd (none (nat_lt k stream_ids) is)
   where
@@ -186,14 +201,16 @@ was_due [] asks (suc k) b is = absurd (none (nat_lt k stream_ids) is)
     none true e = let clash : None ≡ Some b = e in cc
     none false e = let clash : None ≡ Some b = e in cc
 was_due (e ∷ older) asks l b is =
-    subst (λ (ps : List Packet). Contains ps (open_packet b.credit l b.service)) (sym (packets_append b.link (told older) (told_at e older)))
+    subst (λ (ps : List Packet). Contains ps (open_packet b.credit l b.service))
+    (sym (packets_append b.link (told older) (told_at e older)))
     (go (born l older) refl (λ a was. was_due older asks.0 l a was))
   where
     go : (o : Option Birth) → born l older ≡ o
         → ((a : Birth) → born l older ≡ Some a → Contains (packets_of a.link older) (open_packet a.credit l a.service))
         → Contains (packets_of b.link older ++ packets_to b.link (told_at e older)) (open_packet b.credit l b.service)
     go None none before =
-        Contains-append_right (packets_of b.link older) (packets_to b.link (told_at e older)) (open_packet b.credit l b.service) (asks.1 l b none is)
+        Contains-append_right (packets_of b.link older) (packets_to b.link (told_at e older))
+        (open_packet b.credit l b.service) (asks.1 l b none is)
     go (Some a) was before =
         let both : Some a ≡ Some b = sym (born_stays l e older a was) ∙ is in
         let same : a ≡ b = cc in
@@ -221,11 +238,13 @@ module _ (setting : Setting) where
       longer : length (brought 1 older) ≤ length (brought 1 (e ∷ older))
       longer = (let n = ap length grown.1 in let m = length-append (brought 1 older) grown.0 in omega (arith, n, m))
 
-      same : b.packets_before ≤ length (brought 1 older) → take b.packets_before (brought 1 (e ∷ older)) ≡ take b.packets_before (brought 1 older)
+      same : b.packets_before ≤ length (brought 1 older) → take b.packets_before (brought 1 (e ∷ older))
+          ≡ take b.packets_before (brought 1 older)
       same le = ap (take b.packets_before) (sym grown.1) ∙ take-append-le b.packets_before (brought 1 older) grown.0 le
 
       go : (born l older ≡ Some b) ⊎ IsBornNow l b e older
-          → (born l older ≡ Some b → (b.packets_before ≤ length (brought 1 older)) × All (NotTo l) (take b.packets_before (brought 1 older)))
+          → (born l older ≡ Some b → (b.packets_before ≤ length (brought 1 older))
+          × All (NotTo l) (take b.packets_before (brought 1 older)))
           → (b.packets_before ≤ length (brought 1 (e ∷ older))) × All (NotTo l) (take b.packets_before (brought 1 (e ∷ older)))
       go (inl was) before =
           let p = before was in (
@@ -241,7 +260,8 @@ module _ (setting : Setting) where
           let fewer = count_front is_open l (sent 1 older) (packets_of 1 older) (sends_first older legal.0 1).first in
           let none : count_from is_open l (sent 1 older) ≡ 0 = omega (arith, none_due, fewer) in
           let owed = none_owed l setting (sent 1 older) none in
-          let front = front_all (NotTo l) (brought 1 (e ∷ older)) pairs.1.0 (subst (λ (ps : List Packet). All (NotTo l) ps) (sym pairs.1.1) owed) in (
+          let front = front_all (NotTo l) (brought 1 (e ∷ older)) pairs.1.0
+          (subst (λ (ps : List Packet). All (NotTo l) ps) (sym pairs.1.1) owed) in (
             omega (arith, place, longer),
             All-take (NotTo l) b.packets_before (brought 1 (e ∷ older)) front,
           )
@@ -373,7 +393,8 @@ module _ (setting : Setting) (short : setting.most < 2 ^ 32) (h : History) (lega
             omega (arith, sends, all, sum, before, after)
         go (inr closes) =
             let all : how_many (is_close_between 0 l) (packets_owed setting (sent 1 h))
-            ≡ how_many (is_close_between 0 l) (take b.packets_before (brought 1 h) ++ since b h) = ap (how_many (is_close_between 0 l)) parts in
+            ≡ how_many (is_close_between 0 l) (take b.packets_before (brought 1 h) ++ since b h) =
+            ap (how_many (is_close_between 0 l)) parts in
             let sum = many_append (is_close_between 0 l) (take b.packets_before (brought 1 h)) (since b h) in
             let before = else_closes l (take b.packets_before (brought 1 h)) none_before in
             let after = pending_closes l (since b h) pending in

@@ -8,7 +8,8 @@ use Rattle.adb_daemon.proofs.Rules.{step_orderly}
 use Rattle.adb_daemon.proofs.Standing.{IsOrderly}
 
 module _ (own : ℕ) (some : 0 < own) where
-  all_orderly : (setting : Setting) (packets : List Packet) (d : Device) → IsOrderly own d.serving → IsOrderly own (fold (step setting) d packets).serving
+  all_orderly : (setting : Setting) (packets : List Packet) (d : Device) → IsOrderly own d.serving
+      → IsOrderly own (fold (step setting) d packets).serving
   all_orderly setting [] d o = o
   all_orderly setting (p ∷ packets) d o = all_orderly setting packets (step setting d p) (step_orderly own some setting d p o)
 

@@ -1,5 +1,6 @@
 -- A device that is connected takes payloads.
-use Rattle.std.specs.Prelude.{ℕ, ◌≡◌, ◌≤◌, ◌&&◌, ◌||◌, Bool, true, false, cond, nat_lt, is_none, is_some, find, reverse, option_map, unwrap_or, All, List, []}
+use Rattle.std.specs.Prelude.{ℕ, ◌≡◌, ◌≤◌, ◌&&◌, ◌||◌, Bool, true, false, cond, nat_lt, is_none, is_some, find, reverse, option_map}
+use Rattle.std.specs.Prelude.{unwrap_or, All, List, []}
 use Rattle.std.specs.Prelude.{◌∷◌}
 use Rattle.std.specs.Prelude.{Option, Some, None}
 use Rattle.std.proofs.Common.{refl, sym, ◌∙◌, ap, subst, arith, eqb}
@@ -32,11 +33,13 @@ all_reverse P (p ∷ ps) all =
     subst (λ (qs : List Packet). All P qs) (sym (reverse-append (p ∷ []) ps))
     (All-append P (reverse ps) (p ∷ []) (all_reverse P ps (All-tail P p ps all)) (All-cons P p [] (All-head P p ps all) (All-nil P)))
 
-pub found_holds : (test : Packet → Bool) (P : Packet → Type 0) (ps : List Packet) (p : Packet) → find test ps ≡ Some p → All P ps → P p × (test p ≡ true)
+pub found_holds : (test : Packet → Bool) (P : Packet → Type 0) (ps : List Packet) (p : Packet) → find test ps ≡ Some p
+    → All P ps → P p × (test p ≡ true)
 found_holds test P [] p is all = let clash : None ≡ Some p = is in cc
 found_holds test P (q ∷ ps) p is all = go (test q) refl is (λ e. found_holds test P ps p e (All-tail P q ps all))
   where
-    go : (b : Bool) → test q ≡ b → cond b (Some q) (find test ps) ≡ Some p → (find test ps ≡ Some p → P p × (test p ≡ true)) → P p × (test p ≡ true)
+    go : (b : Bool) → test q ≡ b → cond b (Some q) (find test ps) ≡ Some p
+        → (find test ps ≡ Some p → P p × (test p ≡ true)) → P p × (test p ≡ true)
     go true e f later =
         let same : q ≡ p = cc in
         (subst P same (All-head P q ps all), ap test (sym same) ∙ e)
@@ -61,7 +64,8 @@ pub plugged_off : (t : ℕ) (h : History) → (row : Row) → plugged t h ≡ So
 plugged_off t [] row is = let clash : None ≡ Some row = is in cc
 plugged_off t (Attach n kind serial ∷ older) row is = go (eqb n t) is (plugged_off t older row)
   where
-    go : (b : Bool) → cond b (Some (new_row t kind serial)) (plugged t older) ≡ Some row → (plugged t older ≡ Some row → row.state ≡ device.Offline)
+    go : (b : Bool) → cond b (Some (new_row t kind serial)) (plugged t older) ≡ Some row
+        → (plugged t older ≡ Some row → row.state ≡ device.Offline)
         → row.state ≡ device.Offline
     go true e later = let same : new_row t kind serial ≡ row = cc in ap (λ (r : Row). r.state) (sym same)
     go false e later = later e
@@ -79,7 +83,8 @@ module _ (row : Row) (off : row.state ≡ device.Offline) where
   who_takes None p enough on = absurd (no (sym on ∙ not_connected))
   who_takes (Some identity) p enough on = omega (arith, enough)
 
-  by_takes : (last : Option Packet) (packets : List Packet) → ((p : Packet) → last ≡ Some p → least_maxdata ≤ p.arg1) → Takes (Some (row_by last packets row))
+  by_takes : (last : Option Packet) (packets : List Packet) → ((p : Packet) → last ≡ Some p → least_maxdata ≤ p.arg1)
+      → Takes (Some (row_by last packets row))
   by_takes (Some p) packets enough = who_takes (identity_of p.payload) p (enough p refl)
   by_takes None packets enough = go (list_any (λ p. is_login p.command) packets)
     where
@@ -92,7 +97,8 @@ enough_by : (ps : List Packet) → list_any is_refused ps ≡ false → (p : Pac
 enough_by ps none p is =
     let found = found_holds (λ p. is_cnxn p.command) (λ p. is_refused p ≡ false) (reverse ps) p is
     (all_reverse (λ p. is_refused p ≡ false) ps (none_such is_refused ps none)) in
-    go (is_cnxn p.command) (nat_lt p.arg0 least_version) (nat_lt p.arg1 least_maxdata) refl (is_none (identity_of p.payload)) found.1 found.0
+    go (is_cnxn p.command) (nat_lt p.arg0 least_version) (nat_lt p.arg1 least_maxdata) refl
+    (is_none (identity_of p.payload)) found.1 found.0
   where
     go : (a b c : Bool) → nat_lt p.arg1 least_maxdata ≡ c → (d : Bool) → a ≡ true → (a && (b || c || d)) ≡ false → least_maxdata ≤ p.arg1
     go true b false e d f g = grind (arith, nat_tests, e)
@@ -101,7 +107,8 @@ enough_by ps none p is =
     go false b c e d f g = let clash : false ≡ true = f in cc
 
 device_takes : (t : ℕ) (h : History) → Takes (device_of t h)
-device_takes t h = go (is_lost t h) (list_any is_refused (brought t h)) refl (plugged t h) refl (is_some (framed (bytes_received t h)).fault)
+device_takes t h = go (is_lost t h) (list_any is_refused (brought t h)) refl (plugged t h) refl
+    (is_some (framed (bytes_received t h)).fault)
   where
     none : Takes None
     none on = let clash : false ≡ true = on in cc
@@ -109,7 +116,8 @@ device_takes t h = go (is_lost t h) (list_any is_refused (brought t h)) refl (pl
     go : (a b : Bool) → list_any is_refused (brought t h) ≡ b → (o : Option Row) → plugged t h ≡ o → (c : Bool)
         → Takes (cond (a || (c || b)) None (option_map (row_by (last_cnxn (brought t h)) (brought t h)) o))
     go false b e o f true = none
-    go false false e (Some row) f false = by_takes row (plugged_off t h row f) (last_cnxn (brought t h)) (brought t h) (enough_by (brought t h) e)
+    go false false e (Some row) f false = by_takes row (plugged_off t h row f) (last_cnxn (brought t h)) (brought t h)
+        (enough_by (brought t h) e)
     go _ _ e _ f _ = none
 
 pub take_payloads : (h : History) → IsLegal h → TakePayloads h

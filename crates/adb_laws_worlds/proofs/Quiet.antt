@@ -25,7 +25,8 @@ empty_of : (held : List ℕ) → length held ≡ 0 → held ≡ []
 empty_of [] e = refl
 empty_of (b ∷ held) e = absurd (omega (arith, e))
 
-none_held : (flow : Flow) (maxdata : ℕ) (held : List ℕ) → has_credit flow ≡ false → waiting flow ≡ 0 → 0 < maxdata → payloads flow maxdata held ≡ [] → held ≡ []
+none_held : (flow : Flow) (maxdata : ℕ) (held : List ℕ) → has_credit flow ≡ false → waiting flow ≡ 0 → 0 < maxdata
+    → payloads flow maxdata held ≡ [] → held ≡ []
 none_held (flows.Credit credit) maxdata held plain none some e = let clash : true ≡ false = plain in cc
 none_held (flows.One window) maxdata held plain none some e = go window.outstanding none e
   where
@@ -56,7 +57,8 @@ module _ (h : History) (legal : IsLegal h) (l : ℕ) (x : Stream) (live : (state
   phase = owner.1.phase ∙ streaming x.part.remote refl
 
   rests : IsResting (Streaming l) (state h) x.client owner.1.client
-  rests = subst (λ (p : Phase). IsResting p (state h) x.client owner.1.client) phase ((orderly h legal).client x.client owner.1.client owner.1.is).rests
+  rests = subst (λ (p : Phase). IsResting p (state h) x.client owner.1.client) phase
+      ((orderly h legal).client x.client owner.1.client owner.1.is).rests
 
   quiet : IsQuiet (state h) owner.1.client x
   quiet = rests.1 x live

@@ -44,7 +44,8 @@ module _ (l : ℕ) where
       by Clse c true e true f none = absurd (here c (eqb-true one.packet.arg0 0 e) (eqb-true one.packet.arg1 l f))
       by _ c _ e _ f none = none
 
-  else_none : (made : List Sent) → All (λ (one : Sent). NotTo l one.packet) made → how_many (is_close_between 0 l) (packets_of_sent made) ≡ 0
+  else_none : (made : List Sent) → All (λ (one : Sent). NotTo l one.packet) made
+      → how_many (is_close_between 0 l) (packets_of_sent made) ≡ 0
   else_none [] all = refl
   else_none (one ∷ made) all =
       by one.packet.command refl (nat_eq one.packet.arg0 0) (nat_eq one.packet.arg1 l) refl
@@ -117,20 +118,23 @@ module _ (setting : Setting) (own : ℕ) (some : own ≢ 0) (packets : List Pack
       ≡ how_many (is_close_between 0 f.asking.arg0) (packets_of_sent (base ++ after.more)) =
       ap (λ (made : List Sent). how_many (is_close_between 0 f.asking.arg0) (packets_of_sent made)) after.made in
       let cut : how_many (is_close_between 0 f.asking.arg0) (packets_of_sent (base ++ after.more))
-      ≡ how_many (is_close_between 0 f.asking.arg0) (packets_of_sent base) + how_many (is_close_between 0 f.asking.arg0) (packets_of_sent after.more) =
+      ≡ how_many (is_close_between 0 f.asking.arg0) (packets_of_sent base)
+      + how_many (is_close_between 0 f.asking.arg0) (packets_of_sent after.more) =
       ap (how_many (is_close_between 0 f.asking.arg0)) (sent_append base after.more)
       ∙ many_append (is_close_between 0 f.asking.arg0) (packets_of_sent base) (packets_of_sent after.more) in
       let first : how_many (is_close_between 0 f.asking.arg0) (packets_of_sent base)
       ≡ how_many (is_close_between 0 f.asking.arg0) (packets_of_sent (device_behind setting f.front).serving.made) + 0 =
       ap (how_many (is_close_between 0 f.asking.arg0)) (sent_append (device_behind setting f.front).serving.made hello)
-      ∙ many_append (is_close_between 0 f.asking.arg0) (packets_of_sent (device_behind setting f.front).serving.made) (packets_of_sent hello) in
+      ∙ many_append (is_close_between 0 f.asking.arg0) (packets_of_sent (device_behind setting f.front).serving.made)
+      (packets_of_sent hello) in
       let none = else_none f.asking.arg0 (device_behind setting f.front).serving.made
       (subst (λ (made : List Sent). All (λ (one : Sent). NotTo f.asking.arg0 one.packet) made) (sym before.made) before.all) in
       let rest = from_closes f.asking.arg0 own some after.more after.all in
       omega (arith, all, cut, first, none, rest)
 
 -- so a stream whose id was drawn is not refused
-pub opened_unrefused : (setting : Setting) (own l : ℕ) (packets : List Packet) → own ≢ 0 → own ≤ (device_behind setting packets).serving.drawn
+pub opened_unrefused : (setting : Setting) (own l : ℕ) (packets : List Packet) → own ≢ 0
+    → own ≤ (device_behind setting packets).serving.drawn
     → ((f : Found setting own (first_device setting) packets) → f.asking.arg0 ≡ l) → count_from is_open l packets ≤ 1
     → how_many (is_close_between 0 l) (packets_owed setting packets) ≡ 0
 opened_unrefused setting own l packets some reached host once =

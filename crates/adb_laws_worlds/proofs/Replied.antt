@@ -36,7 +36,9 @@ module _ (setting : Setting) (front : List Packet) (p : Packet) (rest : List Pac
       let d : Device = device_behind setting front in
       let s : Serving = d.serving in
       ap (λ (x : Device). x.serving) (step_open setting d p sound)
-      ∙ (ap (λ (c : Command). (if is_cnxn c then linked_to (link_of setting.most setting.credit p) d else served_on d.link p d).serving) command
+      ∙ (ap (λ (c : Command).
+      (if is_cnxn c then linked_to (link_of setting.most setting.credit p) d else served_on d.link p
+      d).serving) command
       ∙ (ap (λ (x : Option Link). (served_on x p d).serving) linked
       ∙ (ap (λ (c : Command). served c link p s) command
       ∙ (ap (λ (b : Bool). if b || is_taken p.arg0 s.rows then s else open_as link p (kind_for s.drawn p) s) (ne_eqb p.arg0 0 some)
@@ -44,7 +46,8 @@ module _ (setting : Setting) (front : List Packet) (p : Packet) (rest : List Pac
       ∙ ap (λ (k : Option Kind). open_as link p k s) unknown)))))
 
   -- so a CLSE from 0 is owed
-  refused : kind_for (device_behind setting front).serving.drawn p ≡ None → 1 ≤ how_many (is_close_between 0 p.arg0) (packets_owed setting (front ++ p ∷ rest))
+  refused : kind_for (device_behind setting front).serving.drawn p ≡ None
+      → 1 ≤ how_many (is_close_between 0 p.arg0) (packets_owed setting (front ++ p ∷ rest))
   refused unknown =
       let close : Packet = clse 0 p.arg0 in
       let now : packets_owed setting (front ++ p ∷ []) ≡ packets_owed setting front ++ close ∷ [] =
@@ -55,7 +58,8 @@ module _ (setting : Setting) (front : List Packet) (p : Packet) (rest : List Pac
       let sum = many_append (is_close_between 0 p.arg0) (packets_owed setting front) (close ∷ []) in
       let same : how_many (is_close_between 0 p.arg0) (packets_owed setting (front ++ p ∷ []))
       ≡ how_many (is_close_between 0 p.arg0) (packets_owed setting front ++ close ∷ []) = ap (how_many (is_close_between 0 p.arg0)) now in
-      let later = many_front (is_close_between 0 p.arg0) (packets_owed setting (front ++ p ∷ [])) (packets_owed setting ((front ++ p ∷ []) ++ rest))
+      let later = many_front (is_close_between 0 p.arg0) (packets_owed setting (front ++ p ∷ []))
+      (packets_owed setting ((front ++ p ∷ []) ++ rest))
       (owed_grows setting (front ++ p ∷ []) rest) in
       let whole : how_many (is_close_between 0 p.arg0) (packets_owed setting ((front ++ p ∷ []) ++ rest))
       ≡ how_many (is_close_between 0 p.arg0) (packets_owed setting (front ++ p ∷ rest)) =
@@ -65,7 +69,8 @@ module _ (setting : Setting) (front : List Packet) (p : Packet) (rest : List Pac
   replied : IsRepliedTo setting p.arg0 (front ++ p ∷ rest)
   replied = go (kind_for (device_behind setting front).serving.drawn p) refl
     where
-      go : (kind : Option Kind) → kind_for (device_behind setting front).serving.drawn p ≡ kind → IsRepliedTo setting p.arg0 (front ++ p ∷ rest)
+      go : (kind : Option Kind) → kind_for (device_behind setting front).serving.drawn p ≡ kind
+          → IsRepliedTo setting p.arg0 (front ++ p ∷ rest)
       go None is = inr (refused is)
       go (Some kind) is =
           inl (

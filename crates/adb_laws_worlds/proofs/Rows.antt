@@ -1,5 +1,6 @@
 -- Where nothing is on its way, each open stream of a server has its row at the model device.
-use Rattle.std.specs.Prelude.{ℕ, ◌+◌, ◌≡◌, ◌≢◌, ◌<◌, ◌≤◌, ◌&&◌, Bool, true, false, cond, nat_eq, All, List, [], ◌∷◌, ◌++◌, take, Contains, Option, Some, None}
+use Rattle.std.specs.Prelude.{ℕ, ◌+◌, ◌≡◌, ◌≢◌, ◌<◌, ◌≤◌, ◌&&◌, Bool, true, false, cond, nat_eq, All, List, [], ◌∷◌, ◌++◌, take, Contains}
+use Rattle.std.specs.Prelude.{Option, Some, None}
 use Rattle.std.proofs.Common.{zero, suc, refl, sym, ◌∙◌, ap, subst, arith, ◌⊎◌, inl, inr, append_assoc}
 use Rattle.std.proofs.lemmas.Bool.{cases_lt, eqb-true}
 use Rattle.std.proofs.lemmas.List.{take-append-drop}
@@ -63,7 +64,8 @@ IsNoOpen p = is_open p.command ≡ false
 no_opens : (setting : Setting) (packets : List Packet) → All IsNoOpen (packets_owed setting packets)
 no_opens setting packets =
     go (device_behind setting packets).serving.made
-    (all_sent (λ (one : Sent). is_open one.packet.command ≡ false) (λ sums own host word. refl) (λ sums own host payload. refl) (λ sums own host. refl)
+    (all_sent (λ (one : Sent). is_open one.packet.command ≡ false) (λ sums own host word. refl)
+    (λ sums own host payload. refl) (λ sums own host. refl)
     setting refl packets)
   where
     go : (made : List Sent) → All (λ (one : Sent). is_open one.packet.command ≡ false) made → All IsNoOpen (packets_of_sent made)
@@ -94,7 +96,8 @@ module _ (setting : Setting) (h : History) (legal : IsLegal h) (still : IsStill 
     pub okay_owed : 1 ≤ okays_in o.remote l (packets_owed setting (sent 1 h))
     okay_owed =
         subst (λ (ps : List Packet). 1 ≤ okays_in o.remote l ps) (sym parts)
-        (okay_counts o.remote l (take b.packets_before (brought b.link h) ++ split.front) split.okay o.later split.command split.from split.to)
+        (okay_counts o.remote l (take b.packets_before (brought b.link h) ++ split.front) split.okay o.later
+        split.command split.from split.to)
 
     pub some_id : 0 < o.remote
     some_id = go o.remote split.some
@@ -108,11 +111,14 @@ module _ (setting : Setting) (h : History) (legal : IsLegal h) (still : IsStill 
     for_it = asked_for setting o.remote l (sent 1 h) some_id sound okay_owed
 
     -- no CLSE of both ids is owed, where none came behind the opening
-    none_owed : how_many (is_close_between o.remote l) o.later ≡ 0 → how_many (is_close_between o.remote l) (packets_owed setting (sent 1 h)) ≡ 0
+    none_owed : how_many (is_close_between o.remote l) o.later ≡ 0
+        → how_many (is_close_between o.remote l) (packets_owed setting (sent 1 h)) ≡ 0
     none_owed later =
-        let first = none_before o.remote l (device_behind setting (sent 1 h)).serving.made (take b.packets_before (brought b.link h) ++ split.front) split.okay
+        let first = none_before o.remote l (device_behind setting (sent 1 h)).serving.made
+        (take b.packets_before (brought b.link h) ++ split.front) split.okay
         o.later (closes_last setting (sent 1 h) o.remote some_id) parts split.from in
-        let sum = many_append (is_close_between o.remote l) (take b.packets_before (brought b.link h) ++ split.front) (split.okay ∷ o.later) in
+        let sum = many_append (is_close_between o.remote l) (take b.packets_before (brought b.link h) ++ split.front)
+        (split.okay ∷ o.later) in
         let okay : how_many (is_close_between o.remote l) (split.okay ∷ o.later) ≡ how_many (is_close_between o.remote l) o.later =
         ap (λ (c : Command). cond (is_clse c && is_between o.remote l split.okay) (1 + how_many (is_close_between o.remote l) o.later)
         (how_many (is_close_between o.remote l) o.later)) split.command in
@@ -133,7 +139,8 @@ module _ (setting : Setting) (h : History) (legal : IsLegal h) (still : IsStill 
         go None is = absurd (of.told (ap remote_in is))
         go (Some x) is =
             let same : x.remote ≡ o.remote = sym (ap remote_in is) ∙ (sym of.remote ∙ to) in
-            let okay = subst (λ (n : ℕ). 1 ≤ okays_in n p.arg0 (packets_owed setting (sent 1 h))) same (okay_owed p.arg0 of.birth of.link x is) in
+            let okay = subst (λ (n : ℕ). 1 ≤ okays_in n p.arg0 (packets_owed setting (sent 1 h))) same
+            (okay_owed p.arg0 of.birth of.link x is) in
             okay_to o.remote mine.asked.by.asking.arg0 p.arg0 (packets_owed setting (sent 1 h))
             (all_go o.remote mine.asked.by.asking.arg0 (device_behind setting (sent 1 h)).serving.made mine.asked.opened.named) okay
             ∙ mine.host
@@ -195,7 +202,13 @@ module _ (setting : Setting) (h : History) (legal : IsLegal h) (still : IsStill 
       go : ((row : Row) × ((at u.opening.remote (device_behind setting (sent 1 h)).serving.rows ≡ Some row) × (row.host ≡ l)))
           ⊎ ((1 ≤ how_many (is_close_between u.opening.remote l) (packets_owed setting (sent 1 h)))
           ⊎ (1 ≤ how_many (is_close_to u.opening.remote) (sent 1 h))) → HasRow setting h l b
-      go (inl row) = record { row = row.0; is = ap (λ (n : ℕ). at n (device_behind setting (sent 1 h)).serving.rows) told ∙ row.1.0; host = row.1.1 }
+      go (inl row) =
+          record {
+            row = row.0;
+            is = ap (λ (n : ℕ). at n (device_behind setting (sent 1 h)).serving.rows) told
+                ∙ row.1.0;
+            host = row.1.1;
+          }
       go (inr (inl some)) = absurd (let zeroth = none in omega (arith, zeroth, some))
       go (inr (inr some)) = absurd (let zeroth = never in omega (arith, zeroth, some))
 

@@ -1,5 +1,6 @@
 -- What holds of each OKAY, WRTE and CLSE holds of all that a model device sends behind its CNXN.
-use Rattle.std.specs.Prelude.{ℕ, ◌+◌, ◌≡◌, ◌==◌, ◌||◌, if◌then◌else◌, Bool, true, false, All, List, [], ◌∷◌, ◌++◌, map, fold, length, Option, Some, None}
+use Rattle.std.specs.Prelude.{ℕ, ◌+◌, ◌≡◌, ◌==◌, ◌||◌, if◌then◌else◌, Bool, true, false, All, List, [], ◌∷◌, ◌++◌, map, fold, length}
+use Rattle.std.specs.Prelude.{Option, Some, None}
 use Rattle.std.proofs.Common.{refl, sym, ◌∙◌, ap, subst, append_assoc}
 use Rattle.std.proofs.lemmas.List.{append-nil}
 use Rattle.std.proofs.lemmas.List.Elements.{All-nil, All-cons, All-append}
@@ -16,7 +17,8 @@ use Rattle.adb_device_streams.specs.Service.{came_over, files_fed}
 use Rattle.adb_device_streams.specs.Stream.{Row, opened, row_took, row_acked, row_written, writes, is_done, okay, clse, wrte, opening_word}
 use Rattle.adb_device_streams.specs.Link.{credit_word_in, link_of}
 use Rattle.adb_device_streams.specs.declared.link.Link.{Link}
-use Rattle.adb_daemon.specs.Serving.{Serving, Sent, with_sum, owing, granted, sent_ack, sent_writes, sent_close, settled_as, settled, named, closable, is_taken}
+use Rattle.adb_daemon.specs.Serving.{Serving, Sent, with_sum, owing, granted, sent_ack, sent_writes, sent_close, settled_as, settled, named}
+use Rattle.adb_daemon.specs.Serving.{closable, is_taken}
 use Rattle.adb_daemon.specs.Serving.{kind_for, credit_of, open_as, on_open, written_to, acked_to, closed_to, served}
 use Rattle.adb_daemon.specs.Device.{Device, Setting, step, treated, linked_to, served_on, own_cnxn, first_device, device_behind}
 use Rattle.adb_laws_worlds.proofs.Drawing.{begun_by}
@@ -40,7 +42,8 @@ module _ (P : Sent → Type 0) (okays : (sums : Bool) (own host : ℕ) (word : L
   one : (x : Sent) → P x → All P (x ∷ [])
   one x holds = All-cons P x [] holds (All-nil P)
 
-  all_writes : (sums : Bool) (own host : ℕ) (payloads : List (List ℕ)) → All P (map (λ payload. with_sum sums (wrte own host payload)) payloads)
+  all_writes : (sums : Bool) (own host : ℕ) (payloads : List (List ℕ))
+      → All P (map (λ payload. with_sum sums (wrte own host payload)) payloads)
   all_writes sums own host [] = All-nil P
   all_writes sums own host (payload ∷ more) =
       All-cons P (with_sum sums (wrte own host payload)) (map (λ p. with_sum sums (wrte own host p)) more) (wrtes sums own host payload)
@@ -71,7 +74,8 @@ module _ (P : Sent → Type 0) (okays : (sums : Bool) (own host : ℕ) (word : L
     open_all = go (p.arg0 == 0 || is_taken p.arg0 s.rows)
       where
         by : (kind : Option Kind) → Behind (open_as link p kind s).made
-        by None = add s.made (with_sum link.sums (clse 0 p.arg0) ∷ []) all (one (with_sum link.sums (clse 0 p.arg0)) (clses link.sums 0 p.arg0))
+        by None = add s.made (with_sum link.sums (clse 0 p.arg0) ∷ []) all
+            (one (with_sum link.sums (clse 0 p.arg0)) (clses link.sums 0 p.arg0))
         by (Some kind) =
             let hello = with_sum link.sums (okay (s.drawn + 1) p.arg0 (opening_word (credit_of link p))) in
             settled_all link (s.drawn + 1) (opened p.arg0 kind s.files (credit_of link p)) (begun_by link p kind s)
@@ -91,7 +95,8 @@ module _ (P : Sent → Type 0) (okays : (sums : Bool) (own host : ℕ) (word : L
 
     okay_all : (found : Option Row) → Behind (acked_to link p found s).made
     okay_all None = all
-    okay_all (Some row) = settled_all link p.arg1 (row_acked (credit_word_in p.payload) row) (granted p.arg1 (credit_word_in p.payload) s) all
+    okay_all (Some row) = settled_all link p.arg1 (row_acked (credit_word_in p.payload) row)
+        (granted p.arg1 (credit_word_in p.payload) s) all
 
     close_all : (found : Option Row) → Behind (closed_to p.arg1 found s).made
     close_all None = all
@@ -124,11 +129,13 @@ module _ (P : Sent → Type 0) (okays : (sums : Bool) (own host : ℕ) (word : L
       go true = all
       go false = by (is_cnxn p.command)
 
-  fold_all : (setting : Setting) (packets : List Packet) (d : Device) → Behind d.serving.made → Behind (fold (step setting) d packets).serving.made
+  fold_all : (setting : Setting) (packets : List Packet) (d : Device) → Behind d.serving.made
+      → Behind (fold (step setting) d packets).serving.made
   fold_all setting [] d all = all
   fold_all setting (p ∷ packets) d all = fold_all setting packets (step setting d p) (step_all setting d p all)
 
-  pub all_behind : (setting : Setting) → base ≡ own_cnxn setting ∷ [] → (packets : List Packet) → Behind (device_behind setting packets).serving.made
+  pub all_behind : (setting : Setting) → base ≡ own_cnxn setting ∷ [] → (packets : List Packet)
+      → Behind (device_behind setting packets).serving.made
   all_behind setting same packets =
       fold_all setting packets (first_device setting)
       (record { more = []; is = sym same ∙ sym (append-nil base); all = All-nil P })
@@ -136,7 +143,8 @@ module _ (P : Sent → Type 0) (okays : (sums : Bool) (own host : ℕ) (word : L
 -- so of all that it sends, where it holds of its own CNXN too
 pub all_sent : (P : Sent → Type 0) → ((sums : Bool) (own host : ℕ) (word : List ℕ) → P (with_sum sums (okay own host word)))
     → ((sums : Bool) (own host : ℕ) (payload : List ℕ) → P (with_sum sums (wrte own host payload)))
-    → ((sums : Bool) (own host : ℕ) → P (with_sum sums (clse own host))) → (setting : Setting) → P (own_cnxn setting) → (packets : List Packet)
+    → ((sums : Bool) (own host : ℕ) → P (with_sum sums (clse own host))) → (setting : Setting) → P (own_cnxn setting)
+    → (packets : List Packet)
     → All P (device_behind setting packets).serving.made
 all_sent P okays wrtes clses setting first packets =
     let b = all_behind P okays wrtes clses (own_cnxn setting ∷ []) setting refl packets in

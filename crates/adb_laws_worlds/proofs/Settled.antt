@@ -1,5 +1,6 @@
 -- At rest each open stream of a server has settled at both ends.
-use Rattle.std.specs.Prelude.{ℕ, ◌+◌, ◌^◌, ◌≡◌, ◌≢◌, ◌<◌, ◌≤◌, ◌&&◌, not, Bool, true, false, cond, nat_eq, is_some, All, List, [], ◌∷◌, ◌++◌, length, take}
+use Rattle.std.specs.Prelude.{ℕ, ◌+◌, ◌^◌, ◌≡◌, ◌≢◌, ◌<◌, ◌≤◌, ◌&&◌, not, Bool, true, false, cond, nat_eq, is_some, All, List, [], ◌∷◌}
+use Rattle.std.specs.Prelude.{◌++◌, length, take}
 use Rattle.std.specs.Prelude.{drop}
 use Rattle.std.specs.Prelude.{fold, option_map, Option, Some, None}
 use Rattle.std.proofs.Common.{zero, suc, refl, sym, ◌∙◌, ap, subst, arith, append_assoc, min}
@@ -17,7 +18,8 @@ use Rattle.adb_stream.specs.declared.flow.Flow.{Flow}
 use Rattle.adb_stream.specs.declared.flow.Flow.TheVariants as flows
 use Rattle.adb_stream.specs.declared.row.Stream.{Stream}
 use Rattle.adb_history.specs.Bytes.{bytes_put, bytes_read, sent}
-use Rattle.adb_history.specs.Births.{Birth, Opening, born, since, remote_in, remote_of, told_in, told_after, told_to, joined, handed_to, carried_in, is_okay}
+use Rattle.adb_history.specs.Births.{Birth, Opening, born, since, remote_in, remote_of, told_in, told_after, told_to, joined, handed_to}
+use Rattle.adb_history.specs.Births.{carried_in, is_okay}
 use Rattle.adb_history.specs.Births.{count_from}
 use Rattle.adb_history.specs.Fifo.{okays_in, okays_of, IsOwn}
 use Rattle.adb_history.specs.Rows.{Client}
@@ -114,7 +116,8 @@ named_okays l n (p ∷ ps) all =
   where
     go : (a : Bool) → is_okay p.command ≡ a → (b : Bool) → nat_eq p.arg0 l ≡ b → (c : Bool) → nat_eq p.arg1 n ≡ c
         → count_from is_okay l ps ≤ okays_in l n ps
-        → cond (a && b) (1 + count_from is_okay l ps) (count_from is_okay l ps) ≤ cond (a && (b && c)) (1 + okays_in l n ps) (okays_in l n ps)
+        → cond (a && b) (1 + count_from is_okay l ps) (count_from is_okay l ps)
+        ≤ cond (a && (b && c)) (1 + okays_in l n ps) (okays_in l n ps)
     go true e true f true g le = omega (arith, le)
     go true e true f false g le =
         absurd (let clash : true ≡ false = sym (eq-eqb p.arg1 n (All-head (Names l n) p ps all e (eqb-true p.arg0 l f))) ∙ g in cc)
@@ -177,7 +180,8 @@ module _ (setting : Setting) (short : setting.most < 2 ^ 32) (plain : setting.cr
     row_is = ap (λ (n : ℕ). at n (device_behind setting (sent 1 h)).serving.rows) (sym told_as) ∙ there.is
 
     waits : waiting x.part.flow ≡ 0
-    waits = none_waits_there setting short plain h legal tied rest.still l b x served.client there.row birth own (all_plain l b birth) live u.alive
+    waits = none_waits_there setting short plain h legal tied rest.still l b x served.client there.row birth own
+        (all_plain l b birth) live u.alive
         known served.here there.is there.host
 
     handed : to_hand x.part.flow ≡ 0
@@ -196,10 +200,13 @@ module _ (setting : Setting) (short : setting.most < 2 ^ 32) (plain : setting.cr
     seen_row : f.holds.seen.stream ≡ Some (seen x)
     seen_row = ap (λ (v : View). v.stream) (sym f.holds.shows.1) ∙ ap (λ (o : Option Stream). option_map seen o) live
 
-    flowing : IsFlowing f.cradle (seen x) (told_in u.opening.remote l u.opening.later) f.holds.seen.okays (handed_past f.cradle (bytes_put b.client h))
+    flowing : IsFlowing f.cradle (seen x) (told_in u.opening.remote l u.opening.later) f.holds.seen.okays
+        (handed_past f.cradle (bytes_put b.client h))
     flowing =
-        subst (λ (o : Option Opening). FlowsBy o l f.cradle (seen x) f.holds.seen.okays (handed_past f.cradle (bytes_put b.client h))) u.opened
-        (subst (λ (orphan : Bool). FlowAs orphan l f.cradle (since b h) (seen x) f.holds.seen.okays (handed_past f.cradle (bytes_put b.client h))) u.alive
+        subst (λ (o : Option Opening). FlowsBy o l f.cradle (seen x) f.holds.seen.okays
+        (handed_past f.cradle (bytes_put b.client h))) u.opened
+        (subst (λ (orphan : Bool). FlowAs orphan l f.cradle (since b h) (seen x) f.holds.seen.okays
+        (handed_past f.cradle (bytes_put b.client h))) u.alive
         (subst (λ (o : Option SeenStream). FlowIn o l f.cradle (since b h) f.holds.seen.okays (handed_past f.cradle (bytes_put b.client h)))
         seen_row f.holds.keeps.flow).1)
 
@@ -263,7 +270,8 @@ module _ (setting : Setting) (short : setting.most < 2 ^ 32) (plain : setting.cr
     took_all =
         let d = asked.asked.by in
         let all : 1 + okays_in l u.opening.remote d.rest ≤ acks_of u.opening.remote (device_behind setting (sent 1 h)).serving.acks =
-        subst (λ (n : ℕ). 1 + okays_in n u.opening.remote d.rest ≤ acks_of u.opening.remote (device_behind setting (sent 1 h)).serving.acks) asked.host
+        subst (λ (n : ℕ). 1 + okays_in n u.opening.remote d.rest
+        ≤ acks_of u.opening.remote (device_behind setting (sent 1 h)).serving.acks) asked.host
         (asked.asked.all there.row row_is) in
         let behind = named_okays l u.opening.remote d.rest
         (all_rest (Names l u.opening.remote) d.front d.asking d.rest
@@ -284,10 +292,12 @@ module _ (setting : Setting) (short : setting.most < 2 ^ 32) (plain : setting.cr
     goes : All (GoesTo u.opening.remote l) (device_behind setting (sent 1 h)).serving.made
     goes = all_go_to setting short h legal tied rest.still l b birth own u.opening u.opened
 
-    heard_all : writes_of u.opening.remote (device_behind setting (sent 1 h)).serving.made ≤ length (told_in u.opening.remote l u.opening.later)
+    heard_all : writes_of u.opening.remote (device_behind setting (sent 1 h)).serving.made
+        ≤ length (told_in u.opening.remote l u.opening.later)
     heard_all =
         let all = writes_told u.opening.remote l (device_behind setting (sent 1 h)).serving.made goes in
-        let same : length (told_in u.opening.remote l (packets_owed setting (sent 1 h))) ≡ length (told_in u.opening.remote l u.opening.later) =
+        let same : length (told_in u.opening.remote l (packets_owed setting (sent 1 h)))
+        ≡ length (told_in u.opening.remote l u.opening.later) =
         ap (λ (payloads : List (List ℕ)). length payloads) all_told in
         omega (arith, all, same)
 
@@ -310,9 +320,11 @@ module _ (setting : Setting) (short : setting.most < 2 ^ 32) (plain : setting.cr
             (acks_of u.opening.remote (device_behind setting (sent 1 h)).serving.acks) there.row.flow
         exact = subst (λ (o : Option Row). ExactAt u.opening.remote (device_behind setting (sent 1 h)).serving.made
             (device_behind setting (sent 1 h)).serving.acks o) row_is
-            (windows_exact u.opening.remote some_r setting (sent 1 h) (acked_in_time setting short h legal tied all_plain u.opening.remote some_r))
+            (windows_exact u.opening.remote some_r setting (sent 1 h)
+            (acked_in_time setting short h legal tied all_plain u.opening.remote some_r))
 
-        go : (o : Option Link) → (device_behind setting (sent 1 h)).link ≡ o → is_some o ≡ true → (unsent there.row ≡ []) × (is_idle there.row.flow ≡ true)
+        go : (o : Option Link) → (device_behind setting (sent 1 h)).link ≡ o → is_some o ≡ true
+            → (unsent there.row ≡ []) × (is_idle there.row.flow ≡ true)
         go None is linked = let clash : false ≡ true = linked in cc
         go (Some link) is linked =
             all_written link.most (writes_of u.opening.remote (device_behind setting (sent 1 h)).serving.made)
@@ -335,7 +347,8 @@ module _ (setting : Setting) (short : setting.most < 2 ^ 32) (plain : setting.cr
 
     -- all that was told was handed
     handed_all : handed_to l b h ≡ joined (told_to l b h)
-    handed_all = whole (handed_to l b h) (joined (told_to l b h)) (hands_told h legal l b birth) (by x.part.flow one_write handed holds.flow)
+    handed_all = whole (handed_to l b h) (joined (told_to l b h)) (hands_told h legal l b birth)
+        (by x.part.flow one_write handed holds.flow)
       where
         by : (flow : Flow) → has_credit flow ≡ false → to_hand flow ≡ 0
             → FlowIs flow b.credit (length (joined (told_to l b h))) (length (handed_to l b h)) (given_to l b h)
@@ -345,10 +358,13 @@ module _ (setting : Setting) (short : setting.most < 2 ^ 32) (plain : setting.cr
 
     got_all : 0 < setting.most → handed_to l b h ≡ (service_answer there.row.kind there.row.first there.row.past).bytes
     got_all some =
-        let writes : Writes u.opening.remote (device_behind setting (sent 1 h)).serving.made (device_behind setting (sent 1 h)).serving.acks (Some there.row)
+        let writes : Writes u.opening.remote (device_behind setting (sent 1 h)).serving.made
+        (device_behind setting (sent 1 h)).serving.acks (Some there.row)
         (over_at u.opening.remote (device_behind setting (sent 1 h)).serving.ended) =
-        subst (λ (o : Option Row). Writes u.opening.remote (device_behind setting (sent 1 h)).serving.made (device_behind setting (sent 1 h)).serving.acks o
-        (over_at u.opening.remote (device_behind setting (sent 1 h)).serving.ended)) row_is (streams_write u.opening.remote some_r setting (sent 1 h)) in
+        subst (λ (o : Option Row). Writes u.opening.remote (device_behind setting (sent 1 h)).serving.made
+        (device_behind setting (sent 1 h)).serving.acks o
+        (over_at u.opening.remote (device_behind setting (sent 1 h)).serving.ended)) row_is
+        (streams_write u.opening.remote some_r setting (sent 1 h)) in
         handed_all
         ∙ (ap (λ (o : Option Opening). joined (told_after l o)) u.opened
         ∙ (sym (ap joined all_told)
@@ -391,23 +407,28 @@ module _ (setting : Setting) (short : setting.most < 2 ^ 32) (plain : setting.cr
         ∙ (ap (λ (bytes : List ℕ). bytes_put b.client h ++ bytes) (sym (rest.clients x.client served.client served.here)) ∙ sym ties)
 
     heard_answer : 0 < setting.most
-        → bytes_put b.client h ≡ okay_after b.forwarded (replies_of b h) ++ (service_answer there.row.kind there.row.first there.row.past).bytes
+        → bytes_put b.client h ≡ okay_after b.forwarded (replies_of b h)
+        ++ (service_answer there.row.kind there.row.first there.row.past).bytes
     heard_answer some =
         put_all
         ∙ (output
         ∙ (ap (λ (bytes : List ℕ). lead life.cradle ++ bytes)
         (sym (ap (λ (o : Option Opening). joined (told_after l o)) u.opened) ∙ (sym handed_all ∙ got_all some))
-        ∙ (ap (λ (c : Bool). okay_after c life.cradle.replies ++ (service_answer there.row.kind there.row.first there.row.past).bytes) life.forwarded
-        ∙ ap (λ (bytes : List ℕ). okay_after b.forwarded bytes ++ (service_answer there.row.kind there.row.first there.row.past).bytes) life.replies)))
+        ∙ (ap (λ (c : Bool). okay_after c life.cradle.replies
+        ++ (service_answer there.row.kind there.row.first there.row.past).bytes) life.forwarded
+        ∙ ap (λ (bytes : List ℕ). okay_after b.forwarded bytes
+        ++ (service_answer there.row.kind there.row.first there.row.past).bytes) life.replies)))
 
     -- ---- the service
     kind_is : service_of b.service ≡ Some there.row.kind
     kind_is =
         service_asked setting short h legal tied rest.still l b birth own u.opening u.opened ∙ ap Some (kept_kind asked.asked.opened.stands)
       where
-        kept_kind : LivesFor u.opening.remote asked.asked.by.asking.arg0 asked.asked.by.kind (device_behind setting asked.asked.by.front).serving.files
+        kept_kind : LivesFor u.opening.remote asked.asked.by.asking.arg0 asked.asked.by.kind
+            (device_behind setting asked.asked.by.front).serving.files
             (device_behind setting (sent 1 h)).serving.rows
-            ⊎ EndedFor u.opening.remote asked.asked.by.asking.arg0 asked.asked.by.kind (device_behind setting asked.asked.by.front).serving.files
+            ⊎ EndedFor u.opening.remote asked.asked.by.asking.arg0 asked.asked.by.kind
+            (device_behind setting asked.asked.by.front).serving.files
             (device_behind setting (sent 1 h)).serving.rows (device_behind setting (sent 1 h)).serving.ended
             → asked.asked.by.kind ≡ there.row.kind
         kept_kind (inl lives) =

@@ -1,5 +1,6 @@
 -- The OKAY by which a device opens a stream, among the packets that its link brought.
-use Rattle.std.specs.Prelude.{ℕ, ◌+◌, ◌≡◌, ◌≢◌, ◌≤◌, ◌==◌, ◌&&◌, ◌||◌, not, Bool, true, false, cond, nat_eq, All, List, [], ◌∷◌, ◌++◌, Some, None}
+use Rattle.std.specs.Prelude.{ℕ, ◌+◌, ◌≡◌, ◌≢◌, ◌≤◌, ◌==◌, ◌&&◌, ◌||◌, not, Bool, true, false, cond, nat_eq, All, List, [], ◌∷◌, ◌++◌, Some}
+use Rattle.std.specs.Prelude.{None}
 use Rattle.std.proofs.Common.{refl, sym, ◌∙◌, ap, subst, arith}
 use Rattle.std.specs.List.{list_any}
 use Rattle.std.proofs.lemmas.Bool.{eq-eqb, eqb-true}
@@ -47,7 +48,8 @@ opening_split l (p ∷ ps) o is = by p.command refl is (λ e. opening_split l ps
           from = x.from;
           to = x.to;
           some = x.some;
-          first = ap (λ (b : Bool). cond b (1 + okays_in o.remote l x.front) (okays_in o.remote l x.front)) (none o.remote x.some) ∙ x.first;
+          first = ap (λ (b : Bool). cond b (1 + okays_in o.remote l x.front) (okays_in o.remote l x.front))
+              (none o.remote x.some) ∙ x.first;
         }
 
     not_okay : is_okay p.command ≡ false → (r : ℕ) → r ≢ 0 → (is_okay p.command && is_between r l p) ≡ false
@@ -150,7 +152,8 @@ closes_alike Clse = refl
 closes_alike _ = refl
 
 -- where one is of a stream, some are
-some_of : (n : ℕ) (made : List Sent) (front : List Packet) (p : Packet) (rest : List Packet) → packets_of_sent made ≡ front ++ p ∷ rest → p.arg0 ≡ n
+some_of : (n : ℕ) (made : List Sent) (front : List Packet) (p : Packet) (rest : List Packet)
+    → packets_of_sent made ≡ front ++ p ∷ rest → p.arg0 ≡ n
     → list_any (is_of n) made ≡ true
 some_of n [] [] p rest is from = let clash : [] ≡ p ∷ rest = is in cc
 some_of n [] (q ∷ front) p rest is from = let clash : [] ≡ q ∷ (front ++ p ∷ rest) = is in cc
@@ -185,7 +188,8 @@ none_before n l (one ∷ made) (q ∷ front) p rest ends is from =
 
     closing : is_clse q.command ≡ true → q.arg0 ≡ n → closes n one ≡ true
     closing c e =
-        ap (λ (b : Bool). b && (one.packet.arg0 == n)) (sym (closes_alike one.packet.command) ∙ (ap (λ (x : Packet). is_clse x.command) head ∙ c))
+        ap (λ (b : Bool). b && (one.packet.arg0 == n))
+        (sym (closes_alike one.packet.command) ∙ (ap (λ (x : Packet). is_clse x.command) head ∙ c))
         ∙ eq-eqb one.packet.arg0 n (ap (λ (x : Packet). x.arg0) head ∙ e)
 
     clash_of : closes n one ≡ true → ⊥
@@ -213,7 +217,8 @@ none_from is_such l (p ∷ ps) none = go (is_such p.command) refl (nat_eq p.arg0
     no : true ≡ false → ⊥
     no e = let clash = e in cc
 
-    go : (a : Bool) → is_such p.command ≡ a → (b : Bool) → nat_eq p.arg0 l ≡ b → cond (a && b) (1 + count_from is_such l ps) (count_from is_such l ps) ≡ 0
+    go : (a : Bool) → is_such p.command ≡ a → (b : Bool) → nat_eq p.arg0 l ≡ b
+        → cond (a && b) (1 + count_from is_such l ps) (count_from is_such l ps) ≡ 0
         → (count_from is_such l ps ≡ 0 → All (λ p. is_such p.command ≡ true → p.arg0 ≢ l) ps)
         → All (λ p. is_such p.command ≡ true → p.arg0 ≢ l) (p ∷ ps)
     go true e true f g later = absurd (some (count_from is_such l ps) g)

@@ -1,5 +1,6 @@
 -- What a stream of the device sends begins with its OKAY.
-use Rattle.std.specs.Prelude.{ℕ, ◌+◌, ◌≡◌, ◌≤◌, ◌==◌, ◌&&◌, if◌then◌else◌, Bool, true, false, cond, nat_eq, All, List, [], ◌∷◌, ◌++◌, length, Option, None}
+use Rattle.std.specs.Prelude.{ℕ, ◌+◌, ◌≡◌, ◌≤◌, ◌==◌, ◌&&◌, if◌then◌else◌, Bool, true, false, cond, nat_eq, All, List, [], ◌∷◌, ◌++◌}
+use Rattle.std.specs.Prelude.{length, Option, None}
 use Rattle.std.proofs.Common.{refl, sym, ◌∙◌, ap, subst, arith}
 use Rattle.std.proofs.lemmas.Bool.{eq-eqb, eqb-true}
 use Rattle.std.proofs.lemmas.List.Elements.{All-head, All-tail}
@@ -23,7 +24,8 @@ module _ (own host : ℕ) where
   pub writes_told : (made : List Sent) → All (GoesTo own host) made → writes_of own made ≤ length (told_in own host (packets_of_sent made))
   writes_told [] all = omega arith
   writes_told (one ∷ made) all =
-      by one.packet.command refl (one.packet.arg0 == own) refl (nat_eq one.packet.arg1 host) refl (writes_told made (All-tail (GoesTo own host) one made all))
+      by one.packet.command refl (one.packet.arg0 == own) refl (nat_eq one.packet.arg1 host) refl
+      (writes_told made (All-tail (GoesTo own host) one made all))
     where
       to : one.packet.command ≡ commands.Wrte → (one.packet.arg0 == own) ≡ true → nat_eq one.packet.arg1 host ≡ true
       to c e = eq-eqb one.packet.arg1 host (All-head (GoesTo own host) one made all (ap is_of_stream c) (eqb-true one.packet.arg0 own e))
@@ -31,7 +33,8 @@ module _ (own host : ℕ) where
       by : (c : Command) → one.packet.command ≡ c → (a : Bool) → (one.packet.arg0 == own) ≡ a → (b : Bool) → nat_eq one.packet.arg1 host ≡ b
           → writes_of own made ≤ length (told_in own host (packets_of_sent made))
           → (if is_write c && a then 1 else 0) + writes_of own made
-          ≤ length (cond (is_wrte c && (a && b)) (one.packet.payload ∷ told_in own host (packets_of_sent made)) (told_in own host (packets_of_sent made)))
+          ≤ length (cond (is_wrte c && (a && b)) (one.packet.payload ∷ told_in own host (packets_of_sent made))
+          (told_in own host (packets_of_sent made)))
       by commands.Wrte c true e false f le = absurd (let clash : true ≡ false = sym (to c e) ∙ f in cc)
       by _ c _ e _ f le = omega (arith, le)
 
@@ -39,7 +42,8 @@ module _ (own host : ℕ) where
   pub bytes_told : (made : List Sent) → All (GoesTo own host) made → written own made ≡ joined (told_in own host (packets_of_sent made))
   bytes_told [] all = refl
   bytes_told (one ∷ made) all =
-      by one.packet.command refl (one.packet.arg0 == own) refl (nat_eq one.packet.arg1 host) refl (bytes_told made (All-tail (GoesTo own host) one made all))
+      by one.packet.command refl (one.packet.arg0 == own) refl (nat_eq one.packet.arg1 host) refl
+      (bytes_told made (All-tail (GoesTo own host) one made all))
     where
       to : one.packet.command ≡ commands.Wrte → (one.packet.arg0 == own) ≡ true → nat_eq one.packet.arg1 host ≡ true
       to c e = eq-eqb one.packet.arg1 host (All-head (GoesTo own host) one made all (ap is_of_stream c) (eqb-true one.packet.arg0 own e))
@@ -47,7 +51,8 @@ module _ (own host : ℕ) where
       by : (c : Command) → one.packet.command ≡ c → (a : Bool) → (one.packet.arg0 == own) ≡ a → (b : Bool) → nat_eq one.packet.arg1 host ≡ b
           → written own made ≡ joined (told_in own host (packets_of_sent made))
           → (if is_write c && a then one.packet.payload else []) ++ written own made
-          ≡ joined (cond (is_wrte c && (a && b)) (one.packet.payload ∷ told_in own host (packets_of_sent made)) (told_in own host (packets_of_sent made)))
+          ≡ joined (cond (is_wrte c && (a && b)) (one.packet.payload ∷ told_in own host (packets_of_sent made))
+          (told_in own host (packets_of_sent made)))
       by commands.Wrte c true e true f same = ap (λ (bytes : List ℕ). one.packet.payload ++ bytes) same
       by commands.Wrte c true e false f same = absurd (let clash : true ≡ false = sym (to c e) ∙ f in cc)
       by _ c _ e b f same = same
@@ -69,7 +74,8 @@ module _ (own host : ℕ) where
   told_written (one ∷ made) = by one.packet.command (one.packet.arg0 == own) (nat_eq one.packet.arg1 host) (told_written made)
     where
       by : (c : Command) (a b : Bool) → length (told_in own host (packets_of_sent made)) ≤ writes_of own made
-          → length (cond (is_wrte c && (a && b)) (one.packet.payload ∷ told_in own host (packets_of_sent made)) (told_in own host (packets_of_sent made)))
+          → length (cond (is_wrte c && (a && b)) (one.packet.payload ∷ told_in own host (packets_of_sent made))
+          (told_in own host (packets_of_sent made)))
           ≤ (if is_write c && a then 1 else 0) + writes_of own made
       by commands.Wrte true true le = omega (arith, le)
       by _ _ _ le = omega (arith, le)
@@ -86,7 +92,8 @@ module _ (own host : ℕ) where
       go _ _ _ le = le
 
   -- A list that begins so, and a front of it without an OKAY of both ids: nothing is told in it, where nothing is told before that OKAY.
-  pub none_told : (before : List Packet) (word : List ℕ) (after front rest : List Packet) → before ++ okay own host word ∷ after ≡ front ++ rest
+  pub none_told : (before : List Packet) (word : List ℕ) (after front rest : List Packet)
+      → before ++ okay own host word ∷ after ≡ front ++ rest
       → okays_in own host front ≡ 0 → length (told_in own host before) ≡ 0 → length (told_in own host front) ≡ 0
   none_told before word after [] rest is none silent = refl
   none_told [] word after (p ∷ front) rest is none silent =
@@ -111,7 +118,8 @@ module _ (own host : ℕ) where
       tail : before ++ okay own host word ∷ after ≡ front ++ rest
       tail = (let all : q ∷ (before ++ okay own host word ∷ after) ≡ p ∷ (front ++ rest) = is in cc)
 
-      go : (a b : Bool) → (is_wrte q.command && is_between own host q) ≡ b → cond a (1 + okays_in own host front) (okays_in own host front) ≡ 0
+      go : (a b : Bool) → (is_wrte q.command && is_between own host q) ≡ b
+          → cond a (1 + okays_in own host front) (okays_in own host front) ≡ 0
           → length (cond b (q.payload ∷ told_in own host before) (told_in own host before)) ≡ 0
           → (okays_in own host front ≡ 0 → length (told_in own host before) ≡ 0 → length (told_in own host front) ≡ 0)
           → length (told_in own host (p ∷ front)) ≡ 0
@@ -128,7 +136,8 @@ none_written setting packets own number =
     let o = behind_orderly own (omega (arith, number)) setting packets in
     let fresh = o.fresh (omega (arith, number)) in
     let writes : Writes own (device_behind setting packets).serving.made (device_behind setting packets).serving.acks None None =
-    subst (λ (r : Option Row). Writes own (device_behind setting packets).serving.made (device_behind setting packets).serving.acks r None) fresh.0
+    subst (λ (r : Option Row). Writes own (device_behind setting packets).serving.made
+    (device_behind setting packets).serving.acks r None) fresh.0
     (subst (λ (e : Option Ended). Writes own (device_behind setting packets).serving.made (device_behind setting packets).serving.acks
     (at own (device_behind setting packets).serving.rows) e) fresh.1 o.writes) in
     writes.2

@@ -20,8 +20,10 @@ use Rattle.adb_device_streams.specs.Service.{came_over, files_fed}
 use Rattle.adb_device_streams.specs.Stream.{Row, opened, row_took, row_acked, row_past, row_past_all, row_written, writes, is_done, okay}
 use Rattle.adb_device_streams.specs.Link.{credit_word_in, link_of}
 use Rattle.adb_device_streams.specs.declared.link.Link.{Link}
-use Rattle.adb_daemon.specs.Serving.{Serving, Ended, ended_at, Ack, owing, granted, sent_ack, sent_writes, settled_as, settled, named, closable, is_taken}
-use Rattle.adb_daemon.specs.Serving.{kind_for, credit_of, open_as, on_open, written_to, on_write, acked_to, on_okay, closed_to, on_close, served}
+use Rattle.adb_daemon.specs.Serving.{Serving, Ended, ended_at, Ack, owing, granted, sent_ack, sent_writes, settled_as, settled, named}
+use Rattle.adb_daemon.specs.Serving.{closable, is_taken}
+use Rattle.adb_daemon.specs.Serving.{kind_for, credit_of, open_as, on_open, written_to, on_write, acked_to, on_okay, closed_to, on_close}
+use Rattle.adb_daemon.specs.Serving.{served}
 use Rattle.adb_daemon.specs.Device.{Device, Setting, step, treated, linked_to, served_on, first_device, device_behind}
 use Rattle.adb_daemon.specs.Streams.{acks_of, over_at}
 use Rattle.adb_daemon.proofs.Rules.{named_is, closable_is, or_over, all_over}
@@ -51,7 +53,8 @@ acked_credit word row = go row.flow word
     go (flows.Credit credit) (Some more) = refl
 
 -- a stream is opened with credit where its link has it
-opened_credit : (link : Link) (p : Packet) (kind : Kind) (s : Serving) → has_credit (opened p.arg0 kind s.files (credit_of link p)).flow ≡ link.credit
+opened_credit : (link : Link) (p : Packet) (kind : Kind) (s : Serving)
+    → has_credit (opened p.arg0 kind s.files (credit_of link p)).flow ≡ link.credit
 opened_credit link p kind s = go link.credit
   where
     go : (b : Bool) → has_credit (opened p.arg0 kind s.files (if b then Some p.arg1 else None)).flow ≡ b
@@ -61,11 +64,13 @@ opened_credit link p kind s = go link.credit
 -- ---- one OKAY
 module _ (own : ℕ) where
   -- of another stream
-  acks_other : (q : ℕ) (word : Option ℕ) (acks : List Ack) → (q ≡ own → ⊥) → acks_of own (record { own = q; word = word } ∷ acks) ≡ acks_of own acks
+  acks_other : (q : ℕ) (word : Option ℕ) (acks : List Ack) → (q ≡ own → ⊥)
+      → acks_of own (record { own = q; word = word } ∷ acks) ≡ acks_of own acks
   acks_other q word acks apart = ap (λ (b : Bool). (if b then 1 else 0) + acks_of own acks) (ne_eqb q own apart) ∙ omega arith
 
   -- of this one
-  acks_own : (q : ℕ) (word : Option ℕ) (acks : List Ack) → q ≡ own → acks_of own (record { own = q; word = word } ∷ acks) ≡ 1 + acks_of own acks
+  acks_own : (q : ℕ) (word : Option ℕ) (acks : List Ack) → q ≡ own
+      → acks_of own (record { own = q; word = word } ∷ acks) ≡ 1 + acks_of own acks
   acks_own q word acks here = ap (λ (b : Bool). (if b then 1 else 0) + acks_of own acks) (eq-eqb q own here)
 
 -- ---- an id that was not drawn
@@ -180,7 +185,8 @@ module _ (own : ℕ) where
       go false = by (is_cnxn p.command)
 
   -- all packets
-  all_untaken : (setting : Setting) (packets : List Packet) (d : Device) → IsUntaken d.serving → IsUntaken (fold (step setting) d packets).serving
+  all_untaken : (setting : Setting) (packets : List Packet) (d : Device) → IsUntaken d.serving
+      → IsUntaken (fold (step setting) d packets).serving
   all_untaken setting [] d j = j
   all_untaken setting (p ∷ packets) d j = all_untaken setting packets (step setting d p) (step_untaken setting d p j)
 
@@ -261,7 +267,8 @@ module _ (own host : ℕ) (c : Bool) where
   still n more s none j = subst (λ (k : ℕ). IsTaking k s) (let e : n ≡ n + more = omega (arith, none) in e) j
 
   -- a stream settles
-  module _ (n : ℕ) (link : Link) (q : ℕ) (row : Row) (s : Serving) (rises : IsRising s.rows) (drawn : own ≤ s.drawn) (few : acks_of own s.acks ≤ 1 + n)
+  module _ (n : ℕ) (link : Link) (q : ℕ) (row : Row) (s : Serving) (rises : IsRising s.rows) (drawn : own ≤ s.drawn)
+      (few : acks_of own s.acks ≤ 1 + n)
       (overs : Overs s.ended) (others : (own ≡ q → ⊥) → Lives n s.acks s.rows) (mine : q ≡ own → IsRowOf n s.acks row) where
     kept_lives : Lives n s.acks (put_at q (row_written link.most row) s.rows)
     kept_lives found is = elim (put_found q (row_written link.most row) s.rows own found is) [
@@ -282,13 +289,21 @@ module _ (own host : ℕ) (c : Bool) where
     settled_taking = go (is_done (row_written link.most row))
       where
         go : (b : Bool) → IsTaking n (settled_as b link q (row_written link.most row) (owing (sent_writes link q row) s))
-        go false = record { rises = put_at_rises q (row_written link.most row) s.rows rises; drawn = drawn; few = few; lives = kept_lives; overs = overs }
+        go false = record {
+          rises = put_at_rises q (row_written link.most row) s.rows rises;
+          drawn = drawn;
+          few =
+              few;
+          lives = kept_lives;
+          overs = overs;
+        }
         go true = record {
           rises = without_rises q s.rows rises;
           drawn = drawn;
           few = few;
           lives = lost_lives;
-          overs = one_over true q (row_written link.most row) s.ended overs (λ here. all_credit (writes link.most row) row ∙ (mine here).credit);
+          overs = one_over true q (row_written link.most row) s.ended overs
+              (λ here. all_credit (writes link.most row) row ∙ (mine here).credit);
         }
 
   -- one packet on the link
@@ -307,9 +322,11 @@ module _ (own host : ℕ) (c : Bool) where
             let apart : s.drawn + 1 ≡ own → ⊥ = λ e. omega (arith, old, e) in
             let same = acks_other own (s.drawn + 1) (credit_of link p) s.acks apart in
             let few = j.few in
-            settled_taking n link (s.drawn + 1) (opened p.arg0 kind s.files (credit_of link p)) (begun_by link p kind s) j.rises (omega (arith, old))
+            settled_taking n link (s.drawn + 1) (opened p.arg0 kind s.files (credit_of link p))
+            (begun_by link p kind s) j.rises (omega (arith, old))
             (omega (arith, few, same)) j.overs
-            (λ e row is. counted_more n n s.acks (begun_by link p kind s).acks row (λ le. omega (arith, le, same)) (j.lives row is)) (λ e. absurd (apart e))
+            (λ e row is. counted_more n n s.acks (begun_by link p kind s).acks row (λ le. omega (arith, le, same))
+            (j.lives row is)) (λ e. absurd (apart e))
 
         go : (b : Bool) → IsTaking n (if b then s else open_as link p (kind_for s.drawn p) s)
         go true = j
@@ -339,7 +356,8 @@ module _ (own host : ℕ) (c : Bool) where
           drawn = j.drawn;
           few = j.few;
           lives = λ found here. j.lives found (left_found p.arg1 s.rows j.rises own found here).1;
-          overs = one_over false p.arg1 row s.ended j.overs (λ here. (row_here row (closable_is p.arg0 (at p.arg1 s.rows) row is) here).credit);
+          overs = one_over false p.arg1 row s.ended j.overs
+              (λ here. (row_here row (closable_is p.arg0 (at p.arg1 s.rows) row is) here).credit);
         }
 
     -- an OKAY that finds no row is none of this stream, where its row lives
@@ -384,7 +402,8 @@ module _ (own host : ℕ) (c : Bool) where
             let one = is_one p okay (sym sender ∙ mine.is_for) here in
             let more = acks_own own p.arg1 (credit_word_in p.payload) s.acks here in
             let few = j.few in
-            settled_taking (n + okays_one p) link p.arg1 (row_acked (credit_word_in p.payload) row) (granted p.arg1 (credit_word_in p.payload) s) j.rises
+            settled_taking (n + okays_one p) link p.arg1 (row_acked (credit_word_in p.payload) row)
+            (granted p.arg1 (credit_word_in p.payload) s) j.rises
             j.drawn (omega (arith, few, more, one)) j.overs (λ apart. absurd (apart (sym here)))
             (λ e. record {
               is_for = mine.is_for;
@@ -395,10 +414,12 @@ module _ (own host : ℕ) (c : Bool) where
             let none : okays_one p ≡ 0 = elim (counted p) [ inl zeroth ↦ zeroth | inr one ↦ absurd (apart one.1.0) ] in
             let same = acks_other own p.arg1 (credit_word_in p.payload) s.acks apart in
             let few = j.few in
-            settled_taking (n + okays_one p) link p.arg1 (row_acked (credit_word_in p.payload) row) (granted p.arg1 (credit_word_in p.payload) s) j.rises
+            settled_taking (n + okays_one p) link p.arg1 (row_acked (credit_word_in p.payload) row)
+            (granted p.arg1 (credit_word_in p.payload) s) j.rises
             j.drawn (omega (arith, few, same)) j.overs
             (λ e found here.
-            counted_more n (n + okays_one p) s.acks (granted p.arg1 (credit_word_in p.payload) s).acks found (λ le. omega (arith, le, same, none))
+            counted_more n (n + okays_one p) s.acks (granted p.arg1 (credit_word_in p.payload) s).acks found
+            (λ le. omega (arith, le, same, none))
             (j.lives found here)) (λ e. absurd (apart e))
 
         go : (found : Option Row) → named p.arg0 (at p.arg1 s.rows) ≡ found → IsTaking (n + okays_one p) (acked_to link p found s)
@@ -476,11 +497,13 @@ module _ (own host : ℕ) (c : Bool) where
       (all_taking setting (n + okays_one p) packets (step setting d p) (step_taking setting n p d j))
 
   -- the stream that was just drawn took its OPEN
-  pub first_taking : (link : Link) (p : Packet) (kind : Kind) (s : Serving) → IsUntaken own s → over_at own s.ended ≡ None → s.drawn + 1 ≡ own
+  pub first_taking : (link : Link) (p : Packet) (kind : Kind) (s : Serving) → IsUntaken own s
+      → over_at own s.ended ≡ None → s.drawn + 1 ≡ own
       → p.arg0 ≡ host → link.credit ≡ c → IsTaking 0 (drawn_for link p kind s)
   first_taking link p kind s j fresh number same credit =
       let none = (j.fresh (omega (arith, number))).1 in
       let one = acks_own own (s.drawn + 1) (credit_of link p) s.acks number in
-      settled_taking 0 link (s.drawn + 1) (opened p.arg0 kind s.files (credit_of link p)) (begun_by link p kind s) j.rises (omega (arith, number))
+      settled_taking 0 link (s.drawn + 1) (opened p.arg0 kind s.files (credit_of link p)) (begun_by link p kind s)
+      j.rises (omega (arith, number))
       (omega (arith, none, one)) (λ e is. absurd (let clash : None ≡ Some e = sym fresh ∙ is in cc)) (λ apart. absurd (apart (sym number)))
       (λ e. record { is_for = same; credit = opened_credit link p kind s ∙ credit; all = omega (arith, none, one) })

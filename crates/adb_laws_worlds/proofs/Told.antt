@@ -1,4 +1,5 @@
--- Where nothing is on its way, all that a device sent of a stream was told behind its opening, and its service is the one that was asked for.
+-- Where nothing is on its way, all that a device sent of a stream was told behind its opening, and its service is the
+-- one that was asked for.
 use Rattle.std.specs.Prelude.{ℕ, ◌+◌, ◌^◌, ◌≡◌, ◌<◌, ◌&&◌, Bool, cond, All, List, [], ◌∷◌, ◌++◌, length, take}
 use Rattle.std.specs.Prelude.{Some}
 use Rattle.std.proofs.Common.{sym, ◌∙◌, ap, subst, arith}
@@ -38,7 +39,8 @@ named_service service =
     let cut : take (length (service ++ 0 ∷ []) - 1) (service ++ 0 ∷ []) ≡ service =
     ap (λ (n : ℕ). take n (service ++ 0 ∷ [])) last ∙ take-append_seam service (0 ∷ []) in
     ap (λ (b : Bool). if b && slice_index (service ++ 0 ∷ []) (length (service ++ 0 ∷ []) - 1) == 0
-    then take (length (service ++ 0 ∷ []) - 1) (service ++ 0 ∷ []) else service ++ 0 ∷ []) (lt-ltb 0 (length (service ++ 0 ∷ [])) (omega (arith, sum)))
+    then take (length (service ++ 0 ∷ []) - 1) (service ++ 0 ∷ []) else service ++ 0 ∷ [])
+    (lt-ltb 0 (length (service ++ 0 ∷ [])) (omega (arith, sum)))
     ∙ (ap (λ (b : Bool). if b then take (length (service ++ 0 ∷ []) - 1) (service ++ 0 ∷ []) else service ++ 0 ∷ [])
     (eq-eqb (slice_index (service ++ 0 ∷ []) (length (service ++ 0 ∷ []) - 1)) 0 nul) ∙ cut)
 
@@ -57,7 +59,8 @@ module _ (setting : Setting) (short : setting.most < 2 ^ 32) (h : History) (lega
     none_okayed : okays_in o.remote l (take b.packets_before (brought b.link h) ++ cut.front) ≡ 0
     none_okayed =
         let place = (placed (packets_owed setting) (model_is_plain setting) h legal pairs l b birth own).none in
-        let same : okays_in o.remote l (take b.packets_before (brought b.link h)) ≡ okays_in o.remote l (take b.packets_before (brought 1 h)) =
+        let same : okays_in o.remote l (take b.packets_before (brought b.link h))
+        ≡ okays_in o.remote l (take b.packets_before (brought 1 h)) =
         ap (λ (t : ℕ). okays_in o.remote l (take b.packets_before (brought t h))) own in
         let few = okays_among o.remote l (take b.packets_before (brought 1 h)) in
         let first = cut.first in
@@ -88,7 +91,8 @@ module _ (setting : Setting) (short : setting.most < 2 ^ 32) (h : History) (lega
         (told_in o.remote l o.later)) cut.command)
 
     pub all_go_to : All (GoesTo o.remote l) (device_behind setting (sent 1 h)).serving.made
-    all_go_to = subst (λ (n : ℕ). All (GoesTo o.remote n) (device_behind setting (sent 1 h)).serving.made) asked.host asked.asked.opened.named
+    all_go_to = subst (λ (n : ℕ). All (GoesTo o.remote n) (device_behind setting (sent 1 h)).serving.made) asked.host
+        asked.asked.opened.named
 
     -- the service is the one that was asked for
     pub service_asked : service_of b.service ≡ Some asked.asked.by.kind

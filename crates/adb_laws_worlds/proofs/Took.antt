@@ -16,7 +16,8 @@ use Rattle.adb_laws_worlds.specs.Took.{AllTookWritten}
 front_of_front : (a b c : List ℕ) → IsPrefixOf a b → IsPrefixOf b c → IsPrefixOf a c
 front_of_front a b c (x, first) (y, second) = (x ++ y, sym (append_assoc a x y) ∙ (ap (λ (bytes : List ℕ). bytes ++ y) first ∙ second))
 
-pub all_took_written : (setting : Setting) → setting.most < 2 ^ 32 → (h : History) → IsLegal h → IsJoined setting h → AllTookWritten setting h
+pub all_took_written : (setting : Setting) → setting.most < 2 ^ 32 → (h : History) → IsLegal h → IsJoined setting h
+    → AllTookWritten setting h
 all_took_written setting short h legal tied l b birth own =
     let took = takes_carried setting short h legal tied l b birth in
     let up : IsPrefixOf (carried_in l (sent 1 h)) (rest_of l b h) =

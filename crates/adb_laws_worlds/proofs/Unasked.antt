@@ -1,5 +1,6 @@
 -- From where a model device sends to an id of its host, while that asks for no stream; from nowhere, where it never did.
-use Rattle.std.specs.Prelude.{ℕ, ◌+◌, ◌≡◌, ◌≢◌, ◌==◌, ◌||◌, if◌then◌else◌, Bool, true, false, All, List, [], ◌∷◌, ◌++◌, map, fold, length, Option, Some, None}
+use Rattle.std.specs.Prelude.{ℕ, ◌+◌, ◌≡◌, ◌≢◌, ◌==◌, ◌||◌, if◌then◌else◌, Bool, true, false, All, List, [], ◌∷◌, ◌++◌, map, fold, length}
+use Rattle.std.specs.Prelude.{Option, Some, None}
 use Rattle.std.proofs.Common.{refl, sym, ◌∙◌, ap, subst, append_assoc, inl, inr}
 use Rattle.std.specs.List.Sorted.{IsStrictlySortedBy}
 use Rattle.std.proofs.lemmas.Bool.{ne_eqb}
@@ -20,8 +21,10 @@ use Rattle.adb_device_streams.specs.Service.{came_over, files_fed}
 use Rattle.adb_device_streams.specs.Stream.{Row, opened, row_took, row_acked, row_written, writes, is_done, okay, clse, wrte, opening_word}
 use Rattle.adb_device_streams.specs.Link.{credit_word_in, link_of}
 use Rattle.adb_device_streams.specs.declared.link.Link.{Link}
-use Rattle.adb_daemon.specs.Serving.{Serving, Sent, with_sum, owing, granted, gone, sent_ack, sent_writes, sent_close, settled_as, settled, named}
-use Rattle.adb_daemon.specs.Serving.{closable, is_taken, kind_for, credit_of, open_as, on_open, written_to, on_write, acked_to, on_okay, closed_to}
+use Rattle.adb_daemon.specs.Serving.{Serving, Sent, with_sum, owing, granted, gone, sent_ack, sent_writes, sent_close, settled_as, settled}
+use Rattle.adb_daemon.specs.Serving.{named}
+use Rattle.adb_daemon.specs.Serving.{closable, is_taken, kind_for, credit_of, open_as, on_open, written_to, on_write, acked_to, on_okay}
+use Rattle.adb_daemon.specs.Serving.{closed_to}
 use Rattle.adb_daemon.specs.Serving.{on_close, served}
 use Rattle.adb_daemon.specs.Device.{Device, Setting, step, treated, linked_to, served_on, own_cnxn, first_device, device_behind}
 use Rattle.adb_daemon.proofs.Rules.{named_is, closable_is}
@@ -67,7 +70,8 @@ module _ (l : ℕ) (Ok : ℕ → Type 0) (base : List Sent) where
       by false = one_else link.sums (okay own host (little_bytes 4 n)) apart
 
   -- more became due
-  owing_else : (s next : Serving) (more : List Sent) → next.rows ≡ s.rows → next.made ≡ s.made ++ more → All SentElse more → IsFromOk s → IsFromOk next
+  owing_else : (s next : Serving) (more : List Sent) → next.rows ≡ s.rows → next.made ≡ s.made ++ more
+      → All SentElse more → IsFromOk s → IsFromOk next
   owing_else s next more rows made all j = record {
     rises = subst (λ (r : List (ℕ × Row)). IsRising r) (sym rows) j.rises;
     rows = λ own row is. j.rows own row (ap (at own) (sym rows) ∙ is);
@@ -135,7 +139,8 @@ module _ (l : ℕ) (Ok : ℕ → Type 0) (base : List Sent) where
         by (Some kind) =
             let hello = okay (s.drawn + 1) p.arg0 (opening_word (credit_of link p)) in
             settled_else link (s.drawn + 1) (opened p.arg0 kind s.files (credit_of link p)) (begun_by link p kind s)
-            (owing_else s (begun_by link p kind s) (with_sum link.sums hello ∷ []) refl refl (one_else link.sums hello (λ e. absurd (apart e))) j)
+            (owing_else s (begun_by link p kind s) (with_sum link.sums hello ∷ []) refl refl
+            (one_else link.sums hello (λ e. absurd (apart e))) j)
             (λ e. absurd (apart e))
 
         go : (b : Bool) → IsFromOk (if b then s else open_as link p (kind_for s.drawn p) s)
@@ -207,7 +212,8 @@ module _ (l : ℕ) (Ok : ℕ → Type 0) (base : List Sent) where
       go false = by (is_cnxn p.command)
 
   -- all packets
-  pub all_else : (setting : Setting) (packets : List Packet) → All (λ p. is_open p.command ≡ true → p.arg0 ≢ l) packets → (d : Device) → IsFromOk d.serving
+  pub all_else : (setting : Setting) (packets : List Packet)
+      → All (λ p. is_open p.command ≡ true → p.arg0 ≢ l) packets → (d : Device) → IsFromOk d.serving
       → IsFromOk (fold (step setting) d packets).serving
   all_else setting [] apart d j = j
   all_else setting (p ∷ packets) apart d j =
@@ -224,7 +230,8 @@ module _ (l : ℕ) where
   abbrev pub IsUnasked : Serving → Type 0
   IsUnasked s = IsFromOk l (λ (n : ℕ). ⊥) [] s
 
-  pub behind_unasked : (setting : Setting) (packets : List Packet) → count_from is_open l packets ≡ 0 → IsUnasked (device_behind setting packets).serving
+  pub behind_unasked : (setting : Setting) (packets : List Packet) → count_from is_open l packets ≡ 0
+      → IsUnasked (device_behind setting packets).serving
   unfolding IsStrictlySortedBy
   behind_unasked setting packets none =
       all_else l (λ (n : ℕ). ⊥) [] setting packets (none_from is_open l packets none) (first_device setting)
@@ -247,7 +254,8 @@ module _ (l : ℕ) where
   -- and nothing that is owed goes to it
   pub none_owed : (setting : Setting) (packets : List Packet) → count_from is_open l packets ≡ 0 → All NotTo (packets_owed setting packets)
   none_owed setting packets none = go (device_behind setting packets).serving.made
-      (let j = behind_unasked setting packets none in subst (λ (made : List Sent). All (λ (one : Sent). NotTo one.packet) made) (sym j.made) j.all)
+      (let j = behind_unasked setting packets none
+      in subst (λ (made : List Sent). All (λ (one : Sent). NotTo one.packet) made) (sym j.made) j.all)
     where
       go : (made : List Sent) → All (λ (one : Sent). NotTo one.packet) made → All NotTo (packets_of_sent made)
       go [] all = All-nil NotTo

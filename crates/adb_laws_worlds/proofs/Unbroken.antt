@@ -1,5 +1,6 @@
 -- The link of a model device breaks by nothing that the device sends.
-use Rattle.std.specs.Prelude.{ℕ, ◌+◌, ◌^◌, ◌≡◌, ◌≢◌, ◌<◌, ◌≤◌, ◌&&◌, ◌||◌, not, Bool, true, false, cond, nat_eq, nat_lt, is_some, is_none, option_map}
+use Rattle.std.specs.Prelude.{ℕ, ◌+◌, ◌^◌, ◌≡◌, ◌≢◌, ◌<◌, ◌≤◌, ◌&&◌, ◌||◌, not, Bool, true, false, cond, nat_eq, nat_lt, is_some, is_none}
+use Rattle.std.specs.Prelude.{option_map}
 use Rattle.std.specs.Prelude.{reverse, All, List, [], ◌∷◌, ◌++◌, length, drop}
 use Rattle.std.specs.Prelude.{Option, Some, None}
 use Rattle.std.proofs.Common.{zero, suc, refl, sym, ◌∙◌, ap, subst, arith, ◌⊎◌, inl, inr}
@@ -54,13 +55,16 @@ once_owed : (setting : Setting) (packets : List Packet) → how_many is_cnxn_pac
 once_owed setting packets =
     let b = all_behind (λ (one : Sent). is_cnxn one.packet.command ≡ false) (λ sums own host word. refl) (λ sums own host payload. refl)
     (λ sums own host. refl) (own_cnxn setting ∷ []) setting refl packets in
-    let same : how_many is_cnxn_packet (packets_owed setting packets) ≡ how_many is_cnxn_packet (packets_of_sent (own_cnxn setting ∷ b.more)) =
+    let same : how_many is_cnxn_packet (packets_owed setting packets)
+    ≡ how_many is_cnxn_packet (packets_of_sent (own_cnxn setting ∷ b.more)) =
     ap (λ (made : List Sent). how_many is_cnxn_packet (packets_of_sent made)) b.is in
     let rest = none b.more b.all in
-    let one : how_many is_cnxn_packet (packets_of_sent (own_cnxn setting ∷ b.more)) ≡ 1 + how_many is_cnxn_packet (packets_of_sent b.more) = refl in
+    let one : how_many is_cnxn_packet (packets_of_sent (own_cnxn setting ∷ b.more))
+    ≡ 1 + how_many is_cnxn_packet (packets_of_sent b.more) = refl in
     omega (arith, same, one, rest)
   where
-    none : (made : List Sent) → All (λ (one : Sent). is_cnxn one.packet.command ≡ false) made → how_many is_cnxn_packet (packets_of_sent made) ≡ 0
+    none : (made : List Sent) → All (λ (one : Sent). is_cnxn one.packet.command ≡ false) made
+        → how_many is_cnxn_packet (packets_of_sent made) ≡ 0
     none [] all = refl
     none (one ∷ made) all =
         ap (λ (b : Bool). cond b (1 + how_many is_cnxn_packet (packets_of_sent made)) (how_many is_cnxn_packet (packets_of_sent made)))
@@ -74,14 +78,17 @@ module _ (setting : Setting) (short : setting.most < 2 ^ 32) where
     sound = go (framed (bytes_received 1 (e ∷ older))).fault refl;
     once = (
         let few = once_owed setting (sent 1 older) in
-        let front = many_front is_cnxn_packet (brought 1 (e ∷ older)) (packets_owed setting (sent 1 older)) (paired setting short (e ∷ older) legal tied).1 in
+        let front = many_front is_cnxn_packet (brought 1 (e ∷ older)) (packets_owed setting (sent 1 older))
+        (paired setting short (e ∷ older) legal tied).1 in
         omega (arith, few, front));
   }
     where
-      go : (o : Option PacketFault) → (framed (bytes_received 1 (e ∷ older))).fault ≡ o → (framed (bytes_received 1 (e ∷ older))).fault ≡ None
+      go : (o : Option PacketFault) → (framed (bytes_received 1 (e ∷ older))).fault ≡ o
+          → (framed (bytes_received 1 (e ∷ older))).fault ≡ None
       go None is = is
       go (Some fault) is =
-          let stays : (framed (bytes_received 1 (e ∷ older) ++ tied.1.0)).fault ≡ Some fault = framed_fault (bytes_received 1 (e ∷ older)) tied.1.0 fault is in
+          let stays : (framed (bytes_received 1 (e ∷ older) ++ tied.1.0)).fault ≡ Some fault =
+          framed_fault (bytes_received 1 (e ∷ older)) tied.1.0 fault is in
           let none : (framed (bytes_received 1 (e ∷ older) ++ tied.1.0)).fault ≡ None =
           ap (λ (x : List ℕ). (framed x).fault) tied.1.1 ∙ sound_owed setting short (sent 1 older) (sent_words older legal.0) in
           absurd (let clash : None ≡ Some fault = sym none ∙ stays in cc)
@@ -126,7 +133,8 @@ said_who h legal t connected = go (how_many is_cnxn_packet (brought t h)) refl
         → is_connected_row (cond b None (option_map (row_by (last_cnxn (brought t h)) (brought t h)) o)) ≡ false
     off none true o is = refl
     off none false None is = refl
-    off none false (Some row) is = silent_row row (plugged_off t h row is) (last_cnxn (brought t h)) (brought t h) (none_last (brought t h) none)
+    off none false (Some row) is = silent_row row (plugged_off t h row is) (last_cnxn (brought t h)) (brought t h)
+        (none_last (brought t h) none)
 
     silent : how_many is_cnxn_packet (brought t h) ≡ 0 → (b : Bool) → (state h).stopped ≡ b → is_connected t (state h).devices ≡ false
     silent none true stopped = ap (λ (rows : List (ℕ × Row)). is_connected_row (at t rows)) (shows.gone stopped)
@@ -154,7 +162,8 @@ lost_stays : (newer older : History) → is_lost 1 (newer ++ older) ≡ false �
 lost_stays [] older e = e
 lost_stays (Detach n cause ∷ newer) older e = go (nat_eq n 1) e (lost_stays newer older)
   where
-    go : (b : Bool) → (b || is_lost 1 (newer ++ older)) ≡ false → (is_lost 1 (newer ++ older) ≡ false → is_lost 1 older ≡ false) → is_lost 1 older ≡ false
+    go : (b : Bool) → (b || is_lost 1 (newer ++ older)) ≡ false
+        → (is_lost 1 (newer ++ older) ≡ false → is_lost 1 older ≡ false) → is_lost 1 older ≡ false
     go true f later = let clash : true ≡ false = f in cc
     go false f later = later f
 lost_stays (_ ∷ newer) older e = lost_stays newer older e
@@ -175,7 +184,8 @@ pub ends_now : (l : ℕ) (ending : Ending) (h : History) → ending_of l h ≡ S
 ends_now l ending [] is = absurd (let clash : None ≡ Some ending = is in cc)
 ends_now l ending (e ∷ older) is = go (ending_split l (told older) (told_at e older) ending is) (λ f. ends_now l ending older f)
   where
-    go : (ending_in l (told older) ≡ Some ending) ⊎ (ending_in l (told_at e older) ≡ Some ending) → (ending_of l older ≡ Some ending → EndsNow l ending older)
+    go : (ending_in l (told older) ≡ Some ending) ⊎ (ending_in l (told_at e older) ≡ Some ending)
+        → (ending_of l older ≡ Some ending → EndsNow l ending older)
         → EndsNow l ending (e ∷ older)
     go (inl f) before =
         let x = before f in
@@ -183,14 +193,16 @@ ends_now l ending (e ∷ older) is = go (ending_split l (told older) (told_at e 
     go (inr f) before = record { entry = e; older = older; moment = ([], refl); says = f }
 
 -- a birth that was is the same later
-pub birth_stays : (l : ℕ) (b : Birth) (e : Entry) (older newer : History) (c : Birth) → born l (newer ++ e ∷ older) ≡ Some b → born l older ≡ Some c → c ≡ b
+pub birth_stays : (l : ℕ) (b : Birth) (e : Entry) (older newer : History) (c : Birth)
+    → born l (newer ++ e ∷ older) ≡ Some b → born l older ≡ Some c → c ≡ b
 birth_stays l b e older newer c now was = (let both : Some c ≡ Some b = sym (later newer) ∙ now in cc)
   where
     later : (newer : History) → born l (newer ++ e ∷ older) ≡ Some c
     later [] = born_stays l e older c was
     later (f ∷ newer) = born_stays l f (newer ++ e ∷ older) c (later newer)
 
-module _ (setting : Setting) (short : setting.most < 2 ^ 32) (h : History) (legal : IsLegal h) (tied : IsJoined setting h) (here : is_lost 1 h ≡ false)
+module _ (setting : Setting) (short : setting.most < 2 ^ 32) (h : History) (legal : IsLegal h)
+    (tied : IsJoined setting h) (here : is_lost 1 h ≡ false)
     (l : ℕ) (b : Birth) (birth : born l h ≡ Some b) (own : b.link ≡ 1) where
   -- where it ended the link had brought its CNXN, and brings no other
   module _ (ending : Ending) (x : EndsNow l ending h) where
@@ -204,7 +216,8 @@ module _ (setting : Setting) (short : setting.most < 2 ^ 32) (h : History) (lega
     end = ends_at l x.entry x.older ending time x.says
 
     same : end.kept.birth ≡ b
-    same = birth_stays l b x.entry x.older x.moment.0 end.kept.birth (subst (λ (k : History). born l k ≡ Some b) (sym x.moment.1) birth) end.kept.is
+    same = birth_stays l b x.entry x.older x.moment.0 end.kept.birth
+        (subst (λ (k : History). born l k ≡ Some b) (sym x.moment.1) birth) end.kept.is
 
     on_first : end.kept.birth.link ≡ 1
     on_first = ap (λ (c : Birth). c.link) same ∙ own
@@ -222,7 +235,8 @@ module _ (setting : Setting) (short : setting.most < 2 ^ 32) (h : History) (lega
         let sum = many_append is_cnxn_packet (brought 1 x.older) grown.0 in
         let all : how_many is_cnxn_packet (brought 1 x.older ++ grown.0) ≡ how_many is_cnxn_packet (brought 1 (x.entry ∷ x.older)) =
         ap (how_many is_cnxn_packet) grown.1 in
-        let more : how_many is_cnxn_packet (brings 1 x.entry x.older) ≡ how_many is_cnxn_packet grown.0 = ap (how_many is_cnxn_packet) new in
+        let more : how_many is_cnxn_packet (brings 1 x.entry x.older) ≡ how_many is_cnxn_packet grown.0 =
+        ap (how_many is_cnxn_packet) new in
         none_of (how_many is_cnxn_packet (brings 1 x.entry x.older)) (omega (arith, said, once, sum, all, more))
       where
         none_of : (n : ℕ) → n ≤ 0 → n ≡ 0
@@ -274,7 +288,9 @@ module _ (setting : Setting) (short : setting.most < 2 ^ 32) (h : History) (lega
           let first : by.birth.link ≡ 1 = ap (λ (c : Birth). c.link) mine ∙ own in
           let sound = (brings_sound setting short (x.entry ∷ x.older) (time Broken x) (then_tied Broken x)).sound in
           let none : breaks_link by.birth x.entry x.older ≡ false =
-          ap (λ (t : ℕ). (is_some (framed (bytes_received t (x.entry ∷ x.older))).fault && not (is_some (framed (bytes_received t x.older)).fault))
+          ap (λ (t : ℕ).
+          (is_some (framed (bytes_received t (x.entry ∷ x.older))).fault
+          && not (is_some (framed (bytes_received t x.older)).fault))
           || list_any is_refused (brings t x.entry x.older)) first
           ∙ (ap (λ (f : Option PacketFault). (is_some f && not (is_some (framed (bytes_received 1 x.older)).fault))
           || list_any is_refused (brings 1 x.entry x.older)) sound

@@ -28,7 +28,8 @@ pub record IsDrawnBy (setting : Setting) (own : ℕ) (packets : List Packet) : T
   pub kind : Kind
   pub known : service_of (name_of asking.payload) ≡ Some kind
 
--- What its stream is then: it was opened for the host's id, and its OKAY was owed before all else of it. It took its OPEN for an OKAY, and of the OKAYs of
+-- What its stream is then: it was opened for the host's id, and its OKAY was owed before all else of it. It took its
+-- OPEN for an OKAY, and of the OKAYs of
 -- both ids behind it no more than came; while its row lives, all of them; and it has credit in bytes where its link had it.
 pub record WasAsked (setting : Setting) (own : ℕ) (packets : List Packet) : Type 0 where
   pub by : IsDrawnBy setting own packets

@@ -14,7 +14,8 @@ use Rattle.adb_daemon.specs.Streams.{over_at}
 use Rattle.adb_laws_model_device.specs.Paired.{IsStill}
 use Rattle.adb_laws_model_device.specs.Owed.{packets_owed}
 
--- The row of the stream has ended at the device, and its service; what was told of the stream before its close is the whole answer to what came, a front
+-- The row of the stream has ended at the device, and its service; what was told of the stream before its close is the
+-- whole answer to what came, a front
 -- of what the client wrote; and the client was handed all of it, where it was put all that became due to it.
 pub record HasEndedWhole (setting : Setting) (h : History) (l : ℕ) (b : Birth) (o : Opening) : Type 0 where
   pub over : Ended
@@ -24,7 +25,8 @@ pub record HasEndedWhole (setting : Setting) (h : History) (l : ℕ) (b : Birth)
   pub ended : (service_answer over.row.kind over.row.first over.row.past).ended ≡ true
   pub came : IsPrefixOf (bytes_in over.row.past) (rest_of l b h)
   pub told : joined (told_before_close l b h) ≡ (service_answer over.row.kind over.row.first over.row.past).bytes
-  pub got : bytes_put b.client h ≡ output_of b.client h → handed_to l b h ≡ (service_answer over.row.kind over.row.first over.row.past).bytes
+  pub got : bytes_put b.client h ≡ output_of b.client h → handed_to l b h
+      ≡ (service_answer over.row.kind over.row.first over.row.past).bytes
 
 -- So is each stream of the first link that was opened and that its device closed, where nothing is on its way.
 abbrev pub ClosedGaveAll : Setting → History → Type 0

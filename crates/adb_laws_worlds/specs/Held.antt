@@ -20,4 +20,5 @@ AllHaveSettled setting h = IsAtRest setting h → (l : ℕ) (x : Stream) → (st
 
 -- At rest nothing is held of a client but a request that is not whole yet.
 abbrev pub HoldsNothing : Setting → History → Type 0
-HoldsNothing setting h = IsAtRest setting h → (c : ℕ) (client : Client) → (state h).clients c ≡ Some client → client.about.phase ≢ Asking → client.held ≡ []
+HoldsNothing setting h = IsAtRest setting h → (c : ℕ) (client : Client) → (state h).clients c ≡ Some client
+    → client.about.phase ≢ Asking → client.held ≡ []

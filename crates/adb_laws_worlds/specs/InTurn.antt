@@ -9,9 +9,11 @@ use Rattle.adb_daemon.specs.Device.{Setting, device_behind}
 use Rattle.adb_laws_model_device.specs.Counts.{writes_to}
 use Rattle.adb_laws_model_device.specs.Owed.{packets_owed}
 
--- To an id of the host that asked for a stream once at most, a device without credit in bytes makes one write, and one more for each OKAY of that id.
+-- To an id of the host that asked for a stream once at most, a device without credit in bytes makes one write, and
+-- one more for each OKAY of that id.
 abbrev pub WritesAsAllowed : Setting → Type 0
-WritesAsAllowed setting = (l : ℕ) (packets : List Packet) → count_from is_open l packets ≤ 1 → (device_behind setting packets).refused ≡ false
+WritesAsAllowed setting = (l : ℕ) (packets : List Packet) → count_from is_open l packets ≤ 1
+    → (device_behind setting packets).refused ≡ false
     → writes_to l (packets_owed setting packets) ≤ 1 + count_from is_okay l packets
 
 -- No stream of the first link ended by a write out of turn.

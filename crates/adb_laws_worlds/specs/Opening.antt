@@ -20,7 +20,8 @@ IsRepliedTo setting l packets = ((own : ℕ) × ((own ≢ 0) × (1 ≤ okays_in 
 
 -- The first OPEN of an id that is not 0 is replied to, on a link, whatever follows.
 abbrev pub RepliesToOpens : Setting → Type 0
-RepliesToOpens setting = (front : List Packet) (p : Packet) (rest : List Packet) (link : Link) → (device_behind setting front).refused ≡ false
+RepliesToOpens setting = (front : List Packet) (p : Packet) (rest : List Packet) (link : Link)
+    → (device_behind setting front).refused ≡ false
     → (device_behind setting front).link ≡ Some link → p.command ≡ commands.Open → p.arg0 ≢ 0 → count_from is_open p.arg0 front ≡ 0
     → IsRepliedTo setting p.arg0 (front ++ p ∷ rest)
 

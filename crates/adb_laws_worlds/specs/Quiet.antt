@@ -13,7 +13,8 @@ use Rattle.adb_laws_causes.specs.Flows.{waiting}
 abbrev pub TakePayloads : History → Type 0
 TakePayloads h = (t : ℕ) → is_connected t (state h).devices ≡ true → least_maxdata ≤ maxdata_of t (state h).devices
 
--- The client of an open stream is there and has it open; where nothing is due to it nothing is to be handed out; and where no write waits on a stream
+-- The client of an open stream is there and has it open; where nothing is due to it nothing is to be handed out; and
+-- where no write waits on a stream
 -- without credit, nothing is held.
 pub record IsServed (h : History) (l : ℕ) (x : Stream) : Type 0 where
   pub client : Client

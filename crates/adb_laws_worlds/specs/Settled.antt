@@ -23,7 +23,8 @@ pub record IsAtRest (setting : Setting) (h : History) : Type 0 where
   pub still : IsStill (packets_owed setting) h
   pub clients : (c : ℕ) (client : Client) → (state h).clients c ≡ Some client → client.due ≡ []
 
--- An open stream at rest lives at both ends; no write waits and nothing is held at the server's, nothing is to be handed out, and its service has nothing
+-- An open stream at rest lives at both ends; no write waits and nothing is held at the server's, nothing is to be
+-- handed out, and its service has nothing
 -- left to write, and may write.
 pub record IsSettled (setting : Setting) (h : History) (l : ℕ) (b : Birth) (x : Stream) : Type 0 where
   pub served : IsServed h l x
@@ -39,7 +40,8 @@ pub record IsSettled (setting : Setting) (h : History) (l : ℕ) (b : Birth) (x 
   pub came : bytes_in there.row.past ≡ drop b.head (bytes_read b.client h)
   pub got : handed_to l b h ≡ (service_answer there.row.kind there.row.first there.row.past).bytes
   -- behind the replies to its requests and an `OKAY`, where it came by itself
-  pub heard : bytes_put b.client h ≡ okay_after b.forwarded (replies_of b h) ++ (service_answer there.row.kind there.row.first there.row.past).bytes
+  pub heard : bytes_put b.client h ≡ okay_after b.forwarded (replies_of b h)
+      ++ (service_answer there.row.kind there.row.first there.row.past).bytes
 
 abbrev pub OpenAreSettled : Setting → History → Type 0
 OpenAreSettled setting h = IsAtRest setting h → (l : ℕ) (b : Birth) (x : Stream) → born l h ≡ Some b → b.link ≡ 1

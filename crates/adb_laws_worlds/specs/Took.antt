@@ -12,7 +12,8 @@ use Rattle.adb_daemon.specs.Device.{Setting, device_behind}
 use Rattle.adb_daemon.specs.Serving.{Ended}
 use Rattle.adb_daemon.specs.Streams.{over_at}
 
--- What came to the service of a stream is a front of what its client wrote past its requests, whether the device's row of it lives or has ended.
+-- What came to the service of a stream is a front of what its client wrote past its requests, whether the device's
+-- row of it lives or has ended.
 pub record TookWritten (setting : Setting) (h : History) (l : ℕ) (b : Birth) : Type 0 where
   pub live : (row : Row) → at (remote_of l b h) (device_behind setting (sent 1 h)).serving.rows ≡ Some row → row.host ≡ l
       → IsPrefixOf (bytes_in row.past) (rest_of l b h)

@@ -19,4 +19,5 @@ pub record IsUnclosed (h : History) (l : ℕ) (b : Birth) (x : Stream) : Type 0 
 
 -- So is each open stream that lives.
 abbrev pub HeardNoClose : History → Type 0
-HeardNoClose h = (l : ℕ) (b : Birth) (x : Stream) → born l h ≡ Some b → (state h).streams l ≡ Some x → x.part.remote ≢ 0 → IsUnclosed h l b x
+HeardNoClose h = (l : ℕ) (b : Birth) (x : Stream) → born l h ≡ Some b → (state h).streams l ≡ Some x
+    → x.part.remote ≢ 0 → IsUnclosed h l b x

@@ -1,5 +1,6 @@
 -- A text is filled up to a size from lists, one after another.
-use Rattle.std.proofs.Common.{◌≡◌, ℕ, ◌+◌, ◌-◌, ◌≤◌, ◌<◌, List, [], ◌∷◌, ◌++◌, length, take, drop, get_or, zero, suc, refl, sym, ap, ◌∙◌, arith}
+use Rattle.std.proofs.Common.{◌≡◌, ℕ, ◌+◌, ◌-◌, ◌≤◌, ◌<◌, List, [], ◌∷◌, ◌++◌, length, take, drop, get_or, zero, suc, refl, sym, ap, ◌∙◌}
+use Rattle.std.proofs.Common.{arith}
 use Rattle.std.proofs.Common.{append_assoc, length-append, append-nil}
 use Rattle.std.proofs.Math.Seq.{take-nil}
 use Rattle.std.proofs.lemmas.List.{drop_more, drop_all, length-take, take-take}
@@ -57,7 +58,8 @@ abbrev pub IsFilling : List (List ℕ) → (max i : ℕ) → List ℕ → Type 0
 IsFilling packets max i text = filled text max (concat (drop i packets)) ≡ take max (concat packets)
 
 module _ (packets : List (List ℕ)) (max i : ℕ) (text : List ℕ) (f : IsFilling packets max i text) where
-  pub filled_next : (packet : List ℕ) → i < length packets → packet ≡ get_or packets i packet → IsFilling packets max (i + 1) (filled text max packet)
+  pub filled_next : (packet : List ℕ) → i < length packets → packet ≡ get_or packets i packet
+      → IsFilling packets max (i + 1) (filled text max packet)
   filled_next packet here is =
       let next : drop i packets ≡ packet ∷ drop (i + 1) packets =
       drop_more packets i packet here ∙ ap (λ (p : List ℕ). p ∷ drop (i + 1) packets) (sym is) in

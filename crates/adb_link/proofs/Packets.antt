@@ -9,8 +9,10 @@ use Rattle.adb_wire.specs.declared.slicer.TheConstants.{MAX_PACKET}
 use Rattle.adb_link.specs.Outgoing.{left_of, IsHeld}
 use Rattle.adb_link.specs.Outbox.{IsBox}
 
-start_len : (start : List ℕ) (from to : ℕ) (payload : List ℕ) → IsHeld start from to payload → length (take (to - from) (drop from start)) ≡ to - from
-start_len start from to payload h = omega (arith, length-take (to - from) (drop from start), length-drop from start, h.long, h.ordered, h.within)
+start_len : (start : List ℕ) (from to : ℕ) (payload : List ℕ) → IsHeld start from to payload
+    → length (take (to - from) (drop from start)) ≡ to - from
+start_len start from to payload h =
+    omega (arith, length-take (to - from) (drop from start), length-drop from start, h.long, h.ordered, h.within)
 
 pub left_len : (start : List ℕ) (from to : ℕ) (payload : List ℕ) → IsHeld start from to payload
     → length (left_of start from to payload) ≡ (to - from) + length payload
@@ -21,10 +23,13 @@ left_len start from to payload h =
 drop_beyond : (x y : List ℕ) (n : ℕ) → length x ≤ n → drop n (x ++ y) ≡ drop (n - length x) y
 drop_beyond x y n le =
     let split : length x + (n - length x) ≡ n = omega (arith, le) in
-    ap (λ k. drop k (x ++ y)) (sym split) ∙ (sym (drop-drop (n - length x) (length x) (x ++ y)) ∙ ap (drop (n - length x)) (drop_at x y (length x) refl))
+    ap (λ k. drop k (x ++ y)) (sym split)
+    ∙ (sym (drop-drop (n - length x) (length x) (x ++ y))
+    ∙ ap (drop (n - length x)) (drop_at x y (length x) refl))
 
 -- what is left after bytes were handed out, of the start first
-pub left_after : (start : List ℕ) (from to : ℕ) (payload : List ℕ) (n of_start : ℕ) → IsHeld start from to payload → of_start ≡ min n (to - from)
+pub left_after : (start : List ℕ) (from to : ℕ) (payload : List ℕ) (n of_start : ℕ) → IsHeld start from to payload
+    → of_start ≡ min n (to - from)
     → left_of start (from + of_start) to (drop (n - of_start) payload) ≡ drop n (left_of start from to payload)
 left_after start from to payload n of_start h is = elim (cases_lt (to - from) n) [
   | inl beyond ↦
@@ -56,7 +61,8 @@ concat_push packets packet = concat-append packets (packet ∷ []) ∙ ap (λ b.
 
 -- one more is due, in a spare place
 pub box_push : (packets : List (List ℕ)) (owed spare used places : ℕ) (packet : List ℕ) → IsBox packets owed spare used places
-    → 0 < spare → 0 < length packet → length packet ≤ MAX_PACKET → IsBox (packets ++ packet ∷ []) (owed + length packet) (spare - 1) (used + 1) places
+    → 0 < spare → 0 < length packet → length packet ≤ MAX_PACKET
+    → IsBox (packets ++ packet ∷ []) (owed + length packet) (spare - 1) (used + 1) places
 box_push packets owed spare used places packet b place some fits = record {
   some = All-push (λ p. 0 < length p) packets packet b.some some;
   counted = omega (arith, b.counted, ap (length {A = ℕ}) (concat_push packets packet), length-append (concat packets) packet);

@@ -18,4 +18,5 @@ pub sent_as : (version : ℕ) (head : Head) (payload : List ℕ) (with_check : H
     → with_check ≡ sent version head parts
     → header_bytes with_check ++ body ≡ (let p = packet_under head payload in spelling p (check_of (goes_with_sum version p) p))
 sent_as version head payload with_check body parts is both out =
-    ap (λ (h : Head). header_bytes h ++ body) (out ∙ ap (sent version head) both) ∙ ap (λ (l : List ℕ). header_bytes (sent version head payload) ++ l) is
+    ap (λ (h : Head). header_bytes h ++ body) (out ∙ ap (sent version head) both)
+    ∙ ap (λ (l : List ℕ). header_bytes (sent version head payload) ++ l) is

@@ -26,7 +26,8 @@ enough (suc m) zero p low high = go (turn_goes p)
     go : Goes p (turn p) → acts_of_turns (suc m) p ≡ []
     go (inl over) = over_stays (suc m) p over
     go (inr brings) = absurd (omega (arith, brings.fewer, high))
-enough (suc m) (suc n) p low high = go (turn_goes p) (λ fewer. enough m n (turn p).after (omega (arith, fewer, low)) (omega (arith, fewer, high)))
+enough (suc m) (suc n) p low high =
+    go (turn_goes p) (λ fewer. enough m n (turn p).after (omega (arith, fewer, low)) (omega (arith, fewer, high)))
   where
     go : Goes p (turn p) → (turns_left (turn p).after < turns_left p → acts_of_turns m (turn p).after ≡ acts_of_turns n (turn p).after)
         → acts_of_turns (suc m) p ≡ acts_of_turns (suc n) p
@@ -41,7 +42,8 @@ turn_ahead p = go (turn_goes p)
     first : (turns : ℕ) → turns_left p ≡ turns → turns_left (turn p).after < turns_left p
         → acts_of_turns turns p ≡ acts_due (turn p).act ++ acts_of_turns (turns_left (turn p).after) (turn p).after
     first zero is fewer = absurd (omega (arith, is, fewer))
-    first (suc turns) is fewer = ap (λ acts. acts_due (turn p).act ++ acts) (enough turns _ (turn p).after (omega (arith, is, fewer)) (omega arith))
+    first (suc turns) is fewer = ap (λ acts. acts_due (turn p).act ++ acts)
+        (enough turns _ (turn p).after (omega (arith, is, fewer)) (omega arith))
 
     go : Goes p (turn p) → ahead None p ≡ ahead (turn p).act (turn p).after
     go (inl over) = sym (ap (λ (t : Turn). ahead t.act t.after) over)
@@ -61,7 +63,8 @@ turn_over p = go (turn_goes p)
     go (inr brings) = some (turn p).act _ brings.some
 
 -- both of what a turn was found to bring
-pub same_ahead : (act due : Option Act) (after p : Progress) → due ≡ None → record { act = act; after = after } ≡ turn p → ahead act after ≡ ahead due p
+pub same_ahead : (act due : Option Act) (after p : Progress) → due ≡ None
+    → record { act = act; after = after } ≡ turn p → ahead act after ≡ ahead due p
 same_ahead act due after p none is =
     ap (λ (t : Turn). ahead t.act t.after) is ∙ sym (turn_ahead p) ∙ ap (λ (d : Option Act). ahead d p) (sym none)
 

@@ -1,5 +1,6 @@
 -- The bytes that go up and come down.
-use Rattle.std.proofs.Common.{ℕ, ◌+◌, ◌-◌, ◌%◌, ◌≡◌, ◌≤◌, ◌<◌, List, [], ◌∷◌, ◌++◌, length, take, drop, get_or, refl, sym, ap, subst, arith, ◌∙◌}
+use Rattle.std.proofs.Common.{ℕ, ◌+◌, ◌-◌, ◌%◌, ◌≡◌, ◌≤◌, ◌<◌, List, [], ◌∷◌, ◌++◌, length, take, drop, get_or, refl, sym, ap, subst, arith}
+use Rattle.std.proofs.Common.{◌∙◌}
 use Rattle.std.proofs.lemmas.List.{ext_get_or, get_or-take, get_or-drop, length-take, length-drop}
 use Rattle.std.proofs.lemmas.List.FromFn.{map-range_with_len_more, length-map-range_with_len, get_or-map-range_with_len}
 use Rattle.adb_load.specs.Acts.{cycle}
@@ -48,7 +49,8 @@ cut_of shift from count bytes is within = ext_get_or 0 _ _ long same
     places : (i : ℕ) → (0 + (start + i) + 0) % 251 ≡ (from + i + shift) % 251
     places i = omega arith
 
-    same : (i : ℕ) → i < length (take count (drop start bytes)) → get_or (take count (drop start bytes)) i 0 ≡ get_or (cycle shift from count) i 0
+    same : (i : ℕ) → i < length (take count (drop start bytes))
+        → get_or (take count (drop start bytes)) i 0 ≡ get_or (cycle shift from count) i 0
     same i under =
         let here : i < count = omega (arith, under, long, cycle_length shift from count) in
         get_or-take count (drop start bytes) i 0 here

@@ -37,7 +37,8 @@ word_bytes word = All-from_recursion (λ b. b < 256) (little_bytes 4 word) (byte
 
 pub words_bytes : (words : List ℕ) → AreBytes (flat_map (little_bytes 4) words)
 words_bytes [] = All-nil (λ b. b < 256)
-words_bytes (word ∷ words) = All-append (λ b. b < 256) (little_bytes 4 word) (flat_map (little_bytes 4) words) (word_bytes word) (words_bytes words)
+words_bytes (word ∷ words) = All-append (λ b. b < 256) (little_bytes 4 word) (flat_map (little_bytes 4) words)
+    (word_bytes word) (words_bytes words)
 
 pub cycle_bytes : (shift from count : ℕ) → AreBytes (cycle shift from count)
 cycle_bytes shift from count = All-map (λ b. b < 256) (λ i. (i + shift) % 251) (range_with_len from count)
@@ -83,7 +84,8 @@ piece_short Tail bytes short = record {
 }
 
 pub greeting_short : IsShort greeting
-greeting_short = packet_short Cnxn 0x01000001 65536 (codes "device::features=shell_v2;") (literal_bytes (codes "device::features=shell_v2;") refl) (lit≤ tt)
+greeting_short = packet_short Cnxn 0x01000001 65536 (codes "device::features=shell_v2;")
+    (literal_bytes (codes "device::features=shell_v2;") refl) (lit≤ tt)
 
 pub serial_short : (link : ℕ) → link < 2 ^ 32 → IsShort (serial_of link)
 serial_short link small = record {
@@ -149,5 +151,6 @@ is_by (Err e) text other same is = tt
 pub rest_is : (bytes payload front : List ℕ) → length front ≡ 24 → bytes ++ payload ≡ front ++ payload
     → drop HEAD_LEN bytes ++ payload ≡ drop HEAD_LEN (front ++ payload)
 rest_is bytes payload front long same =
-    sym (drop-append-le HEAD_LEN bytes payload (omega (arith, ap length same, length-append bytes payload, length-append front payload, long)))
+    sym (drop-append-le HEAD_LEN bytes payload
+    (omega (arith, ap length same, length-append bytes payload, length-append front payload, long)))
     ∙ ap (drop HEAD_LEN) same

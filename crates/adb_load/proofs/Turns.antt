@@ -53,7 +53,8 @@ moved_less word live = go (goes_up word live) (nat_lt 0 live.down) (λ h. below 
     go false false some_up some_down = tt
 
 -- what the live streams still take falls where one of them moves
-streams_less : (place : ℕ) (live : Live) (after : Option Live) (streams : List Live) → slice_get streams place ≡ Some live → TakesLess after live
+streams_less : (place : ℕ) (live : Live) (after : Option Live) (streams : List Live)
+    → slice_get streams place ≡ Some live → TakesLess after live
     → sum_by turns_of (streams_after place after streams) < sum_by turns_of streams
 streams_less place live None streams is less =
     let within = slice_get_within streams place live is in
@@ -82,7 +83,8 @@ move_brings : (word place : ℕ) (p : Progress) (words : Lcg) → place < length
     → Brings p (move_at word place (slice_get p.live place) (record p { words = words }))
 move_brings word place p words within = go (slice_get_cases p.live place).1
   where
-    found : (live : Live) → slice_get p.live place ≡ Some live → Brings p (move_at word place (slice_get p.live place) (record p { words = words }))
+    found : (live : Live) → slice_get p.live place ≡ Some live
+        → Brings p (move_at word place (slice_get p.live place) (record p { words = words }))
     found live is = rw is (record {
       some = refl;
       fewer = omega (arith, streams_less place live (moved word live).after p.live is (moved_less word live));
@@ -102,7 +104,8 @@ unfolding turn
 turn_goes p = go (nat_lt p.plugged DEVICES) (nat_lt (length p.live) MAX_LIVE && nat_lt p.begun p.streams) (nat_eq (length p.live) 0)
     (λ h. below p.plugged DEVICES h) (λ h. below p.begun p.streams (last_holds _ _ h)) (λ h. not_none (length p.live) h)
   where
-    go : (plugs begins over : Bool) → (plugs ≡ true → p.plugged < DEVICES) → (begins ≡ true → p.begun < p.streams) → (over ≡ false → 0 < length p.live)
+    go : (plugs begins over : Bool) → (plugs ≡ true → p.plugged < DEVICES) → (begins ≡ true → p.begun < p.streams)
+        → (over ≡ false → 0 < length p.live)
         → Goes p (if plugs then plug_in p else (if begins then begin p else (if over then stopped p else draw p)))
     go true begins over unplugged left live = inr (record { some = refl; fewer = plug_less p (unplugged refl) })
     go false true over unplugged left live = inr (record { some = refl; fewer = begin_less p (left refl) })

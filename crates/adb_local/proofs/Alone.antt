@@ -53,7 +53,8 @@ module _ (number : ℕ) (asked : Asked) (old mid after : View) (idle : IsIdle ol
         (subst (λ (files : List Entry). IsAnsweredAlone found.0 files after.files) started.files
         (alone (old.given + 1) found.0 (only_new (old.given + 1) session mid.sessions sessions refl) found.1.0))
 
-    pub text_is : (text : List ℕ) → Some text ≡ option_map (λ (s : Session). printed asked (answer_of s)) (at (old.given + 1) after.sessions)
+    pub text_is : (text : List ℕ) → Some text ≡ option_map (λ (s : Session). printed asked (answer_of s))
+        (at (old.given + 1) after.sessions)
         → text ≡ (line_answer old.files number (Asks asked)).text
     text_is text is =
         let both : Some text ≡ Some (printed asked (answer_of found.0)) =

@@ -50,16 +50,19 @@ starts_one k size old mid new starting started = record {
     others : (c : ℕ) → c ≢ mid.given + 1 → at c new.sessions ≡ at c mid.sessions
     others c apart = ap (at c) started.sessions ∙ (puts_put_at (mid.given + 1) (stream_session size k) mid.sessions).others c apart
 
-    each : (stream : ℕ) → stream < k + 1 → (stream ≡ k) ⊎ (stream ≢ k) → at (old.given + 1 + stream) new.sessions ≡ Some (stream_session size stream)
+    each : (stream : ℕ) → stream < k + 1 → (stream ≡ k) ⊎ (stream ≢ k)
+        → at (old.given + 1 + stream) new.sessions ≡ Some (stream_session size stream)
     each stream less (inl is) =
         let given = starting.given in
         let number : old.given + 1 + stream ≡ mid.given + 1 = omega (arith, given, is) in
         ap (λ (n : ℕ). at n new.sessions) number ∙ (here ∙ ap (λ (n : ℕ). Some (stream_session size n)) (sym is))
     each stream less (inr apart) =
         let given = starting.given in
-        others (old.given + 1 + stream) (λ same. omega (arith, same, given, less, apart)) ∙ starting.each stream (omega (arith, less, apart))
+        others (old.given + 1 + stream) (λ same. omega (arith, same, given, less, apart))
+        ∙ starting.each stream (omega (arith, less, apart))
 
-    only : (c : ℕ) (session : Session) → at c new.sessions ≡ Some session → (c ≡ mid.given + 1) ⊎ (c ≢ mid.given + 1) → IsOfStream size session
+    only : (c : ℕ) (session : Session) → at c new.sessions ≡ Some session → (c ≡ mid.given + 1) ⊎ (c ≢ mid.given + 1)
+        → IsOfStream size session
     only c session is (inl same) =
         let both : Some (stream_session size k) ≡ Some session = sym here ∙ (ap (λ (n : ℕ). at n new.sessions) (sym same) ∙ is) in
         record { stream = k; is = (let e : stream_session size k ≡ session = cc in sym e) }
@@ -78,12 +81,14 @@ came_all session bytes answered service text =
     let same : Some answered.kind ≡ Some Echoes = sym answered.asked ∙ ap service_of service in
     let kind : answered.kind ≡ Echoes = cc in
     let came : bytes_in answered.past ≡ text_of session =
-    subst (λ (k : Kind). CameOf (service_answer k answered.first answered.past).ended (bytes_in answered.past) (text_of session)) kind answered.came in
+    subst (λ (k : Kind). CameOf (service_answer k answered.first answered.past).ended (bytes_in answered.past)
+    (text_of session)) kind answered.came in
     ap (drop 8) answered.got
     ∙ (drop-append_seam (codes "OKAYOKAY") (service_answer answered.kind answered.first answered.past).bytes
     ∙ (ap (λ (k : Kind). (service_answer k answered.first answered.past).bytes) kind ∙ (came ∙ text)))
 
-module _ (k size : ℕ) (old mid : View) (sessions : List (ℕ × Session)) (starting : IsStarting k size old mid) (same : AreSame mid.sessions sessions)
+module _ (k size : ℕ) (old mid : View) (sessions : List (ℕ × Session)) (starting : IsStarting k size old mid)
+    (same : AreSame mid.sessions sessions)
     (answered : Each sessions IsAnswered) where
   pub are_echoed : AreEchoed (old.given + 1) k size sessions
   are_echoed stream less = ap (option_map answer_of) there ∙ ap Some (came_all now (pattern stream size) (answered n now there) kept.0 text)
@@ -125,4 +130,5 @@ echoes_kept k size old mid after starting files = files (are_echoes k size old m
 pub echoes_stop : (k size : ℕ) (old mid : View) (left : List Entry) → IsStarting k size old mid → AreAskedInPart mid.files left mid.sessions
     → left ≡ old.files
 echoes_stop k size old mid left starting part =
-    echoes_in_part mid.files left mid.sessions (λ c session is. ap (λ (s : Session). s.service) (starting.only c session is).is) part ∙ starting.files
+    echoes_in_part mid.files left mid.sessions
+    (λ c session is. ap (λ (s : Session). s.service) (starting.only c session is).is) part ∙ starting.files

@@ -1,5 +1,6 @@
 -- What a session that ran alone was handed, and what it left, is what its line makes of the files.
-use Rattle.std.specs.Prelude.{ℕ, ◌≡◌, ◌≤◌, Bool, true, nat_lt, if◌then◌else◌, is_some, List, [], ◌∷◌, ◌++◌, length, drop, Option, Some, None, codes}
+use Rattle.std.specs.Prelude.{ℕ, ◌≡◌, ◌≤◌, Bool, true, nat_lt, if◌then◌else◌, is_some, List, [], ◌∷◌, ◌++◌, length, drop, Option, Some}
+use Rattle.std.specs.Prelude.{None, codes}
 use Rattle.std.proofs.Common.{refl, sym, ◌∙◌, ap, subst, arith}
 use Rattle.std.proofs.lemmas.Bool.{lt-ltb}
 use Rattle.std.proofs.lemmas.List.{length-append}
@@ -59,7 +60,8 @@ made_of kind files text = record {
   answer = (service_answer kind files (text_over kind text files ∷ [])).bytes;
 }
 
-exchanged : (asked : Asked) (number : ℕ) (files : List Entry) → made_of (kind_of asked) files (script.text_of number asked) ≡ exchange files number asked
+exchanged : (asked : Asked) (number : ℕ) (files : List Entry)
+    → made_of (kind_of asked) files (script.text_of number asked) ≡ exchange files number asked
 exchanged (Pushes path size) number files = refl
 exchanged (Pulls path) number files = refl
 exchanged (Stats path) number files = refl
@@ -78,9 +80,11 @@ module _ (number : ℕ) (asked : Asked) (session : Session) (files left : List E
   text_is : session.service ≡ script.service_of asked → session.words ≡ words_of (script.service_of asked) (script.text_of number asked)
       → text_of session ≡ script.text_of number asked
   text_is service words =
-      (λ i. drop (length (requests_for (service i))) (words i)) ∙ drop-append_seam (requests_for (script.service_of asked)) (script.text_of number asked)
+      (λ i. drop (length (requests_for (service i))) (words i))
+      ∙ drop-append_seam (requests_for (script.service_of asked)) (script.text_of number asked)
 
-  alone_exchanged : session.service ≡ script.service_of asked → text_of session ≡ script.text_of number asked → IsAnsweredAlone session files left
+  alone_exchanged : session.service ≡ script.service_of asked → text_of session ≡ script.text_of number asked
+      → IsAnsweredAlone session files left
       → IsExchanged number asked session files left
   alone_exchanged service text alone =
       let same : Some alone.kind ≡ Some (kind_of asked) = sym alone.asked ∙ (ap service_of service ∙ asks_kind asked) in
@@ -90,7 +94,8 @@ module _ (number : ℕ) (asked : Asked) (session : Session) (files left : List E
       record {
         answer =
             ap (drop 8) alone.got
-            ∙ (drop-append_seam (codes "OKAYOKAY") (service_answer alone.kind files (text_over alone.kind (text_of session) files ∷ [])).bytes
+            ∙ (drop-append_seam (codes "OKAYOKAY")
+            (service_answer alone.kind files (text_over alone.kind (text_of session) files ∷ [])).bytes
             ∙ ap (λ (e : Exchange). e.answer) made);
         left_files = alone.left_files ∙ ap (λ (e : Exchange). e.files) made;
       }
@@ -100,12 +105,15 @@ module _ (number : ℕ) (asked : Asked) (session : Session) (files left : List E
   is_exchanged same alone = alone_exchanged same.0 (text_is same.0 same.1) alone
 
 -- ---- a table of one session
-pub only_new : (n : ℕ) (session : Session) (sessions : List (ℕ × Session)) → sessions ≡ put_at n session [] → session.written ≡ 0 → IsNewAlone n sessions
+pub only_new : (n : ℕ) (session : Session) (sessions : List (ℕ × Session)) → sessions ≡ put_at n session []
+    → session.written ≡ 0 → IsNewAlone n sessions
 only_new n session sessions is unwritten = record {
   session = session;
   is = ap (at n) is ∙ (puts_put_at n session []).here;
   unwritten = unwritten;
-  others = λ c other apart there. absurd (let clash : None ≡ Some other = sym ((puts_put_at n session []).others c apart) ∙ (sym (ap (at c) is) ∙ there) in cc);
+  others = λ c other apart there. absurd
+      (let clash : None ≡ Some other = sym ((puts_put_at n session []).others c apart)
+      ∙ (sym (ap (at c) is) ∙ there) in cc);
 }
 
 -- the session of a number, which stays the same
@@ -113,6 +121,7 @@ pub same_kept : (n : ℕ) (session : Session) (old new : List (ℕ × Session)) 
     → (now : Session) × ((at n new ≡ Some now) × IsSame (Some session) (Some now))
 same_kept n session old new is same = go (at n new) refl (subst (λ (o : Option Session). IsSame o (at n new)) is (same n))
   where
-    go : (o : Option Session) → at n new ≡ o → IsSame (Some session) o → (now : Session) × ((at n new ≡ Some now) × IsSame (Some session) (Some now))
+    go : (o : Option Session) → at n new ≡ o → IsSame (Some session) o
+        → (now : Session) × ((at n new ≡ Some now) × IsSame (Some session) (Some now))
     go None there kept = absurd kept
     go (Some now) there kept = (now, (there, kept))

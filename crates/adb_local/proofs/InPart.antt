@@ -53,7 +53,8 @@ none_ran number (line ∷ more) files left same = inl (none_of_line number line 
 
 -- ---- a session that is alone in its world
 module _ (number n : ℕ) (asked : Asked) (files left : List Entry) (sessions : List (ℕ × Session))
-    (is : sessions ≡ put_at n (new_session (script.service_of asked) (script.text_of number asked)) []) (part : AreAskedInPart files left sessions) where
+    (is : sessions ≡ put_at n (new_session (script.service_of asked) (script.text_of number asked)) [])
+    (part : AreAskedInPart files left sessions) where
   abbrev session : Session
   session = new_session (script.service_of asked) (script.text_of number asked)
 
@@ -87,7 +88,8 @@ module _ (number n : ℕ) (asked : Asked) (files left : List Entry) (sessions : 
       let served = served_first n files (requests_in text) (asks_of n part.calls) some in
       (served.0, part.left_files ∙ (ap (files_after files) own ∙ served.1))
 
-  ran : (command : List ℕ) → AreFirst (asks_of n part.calls) (calls.Runs command ∷ []) → (left ≡ files) ⊎ (left ≡ files_left files (words_of command))
+  ran : (command : List ℕ) → AreFirst (asks_of n part.calls) (calls.Runs command ∷ [])
+      → (left ≡ files) ⊎ (left ≡ files_left files (words_of command))
   ran command some = go (asks_of n part.calls) refl some.1
     where
       go : (asks : List Ask) → asks_of n part.calls ≡ asks → asks ++ some.0 ≡ calls.Runs command ∷ []
@@ -112,7 +114,8 @@ module _ (number n : ℕ) (asked : Asked) (files left : List Entry) (sessions : 
 -- ---- echoes
 -- they ask for nothing
 pub echoes_in_part : (files left : List Entry) (sessions : List (ℕ × Session))
-    → ((c : ℕ) (session : Session) → at c sessions ≡ Some session → session.service ≡ codes "echo:") → AreAskedInPart files left sessions → left ≡ files
+    → ((c : ℕ) (session : Session) → at c sessions ≡ Some session → session.service ≡ codes "echo:")
+    → AreAskedInPart files left sessions → left ≡ files
 echoes_in_part files left sessions echoes part = go part.calls refl
   where
     go : (cs : List Call) → part.calls ≡ cs → left ≡ files

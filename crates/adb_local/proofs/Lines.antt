@@ -11,11 +11,13 @@ use Rattle.adb_script.specs.declared.line.ScriptLine.{ScriptLine}
 use Rattle.adb_script.specs.declared.script.TheConstants.{MAX_LINES}
 use Rattle.adb_world.specs.World.{View}
 use Rattle.adb_local.proofs.Standing.{few_in}
-use Rattle.adb_local.specs.Running.{AllMayStand, IsIdle, IsRunInPart, LinesLeft, MayStand, RunsFirst, RunsLine, answers_left, left_after, sessions_in}
+use Rattle.adb_local.specs.Running.{AllMayStand, IsIdle, IsRunInPart, LinesLeft, MayStand, RunsFirst, RunsLine, answers_left, left_after}
+use Rattle.adb_local.specs.Running.{sessions_in}
 
 -- ---- one line
 -- the first of what is left
-pub first_left : (lines : List ScriptLine) (all : List Line) (done : ℕ) (line : ScriptLine) → map seen lines ≡ all → true ≡ nat_lt done (length lines)
+pub first_left : (lines : List ScriptLine) (all : List Line) (done : ℕ) (line : ScriptLine) → map seen lines ≡ all
+    → true ≡ nat_lt done (length lines)
     → line ≡ get_or lines done line → drop done all ≡ seen line ∷ drop (done + 1) all
 first_left lines all done line is there here =
     let less : done < length lines = ltb-true done (length lines) (sym there) in
@@ -44,11 +46,13 @@ module _ (done : ℕ) (lines : List Line) (line : Line) (first : drop done lines
   pub first_room : (given most : ℕ) → given + sessions_in (drop done lines) ≤ most → given + sessions_of line ≤ most
   first_room given most room = let s = sessions in omega (arith, s, room)
 
-  module _ (old new : View) (text : List ℕ) (answer : text ≡ (line_answer old.files (done + 1) line).text) (runs : RunsLine (done + 1) line old new) where
+  module _ (old new : View) (text : List ℕ) (answer : text ≡ (line_answer old.files (done + 1) line).text)
+      (runs : RunsLine (done + 1) line old new) where
     answered : text ∷ answers_left (left_after (done + 1) lines) new ≡ answers_left (left_after done lines) old
     answered =
         ap (λ (t : List ℕ). t ∷ answers_from (done + 1 + 1) new.files (drop (done + 1) lines)) answer
-        ∙ (ap (λ (files : List Entry). (line_answer old.files (done + 1) line).text ∷ answers_from (done + 1 + 1) files (drop (done + 1) lines)) runs.files
+        ∙ (ap (λ (files : List Entry). (line_answer old.files (done + 1) line).text
+        ∷ answers_from (done + 1 + 1) files (drop (done + 1) lines)) runs.files
         ∙ ap (λ (ls : List Line). answers_from (done + 1) old.files ls) (sym first))
 
     pub runs_first : RunsFirst text (left_after done lines) (left_after (done + 1) lines) old new
@@ -68,7 +72,8 @@ pub answers_over : (left : LinesLeft) (world : View) → world.files ≡ [] → 
 answers_over left world none = ap (λ (files : List Entry). answers_from left.number files left.lines) none
 
 -- what ran in part behind the first of some lines ran in part of them
-pub runs_in_part : (now next : LinesLeft) (world after : View) (answer : List ℕ) → RunsFirst answer now next world after → (left : List Entry)
+pub runs_in_part : (now next : LinesLeft) (world after : View) (answer : List ℕ)
+    → RunsFirst answer now next world after → (left : List Entry)
     → IsRunInPart next.number next.lines after.files left → IsRunInPart now.number now.lines world.files left
 runs_in_part now next world after answer runs left part =
     subst (λ (ls : List Line). IsRunInPart now.number ls world.files left) (sym runs.first)
@@ -91,7 +96,8 @@ begins_running first old said idle none = record {
   so_far = λ left part. part;
 }
 
-pub runs_one : (first now next : LinesLeft) (old world after : View) (said more : List (List ℕ)) (answer : List ℕ) → Running first now old world said
+pub runs_one : (first now next : LinesLeft) (old world after : View) (said more : List (List ℕ)) (answer : List ℕ)
+    → Running first now old world said
     → RunsFirst answer now next world after → more ≡ said ++ answer ∷ [] → Running first next old after more
 runs_one first now next old world after said more answer running runs added = record {
   idle = runs.idle;

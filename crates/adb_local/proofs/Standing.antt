@@ -6,7 +6,8 @@ use Rattle.std.proofs.Common.{refl, arith}
 use Rattle.std.proofs.lemmas.Bool.Decides.{nat_tests}
 use Rattle.adb_script.specs.Answers.{sessions_of}
 use Rattle.adb_script.specs.Lines.{Line, Pushes, Pulls, Stats, Lists, Runs, Asks, Echoes}
-use Rattle.adb_script.specs.Lines.{is_word, count_of, path_line, push_line, echo_line, count_line, command_line, words_of, line_of_words, line_of}
+use Rattle.adb_script.specs.Lines.{is_word, count_of, path_line, push_line, echo_line, count_line, command_line, words_of, line_of_words}
+use Rattle.adb_script.specs.Lines.{line_of}
 use Rattle.adb_script.specs.Script.{is_newline, said, all_said, lines_in, lines_of}
 use Rattle.adb_local.specs.Running.{AllMayStand, MayStand, sessions_in}
 
@@ -54,7 +55,8 @@ echo_stands (Some streams) None = tt
 echo_stands (Some streams) (Some size) =
     by_test (nat_lt 0 streams && nat_le streams 64 && nat_le (streams * size) 67108864) (Some (Echoes streams size)) None
     (λ e.
-    let counts = both (nat_lt 0 streams) (nat_le streams 64) (both (nat_lt 0 streams && nat_le streams 64) (nat_le (streams * size) 67108864) e).0 in
+    let counts = both (nat_lt 0 streams) (nat_le streams 64)
+    (both (nat_lt 0 streams && nat_le streams 64) (nat_le (streams * size) 67108864) e).0 in
     (some_of streams counts.0, within streams 64 counts.1))
     (λ e. tt)
 
@@ -62,7 +64,8 @@ count_stands : (name word count : List ℕ) → StandsIf (count_line name word c
 count_stands name word count =
     let echoes : Option Line = if bytes_eq name (codes "echo") then echo_line (count_of word) (count_of count) else None in
     by_test (bytes_eq name (codes "push")) (push_line word (count_of count)) echoes (λ e. push_stands word (count_of count))
-    (λ e. by_test (bytes_eq name (codes "echo")) (echo_line (count_of word) (count_of count)) None (λ e. echo_stands (count_of word) (count_of count))
+    (λ e. by_test (bytes_eq name (codes "echo")) (echo_line (count_of word) (count_of count)) None
+    (λ e. echo_stands (count_of word) (count_of count))
     (λ e. tt))
 
 words_stand : (words : List (List ℕ)) → StandsIf (line_of_words words)
@@ -74,7 +77,8 @@ words_stand (name ∷ word ∷ count ∷ another ∷ more) = tt
 
 line_stands : (text : List ℕ) → StandsIf (line_of text)
 line_stands text =
-    by_test (starts_with nat_eq text (codes "shell ")) (command_line (drop 6 text)) (line_of_words (words_of text)) (λ e. command_stands (drop 6 text))
+    by_test (starts_with nat_eq text (codes "shell ")) (command_line (drop 6 text)) (line_of_words (words_of text))
+    (λ e. command_stands (drop 6 text))
     (λ e. words_stand (words_of text))
 
 all_said_stand : (lines : List (List ℕ)) → AllMayStand (all_said lines)

@@ -1,5 +1,6 @@
 -- What a device says stays said, whatever follows.
-use Rattle.std.specs.Prelude.{ℕ, ◌+◌, ◌≡◌, ◌||◌, if◌then◌else◌, ◌==◌, Bool, true, false, List, [], ◌∷◌, ◌++◌, fold, length, Option, Some, None}
+use Rattle.std.specs.Prelude.{ℕ, ◌+◌, ◌≡◌, ◌||◌, if◌then◌else◌, ◌==◌, Bool, true, false, List, [], ◌∷◌, ◌++◌, fold, length, Option, Some}
+use Rattle.std.specs.Prelude.{None}
 use Rattle.std.proofs.Common.{refl, sym, ◌∙◌, ap}
 use Rattle.std.proofs.lemmas.List.{append-nil, append_assoc}
 use Rattle.std.proofs.lemmas.List.Concat.{flat_map-append}
@@ -14,7 +15,8 @@ use Rattle.adb_device_streams.specs.Service.{came_over, files_fed, files_opened}
 use Rattle.adb_device_streams.specs.Stream.{Row, opened, row_took, row_acked, row_written, is_done, okay, clse, opening_word}
 use Rattle.adb_device_streams.specs.Link.{credit_word_in, link_of}
 use Rattle.adb_device_streams.specs.declared.link.Link.{Link}
-use Rattle.adb_daemon.specs.Serving.{Serving, Sent, with_sum, bytes_of, sent_bytes, owing, granted, sent_ack, sent_writes, sent_close, settled_as, settled}
+use Rattle.adb_daemon.specs.Serving.{Serving, Sent, with_sum, bytes_of, sent_bytes, owing, granted, sent_ack, sent_writes, sent_close}
+use Rattle.adb_daemon.specs.Serving.{settled_as, settled}
 use Rattle.adb_daemon.specs.Serving.{named, closable, is_taken, kind_for, credit_of, open_as, written_to, acked_to, closed_to, served}
 use Rattle.adb_daemon.specs.Device.{Device, Setting, step, treated, linked_to, served_on, first_device, device_behind}
 use Rattle.adb_daemon.specs.declared.daemon.Daemon.{Daemon}
@@ -44,7 +46,8 @@ settles link own row s = go (is_done (row_written link.most row))
     go : (t : Bool) → Grew s.made (settled_as t link own (row_written link.most row) owes).made
     go false = record { more = sent_writes link own row; is = refl }
     go true =
-        both s.made owes.made (settled_as true link own (row_written link.most row) owes).made (record { more = sent_writes link own row; is = refl })
+        both s.made owes.made (settled_as true link own (row_written link.most row) owes).made
+        (record { more = sent_writes link own row; is = refl })
         (record { more = sent_close true link own (row_written link.most row).host; is = refl })
 
 opens : (link : Link) (p : Packet) (asked : Option Kind) (s : Serving) → Grew s.made (open_as link p asked s).made
@@ -62,7 +65,8 @@ writes_to link p (Some row) s =
     let came = came_over p.payload s.files in
     let told : List Sent = sent_ack link p.arg1 row.host row.flow (length p.payload) in
     let next : Serving = record (owing told s) { files = files_fed row.kind row.past came } in
-    both s.made next.made (written_to link p (Some row) s).made (record { more = told; is = refl }) (settles link p.arg1 (row_took came row) next)
+    both s.made next.made (written_to link p (Some row) s).made (record { more = told; is = refl })
+    (settles link p.arg1 (row_took came row) next)
 
 acks_to : (link : Link) (p : Packet) (found : Option Row) (s : Serving) → Grew s.made (acked_to link p found s).made
 acks_to link p None s = same s.made
@@ -97,7 +101,9 @@ serves_on (Some link) p d = serves p.command link p d.serving
 treats : (setting : Setting) (p : Packet) (d : Device) → Grew d.serving.made (treated setting p d).serving.made
 treats setting p d = go (is_cnxn p.command)
   where
-    go : (t : Bool) → Grew d.serving.made (if t then linked_to (link_of setting.most setting.credit p) d else served_on d.link p d).serving.made
+    go : (t : Bool)
+        → Grew d.serving.made
+        (if t then linked_to (link_of setting.most setting.credit p) d else served_on d.link p d).serving.made
     go true = links (link_of setting.most setting.credit p) d
     go false = serves_on d.link p d
 
@@ -122,11 +128,13 @@ behind setting d [] rest = all_step setting d rest
 behind setting d (p ∷ front) rest = behind setting (step setting d p) front rest
 
 -- What went out is a front of what is said: where all was done,
-pub done_front : (setting : Setting) (fed gone : List ℕ) (daemon : Daemon) → HasDone setting fed gone daemon → IsPrefixOf gone (said_behind setting fed)
+pub done_front : (setting : Setting) (fed gone : List ℕ) (daemon : Daemon) → HasDone setting fed gone daemon
+    → IsPrefixOf gone (said_behind setting fed)
 done_front setting fed gone daemon done = (owed daemon, done.stands.holds.due)
 
 -- and where memory ran out.
-pub cut_front : (setting : Setting) (fed gone : List ℕ) (daemon : Daemon) → HasDoneFront setting fed gone daemon → IsPrefixOf gone (said_behind setting fed)
+pub cut_front : (setting : Setting) (fed gone : List ℕ) (daemon : Daemon) → HasDoneFront setting fed gone daemon
+    → IsPrefixOf gone (said_behind setting fed)
 cut_front setting fed gone daemon h =
     let grew = behind setting (first_device setting) h.front h.rest in
     let later : List Sent = (device_behind setting h.front).serving.made in

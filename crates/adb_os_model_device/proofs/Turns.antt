@@ -21,7 +21,8 @@ use Rattle.adb_os_model_device.specs.Running.{GoesOn, Runs, HasEnded, HasFailed,
 
 -- bytes behind chunks, and more chunks
 joined : (bytes : List ℕ) (first later : List (List ℕ)) → (bytes ++ concat first) ++ concat later ≡ bytes ++ concat (first ++ later)
-joined bytes first later = append_assoc bytes (concat first) (concat later) ∙ ap (λ (l : List ℕ). bytes ++ l) (sym (concat-append first later))
+joined bytes first later = append_assoc bytes (concat first) (concat later)
+    ∙ ap (λ (l : List ℕ). bytes ++ l) (sym (concat-append first later))
 
 taken_more : (first later : List (List ℕ)) (input : InView) → with_taken later (with_taken first input) ≡ with_taken (first ++ later) input
 taken_more first later input = ap (λ (l : List (List ℕ)). record input { taken = l }) (append_assoc input.taken first later)
@@ -40,7 +41,8 @@ goes_nowhere daemon input output = record {
       (subst (λ (b : List ℕ). HasDone setting fed b daemon) (sym (append-nil gone)) done);
 }
 
-module _ (first next : Daemon) (input input' : InView) (output output' : OutView) (goes : GoesOn first input output next input' output') where
+module _ (first next : Daemon) (input input' : InView) (output output' : OutView)
+    (goes : GoesOn first input output next input' output') where
   -- a turn behind others
   pub goes_further : (last : Daemon) (input'' : InView) (output'' : OutView) → GoesOn next input' output' last input'' output''
       → GoesOn first input output last input'' output''
@@ -49,13 +51,16 @@ module _ (first next : Daemon) (input input' : InView) (output output' : OutView
     put = goes.put ++ later.put;
     input_is = later.input_is ∙ ap (with_taken later.taken) goes.input_is ∙ taken_more goes.taken later.taken input;
     output_is = later.output_is ∙ ap (with_put later.put) goes.output_is ∙ put_more goes.put later.put output;
-    does = λ setting fed gone done. subst (λ (b : List ℕ). HasDone setting b (gone ++ concat (goes.put ++ later.put)) last) (joined fed goes.taken later.taken)
+    does = λ setting fed gone done. subst
+        (λ (b : List ℕ). HasDone setting b (gone ++ concat (goes.put ++ later.put)) last)
+        (joined fed goes.taken later.taken)
         (subst (λ (b : List ℕ). HasDone setting ((fed ++ concat goes.taken) ++ concat later.taken) b last) (joined gone goes.put later.put)
         (later.does setting (fed ++ concat goes.taken) (gone ++ concat goes.put) (goes.does setting fed gone done)));
   }
 
   -- the end behind turns
-  pub ends_behind : (last : Daemon) (end : DeviceEnd) (input'' : InView) (output'' : OutView) → Runs next input' output' last end input'' output''
+  pub ends_behind : (last : Daemon) (end : DeviceEnd) (input'' : InView) (output'' : OutView)
+      → Runs next input' output' last end input'' output''
       → Runs first input output last end input'' output''
   ends_behind last end input'' output'' later = record {
     taken = goes.taken ++ later.taken;
@@ -67,17 +72,20 @@ module _ (first next : Daemon) (input input' : InView) (output output' : OutView
     ends_once = λ is. sym (ap (λ (v : InView). v.ended) goes.input_is) ∙ later.ends_once is;
     front = λ setting fed gone done. subst (λ (b : List ℕ). IsPrefixOf (gone ++ concat (goes.put ++ later.put)) (said_behind setting b))
         (joined fed goes.taken later.taken)
-        (subst (λ (b : List ℕ). IsPrefixOf b (said_behind setting ((fed ++ concat goes.taken) ++ concat later.taken))) (joined gone goes.put later.put)
+        (subst (λ (b : List ℕ). IsPrefixOf b (said_behind setting ((fed ++ concat goes.taken) ++ concat later.taken)))
+        (joined gone goes.put later.put)
         (later.front setting (fed ++ concat goes.taken) (gone ++ concat goes.put) (goes.does setting fed gone done)));
     ends = λ setting fed gone done. subst (λ (b : List ℕ). HasEnded setting b (gone ++ concat (goes.put ++ later.put)) end last)
         (joined fed goes.taken later.taken)
-        (subst (λ (b : List ℕ). HasEnded setting ((fed ++ concat goes.taken) ++ concat later.taken) b end last) (joined gone goes.put later.put)
+        (subst (λ (b : List ℕ). HasEnded setting ((fed ++ concat goes.taken) ++ concat later.taken) b end last)
+        (joined gone goes.put later.put)
         (later.ends setting (fed ++ concat goes.taken) (gone ++ concat goes.put) (goes.does setting fed gone done)));
   }
 
   -- a turn, or the end, behind turns
   pub behind : (last : Daemon) (input'' : InView) (output'' : OutView) (result : Result (Unit {0}) DeviceEnd)
-      → MatchResult result (λ x. GoesOn next input' output' last input'' output'') (λ end. Runs next input' output' last end input'' output'')
+      → MatchResult result (λ x. GoesOn next input' output' last input'' output'')
+      (λ end. Runs next input' output' last end input'' output'')
       → MatchResult result (λ x. GoesOn first input output last input'' output'') (λ end. Runs first input output last end input'' output'')
   behind last input'' output'' (Ok x) turned = goes_further last input'' output'' turned
   behind last input'' output'' (Err end) turned = ends_behind last end input'' output'' turned
@@ -120,12 +128,15 @@ module _ (daemon : Daemon) (input : InView) (output : OutView) where
 
   -- nothing more was fed, and nothing more went out
   here : (P : List ℕ → List ℕ → Type 0) (fed gone : List ℕ) → P fed gone → P (fed ++ []) (gone ++ [])
-  here P fed gone h = subst (λ (b : List ℕ). P b (gone ++ [])) (sym (append-nil fed)) (subst (λ (b : List ℕ). P fed b) (sym (append-nil gone)) h)
+  here P fed gone h = subst (λ (b : List ℕ). P b (gone ++ [])) (sym (append-nil fed))
+      (subst (λ (b : List ℕ). P fed b) (sym (append-nil gone)) h)
 
   -- one chunk was fed, and nothing more went out
-  behind_one : (chunk : List ℕ) (P : List ℕ → List ℕ → Type 0) (fed gone : List ℕ) → P (fed ++ chunk) gone → P (fed ++ concat (chunk ∷ [])) (gone ++ [])
+  behind_one : (chunk : List ℕ) (P : List ℕ → List ℕ → Type 0) (fed gone : List ℕ) → P (fed ++ chunk) gone
+      → P (fed ++ concat (chunk ∷ [])) (gone ++ [])
   behind_one chunk P fed gone h =
-      subst (λ (b : List ℕ). P (fed ++ concat (chunk ∷ [])) b) (sym (append-nil gone)) (subst (λ (b : List ℕ). P (fed ++ b) gone) (sym (alone chunk)) h)
+      subst (λ (b : List ℕ). P (fed ++ concat (chunk ∷ [])) b) (sym (append-nil gone))
+      (subst (λ (b : List ℕ). P (fed ++ b) gone) (sym (alone chunk)) h)
 
   -- memory ran out before anything
   pub runs_out : Runs daemon input output daemon (Error OutOfMemory) input output
@@ -140,7 +151,8 @@ module _ (daemon : Daemon) (input : InView) (output : OutView) where
   }
 
   -- the chunk of all that is owed was refused
-  pub is_refused : (chunk : List ℕ) (output' : OutView) → chunk ≡ owed daemon → output' ≡ record output { refused = counted_on output.refused }
+  pub is_refused : (chunk : List ℕ) (output' : OutView) → chunk ≡ owed daemon
+      → output' ≡ record output { refused = counted_on output.refused }
       → Runs daemon input output daemon (Refused chunk) input output'
   is_refused chunk output' is refused = record {
     taken = [];
@@ -156,7 +168,8 @@ module _ (daemon : Daemon) (input : InView) (output : OutView) where
   -- the chunk of all that is owed was put
   pub puts_all : (chunk : List ℕ) (n : ℕ) (daemon' : Daemon) (output' : OutView) → chunk ≡ owed daemon → n ≡ length (owed daemon)
       → output' ≡ record output { put = output.put ++ chunk ∷ [] }
-      → ((setting : Setting) (fed gone : List ℕ) → HasDone setting fed gone daemon → HasDone setting fed (gone ++ take n (owed daemon)) daemon')
+      → ((setting : Setting) (fed gone : List ℕ) → HasDone setting fed gone daemon
+      → HasDone setting fed (gone ++ take n (owed daemon)) daemon')
       → GoesOn daemon input output daemon' input output'
   puts_all chunk n daemon' output' is all put taken = record {
     taken = [];
@@ -172,7 +185,9 @@ module _ (daemon : Daemon) (input : InView) (output : OutView) where
 
   -- the end mark was taken, or nothing, where nothing is owed
   pub is_over : (end : DeviceEnd) (input' : InView) → owed daemon ≡ [] → input' ≡ input_at end input → output_at end output ≡ output
-      → (end ≡ End → input.ended ≡ false) → ((setting : Setting) (fed gone : List ℕ) → HasDone setting fed gone daemon → gone ≡ said_behind setting fed
+      → (end ≡ End → input.ended ≡ false)
+      → ((setting : Setting) (fed gone : List ℕ) → HasDone setting fed gone daemon
+      → gone ≡ said_behind setting fed
       → HasEnded setting fed gone end daemon)
       → Runs daemon input output daemon end input' output
   is_over end input' none taken stands once all = record {
@@ -192,7 +207,8 @@ module _ (daemon : Daemon) (input : InView) (output : OutView) where
 
   pub is_lost : (input' : InView) → owed daemon ≡ [] → input' ≡ record input { lost = counted_on input.lost }
       → Runs daemon input output daemon Lost input' output
-  is_lost input' none taken = is_over Lost input' none taken refl (λ is. absurd (true≢false (sym (ap is_end is)))) (λ setting fed gone done all. (done, all))
+  is_lost input' none taken = is_over Lost input' none taken refl (λ is. absurd (true≢false (sym (ap is_end is))))
+      (λ setting fed gone done all. (done, all))
 
   -- a chunk was fed
   pub feeds : (chunk : List ℕ) (daemon' : Daemon) (input' : InView) → input' ≡ record input { taken = input.taken ++ chunk ∷ [] }
@@ -208,7 +224,8 @@ module _ (daemon : Daemon) (input : InView) (output : OutView) where
   }
 
   -- a chunk was fed at which the device has an error
-  pub fails : (chunk : List ℕ) (error : DaemonError) (daemon' : Daemon) (input' : InView) → input' ≡ record input { taken = input.taken ++ chunk ∷ [] }
+  pub fails : (chunk : List ℕ) (error : DaemonError) (daemon' : Daemon) (input' : InView)
+      → input' ≡ record input { taken = input.taken ++ chunk ∷ [] }
       → ((setting : Setting) (fed gone : List ℕ) → HasDone setting fed gone daemon → IsPrefixOf gone (said_behind setting (fed ++ chunk))
       × HasFailed setting (fed ++ chunk) gone error daemon')
       → Runs daemon input output daemon' (Error error) input' output
@@ -220,7 +237,8 @@ module _ (daemon : Daemon) (input : InView) (output : OutView) where
     ends_once = λ is. absurd (not_the_end error is);
     front = λ setting fed gone done.
         behind_one chunk (λ f g. IsPrefixOf g (said_behind setting f)) fed gone (failed setting fed gone done).0;
-    ends = λ setting fed gone done. behind_one chunk (λ f g. HasEnded setting f g (Error error) daemon') fed gone (failed setting fed gone done).1;
+    ends = λ setting fed gone done. behind_one chunk (λ f g. HasEnded setting f g (Error error) daemon') fed gone
+        (failed setting fed gone done).1;
   }
 
   -- what the device says at a chunk
@@ -238,10 +256,12 @@ module _ (daemon : Daemon) (input : InView) (output : OutView) where
       → (result ≡ Err OutOfMemory → (setting : Setting) (fed gone : List ℕ) → HasDone setting fed gone daemon
       → HasDoneFront setting (fed ++ chunk) gone daemon')
       → Runs daemon input output daemon' (Error error) input' output
-  feeds_badly chunk OutOfMemory daemon' input' result is taken whole front = fails chunk OutOfMemory daemon' input' taken (λ setting fed gone done.
+  feeds_badly chunk OutOfMemory daemon' input' result is taken whole front =
+      fails chunk OutOfMemory daemon' input' taken (λ setting fed gone done.
       let cut = front is setting fed gone done in
       (cut_front setting (fed ++ chunk) gone daemon' cut, inr cut))
-  feeds_badly chunk (Broken error) daemon' input' result is taken whole front = fails chunk (Broken error) daemon' input' taken (λ setting fed gone done.
+  feeds_badly chunk (Broken error) daemon' input' result is taken whole front =
+      fails chunk (Broken error) daemon' input' taken (λ setting fed gone done.
       let answers = whole (λ out. absurd (true≢false (ap is_memory (sym out ∙ is)))) setting fed gone done in
       (done_front setting (fed ++ chunk) gone daemon' answers.done, (answers.done, sym answers.answer ∙ is)))
   feeds_badly chunk BadCnxn daemon' input' result is taken whole front = fails chunk BadCnxn daemon' input' taken (λ setting fed gone done.

@@ -43,7 +43,8 @@ HasFailed setting fed gone OutOfMemory daemon = HasDone setting fed gone daemon 
 HasFailed setting fed gone (Broken error) daemon = HasDone setting fed gone daemon × (answer_to setting fed ≡ Err (Broken error))
 HasFailed setting fed gone BadCnxn daemon = HasDone setting fed gone daemon × (answer_to setting fed ≡ Err BadCnxn)
 
--- A device that was fed these bytes has ended, and of what it says these went out: all of it where its input ended, and all but the chunk that was refused.
+-- A device that was fed these bytes has ended, and of what it says these went out: all of it where its input ended,
+-- and all but the chunk that was refused.
 abbrev pub HasEnded : Setting → List ℕ → List ℕ → DeviceEnd → Daemon → Type 0
 HasEnded setting fed gone End daemon = HasDone setting fed gone daemon × (gone ≡ said_behind setting fed)
 HasEnded setting fed gone Lost daemon = HasDone setting fed gone daemon × (gone ≡ said_behind setting fed)
@@ -51,15 +52,19 @@ HasEnded setting fed gone (Refused chunk) daemon = HasDone setting fed gone daem
 HasEnded setting fed gone (Error error) daemon = HasFailed setting fed gone error daemon
 
 -- In some turns these chunks were taken and fed in order, and these put.
-pub record GoesOn (before : Daemon) (input : InView) (output : OutView) (after : Daemon) (input' : InView) (output' : OutView) : Type 0 where
+pub record GoesOn (before : Daemon) (input : InView) (output : OutView) (after : Daemon) (input' : InView)
+    (output' : OutView) : Type 0 where
   pub taken : List (List ℕ)
   pub put : List (List ℕ)
   pub input_is : input' ≡ with_taken taken input
   pub output_is : output' ≡ with_put put output
-  pub does : (setting : Setting) (fed gone : List ℕ) → HasDone setting fed gone before → HasDone setting (fed ++ concat taken) (gone ++ concat put) after
+  pub does : (setting : Setting) (fed gone : List ℕ) → HasDone setting fed gone before
+      → HasDone setting (fed ++ concat taken) (gone ++ concat put) after
 
--- A device ran until this end. These chunks were taken and fed in order; the chunks that were put are, joined, a front of what a device says that is fed them.
-pub record Runs (before : Daemon) (input : InView) (output : OutView) (after : Daemon) (end : DeviceEnd) (input' : InView) (output' : OutView)
+-- A device ran until this end. These chunks were taken and fed in order; the chunks that were put are, joined, a
+-- front of what a device says that is fed them.
+pub record Runs (before : Daemon) (input : InView) (output : OutView) (after : Daemon) (end : DeviceEnd)
+    (input' : InView) (output' : OutView)
     : Type 0 where
   pub taken : List (List ℕ)
   pub put : List (List ℕ)

@@ -1,5 +1,6 @@
 -- The bytes that are written of those that were taken.
-use Rattle.std.proofs.Common.{ℕ, ◌≡◌, Bool, true, false, List, [], ◌∷◌, ◌++◌, take, drop, ◌&&◌, not, Option, Some, None, inl, inr, arith, sym, refl, ap, subst, ◌∙◌}
+use Rattle.std.proofs.Common.{ℕ, ◌≡◌, Bool, true, false, List, [], ◌∷◌, ◌++◌, take, drop, ◌&&◌, not, Option, Some, None, inl, inr, arith}
+use Rattle.std.proofs.Common.{sym, refl, ap, subst, ◌∙◌}
 use Rattle.std.proofs.lemmas.List.{append_assoc, append-nil, flat_map_more, take-append-drop}
 use Rattle.std.proofs.lemmas.Grind.{flat_map-append}
 use Rattle.adb_outside.specs.Outside.{Rises}
@@ -84,7 +85,8 @@ all_of false torn is = absurd cc
 
 -- of the chunks that were put
 pub settles : (had : List ℕ) (written : Option (List ℕ)) (first count : ℕ) (ended torn input_ended : Bool) (put taken : List (List ℕ))
-    → GoesOut had first torn written count (joined taken) → ((left : List (List ℕ)) × (put ≡ taken ++ left)) → (ended ≡ true → input_ended ≡ true)
+    → GoesOut had first torn written count (joined taken) → ((left : List (List ℕ)) × (put ≡ taken ++ left))
+    → (ended ≡ true → input_ended ≡ true)
     → (input_ended ≡ true → put ≡ taken) → Settles had written (ended && not torn) (joined put)
 settles had written first count ended torn input_ended put taken out (left, front) is_ended whole = record {
   growth = out.growth;

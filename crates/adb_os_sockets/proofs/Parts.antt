@@ -8,7 +8,8 @@ drop_both [] rest n =
 drop_both (x ∷ start) rest zero =
     let none : zero - length (x ∷ start) ≡ zero = omega arith in ap (λ k. (x ∷ start) ++ drop k rest) none
 drop_both (x ∷ start) rest (suc n) =
-    let on : suc n - length (x ∷ start) ≡ n - length start = omega arith in ap (λ k. drop n start ++ drop k rest) on ∙ drop_both start rest n
+    let on : suc n - length (x ∷ start) ≡ n - length start =
+    omega arith in ap (λ k. drop n start ++ drop k rest) on ∙ drop_both start rest n
 
 -- the same of a front that goes no farther than the first
 pub left_of : (start rest : List ℕ) (n : ℕ)

@@ -1,5 +1,6 @@
 -- What holds of a cut, frame by frame, for any format.
-use Rattle.std.proofs.Common.{ℕ, ◌-◌, ◌^◌, ◌≡◌, ◌≢◌, ◌≤◌, ◌<◌, zero, suc, List, [], ◌∷◌, ◌++◌, length, take, drop, Option, refl, sym, ◌∙◌, ap}
+use Rattle.std.proofs.Common.{ℕ, ◌-◌, ◌^◌, ◌≡◌, ◌≢◌, ◌≤◌, ◌<◌, zero, suc, List, [], ◌∷◌, ◌++◌, length, take, drop, Option, refl, sym, ◌∙◌}
+use Rattle.std.proofs.Common.{ap}
 use Rattle.std.proofs.Common.{subst, arith}
 use Rattle.std.specs.List.{flat_map}
 use Rattle.std.proofs.lemmas.List.{length-append, length-drop, length-take, take_at, drop_at, take-append-drop, append-nil}
@@ -23,7 +24,8 @@ pub bytes_after : (n : ℕ) (bytes : List ℕ) → AreBytes bytes → AreBytes (
 bytes_after n bytes are = All-drop (λ byte. byte < 256) n bytes are
 
 -- what is spelled before a rest leaves no more than there is
-pub rest_within : {V : Type 0} (spell : V → List ℕ) (given : List V) (rest bytes : List ℕ) → bytes ≡ flat_map spell given ++ rest → length rest ≤ length bytes
+pub rest_within : {V : Type 0} (spell : V → List ℕ) (given : List V) (rest bytes : List ℕ)
+    → bytes ≡ flat_map spell given ++ rest → length rest ≤ length bytes
 rest_within spell given rest bytes whole = omega (arith, ap (length {A = ℕ}) whole, length-append (flat_map spell given) rest)
 
 -- no bytes on is here
@@ -32,10 +34,12 @@ place_here offset rest room = omega (arith, room)
 
 -- an offset past a frame and more is that past both
 pub place_past : (offset : ℕ) (frame more rest : List ℕ) → length rest ≤ length more
-    → offset_past (offset_past offset (length frame)) (length more - length rest) ≡ offset_past offset (length (frame ++ more) - length rest)
+    → offset_past (offset_past offset (length frame)) (length more - length rest)
+    ≡ offset_past offset (length (frame ++ more) - length rest)
 place_past offset frame more rest fits = omega (arith, fits, length-append frame more)
 
-module _ {S V F : Type 0} (find : S → List ℕ → Front F) (item : S → List ℕ → V) (after : S → List ℕ → S) (laws : IsFraming find item after) where
+module _ {S V F : Type 0} (find : S → List ℕ → Front F) (item : S → List ℕ → V) (after : S → List ℕ → S)
+    (laws : IsFraming find item after) where
   abbrev all : S → List ℕ → Cut S V F
   all = cut find item after
 
@@ -44,7 +48,8 @@ module _ {S V F : Type 0} (find : S → List ℕ → Front F) (item : S → List
   IsFrame s frame = find s frame ≡ Whole (length frame)
 
   -- bytes that begin with a frame are that frame and the cut of those behind it
-  pub frame_first : (s : S) (frame more : List ℕ) → IsFrame s frame → all s (frame ++ more) ≡ joined (item s frame ∷ []) (all (after s frame) more)
+  pub frame_first : (s : S) (frame more : List ℕ) → IsFrame s frame
+      → all s (frame ++ more) ≡ joined (item s frame ∷ []) (all (after s frame) more)
   frame_first s frame more e =
       let bytes = frame ++ more in
       let n = length frame in
@@ -63,7 +68,12 @@ module _ {S V F : Type 0} (find : S → List ℕ → Front F) (item : S → List
   splits s bytes n e =
       let fits = laws.fits s bytes n e in
       let len : length (take n bytes) ≡ n = omega (arith, length-take n bytes, fits) in
-      record { frame = laws.alone s bytes n e ∙ ap Whole (sym len); whole = take-append-drop n bytes; less = omega (arith, fits, length-drop n bytes) }
+      record {
+        frame = laws.alone s bytes n e ∙ ap Whole (sym len);
+        whole = take-append-drop n bytes;
+        less =
+            omega (arith, fits, length-drop n bytes);
+      }
 
   -- Bytes begin with a frame, and what holds of the cut of those behind it.
   pub record Begins (IsRight : S → List ℕ → Cut S V F → Type 0) (s : S) (bytes : List ℕ) (v : V) (c : Cut S V F) : Type 0 where
@@ -83,7 +93,8 @@ module _ {S V F : Type 0} (find : S → List ℕ → Front F) (item : S → List
     -- A cut without frames is right where it may stop, and so is one with a frame before a right one.
     pub record Steps : Type 0 where
       pub stays : Stays
-      pub stops : (s : S) (bytes : List ℕ) (fault : Option F) → Reads s bytes → Stops find item after s bytes fault → IsRight s bytes (uncut s bytes fault)
+      pub stops : (s : S) (bytes : List ℕ) (fault : Option F) → Reads s bytes → Stops find item after s bytes fault
+          → IsRight s bytes (uncut s bytes fault)
       pub goes : (s : S) (frame more : List ℕ) (c : Cut S V F) → IsFrame s frame → Reads s (frame ++ more) → IsRight (after s frame) more c
           → IsRight s (frame ++ more) (joined (item s frame ∷ []) c)
 
@@ -92,7 +103,8 @@ module _ {S V F : Type 0} (find : S → List ℕ → Front F) (item : S → List
     stops_at steps s bytes f reads is apart =
         steps.stops s bytes (fault_of f) reads (record { told = ap fault_of (sym is); none_left = λ n e. apart n (sym is ∙ e) })
 
-    right_at : Steps → (k : ℕ) (s : S) (bytes : List ℕ) → length bytes ≤ k → Reads s bytes → IsRight s bytes (cut_at find item after k s bytes)
+    right_at : Steps → (k : ℕ) (s : S) (bytes : List ℕ) → length bytes ≤ k → Reads s bytes
+        → IsRight s bytes (cut_at find item after k s bytes)
     right_at steps zero s [] h reads = stops_at steps s [] More reads (laws.empty s) (λ n e. cc)
     right_at steps zero s (b ∷ bytes) h reads = absurd (omega (arith, h))
     right_at steps (suc k) s bytes h reads = go (find s bytes) refl (right_at steps k)
@@ -121,7 +133,8 @@ module _ {S V F : Type 0} (find : S → List ℕ → Front F) (item : S → List
       pub stops : (s : S) (bytes : List ℕ) (c : Cut S V F) → IsRight s bytes c → Stops find item after c.reading c.rest c.fault
       pub ends : (s : S) (bytes : List ℕ) (c : Cut S V F) → Reads s bytes → IsRight s bytes c → c.given ≡ []
           → (c.reading ≡ s) × (c.rest ≡ bytes)
-      pub begins : (s : S) (bytes : List ℕ) (v : V) (c : Cut S V F) → Reads s bytes → IsRight s bytes (joined (v ∷ []) c) → Begins IsRight s bytes v c
+      pub begins : (s : S) (bytes : List ℕ) (v : V) (c : Cut S V F) → Reads s bytes
+          → IsRight s bytes (joined (v ∷ []) c) → Begins IsRight s bytes v c
 
     same_cut : (c : Cut S V F) → c ≡ joined c.given (uncut c.reading c.rest c.fault)
     same_cut c = ap (λ vs. record { given = vs; reading = c.reading; rest = c.rest; fault = c.fault }) (sym (append-nil c.given))
@@ -131,7 +144,8 @@ module _ {S V F : Type 0} (find : S → List ℕ → Front F) (item : S → List
     ends_so unfolds s bytes c reads is none =
         let here = unfolds.ends s bytes c reads is none in
         let stop = unfolds.stops s bytes c is in
-        let apart : (n : ℕ) → find s bytes ≢ Whole n = λ n e. stop.none_left n (ap (λ t. find t c.rest) here.0 ∙ (ap (find s) here.1 ∙ e)) in
+        let apart : (n : ℕ) → find s bytes ≢ Whole n = λ n e. stop.none_left n
+        (ap (λ t. find t c.rest) here.0 ∙ (ap (find s) here.1 ∙ e)) in
         ap (uncut c.reading c.rest) stop.told
         ∙ (ap (λ t. uncut t c.rest (fault_of (find t c.rest))) here.0
         ∙ (ap (λ b. uncut s b (fault_of (find s b))) here.1
@@ -147,7 +161,8 @@ module _ {S V F : Type 0} (find : S → List ℕ → Front F) (item : S → List
     determined_by unfolds [] s bytes c reads is none = ends_so unfolds s bytes c reads is none
     determined_by unfolds (v ∷ given) s bytes c reads is are =
         let others : Cut S V F = joined given (uncut c.reading c.rest c.fault) in
-        let here = subst (λ vs. IsRight s bytes (joined vs (uncut c.reading c.rest c.fault))) are (subst (IsRight s bytes) (same_cut c) is) in
+        let here = subst (λ vs. IsRight s bytes (joined vs (uncut c.reading c.rest c.fault))) are
+        (subst (IsRight s bytes) (same_cut c) is) in
         let first = unfolds.begins s bytes v others reads here in
         let further = unfolds.stays s first.frame first.more first.found (subst (Reads s) first.whole reads) in
         let more = determined_by unfolds given (after s first.frame) first.more others further first.behind (append-nil given) in
@@ -164,7 +179,8 @@ module _ {S V F : Type 0} (find : S → List ℕ → Front F) (item : S → List
     abbrev SpellsCut : S → List ℕ → Cut S V F → Type 0
     SpellsCut s bytes c = Spells s bytes c.given c.reading c.rest
 
-    -- Offsets move with the frames; all bytes may be a rest, and a frame may stand before others; and what is spelled has no other beginning.
+    -- Offsets move with the frames; all bytes may be a rest, and a frame may stand before others; and what is spelled
+    -- has no other beginning.
     pub record Frames : Type 0 where
       pub moves : (s : S) (frame : List ℕ) → offset (after s frame) ≡ offset_past (offset s) (length frame)
       pub within : (s : S) (bytes : List ℕ) (c : Cut S V F) → SpellsCut s bytes c → length c.rest ≤ length bytes
@@ -172,7 +188,8 @@ module _ {S V F : Type 0} (find : S → List ℕ → Front F) (item : S → List
       pub one : (s : S) (frame more : List ℕ) (c : Cut S V F) → IsFrame s frame → AreBytes frame → SpellsCut (after s frame) more c
           → SpellsCut s (frame ++ more) (joined (item s frame ∷ []) c)
       pub all_left : (s : S) (bytes : List ℕ) (c : Cut S V F) → c.given ≡ [] → SpellsCut s bytes c → c.rest ≡ bytes
-      pub reads_on : (s : S) (bytes : List ℕ) (c : Cut S V F) → c.given ≡ [] → SpellsCut s bytes c → offset c.reading ≡ offset s → c.reading ≡ s
+      pub reads_on : (s : S) (bytes : List ℕ) (c : Cut S V F) → c.given ≡ [] → SpellsCut s bytes c
+          → offset c.reading ≡ offset s → c.reading ≡ s
       pub begins : (s : S) (bytes : List ℕ) (v : V) (c : Cut S V F) → SpellsCut s bytes (joined (v ∷ []) c) → Begins SpellsCut s bytes v c
 
     abbrev IsPlace : S → List ℕ → Type 0
@@ -197,7 +214,8 @@ module _ {S V F : Type 0} (find : S → List ℕ → Front F) (item : S → List
         is.place ∙ (ap (λ (b : List ℕ). offset_past (offset s) (length bytes - length b)) left ∙ sym (place_here (offset s) bytes room)) in
         (frames.reads_on s bytes c none is.spelled same, left)
 
-    first_given : Frames → (s : S) (bytes : List ℕ) (v : V) (c : Cut S V F) → IsRight s bytes (joined (v ∷ []) c) → Begins IsRight s bytes v c
+    first_given : Frames → (s : S) (bytes : List ℕ) (v : V) (c : Cut S V F) → IsRight s bytes (joined (v ∷ []) c)
+        → Begins IsRight s bytes v c
     first_given frames s bytes v c is =
         let b = frames.begins s bytes v c is.spelled in
         record {

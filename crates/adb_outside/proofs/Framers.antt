@@ -11,7 +11,8 @@ use Rattle.adb_outside.proofs.FramingLaws.{cut_first}
 pub from_place : (i : ℕ) (xs : List ℕ) → take (length xs - i) (drop i xs) ≡ drop i xs
 from_place i xs = ap (λ k. take k (drop i xs)) (sym (length-drop i xs)) ∙ take-length (drop i xs)
 
--- A moment of the loop: how the bytes are read, and those, the frames before them, and now; how the bytes at the place are read, and what they begin with.
+-- A moment of the loop: how the bytes are read, and those, the frames before them, and now; how the bytes at the
+-- place are read, and what they begin with.
 pub record Moment (S V F : Type 0) : Type 0 where
   pub start : S
   pub bytes : List ℕ
@@ -26,7 +27,8 @@ module _ {S V F : Type 0} (find : S → List ℕ → Front F) (item : S → List
   pub record Cutting (m : Moment S V F) : Type 0 where
     pub within : m.place ≤ length m.bytes
     pub found : m.front ≡ find m.reading (drop m.place m.bytes)
-    pub frames : joined m.before (cut find item after m.start m.bytes) ≡ joined m.given (cut find item after m.reading (drop m.place m.bytes))
+    pub frames : joined m.before (cut find item after m.start m.bytes)
+        ≡ joined m.given (cut find item after m.reading (drop m.place m.bytes))
     pub front_of : take (length m.before) m.given ≡ m.before
 
   -- A turn of the loop at a moment: the frame that was read there, and what it leaves.
@@ -104,7 +106,8 @@ module _ {S V F : Type 0} (find : S → List ℕ → Front F) (item : S → List
     stops s bytes f is none =
         cut_first find item after laws s bytes ∙ (ap (λ f. cut_by find item after s bytes f (cut find item after)) is ∙ go f none)
       where
-        go : (f : Front F) → ((n : ℕ) → f ≡ Whole n → ⊥) → cut_by find item after s bytes f (cut find item after) ≡ uncut s bytes (fault_of f)
+        go : (f : Front F) → ((n : ℕ) → f ≡ Whole n → ⊥) → cut_by find item after s bytes f (cut find item after)
+            ≡ uncut s bytes (fault_of f)
         go More none = refl
         go (Bad fault) none = refl
         go (Whole n) none = absurd (none n refl)
@@ -115,5 +118,6 @@ module _ {S V F : Type 0} (find : S → List ℕ → Front F) (item : S → List
         ≡ joined m.before (cut find item after m.start m.bytes)
     is_over m h none =
         let first = stops m.reading (drop m.place m.bytes) m.front (sym h.found) none in
-        ap (λ vs. record { given = vs; reading = m.reading; rest = drop m.place m.bytes; fault = fault_of m.front }) (sym (append-nil m.given))
+        ap (λ vs. record { given = vs; reading = m.reading; rest = drop m.place m.bytes; fault = fault_of m.front })
+        (sym (append-nil m.given))
         ∙ sym (h.frames ∙ ap (joined m.given) first)

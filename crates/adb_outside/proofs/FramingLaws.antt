@@ -7,7 +7,8 @@ use Rattle.adb_outside.specs.declared.framer.Front.{Front}
 use Rattle.adb_outside.specs.declared.framer.Front.TheVariants.{More, Bad, Whole}
 use Rattle.adb_outside.specs.Framing.{Cut, uncut, joined, cut_by, cut_at, cut, IsFraming, Stands, held_after, Takes}
 
-module _ {S V F : Type 0} (find : S → List ℕ → Front F) (item : S → List ℕ → V) (after : S → List ℕ → S) (laws : IsFraming find item after) where
+module _ {S V F : Type 0} (find : S → List ℕ → Front F) (item : S → List ℕ → V) (after : S → List ℕ → S)
+    (laws : IsFraming find item after) where
   abbrev at : ℕ → S → List ℕ → Cut S V F
   at = cut_at find item after
 
@@ -29,15 +30,18 @@ module _ {S V F : Type 0} (find : S → List ℕ → Front F) (item : S → List
       go (Bad fault) e others = refl
       go (Whole n) e others =
           let fits = laws.fits s bytes n e in
-          ap (joined (item s (take n bytes) ∷ [])) (others (after s (take n bytes)) (drop n bytes) (omega (arith, fits, length-drop n bytes))
+          ap (joined (item s (take n bytes) ∷ []))
+          (others (after s (take n bytes)) (drop n bytes) (omega (arith, fits, length-drop n bytes))
           (omega (arith, fits, length-drop n bytes)))
 
   -- a cut by its first front
-  pub cut_first : (s : S) (bytes : List ℕ) → cut find item after s bytes ≡ cut_by find item after s bytes (find s bytes) (cut find item after)
+  pub cut_first : (s : S) (bytes : List ℕ) → cut find item after s bytes
+      ≡ cut_by find item after s bytes (find s bytes) (cut find item after)
   cut_first s [] = ap (λ f. cut_by find item after s [] f (cut find item after)) (sym (laws.empty s))
   cut_first s (b ∷ bytes) = go (find s (b ∷ bytes)) refl
     where
-      go : (f : Front F) → find s (b ∷ bytes) ≡ f → cut_by find item after s (b ∷ bytes) f (at (length bytes)) ≡ cut_by find item after s (b ∷ bytes) f
+      go : (f : Front F) → find s (b ∷ bytes) ≡ f → cut_by find item after s (b ∷ bytes) f (at (length bytes))
+          ≡ cut_by find item after s (b ∷ bytes) f
           (cut find item after)
       go More e = refl
       go (Bad fault) e = refl
@@ -83,7 +87,8 @@ module _ {S V F : Type 0} (find : S → List ℕ → Front F) (item : S → List
       go (Whole n) e others =
           let fits = laws.fits s (b ∷ bytes) n e in
           let rest = (cut find item after (after s (take n (b ∷ bytes))) (drop n (b ∷ bytes))).given in
-          let behind : All P rest = others (after s (take n (b ∷ bytes))) (drop n (b ∷ bytes)) (omega (arith, fits, length-drop n (b ∷ bytes))) in
+          let behind : All P rest = others (after s (take n (b ∷ bytes))) (drop n (b ∷ bytes))
+          (omega (arith, fits, length-drop n (b ∷ bytes))) in
           All-cons P (item s (take n (b ∷ bytes))) rest (each s (b ∷ bytes) n e) behind
 
   -- A piece that follows is cut with what was left over.
@@ -93,7 +98,8 @@ module _ {S V F : Type 0} (find : S → List ℕ → Front F) (item : S → List
   cut_piece k s [] y h ok = refl
   cut_piece zero s (b ∷ x) y h ok = absurd (omega (arith, h))
   cut_piece (suc k) s (b ∷ x) y h ok =
-      subst (λ (c : Cut S V F). c.fault ≡ None → cut find item after s ((b ∷ x) ++ y) ≡ joined c.given (cut find item after c.reading (c.rest ++ y)))
+      subst (λ (c : Cut S V F). c.fault ≡ None → cut find item after s ((b ∷ x) ++ y)
+      ≡ joined c.given (cut find item after c.reading (c.rest ++ y)))
       (sym (cut_first s (b ∷ x)))
       (go (find s (b ∷ x)) refl (λ t c. cut_piece k t c y)) ok
     where
@@ -116,7 +122,9 @@ module _ {S V F : Type 0} (find : S → List ℕ → Front F) (item : S → List
           ∙ (ap (λ f. cut_by find item after s ((b ∷ x) ++ y) f (cut find item after)) w
           ∙ (ap (λ z. joined (item s z ∷ []) (cut find item after (after s z) (drop n ((b ∷ x) ++ y)))) t
           ∙ (ap (λ z. joined (item s (take n (b ∷ x)) ∷ []) (cut find item after (after s (take n (b ∷ x))) z)) d
-          ∙ ap (joined (item s (take n (b ∷ x)) ∷ [])) (others (after s (take n (b ∷ x))) (drop n (b ∷ x)) (omega (arith, fits, length-drop n (b ∷ x))) none))))
+          ∙ ap (joined (item s (take n (b ∷ x)) ∷ []))
+          (others (after s (take n (b ∷ x))) (drop n (b ∷ x)) (omega (arith, fits, length-drop n (b ∷ x)))
+          none))))
 
   -- Where a fault came, what follows changes nothing.
   pub fault_stays : (k : ℕ) (s : S) (x y : List ℕ) (fault : F) → length x ≤ k → (cut find item after s x).fault ≡ Some fault
@@ -130,7 +138,8 @@ module _ {S V F : Type 0} (find : S → List ℕ → Front F) (item : S → List
     where
       go : (f : Front F) → find s (b ∷ x) ≡ f
           → ((t : S) (c : List ℕ) → length c ≤ k → (cut find item after t c).fault ≡ Some fault
-          → ((cut find item after t (c ++ y)).given ≡ (cut find item after t c).given) × ((cut find item after t (c ++ y)).fault ≡ Some fault))
+          → ((cut find item after t (c ++ y)).given ≡ (cut find item after t c).given)
+          × ((cut find item after t (c ++ y)).fault ≡ Some fault))
           → (cut_by find item after s (b ∷ x) f (cut find item after)).fault ≡ Some fault
           → ((cut find item after s ((b ∷ x) ++ y)).given ≡ (cut_by find item after s (b ∷ x) f (cut find item after)).given)
           × ((cut find item after s ((b ∷ x) ++ y)).fault ≡ Some fault)
@@ -156,17 +165,21 @@ module _ {S V F : Type 0} (find : S → List ℕ → Front F) (item : S → List
 
   -- What stands for some bytes stands, with a piece taken, for these and the piece.
   pub stands_feeds : (start : S) (fed : List ℕ) (taken : List V) (old : Cut S V F) (piece : List ℕ) (new : Cut S V F)
-      → Stands find item after start fed taken old → old.fault ≡ None → new ≡ joined old.given (cut find item after old.reading (old.rest ++ piece))
+      → Stands find item after start fed taken old → old.fault ≡ None
+      → new ≡ joined old.given (cut find item after old.reading (old.rest ++ piece))
       → Stands find item after start (fed ++ piece) taken new
   stands_feeds start fed taken old piece new h sound is =
       let at_rest = h.open_rest sound in
       let c : cut find item after start (fed ++ piece) ≡ joined (taken ++ old.given) (cut find item after old.reading (old.rest ++ piece)) =
       cut_piece (length fed) start fed piece (omega arith) (h.fault ∙ sound)
-      ∙ (ap (λ vs. joined vs (cut find item after (cut find item after start fed).reading ((cut find item after start fed).rest ++ piece))) h.frames
+      ∙ (ap (λ vs. joined vs
+      (cut find item after (cut find item after start fed).reading
+      ((cut find item after start fed).rest ++ piece))) h.frames
       ∙ (ap (λ s. joined (taken ++ old.given) (cut find item after s ((cut find item after start fed).rest ++ piece))) at_rest.1
       ∙ ap (λ b. joined (taken ++ old.given) (cut find item after old.reading (b ++ piece))) at_rest.0)) in
       record {
-        frames = ap (λ (k : Cut S V F). k.given) c ∙ (append_assoc taken old.given (cut find item after old.reading (old.rest ++ piece)).given
+        frames = ap (λ (k : Cut S V F). k.given) c
+            ∙ (append_assoc taken old.given (cut find item after old.reading (old.rest ++ piece)).given
             ∙ ap (λ (k : Cut S V F). taken ++ k.given) (sym is));
         fault = ap (λ (k : Cut S V F). k.fault) c ∙ ap (λ (k : Cut S V F). k.fault) (sym is);
         open_rest = λ _. (

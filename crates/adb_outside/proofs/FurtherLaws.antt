@@ -1,6 +1,8 @@
 -- A piece may be taken part by part.
-use Rattle.std.proofs.Common.{ℕ, ◌+◌, ◌-◌, ◌≡◌, ◌≤◌, ◌<◌, List, [], ◌∷◌, ◌++◌, length, take, drop, Option, Some, None, refl, sym, ◌∙◌, ap, subst, arith, zero, suc}
-use Rattle.std.proofs.lemmas.List.{length-drop, length-take, take-append-le, drop-append-le, drop-drop, take-take, take-append-drop, append_assoc, append-nil}
+use Rattle.std.proofs.Common.{ℕ, ◌+◌, ◌-◌, ◌≡◌, ◌≤◌, ◌<◌, List, [], ◌∷◌, ◌++◌, length, take, drop, Option, Some, None, refl, sym, ◌∙◌, ap}
+use Rattle.std.proofs.Common.{subst, arith, zero, suc}
+use Rattle.std.proofs.lemmas.List.{length-drop, length-take, take-append-le, drop-append-le, drop-drop, take-take, take-append-drop}
+use Rattle.std.proofs.lemmas.List.{append_assoc, append-nil}
 use Rattle.std.proofs.Math.Seq.{take-length}
 use Rattle.adb_outside.specs.declared.framer.Front.{Front}
 use Rattle.adb_outside.specs.declared.framer.Front.TheVariants.{More, Bad, Whole}
@@ -29,7 +31,8 @@ part_then from n xs =
     ap (λ k. take k (drop from xs) ++ drop (from + n) xs) same
     ∙ (ap (λ d. take n (drop from xs) ++ d) (sym (drop-drop n from xs)) ∙ take-append-drop n (drop from xs))
 
-module _ {S V F : Type 0} (find : S → List ℕ → Front F) (item : S → List ℕ → V) (after : S → List ℕ → S) (laws : IsFraming find item after) where
+module _ {S V F : Type 0} (find : S → List ℕ → Front F) (item : S → List ℕ → V) (after : S → List ℕ → S)
+    (laws : IsFraming find item after) where
   abbrev cut_here : S → List ℕ → Cut S V F
   cut_here = cut find item after
 
@@ -59,7 +62,8 @@ module _ {S V F : Type 0} (find : S → List ℕ → Front F) (item : S → List
       go : (f : Front F) → find s (b ∷ x) ≡ f
           → ((t : S) (c : List ℕ) → length c ≤ k → (cut_here t c).fault ≡ Some fault
           → cut_here t (c ++ y) ≡ record (cut_here t c) { rest = (cut_here t c).rest ++ y })
-          → (let c = cut_by find item after s (b ∷ x) f cut_here in c.fault ≡ Some fault → cut_here s ((b ∷ x) ++ y) ≡ record c { rest = c.rest ++ y })
+          → (let c = cut_by find item after s (b ∷ x) f cut_here in c.fault ≡ Some fault
+          → cut_here s ((b ∷ x) ++ y) ≡ record c { rest = c.rest ++ y })
       go More is others e = cc
       go (Bad other) is others e =
           cut_first find item after laws s ((b ∷ x) ++ y)
@@ -92,19 +96,23 @@ module _ {S V F : Type 0} (find : S → List ℕ → Front F) (item : S → List
           let whole : cut_here c.reading (c.rest ++ all) ≡ joined k.given (cut_here k.reading (k.rest ++ b ∷ y)) =
           ap (cut_here c.reading) (sym (append_assoc c.rest x (b ∷ y)))
           ∙ (piece ∙ ap (λ (k : Cut S V F). joined k.given (cut_here k.reading (k.rest ++ b ∷ y))) is) in
-          ap (λ vs. record (cut_here k.reading (k.rest ++ b ∷ y)) { given = vs }) (append_assoc c.given k.given (cut_here k.reading (k.rest ++ b ∷ y)).given)
+          ap (λ vs. record (cut_here k.reading (k.rest ++ b ∷ y)) { given = vs })
+          (append_assoc c.given k.given (cut_here k.reading (k.rest ++ b ∷ y)).given)
           ∙ ap (joined c.given) (sym whole)
       of_cut k (Some fault) some is =
-          let holds = fault_holds (length (c.rest ++ x)) c.reading (c.rest ++ x) (b ∷ y) fault (omega arith) (ap (λ (k : Cut S V F). k.fault) is ∙ some) in
+          let holds = fault_holds (length (c.rest ++ x)) c.reading (c.rest ++ x) (b ∷ y) fault (omega arith)
+          (ap (λ (k : Cut S V F). k.fault) is ∙ some) in
           let whole : cut_here c.reading (c.rest ++ all) ≡ record k { rest = k.rest ++ b ∷ y } =
-          ap (cut_here c.reading) (sym (append_assoc c.rest x (b ∷ y))) ∙ (holds ∙ ap (λ (k : Cut S V F). record k { rest = k.rest ++ b ∷ y }) is) in
+          ap (cut_here c.reading) (sym (append_assoc c.rest x (b ∷ y)))
+          ∙ (holds ∙ ap (λ (k : Cut S V F). record k { rest = k.rest ++ b ∷ y }) is) in
           ap (joined c.given) (sym whole)
 
       by_fault : (fault : Option F) → c.fault ≡ fault
           → further find item after (further_at find item after c x fault) (b ∷ y) ≡ further_at find item after c all fault
       by_fault None none = of_cut (cut_here c.reading (c.rest ++ x)) (cut_here c.reading (c.rest ++ x)).fault refl refl
       by_fault (Some fault) some =
-          ap (further_at find item after (record c { rest = c.rest ++ x }) (b ∷ y)) some ∙ ap (λ bs. record c { rest = bs }) (append_assoc c.rest x (b ∷ y))
+          ap (further_at find item after (record c { rest = c.rest ++ x }) (b ∷ y)) some
+          ∙ ap (λ bs. record c { rest = bs }) (append_assoc c.rest x (b ∷ y))
 
   -- a piece that is left is taken part by part
   pub further_part : (c : Cut S V F) (x y : List ℕ) → 0 < length x
@@ -123,4 +131,5 @@ module _ {S V F : Type 0} (find : S → List ℕ → Front F) (item : S → List
   pub gathered_then : (before : List V) (s : S) (held x y piece : List ℕ) → x ++ y ≡ piece
       → further find item after (joined before (cut_here s (held ++ x))) y ≡ joined before (cut_here s (held ++ piece))
   gathered_then before s held x y piece all =
-      further_then (record { given = before; reading = s; rest = held; fault = None }) x y ∙ ap (λ b. joined before (cut_here s (held ++ b))) all
+      further_then (record { given = before; reading = s; rest = held; fault = None }) x y
+      ∙ ap (λ b. joined before (cut_here s (held ++ b))) all

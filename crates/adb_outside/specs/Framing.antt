@@ -77,8 +77,10 @@ module _ {S V F : Type 0} (find : S → List ℕ → Front F) (item : S → List
     pub told : fault ≡ fault_of (find reading rest)
     pub none_left : (n : ℕ) → find reading rest ≢ Whole n
 
-  -- A cut is right: the bytes spell its frames and its rest, in a format's own words; the rest begins where it is read from; and it may stop there.
-  pub record IsRightCut (offset : S → ℕ) (Spells : S → List ℕ → List V → S → List ℕ → Type 0) (from : S) (bytes : List ℕ) (c : Cut S V F) : Type 0 where
+  -- A cut is right: the bytes spell its frames and its rest, in a format's own words; the rest begins where it is
+  -- read from; and it may stop there.
+  pub record IsRightCut (offset : S → ℕ) (Spells : S → List ℕ → List V → S → List ℕ → Type 0) (from : S)
+      (bytes : List ℕ) (c : Cut S V F) : Type 0 where
     pub spelled : Spells from bytes c.given c.reading c.rest
     pub place : offset c.reading ≡ offset_past (offset from) (length bytes - length c.rest)
     pub stops : Stops c.reading c.rest c.fault

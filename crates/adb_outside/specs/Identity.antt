@@ -1,7 +1,8 @@
 -- The states of a device, and their texts.
 use Rattle.std.specs.Prelude.{ℕ, List, if◌then◌else◌, codes, bytes_eq}
 use Rattle.adb_outside.specs.declared.identity.State.{State}
-use Rattle.adb_outside.specs.declared.identity.State.TheVariants.{Offline, Unauthorized, Device, Bootloader, Recovery, Sideload, Rescue, Host}
+use Rattle.adb_outside.specs.declared.identity.State.TheVariants.{Offline, Unauthorized, Device, Bootloader, Recovery, Sideload, Rescue}
+use Rattle.adb_outside.specs.declared.identity.State.TheVariants.{Host}
 
 -- the state that a system of an identity means
 abbrev pub state_of_system : List ℕ → State

@@ -46,7 +46,8 @@ not_ended put taken true item items e =
     let none : (item ∷ items) ≡ [] = (nothing_behind put.chunks put.ended taken (item ∷ items) e).2 in cc
 
 -- one item is taken, with no end mark before it
-pub takes : (port : ℕ) (taken : Passed) → Pops IsInOrder port (Taker taken) (λ item w. IsOpen (Taker taken) × (w ≡ moved (Taker taken) item))
+pub takes : (port : ℕ) (taken : Passed) → Pops IsInOrder port (Taker taken)
+    (λ item w. IsOpen (Taker taken) × (w ≡ moved (Taker taken) item))
 takes zero taken item items (Putter p ∷ Taker t ∷ []) order at = absurd cc
 takes (suc zero) taken item items (Putter p ∷ Taker t ∷ []) order at =
     let same : t ≡ taken = cc in
@@ -66,13 +67,15 @@ takes (suc (suc port)) taken item items (Both b ∷ Spent ∷ []) order at = abs
 takes port taken item items _ order at = absurd order
 
 -- the two ends are joined
-pub merges : (port other : ℕ) (put taken : Passed) → Merges IsInOrder port (Putter put) other (Taker taken) (compared (Putter put) (Taker taken)) Spent
+pub merges : (port other : ℕ) (put taken : Passed) → Merges IsInOrder port (Putter put) other (Taker taken)
+    (compared (Putter put) (Taker taken)) Spent
 merges zero zero put taken items (Putter p ∷ Taker t ∷ []) order at apart behind = absurd (apart refl)
 merges zero (suc zero) put taken items (Putter p ∷ Taker t ∷ []) order at apart behind =
     let put_is : p ≡ put = cc in
     let taken_is : t ≡ taken = cc in
     sym (ap items_of put_is) ∙ order ∙ ap (λ x. items_of x ++ items) taken_is
-merges zero (suc (suc other)) put taken items (Putter p ∷ Taker t ∷ []) order at apart behind = absurd (some-ne-none (Taker taken) (sym behind))
+merges zero (suc (suc other)) put taken items (Putter p ∷ Taker t ∷ []) order at apart behind =
+    absurd (some-ne-none (Taker taken) (sym behind))
 merges (suc zero) other put taken items (Putter p ∷ Taker t ∷ []) order at apart behind = absurd cc
 merges (suc (suc port)) other put taken items (Putter p ∷ Taker t ∷ []) order at apart behind = absurd (some-ne-none (Putter put) (sym at))
 merges zero other put taken items (Uncut ∷ []) order at apart behind = absurd cc

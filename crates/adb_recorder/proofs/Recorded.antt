@@ -1,12 +1,14 @@
 -- The bytes that a recorder over a sink writes.
-use Rattle.std.proofs.Common.{ℕ, ◌+◌, ◌≡◌, ◌≤◌, ◌<◌, Bool, true, false, List, [], ◌∷◌, ◌++◌, length, take, drop, Option, Some, Result, Ok, Err, inl, inr, OnOk, sym, refl, ◌∙◌, ap, arith}
+use Rattle.std.proofs.Common.{ℕ, ◌+◌, ◌≡◌, ◌≤◌, ◌<◌, Bool, true, false, List, [], ◌∷◌, ◌++◌, length, take, drop, Option, Some, Result, Ok}
+use Rattle.std.proofs.Common.{Err, inl, inr, OnOk, sym, refl, ◌∙◌, ap, arith}
 use Rattle.std.proofs.lemmas.List.{append_assoc, append-nil, flat_map_more, take-append-le, take-append-drop}
 use Rattle.adb_outside.specs.Outside.{counted}
 use Rattle.adb_capture.specs.Records.{magic, record_of, records_of}
 use Rattle.adb_capture.specs.declared.entry.Entry.{Entry}
 use Rattle.adb_recorder.specs.declared.recorder.RecordError.{RecordError}
 use Rattle.adb_recorder.specs.declared.recorder.RecordError.TheVariants.{OutOfMemory, Failed}
-use Rattle.adb_recorder.specs.Recording.{behind_magic, recorded, captured, kept_by, is_failed_record, GrowsByFront, WritesRecord, SinkRecording, HasWritten}
+use Rattle.adb_recorder.specs.Recording.{behind_magic, recorded, captured, kept_by, is_failed_record, GrowsByFront, WritesRecord}
+use Rattle.adb_recorder.specs.Recording.{SinkRecording, HasWritten}
 use Rattle.adb_outside.proofs.Joined.{written_past}
 
 -- the first record has the magic before it
@@ -32,7 +34,8 @@ first_in_part opened bytes out n written first is =
     written_past out magic bytes written n is ∙ ap (λ text. Some (out ++ take (8 + n) text)) (sym (first_is opened bytes first))
 
 -- a failed write wrote a prefix
-pub front_recorded : (out text : List ℕ) (n : ℕ) (written : Option (List ℕ)) → written ≡ Some (out ++ take n text) → GrowsByFront out text written
+pub front_recorded : (out text : List ℕ) (n : ℕ) (written : Option (List ℕ)) → written ≡ Some (out ++ take n text)
+    → GrowsByFront out text written
 front_recorded out text n written is = record { growth = take n text; is = is; front = (drop n text, take-append-drop n text) }
 
 -- ---- the bytes of the kept entries
@@ -42,7 +45,8 @@ one_more true kept e first = flat_map_more record_of magic kept e
 one_more false kept e first = rw (first refl) (ap (λ r. magic ++ r) (sym (append-nil (record_of e))))
 
 -- one more record went out, or a prefix of it
-pub goes_on : {K : Type 0} (told : K → Option (List ℕ)) (old new : SinkRecording K) (kept : List Entry) (e : Entry) (result : Result (Unit {0}) RecordError)
+pub goes_on : {K : Type 0} (told : K → Option (List ℕ)) (old new : SinkRecording K) (kept : List Entry) (e : Entry)
+    (result : Result (Unit {0}) RecordError)
     → HasWritten told old kept
     → ((out : List ℕ) → old.faults ≡ 0 → told old.sink ≡ Some out → WritesRecord out (recorded old.opened e) (told new.sink) result)
     → OnOk result (new.opened ≡ true)

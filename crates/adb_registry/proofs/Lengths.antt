@@ -1,5 +1,6 @@
 -- The lists of all devices are shorter than 65,536 bytes.
-use Rattle.std.proofs.Common.{ℕ, ◌≡◌, ◌≤◌, ◌<◌, ◌+◌, ◌-◌, ◌^◌, List, [], ◌++◌, All, length, take, map, codes, Option, Some, None, Bool, true, false, cond, eqb}
+use Rattle.std.proofs.Common.{ℕ, ◌≡◌, ◌≤◌, ◌<◌, ◌+◌, ◌-◌, ◌^◌, List, [], ◌++◌, All, length, take, map, codes, Option, Some, None, Bool}
+use Rattle.std.proofs.Common.{true, false, cond, eqb}
 use Rattle.std.proofs.Common.{arith, length-append, subst, sym}
 use Rattle.std.specs.Prelude.{Result, IfOk}
 use Rattle.std.proofs.lemmas.List.{length-map, length-take, length-replicate}
@@ -13,7 +14,8 @@ use Rattle.std.specs.Map.{values_of}
 use Rattle.adb_outside.specs.Identity.{text_of_state}
 use Rattle.adb_outside.specs.declared.identity.Identity.{Identity}
 use Rattle.adb_outside.specs.declared.identity.State.{State}
-use Rattle.adb_outside.specs.declared.identity.State.TheVariants.{Offline, Unauthorized, Device, Bootloader, Recovery, Sideload, Rescue, Host}
+use Rattle.adb_outside.specs.declared.identity.State.TheVariants.{Offline, Unauthorized, Device, Bootloader, Recovery, Sideload, Rescue}
+use Rattle.adb_outside.specs.declared.identity.State.TheVariants.{Host}
 use Rattle.adb_outside.specs.declared.serial.TheConstants.{MAX_SERIAL}
 use Rattle.adb_outside.specs.Tables.{at}
 use Rattle.adb_outside.proofs.TableLaws.{at_each, each_row}
@@ -38,7 +40,14 @@ length-field name printed value = go (eqb (length value) 0)
     go : (b : Bool) → length (cond b [] (name ++ map printed (take MAX_VALUE value))) ≤ length name + MAX_VALUE
     go true = omega arith
     go false =
-        let front = take MAX_VALUE value in omega (arith, length-append name (map printed front), length-map front printed, length-take MAX_VALUE value)
+        let front = take MAX_VALUE value
+        in omega (
+          arith,
+          length-append name (map printed front),
+          length-map front printed,
+          length-take MAX_VALUE
+              value,
+        )
 
 length-make : (identity : Option Identity) → length (make_of identity) ≤ 216
 length-make None = omega arith
@@ -78,7 +87,8 @@ lines_fit line devices sound short =
     fits e is = let here = sound.each e.0 e.1 is in short e.1 here.short (omega (arith, here.own, here.to, sound.drawn))
 
     all : All (λ row. length (line row) ≤ 318) rows
-    all = each_row (λ (e : ℕ × Row). at e.0 devices.rows ≡ Some e.1) (λ row. length (line row) ≤ 318) fits devices.rows (at_each devices.rows sound.rises)
+    all = each_row (λ (e : ℕ × Row). at e.0 devices.rows ≡ Some e.1) (λ row. length (line row) ≤ 318) fits
+        devices.rows (at_each devices.rows sound.rises)
 
 -- both lists
 pub short_list_fits : (devices : DeviceTable) → IsSound devices → length (short_list (values_of devices.rows)) < 2 ^ 16
@@ -91,4 +101,5 @@ long_list_fits devices sound = lines_fit long_line devices sound length-long_lin
 pub if_ok_fits : {E : Type 0} (r : Result (List ℕ) E) (bytes : List ℕ) → length bytes < 2 ^ 16 → IfOk r (λ list. list ≡ bytes)
     → IfOk r (λ list. length list < 2 ^ 16)
 if_ok_fits r bytes fits is =
-    IfOk-weaker r (λ list. list ≡ bytes) (λ list. length list < 2 ^ 16) (λ list same. subst (λ (xs : List ℕ). length xs < 2 ^ 16) (sym same) fits) is
+    IfOk-weaker r (λ list. list ≡ bytes) (λ list. length list < 2 ^ 16)
+    (λ list same. subst (λ (xs : List ℕ). length xs < 2 ^ 16) (sym same) fits) is

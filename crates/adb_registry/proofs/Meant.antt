@@ -5,7 +5,8 @@ use Rattle.std.specs.Map.{values_of}
 use Rattle.std.proofs.lemmas.List.Elements.{All-head, All-filter, filter_passes}
 use Rattle.adb_outside.specs.declared.kinds.Selector.{Selector}
 use Rattle.adb_outside.specs.declared.identity.State.{State}
-use Rattle.adb_outside.specs.declared.identity.State.TheVariants.{Offline, Unauthorized, Device, Bootloader, Recovery, Sideload, Rescue, Host}
+use Rattle.adb_outside.specs.declared.identity.State.TheVariants.{Offline, Unauthorized, Device, Bootloader, Recovery, Sideload, Rescue}
+use Rattle.adb_outside.specs.declared.identity.State.TheVariants.{Host}
 use Rattle.adb_outside.specs.Tables.{at}
 use Rattle.adb_outside.proofs.TableLaws.{at_each, each_row}
 use Rattle.adb_registry.specs.Registry.{DeviceTable, IsSound}
@@ -39,7 +40,8 @@ pub chosen_is_meant : (devices : DeviceTable) (by : Selector) (ready : Bool) →
     → IfOk (choice (values_of devices.rows) by ready) (λ id. IsSomeAnd (at id devices.rows) (λ row. is_meant by row ≡ true))
 unfolding IsMeantAt
 chosen_is_meant devices by ready sound =
-    only_is_meant (IsMeantAt devices.rows by) by ready meant (λ i d h. meant_at (get_or meant i d) (live i d h) (filter_passes (is_meant by) rows i d h))
+    only_is_meant (IsMeantAt devices.rows by) by ready meant
+    (λ i d h. meant_at (get_or meant i d) (live i d h) (filter_passes (is_meant by) rows i d h))
   where
     rows : List Row
     rows = values_of devices.rows
@@ -53,7 +55,8 @@ chosen_is_meant devices by ready sound =
     live : All (λ (row : Row). at row.id devices.rows ≡ Some row) meant
     live =
         let IsLive : Row → Type 0 = λ row. at row.id devices.rows ≡ Some row in
-        let all = each_row (λ (e : ℕ × Row). at e.0 devices.rows ≡ Some e.1) IsLive own_id devices.rows (at_each devices.rows sound.rises) in
+        let all = each_row (λ (e : ℕ × Row). at e.0 devices.rows ≡ Some e.1) IsLive own_id devices.rows
+        (at_each devices.rows sound.rises) in
         All-filter (is_meant by) IsLive rows all
 
     meant_at : (row : Row) → at row.id devices.rows ≡ Some row → is_meant by row ≡ true → IsMeantAt devices.rows by row.id

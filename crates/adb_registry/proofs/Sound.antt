@@ -1,5 +1,6 @@
 -- What every registry keeps, when a row is put, changed or removed.
-use Rattle.std.proofs.Common.{ℕ, ◌≡◌, ◌≢◌, ◌≤◌, ◌<◌, ◌+◌, ◌^◌, ◌-◌, ◌==◌, ◌&&◌, nat_lt, nat_le, Bool, true, false, cond, List, length, Option, Some, None, ◌⊎◌, inl, inr}
+use Rattle.std.proofs.Common.{ℕ, ◌≡◌, ◌≢◌, ◌≤◌, ◌<◌, ◌+◌, ◌^◌, ◌-◌, ◌==◌, ◌&&◌, nat_lt, nat_le, Bool, true, false, cond, List, length}
+use Rattle.std.proofs.Common.{Option, Some, None, ◌⊎◌, inl, inr}
 use Rattle.std.proofs.Common.{refl, sym, ◌∙◌, ap, subst, arith}
 use Rattle.std.specs.Prelude.{option_map, is_some}
 use Rattle.std.proofs.lemmas.Bool.{cases_eq}
@@ -21,7 +22,8 @@ use Rattle.adb_registry.specs.declared.registry.TheConstants.{MAX_DEVICES, MAX_F
 serial_le : (serial : List ℕ) → is_serial serial ≡ true → length serial ≤ MAX_SERIAL
 serial_le serial is = go (nat_lt 0 (length serial)) (nat_le (length serial) MAX_SERIAL) refl is
   where
-    go : (some short : Bool) → nat_le (length serial) MAX_SERIAL ≡ short → (some && short && is_graphic serial) ≡ true → length serial ≤ MAX_SERIAL
+    go : (some short : Bool) → nat_le (length serial) MAX_SERIAL ≡ short → (some && short && is_graphic serial) ≡ true
+        → length serial ≤ MAX_SERIAL
     go true true e h = grind (arith, nat_tests)
     go true false e h = let clash : false ≡ true = h in cc
     go false short e h = let clash : false ≡ true = h in cc
@@ -84,7 +86,8 @@ sound_changes id f old new h as_many stands =
 
 -- What a row becomes may stand where it stood.
 module _ {drawn id : ℕ} (row : Row) (is : IsRowAt drawn id row) where
-  pub online_stands : (identity : Identity) (version maxdata : ℕ) → (length identity.features ≤ MAX_FEATURES) × (version < 2 ^ 32) × (maxdata < 2 ^ 32)
+  pub online_stands : (identity : Identity) (version maxdata : ℕ)
+      → (length identity.features ≤ MAX_FEATURES) × (version < 2 ^ 32) × (maxdata < 2 ^ 32)
       → IsRowAt drawn id (online_row identity version maxdata row)
   online_stands identity version maxdata fits = record {
     own = is.own;
@@ -161,7 +164,9 @@ not_refused devices serial none = by_number (devices.drawn == 2 ^ 32 - 1) refl n
     }
 
     by_number : (b : Bool) → (devices.drawn == 2 ^ 32 - 1) ≡ b
-        → cond b (Some Numbers) (cond (length devices.rows == MAX_DEVICES) (Some Full) (cond (is_serial serial) None (Some BadSerial))) ≡ None
+        → cond b (Some Numbers)
+        (cond (length devices.rows == MAX_DEVICES) (Some Full) (cond (is_serial serial) None (Some BadSerial)))
+        ≡ None
         → IsTaken devices serial
     by_number true is none = let clash : Some Numbers ≡ None = none in cc
     by_number false is none = by_place (grind (arith, nat_tests, is)) (length devices.rows == MAX_DEVICES) refl none

@@ -8,7 +8,8 @@ use Rattle.adb_outside.specs.declared.identity.State.{State}
 use Rattle.adb_outside.specs.declared.identity.State.TheVariants as state
 use Rattle.adb_registry.specs.declared.row.Row.{Row}
 use Rattle.adb_registry.specs.declared.choice.Refusal.{Refusal}
-use Rattle.adb_registry.specs.declared.choice.Refusal.TheVariants.{NoAny, ManyAny, NoUsb, ManyUsb, NoLocal, ManyLocal, NoSerial, ManySerial, NoId, Offline, Unauthorized}
+use Rattle.adb_registry.specs.declared.choice.Refusal.TheVariants.{NoAny, ManyAny, NoUsb, ManyUsb, NoLocal, ManyLocal, NoSerial, ManySerial}
+use Rattle.adb_registry.specs.declared.choice.Refusal.TheVariants.{NoId, Offline, Unauthorized}
 
 -- plugged in by USB
 abbrev pub is_usb : Kind → Bool

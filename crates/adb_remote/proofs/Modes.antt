@@ -9,7 +9,8 @@ use Rattle.adb_remote_words.specs.declared.words.TheConstants.{FILE_MODE}
 
 no_comma_in : (digits : List ℕ) → last_comma (map (λ d. 48 + d) digits) ≡ None
 no_comma_in [] = refl
-no_comma_in (d ∷ digits) = ap (comma_behind (48 + d)) (no_comma_in digits) ∙ ap (λ t. if t then Some 0 else None) (ne_eqb (48 + d) 44 (λ e. omega (arith, e)))
+no_comma_in (d ∷ digits) = ap (comma_behind (48 + d)) (no_comma_in digits)
+    ∙ ap (λ t. if t then Some 0 else None) (ne_eqb (48 + d) 44 (λ e. omega (arith, e)))
 
 -- a path and this mode may be sent
 pub may_send : (path given mode : List ℕ) → length path ≤ 1000 → given ≡ path → mode ≡ decimal FILE_MODE

@@ -1,5 +1,6 @@
 -- A piece of the answer, and the words that are due behind it.
-use Rattle.std.proofs.Common.{ℕ, zero, suc, ◌+◌, ◌-◌, ◌≡◌, ◌≢◌, ◌≤◌, ◌⊎◌, inl, inr, Bool, true, false, cond, List, [], ◌++◌, length, take, drop, Option, Some, Result, Ok, Err, refl, sym, ◌∙◌, ap, subst, arith, append_assoc}
+use Rattle.std.proofs.Common.{ℕ, zero, suc, ◌+◌, ◌-◌, ◌≡◌, ◌≢◌, ◌≤◌, ◌⊎◌, inl, inr, Bool, true, false, cond, List, [], ◌++◌, length, take}
+use Rattle.std.proofs.Common.{drop, Option, Some, Result, Ok, Err, refl, sym, ◌∙◌, ap, subst, arith, append_assoc}
 use Rattle.std.specs.Prelude.{⊤, codes}
 use Rattle.std.proofs.lemmas.List.{append-nil, length-take, drop-append-le, take-append-le, take-append-drop}
 use Rattle.std.proofs.lemmas.Slice.Eq.{bytes_eq-Decides}
@@ -29,7 +30,8 @@ okays_grow : (n : ℕ) (x y : List ℕ) → okays_at n x ≤ okays_at n (x ++ y)
 okays_grow zero x y = omega arith
 okays_grow (suc n) x y = go (begins_okay x) refl (okays_grow n (drop 4 x) y)
   where
-    go : (t : Bool) → begins_okay x ≡ t → okays_at n (drop 4 x) ≤ okays_at n (drop 4 x ++ y) → okays_at (suc n) x ≤ okays_at (suc n) (x ++ y)
+    go : (t : Bool) → begins_okay x ≡ t → okays_at n (drop 4 x) ≤ okays_at n (drop 4 x ++ y)
+        → okays_at (suc n) x ≤ okays_at (suc n) (x ++ y)
     go false is more =
         let none : okays_at (suc n) x ≡ 0 = ap (λ t. cond t (1 + okays_at n (drop 4 x)) 0) is in
         omega (arith, none)
@@ -58,7 +60,8 @@ abbrev pub carried : Result ⊤ SendError → Step Outcome → Result (Step Outc
 carried (Ok done) step = Ok step
 carried (Err error) step = Err error
 
-module _ {A : Type 0} (steady : A → Type 0) (view : A → Outlet) (job : Remote) (on : Option (List ℕ)) (piece : List ℕ) (before after : HeldAnswer) where
+module _ {A : Type 0} (steady : A → Type 0) (view : A → Outlet) (job : Remote) (on : Option (List ℕ)) (piece : List ℕ)
+    (before after : HeldAnswer) where
   -- memory ran out before anything was written
   pub piece_starved : (o : A) → TakesPiece steady view job on piece o o before after (Err OutOfMemory)
   piece_starved o = record {
@@ -257,7 +260,8 @@ module _ {I O : Type 0} (steady_in : I → Type 0) (faults : I → ℕ) (left : 
           ∙ (ap (λ k. decided (steps.BadAnswer k) 0 false) size ∙ ap (λ s. decided s 0 false) same)
 
   -- the read failed
-  pub turn_failed : (buffer : List ℕ) (o : O) → TellsRead (left in_old) (left in_new) buffer gots.Failed → Counts steady_in faults in_old in_new true
+  pub turn_failed : (buffer : List ℕ) (o : O) → TellsRead (left in_old) (left in_new) buffer gots.Failed
+      → Counts steady_in faults in_old in_new true
       → Turns ports job on in_old in_new o o before before (Err PortFault)
   turn_failed buffer o tells counts = record {
     told = λ read rest stands left_is. record {

@@ -1,5 +1,6 @@
 -- A conversation, turn by turn.
-use Rattle.std.proofs.Common.{ℕ, ◌≡◌, ◌≢◌, ◌⊎◌, inl, inr, true, false, List, [], ◌++◌, Option, Some, Result, Ok, Err, refl, sym, ◌∙◌, ap, arith}
+use Rattle.std.proofs.Common.{ℕ, ◌≡◌, ◌≢◌, ◌⊎◌, inl, inr, true, false, List, [], ◌++◌, Option, Some, Result, Ok, Err, refl, sym, ◌∙◌, ap}
+use Rattle.std.proofs.Common.{arith}
 use Rattle.std.specs.Prelude.{⊤}
 use Rattle.std.proofs.lemmas.List.{append-nil}
 use Rattle.adb_outside.specs.Outside.{Rises}
@@ -201,7 +202,8 @@ module _ {I O : Type 0} (ports : Ports I O) where
             };
         means = λ a b. absurd (neither e a b);
         calls = calls_then i j k o p q (Err (remote_error e) ≡ Err errors.PortFault) talks.calls
-            (calls_so j k p q (Err e ≡ Err PortFault) (Err (remote_error e) ≡ Err errors.PortFault) (λ is. ap Err (port_error e is)) turn.calls);
+            (calls_so j k p q (Err e ≡ Err PortFault) (Err (remote_error e) ≡ Err errors.PortFault)
+            (λ is. ap Err (port_error e is)) turn.calls);
       }
         where
           whole_of : {W : Type 0} (e : SendError)
@@ -219,7 +221,8 @@ module _ {I O : Type 0} (ports : Ports I O) where
       talks_more (Refused text) e turn = cc
       talks_more (BadAnswer offset) e turn = cc
 
-      pub talks_ends : (step : Step Outcome) (result : Result Outcome RemoteError) → is_more step ≡ false → decided step 0 false ≡ Some result
+      pub talks_ends : (step : Step Outcome) (result : Result Outcome RemoteError) → is_more step ≡ false
+          → decided step 0 false ≡ Some result
           → Turns ports job on j k p q r s (Ok step) → Listens ports job on i k o q result
       talks_ends step result ends is turn = talks_done step result turn (not_more step ends) is (never_fault step result is)
 
@@ -240,7 +243,9 @@ module _ {I O : Type 0} (ports : Ports I O) where
         };
       };
       means = λ a b. absurd (b refl);
-      calls = calls_so i i o o ⊥ (◌≡◌ {A = Result Outcome RemoteError} (Err errors.OutOfMemory) (Err errors.PortFault)) starved_only (calls_none i o);
+      calls = calls_so i i o o ⊥
+          (◌≡◌ {A = Result Outcome RemoteError} (Err errors.OutOfMemory) (Err errors.PortFault)) starved_only
+          (calls_none i o);
     }
 
     -- ---- the first request
@@ -302,5 +307,7 @@ module _ {I O : Type 0} (ports : Ports I O) where
           later : {W : Type 0} → W ⊎ IsCutShort (ports.view_out p).faults (ports.view_out q).faults result
               → W ⊎ IsCutShort (ports.view_out o).faults (ports.view_out q).faults result
           later (inl w) = inl w
-          later (inr (inl x)) = inr (inl (rises_later (ports.view_out o).faults (ports.view_out p).faults (ports.view_out q).faults s.count x))
+          later (inr (inl x)) =
+              inr (inl (rises_later (ports.view_out o).faults (ports.view_out p).faults (ports.view_out q).faults
+              s.count x))
           later (inr (inr m)) = inr (inr m)

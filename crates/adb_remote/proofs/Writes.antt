@@ -1,5 +1,6 @@
 -- What is written, call by call.
-use Rattle.std.proofs.Common.{ℕ, zero, suc, ◌+◌, ◌-◌, ◌≡◌, ◌≢◌, ◌≤◌, ◌<◌, inl, inr, Bool, List, [], ◌∷◌, ◌++◌, length, take, drop, Option, Some, Result, Ok, Err, refl, sym, ◌∙◌, ap, subst, arith, append_assoc}
+use Rattle.std.proofs.Common.{ℕ, zero, suc, ◌+◌, ◌-◌, ◌≡◌, ◌≢◌, ◌≤◌, ◌<◌, inl, inr, Bool, List, [], ◌∷◌, ◌++◌, length, take, drop, Option}
+use Rattle.std.proofs.Common.{Some, Result, Ok, Err, refl, sym, ◌∙◌, ap, subst, arith, append_assoc}
 use Rattle.std.specs.Prelude.{⊤, ◌==◌, true}
 use Rattle.std.proofs.lemmas.Bool.{eqb-true}
 use Rattle.std.proofs.lemmas.List.{append-nil, take-append-drop}
@@ -22,7 +23,8 @@ answer_of_write All = Ok tt
 answer_of_write (Failed taken) = Err PortFault
 
 -- a write of a port
-pub sends_by : {A : Type 0} (steady : A → Type 0) (faults : A → ℕ) (written : A → Option (List ℕ)) (closed : A → Bool) (bytes : List ℕ) (old new : A)
+pub sends_by : {A : Type 0} (steady : A → Type 0) (faults : A → ℕ) (written : A → Option (List ℕ)) (closed : A → Bool)
+    (bytes : List ℕ) (old new : A)
     (wrote : Wrote) → TellsWrite (written old) (written new) bytes wrote → Counts steady faults old new (is_failed_write wrote)
     → closed new ≡ closed old → Sends steady (seen faults written closed) bytes old new (answer_of_write wrote)
 sends_by steady faults written closed bytes old new All tells counts same = record {
@@ -34,7 +36,14 @@ sends_by steady faults written closed bytes old new All tells counts same = reco
   closed = same;
 }
 sends_by steady faults written closed bytes old new (Failed taken) tells counts same = record {
-  told = λ out is. record { said = take taken bytes; after_is = tells out is; part = (drop taken bytes, take-append-drop taken bytes); whole = λ e. cc };
+  told = λ out is.
+      record {
+        said = take taken bytes;
+        after_is = tells out is;
+        part =
+            (drop taken bytes, take-append-drop taken bytes);
+        whole = λ e. cc;
+      };
   count = counts.count;
   fault = λ e. counts.fault refl;
   keeps = counts.keeps;
@@ -92,7 +101,8 @@ module _ {A : Type 0} (steady : A → Type 0) (view : A → Outlet) where
   }
 
   -- an error, and what would have come behind it
-  pub sends_stopped : (text more : List ℕ) (old new : A) (error : SendError) → S text old new (Err error) → S (text ++ more) old new (Err error)
+  pub sends_stopped : (text more : List ℕ) (old new : A) (error : SendError) → S text old new (Err error)
+      → S (text ++ more) old new (Err error)
   sends_stopped text more old new error s = record {
     told = λ out is.
         let one = s.told out is in
@@ -159,7 +169,8 @@ module _ {A : Type 0} (steady : A → Type 0) (view : A → Outlet) where
         sends = sends_then h.text (word job on (said + 1)) old mid new (Ok tt) h.sends s;
       }
 
-      pub said_not : (error : SendError) → S (word job on (said + 1)) mid new (Err error) → SaysTo steady view job on from to old new (Err error)
+      pub said_not : (error : SendError) → S (word job on (said + 1)) mid new (Err error)
+          → SaysTo steady view job on from to old new (Err error)
       said_not error s =
           let more = words_grow (said + 1) (to - (said + 1)) in
           let sum : (to - (said + 1)) + (said + 1) ≡ to = omega (arith, less) in
@@ -172,7 +183,8 @@ module _ {A : Type 0} (steady : A → Type 0) (view : A → Outlet) where
                 (sends_then h.text (word job on (said + 1)) old mid new (Err error) h.sends s);
           }
 
-    pub said_all : (from to said : ℕ) (old now : A) → to ≤ said → SaidSo from to said old now → SaysTo steady view job on from to old now (Ok tt)
+    pub said_all : (from to said : ℕ) (old now : A) → to ≤ said → SaidSo from to said old now
+        → SaysTo steady view job on from to old now (Ok tt)
     said_all from to said old now stop h = record {
       text = h.text;
       same = λ le. let all : said ≡ to = omega (arith, stop, h.within le) in h.same ∙ ap (words_to job on) all;
@@ -227,11 +239,13 @@ module _ {A : Type 0} (steady : A → Type 0) (view : A → Outlet) where
     }
 
   -- what is held, bytes, and what stands behind them
-  pub around_sent : (head bytes end held : List ℕ) (old mid new : A) (answer : Result ⊤ SendError) → SendsPart steady view (head ++ bytes) held old mid
+  pub around_sent : (head bytes end held : List ℕ) (old mid new : A) (answer : Result ⊤ SendError)
+      → SendsPart steady view (head ++ bytes) held old mid
       → S (held ++ end) mid new answer → S (head ++ (bytes ++ end)) old new answer
   around_sent head bytes end held old mid new answer h s =
       let more = part_behind (head ++ bytes) held old mid h end (held ++ end) refl in
-      subst (λ t. S t old new answer) (append_assoc head bytes end) (part_then ((head ++ bytes) ++ end) (held ++ end) old mid more new answer s)
+      subst (λ t. S t old new answer) (append_assoc head bytes end)
+      (part_then ((head ++ bytes) ++ end) (held ++ end) old mid more new answer s)
 
   pub around_stopped : (head bytes end : List ℕ) (old new : A) (error : SendError) → S (head ++ bytes) old new (Err error)
       → S (head ++ (bytes ++ end)) old new (Err error)

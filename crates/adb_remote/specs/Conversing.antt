@@ -114,7 +114,8 @@ pub record Took (job : Remote) (on : Option (List ℕ)) (read : List ℕ) (had :
   pub stands : answer ≡ Ok More → ReadingStands job read new
   pub says : (out : List ℕ) → had out → SaysWords job on read out written short
 
-pub record TakesPiece {O : Type 0} (steady : O → Type 0) (view : O → Outlet) (job : Remote) (on : Option (List ℕ)) (piece : List ℕ) (old new : O)
+pub record TakesPiece {O : Type 0} (steady : O → Type 0) (view : O → Outlet) (job : Remote) (on : Option (List ℕ))
+    (piece : List ℕ) (old new : O)
     (before after : HeldAnswer) (answer : Result (Step Outcome) SendError) : Type 0 where
   pub told : (read : List ℕ) → ReadingStands job read before
       → Took job on (read ++ piece) (λ out. (view old).written ≡ Some (out ++ client_words job on read)) (view new).written

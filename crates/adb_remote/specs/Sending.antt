@@ -30,7 +30,8 @@ pub record WentOut (text out : List ℕ) (after : Option (List ℕ)) (answer : R
   pub whole : answer ≡ Ok tt → said ≡ text
 
 -- A text was written to a port. A call fails only where a write did, and never over a port that doesn't.
-pub record Sends {A : Type 0} (steady : A → Type 0) (view : A → Outlet) (text : List ℕ) (old new : A) (answer : Result ⊤ SendError) : Type 0 where
+pub record Sends {A : Type 0} (steady : A → Type 0) (view : A → Outlet) (text : List ℕ) (old new : A)
+    (answer : Result ⊤ SendError) : Type 0 where
   pub told : (out : List ℕ) → (view old).written ≡ Some out → WentOut text out (view new).written answer
   pub count : (view old).faults ≤ (view new).faults
   pub fault : answer ≡ Err PortFault → Rises (view old).faults (view new).faults
@@ -52,6 +53,7 @@ pub record SendsPart {A : Type 0} (steady : A → Type 0) (view : A → Outlet) 
   pub sends : Sends steady view gone old new (Ok tt)
 
 -- A text was written but for what is left, unless a call failed.
-abbrev pub SendsSome : {A : Type 0} (steady : A → Type 0) (view : A → Outlet) (text left : List ℕ) (old new : A) → Result ⊤ SendError → Type 0
+abbrev pub SendsSome : {A : Type 0} (steady : A → Type 0) (view : A → Outlet) (text left : List ℕ) (old new : A)
+    → Result ⊤ SendError → Type 0
 SendsSome steady view text left old new (Ok done) = SendsPart steady view text left old new
 SendsSome steady view text left old new (Err error) = Sends steady view text old new (Err error)

@@ -23,7 +23,8 @@ found_next kind offset bytes i within =
     let rest = drop (suc i) bytes in
     let cut : drop i bytes ≡ byte ∷ rest = drop-cons bytes i 0 (omega (arith, within)) in
     let one : suc i ≡ i + 1 = omega arith in
-    let grown : take i bytes ++ byte ∷ [] ≡ take (i + 1) bytes = sym (take-suc bytes i 0 (omega (arith, within))) ∙ ap (λ k. take k bytes) one in
+    let grown : take i bytes ++ byte ∷ [] ≡ take (i + 1) bytes =
+    sym (take-suc bytes i 0 (omega (arith, within))) ∙ ap (λ k. take k bytes) one in
     let size : length (take i bytes) ≡ i = omega (arith, within, length-take i bytes) in
     let all : length (take i bytes) + suc (length rest) ≡ length bytes = omega (arith, within, size, length-drop (suc i) bytes) in
     ap (found_behind kind offset (take i bytes)) cut
@@ -45,5 +46,6 @@ module _ (kind : Awaited) (offset : ℕ) (bytes : List ℕ) (i : ℕ) (within : 
   pub short_here : head kind (take (i + 1) bytes) ≡ Short → ShortUpTo kind offset bytes (i + 1)
   short_here is = said Short is
 
-pub all_short : (kind : Awaited) (offset : ℕ) (bytes : List ℕ) (i : ℕ) → length bytes ≤ i → ShortUpTo kind offset bytes i → found kind offset bytes ≡ More
+pub all_short : (kind : Awaited) (offset : ℕ) (bytes : List ℕ) (i : ℕ) → length bytes ≤ i
+    → ShortUpTo kind offset bytes i → found kind offset bytes ≡ More
 all_short kind offset bytes i past short = short ∙ ap (found_behind kind offset (take i bytes)) (drop_all i bytes (omega (arith, past)))

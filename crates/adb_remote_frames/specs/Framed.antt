@@ -1,5 +1,6 @@
 -- What the bytes begin with stays so, whatever follows: frames are a format.
-use Rattle.std.specs.Prelude.{ℕ, zero, suc, ◌==◌, ◌||◌, not, bytes_eq, ◌+◌, ◌-◌, ◌≡◌, ◌≤◌, ◌<◌, nat_lt, cond, Bool, true, false, List, [], ◌∷◌, ◌++◌, length, take, drop, refl, Option, Some, None}
+use Rattle.std.specs.Prelude.{ℕ, zero, suc, ◌==◌, ◌||◌, not, bytes_eq, ◌+◌, ◌-◌, ◌≡◌, ◌≤◌, ◌<◌, nat_lt, cond, Bool, true, false, List, []}
+use Rattle.std.specs.Prelude.{◌∷◌, ◌++◌, length, take, drop, refl, Option, Some, None}
 use Rattle.std.specs.Prelude.{codes}
 use Rattle.adb_remote_frames.specs.declared.frame.TheConstants.{EXIT, STDERR, STDOUT}
 use Rattle.adb_remote_frames.specs.declared.packets.TheConstants.{MAX_OUTPUT_PACKET}
@@ -17,7 +18,8 @@ use Rattle.adb_remote_frames.specs.declared.head.Awaited.{Awaited}
 use Rattle.adb_remote_frames.specs.declared.head.Awaited.TheVariants as awaited
 use Rattle.adb_remote_frames.specs.declared.head.Head.{Head}
 use Rattle.adb_remote_frames.specs.declared.head.Head.TheVariants.{Short, Stray, Says}
-use Rattle.adb_remote_frames.specs.Heads.{is_front, is_lower_hex, says_behind, counted, status_head, output_head, exit_head, packet_head, head, whole_of, by_head, found_behind}
+use Rattle.adb_remote_frames.specs.Heads.{is_front, is_lower_hex, says_behind, counted, status_head, output_head, exit_head, packet_head}
+use Rattle.adb_remote_frames.specs.Heads.{head, whole_of, by_head, found_behind}
 use Rattle.adb_remote_frames.specs.Frames.{frame_at, frame_of, past_frame}
 
 says_same : (a b : ℕ) → Says a ≡ Says b → a ≡ b

@@ -30,7 +30,8 @@ frames_fed job fed piece old new step reads stands =
     }
 
 -- what a machine for a request tells of a piece
-pub record Asked {V : Type 0} (Stands : List ℕ → Asking → Type 0) (value : List ℕ → Step V) (piece : List ℕ) (told : Step V) (old new : Asking) : Type 0 where
+pub record Asked {V : Type 0} (Stands : List ℕ → Asking → Type 0) (value : List ℕ → Step V) (piece : List ℕ)
+    (told : Step V) (old new : Asking) : Type 0 where
   pub means : (fed : List ℕ) → Stands fed old → told ≡ value (fed ++ piece)
   pub goes_on : (fed : List ℕ) → Stands fed old → Stands (fed ++ piece) new
 

@@ -1,5 +1,6 @@
 -- What frames mean that are taken one by one, and piece by piece.
-use Rattle.std.proofs.Common.{ℕ, ◌≡◌, List, [], ◌∷◌, ◌++◌, length, true, false, Option, Some, None, Result, refl, sym, ◌∙◌, ap, subst, arith, append_assoc}
+use Rattle.std.proofs.Common.{ℕ, ◌≡◌, List, [], ◌∷◌, ◌++◌, length, true, false, Option, Some, None, Result, refl, sym, ◌∙◌, ap, subst}
+use Rattle.std.proofs.Common.{arith, append_assoc}
 use Rattle.std.proofs.lemmas.List.{append-nil}
 use Rattle.adb_outside.specs.Framing.{Cut, cut, held_after, joined, answer_of}
 use Rattle.adb_outside.specs.declared.framer.FeedError.{FeedError}
@@ -54,7 +55,8 @@ decided_so (Done outcome) x y e = refl
 decided_so (Refused text) x y e = refl
 decided_so (BadAnswer offset) x y e = refl
 
-module _ (job : Remote) (old : HeldFrames) (before after : Held) (told : Told) (frame : Frame) (on : GathersOn job old (held_of before told))
+module _ (job : Remote) (old : HeldFrames) (before after : Held) (told : Told) (frame : Frame)
+    (on : GathersOn job old (held_of before told))
     (first : before ≡ record after { given = frame ∷ after.given }) where
   means : (others : List Frame) (behind : Step Outcome) → meant job old.told (old.cut.given ++ others) behind
       ≡ or_further (frame_step job told frame) (meant job (told_with told frame) (after.given ++ others) behind)
@@ -76,11 +78,13 @@ module _ (job : Remote) (old : HeldFrames) (before after : Held) (told : Told) (
       }
 
   -- one that decides
-  pub take_ends : (step : Step Outcome) (new : Told) → step ≡ frame_step job told frame → is_more step ≡ false → Gathers job old step (held_of after new)
+  pub take_ends : (step : Step Outcome) (new : Told) → step ≡ frame_step job told frame → is_more step ≡ false
+      → Gathers job old step (held_of after new)
   take_ends step new is ends = record {
     all = λ others behind. means others behind
         ∙ (ap (λ s. or_further s (meant job (told_with told frame) (after.given ++ others) behind)) (sym is)
-        ∙ decided_so step (meant job (told_with told frame) (after.given ++ others) behind) (meant job new (after.given ++ others) behind) ends);
+        ∙ decided_so step (meant job (told_with told frame) (after.given ++ others) behind)
+        (meant job new (after.given ++ others) behind) ends);
     none_left = λ more. absurd (no_more step ends more);
     reading = ap (λ (c : Held). c.reading) (sym first) ∙ on.reading;
     rest = ap (λ (c : Held). c.rest) (sym first) ∙ on.rest;
@@ -131,7 +135,8 @@ module _ (job : Remote) (old new : HeldFrames) (piece : List ℕ) (s : Step Outc
   reads_whole g fault same = record {
     now = ap (λ f. or_further s (unended f)) same
         ∙ (sym (none_behind job s new.told new.cut.given (unended whole.fault) g.none_left)
-        ∙ (sym (g.all [] (unended whole.fault)) ∙ ap (λ (l : List Frame). meant job old.told l (unended whole.fault)) (append-nil whole.given)));
+        ∙ (sym (g.all [] (unended whole.fault)) ∙ ap (λ (l : List Frame). meant job old.told l (unended whole.fault))
+        (append-nil whole.given)));
     later = λ more_yet more. later (both_more s fault more_yet) more;
     none_left = λ more_yet. g.none_left (both_more s fault more_yet).0;
     no_fault = λ more_yet. g.fault ∙ (sym same ∙ (both_more s fault more_yet).1);
@@ -142,7 +147,8 @@ module _ (job : Remote) (old new : HeldFrames) (piece : List ℕ) (s : Step Outc
           let behind : Held = frames_from whole.reading (whole.rest ++ more) in
           let cut_on : frames_from old.cut.reading (old.cut.rest ++ (piece ++ more)) ≡ joined whole.given behind =
           ap (frames_from old.cut.reading) (sym (append_assoc old.cut.rest piece more))
-          ∙ cut_piece frame_at frame_of past_frame frames_are_framed (length bytes) old.cut.reading bytes more (omega arith) (sym same ∙ open_yet.1) in
+          ∙ cut_piece frame_at frame_of past_frame frames_are_framed (length bytes) old.cut.reading bytes more
+          (omega arith) (sym same ∙ open_yet.1) in
           ap (frames_step job old.told) cut_on
           ∙ (g.all behind.given (unended behind.fault)
           ∙ (ap (λ t. or_further t (meant job new.told (new.cut.given ++ behind.given) (unended behind.fault))) open_yet.0
@@ -155,6 +161,8 @@ module _ (job : Remote) (old new : HeldFrames) (piece : List ℕ) (s : Step Outc
       → ◌≡◌ {A = Result (Unit {0}) (FeedError ℕ)} (answer_of Fault fault) (answer_of Fault mid.fault)
       → Gathers job (held_of mid old.told) s new → ReadsFrames job old piece (or_further s (unended fault)) new
   reads mid fault none sound is answer g =
-      let same : mid ≡ whole = is ∙ (ap (held_after frame_at frame_of past_frame old.cut piece) sound ∙ ap (λ (l : List Frame). joined l whole) none) in
+      let same : mid ≡ whole =
+      is ∙ (ap (held_after frame_at frame_of past_frame old.cut piece) sound
+      ∙ ap (λ (l : List Frame). joined l whole) none) in
       reads_whole (subst (λ (m : Held). Gathers job (held_of m old.told) s new) same g) fault
       (same_fault fault mid.fault answer ∙ ap (λ (c : Held). c.fault) same)

@@ -1,5 +1,6 @@
 -- What is decided stays so, whatever follows.
-use Rattle.std.proofs.Common.{ℕ, zero, suc, ◌+◌, ◌-◌, ◌≡◌, ◌≢◌, ◌≤◌, List, [], ◌∷◌, ◌++◌, length, take, drop, cond, Bool, true, false, Option, Some, None, Result, refl, sym, ◌∙◌, ap, arith}
+use Rattle.std.proofs.Common.{ℕ, zero, suc, ◌+◌, ◌-◌, ◌≡◌, ◌≢◌, ◌≤◌, List, [], ◌∷◌, ◌++◌, length, take, drop, cond, Bool, true, false}
+use Rattle.std.proofs.Common.{Option, Some, None, Result, refl, sym, ◌∙◌, ap, arith}
 use Rattle.std.specs.Prelude.{nat_lt}
 use Rattle.std.proofs.lemmas.Bool.Decides.{nat_tests}
 use Rattle.std.proofs.lemmas.List.{length-append, length-take, drop-append-le, take-append-le, take_all}
@@ -22,14 +23,16 @@ use Rattle.adb_remote_words.specs.declared.remote.Outcome.{Outcome}
 use Rattle.adb_remote_words.specs.declared.remote.Outcome.TheVariants.{Pushed, Pulled}
 use Rattle.adb_remote_words.specs.declared.remote.RemoteError.{RemoteError}
 use Rattle.adb_remote_words.specs.declared.told.Told.{Told}
-use Rattle.adb_remote_words.specs.Meaning.{nothing_told, or_further, unended, frame_step, told_with, meant, frames_step, sync_step, body_step, refusal, refused_by, opened, answer_step, limited_at}
+use Rattle.adb_remote_words.specs.Meaning.{nothing_told, or_further, unended, frame_step, told_with, meant, frames_step, sync_step}
+use Rattle.adb_remote_words.specs.Meaning.{body_step, refusal, refused_by, opened, answer_step, limited_at}
 use Rattle.adb_remote_words.specs.Outcome.{answer_so_far, decided, outcome_of}
 use Rattle.adb_remote_words.specs.Words.{begins_okay, requests}
 use Rattle.adb_remote_words.proofs.Openings.{okay_is, okay_same, no_okay_later, refusal_stays, status}
 use Rattle.adb_remote_words.proofs.Readings.{take_behind}
 
 -- ---- frames
-meant_stays : (job : Remote) (told : Told) (given others : List Frame) (behind : Step Outcome) → meant job told given steps.More ≢ steps.More
+meant_stays : (job : Remote) (told : Told) (given others : List Frame) (behind : Step Outcome)
+    → meant job told given steps.More ≢ steps.More
     → meant job told (given ++ others) behind ≡ meant job told given steps.More
 meant_stays job told [] others behind some = absurd (some refl)
 meant_stays job told (frame ∷ given) others behind some =
@@ -38,7 +41,8 @@ meant_stays job told (frame ∷ given) others behind some =
     go : (s : Step Outcome) → or_further s (meant job (told_with told frame) given steps.More) ≢ steps.More
         → (meant job (told_with told frame) given steps.More ≢ steps.More
         → meant job (told_with told frame) (given ++ others) behind ≡ meant job (told_with told frame) given steps.More)
-        → or_further s (meant job (told_with told frame) (given ++ others) behind) ≡ or_further s (meant job (told_with told frame) given steps.More)
+        → or_further s (meant job (told_with told frame) (given ++ others) behind)
+        ≡ or_further s (meant job (told_with told frame) given steps.More)
     go steps.More some further = further some
     go (steps.Done outcome) some further = refl
     go (steps.Refused text) some further = refl
@@ -62,7 +66,8 @@ frames_stay job told p x y some = go (frames_from p x).fault refl
 
 -- ---- all of an answer
 abbrev ValuesStay : Type 0
-ValuesStay = (kind : AnswerKind) (bytes more : List ℕ) → answer_value kind bytes ≢ steps.More → answer_value kind (bytes ++ more) ≡ answer_value kind bytes
+ValuesStay = (kind : AnswerKind) (bytes more : List ℕ) → answer_value kind bytes ≢ steps.More
+    → answer_value kind (bytes ++ more) ≡ answer_value kind bytes
 
 sync_stays : {A : Type 0} (stay : ValuesStay) (kind : AnswerKind) (f : A → Outcome) (g : Said → A) (x y : List ℕ)
     → sync_step f (step_map g (answer_value kind x)) ≢ steps.More
@@ -72,8 +77,10 @@ sync_stays stay kind f g x y some =
 
 body_stays : ValuesStay → (job : Remote) (x y : List ℕ) → body_step job x ≢ steps.More → body_step job (x ++ y) ≡ body_step job x
 body_stays stay Devices x y some = frames_stay Devices nothing_told (record { awaited = awaited.List; offset = 4 }) x y some
-body_stays stay (Wait serial state) x y some = frames_stay (Wait serial state) nothing_told (record { awaited = awaited.List; offset = 4 }) x y some
-body_stays stay (Shell command) x y some = frames_stay (Shell command) nothing_told (record { awaited = awaited.Packet; offset = 8 }) x y some
+body_stays stay (Wait serial state) x y some = frames_stay (Wait serial state) nothing_told
+    (record { awaited = awaited.List; offset = 4 }) x y some
+body_stays stay (Shell command) x y some = frames_stay (Shell command) nothing_told
+    (record { awaited = awaited.Packet; offset = 8 }) x y some
 body_stays stay (Push path mtime bytes) x y some = sync_stays {A = Unit {0}} stay kinds.Push (λ done. Pushed) (λ said. tt) x y some
 body_stays stay (Pull path) x y some = sync_stays {A = List ℕ} stay kinds.Pull Pulled (λ said. said.bytes) x y some
 
@@ -104,7 +111,8 @@ step_stays : ValuesStay → (job : Remote) (x y : List ℕ) → answer_step job 
 step_stays stay job x y some = opened_stays (body_step job) (body_stays stay job) 0 (requests job) x y some
 
 -- what is decided is so however long the answer is, and whether it ended
-decided_any : (s : Step Outcome) (len other : ℕ) (ended : Bool) (r : Result Outcome RemoteError) → decided s len false ≡ Some r → decided s other ended ≡ Some r
+decided_any : (s : Step Outcome) (len other : ℕ) (ended : Bool) (r : Result Outcome RemoteError)
+    → decided s len false ≡ Some r → decided s other ended ≡ Some r
 decided_any steps.More len other ended r e = cc
 decided_any (steps.Done outcome) len other ended r e = e
 decided_any (steps.Refused text) len other ended r e = e
@@ -120,7 +128,8 @@ limited_so (steps.Done outcome) true some = refl
 limited_so (steps.Refused text) true some = refl
 limited_so (steps.BadAnswer offset) true some = refl
 
-pub outcome_stays : ValuesStay → (job : Remote) (front more : List ℕ) (ended : Bool) (r : Result Outcome RemoteError) → outcome_of job front false ≡ Some r
+pub outcome_stays : ValuesStay → (job : Remote) (front more : List ℕ) (ended : Bool) (r : Result Outcome RemoteError)
+    → outcome_of job front false ≡ Some r
     → outcome_of job (front ++ more) ended ≡ Some r
 outcome_stays stay job front more ended r e = go (nat_lt MAX_ANSWER (length front)) refl
   where
@@ -136,11 +145,14 @@ outcome_stays stay job front more ended r e = go (nat_lt MAX_ANSWER (length fron
     go false is =
         let short : length front ≤ MAX_ANSWER = grind (arith, nat_tests, is) in
         let rest = take (MAX_ANSWER - length front) more in
-        let here : answer_so_far job front ≡ answer_step job front = λ i. limited_at (is i) (answer_step job (take_all MAX_ANSWER front short i)) in
-        let e_here : decided (answer_step job front) (length front) false ≡ Some r = ap (λ s. decided s (length front) false) (sym here) ∙ e in
+        let here : answer_so_far job front ≡ answer_step job front =
+        λ i. limited_at (is i) (answer_step job (take_all MAX_ANSWER front short i)) in
+        let e_here : decided (answer_step job front) (length front) false ≡ Some r =
+        ap (λ s. decided s (length front) false) (sym here) ∙ e in
         let some : answer_step job front ≢ steps.More = not_more (answer_step job front) (length front) r e_here in
         let same : answer_step job (take MAX_ANSWER all) ≡ answer_step job front =
-        ap (answer_step job) (take_behind front more (MAX_ANSWER - length front) MAX_ANSWER (omega (arith, short))) ∙ step_stays stay job front rest some in
+        ap (answer_step job) (take_behind front more (MAX_ANSWER - length front) MAX_ANSWER (omega (arith, short)))
+        ∙ step_stays stay job front rest some in
         ap (λ s. decided (limited_at (nat_lt MAX_ANSWER (length all)) s) (length all) ended) same
         ∙ (ap (λ s. decided s (length all) ended) (limited_so (answer_step job front) (nat_lt MAX_ANSWER (length all)) some)
         ∙ decided_any (answer_step job front) (length front) (length all) ended r e_here)

@@ -1,5 +1,6 @@
 -- The OKAYs of an answer, one by one.
-use Rattle.std.proofs.Common.{ℕ, zero, suc, ◌+◌, ◌*◌, ◌≡◌, ◌≤◌, ◌<◌, List, [], ◌∷◌, ◌++◌, length, take, drop, cond, Bool, true, false, Result, Ok, Err, refl, sym, ◌∙◌, ap, subst, arith}
+use Rattle.std.proofs.Common.{ℕ, zero, suc, ◌+◌, ◌*◌, ◌≡◌, ◌≤◌, ◌<◌, List, [], ◌∷◌, ◌++◌, length, take, drop, cond, Bool, true, false}
+use Rattle.std.proofs.Common.{Result, Ok, Err, refl, sym, ◌∙◌, ap, subst, arith}
 use Rattle.std.specs.Prelude.{codes, bytes_eq, get_or, IfOk, ⊤}
 use Rattle.std.proofs.lemmas.List.{take-append-le, drop-append-le, length-take}
 use Rattle.std.proofs.lemmas.Slice.Eq.{bytes_eq-Decides}
@@ -129,7 +130,8 @@ module _ (old : HeldOpening) (held : List ℕ) (okays : ℕ) (is : begins_okay h
     sum = omega (arith, on.sum);
   }
 
-  pub opens_one : (left now : ℕ) → now + 1 ≡ left → OpensOn old (opening_of held okays left) → OpensOn old (opening_of (drop 4 held) (okays + 1) now)
+  pub opens_one : (left now : ℕ) → now + 1 ≡ left → OpensOn old (opening_of held okays left)
+      → OpensOn old (opening_of (drop 4 held) (okays + 1) now)
   opens_one zero now one on = absurd (omega (arith, one))
   opens_one (suc m) now one on =
       let same : m ≡ now = omega (arith, one) in
@@ -161,7 +163,8 @@ module _ (old : HeldOpening) (held : List ℕ) (okays : ℕ) (lacks : begins_oka
       ∙ (ap (λ t. cond t (opened (4 * okays + 4) m further (drop 4 (held ++ more))) (refusal (4 * okays) (held ++ more))) later
       ∙ refusal_stays (4 * okays) held more f is some)
 
-  none_more : (m : ℕ) (on : OpensOn old (now_at (suc m))) (f : Front ℕ) → status (4 * okays) held ≡ f → (f ≡ fronts.More → ⊥) → (more : List ℕ)
+  none_more : (m : ℕ) (on : OpensOn old (now_at (suc m))) (f : Front ℕ) → status (4 * okays) held ≡ f
+      → (f ≡ fronts.More → ⊥) → (more : List ℕ)
       → old.okays + okays_at old.left (old.held ++ more) ≡ okays
   none_more m on f is some more =
       let later = no_okay_later (4 * okays) held more lacks (λ e. some (sym is ∙ e)) in
@@ -172,7 +175,9 @@ module _ (old : HeldOpening) (held : List ℕ) (okays : ℕ) (lacks : begins_oka
   by_front m on fronts.More is = record {
     means = on.means;
     okays = on.okays;
-    undecided = λ e further. ap (λ t. cond t (opened (4 * okays + 4) m further (drop 4 held)) (refusal (4 * okays) held)) lacks ∙ ap (refused_by held) is;
+    undecided = λ e further. ap
+        (λ t. cond t (opened (4 * okays + 4) m further (drop 4 held)) (refusal (4 * okays) held)) lacks
+        ∙ ap (refused_by held) is;
     none_here = λ e. ap (λ t. cond t (1 + okays_at m (drop 4 held)) 0) lacks;
     waits = λ e. omega arith;
     done = λ y e. cc;
@@ -197,21 +202,24 @@ module _ (old : HeldOpening) (held : List ℕ) (okays : ℕ) (lacks : begins_oka
     sum = on.sum;
   }
 
-  pub opens_not : (left : ℕ) (step : Step ⊤) → 0 < left → OpensOn old (now_at left) → step ≡ refusal (4 * okays) held → Opened old step (now_at left)
+  pub opens_not : (left : ℕ) (step : Step ⊤) → 0 < left → OpensOn old (now_at left) → step ≡ refusal (4 * okays) held
+      → Opened old step (now_at left)
   opens_not zero step some on is = absurd (omega (arith, some))
   opens_not (suc m) step some on is =
       subst (λ s. Opened old s (now_at (suc m))) (sym is) (by_front m on (status (4 * okays) held) refl)
 
 -- the same of a call's answer
 pub refusal_opens : {E : Type 0} (old : HeldOpening) (held : List ℕ) (okays left offset : ℕ) (bytes : List ℕ) (result : Result (Step ⊤) E)
-    → begins_okay held ≡ false → 0 < left → (old.okays + old.left ≤ 2 → OpensOn old (opening_of held okays left)) → offset ≡ 4 * okays → bytes ≡ held
+    → begins_okay held ≡ false → 0 < left → (old.okays + old.left ≤ 2 → OpensOn old (opening_of held okays left))
+    → offset ≡ 4 * okays → bytes ≡ held
     → IfOk result (λ step. step ≡ refusal offset bytes)
     → IfOk result (λ step. old.okays + old.left ≤ 2 → Opened old step (opening_of held okays left))
 refusal_opens old held okays left offset bytes (Ok step) lacks some on at same is =
     λ few. opens_not old held okays lacks left step some (on few) (is ∙ (λ i. refusal (at i) (same i)))
 refusal_opens old held okays left offset bytes (Err error) lacks some on at same is = tt
 
-pub opens_next : (old : HeldOpening) (held next : List ℕ) (okays more left now : ℕ) → begins_okay held ≡ true → next ≡ drop 4 held → more ≡ okays + 1
+pub opens_next : (old : HeldOpening) (held next : List ℕ) (okays more left now : ℕ) → begins_okay held ≡ true
+    → next ≡ drop 4 held → more ≡ okays + 1
     → now + 1 ≡ left → OpensOn old (opening_of held okays left) → OpensOn old (opening_of next more now)
 opens_next old held next okays more left now is cut counted one on =
     let there = opens_one old held okays is left now one on in

@@ -1,5 +1,6 @@
 -- An answer, piece by piece.
-use Rattle.std.proofs.Common.{ℕ, zero, suc, ◌+◌, ◌-◌, ◌*◌, ◌≡◌, ◌≤◌, ◌<◌, min, List, [], ◌∷◌, ◌++◌, length, take, drop, cond, Bool, true, false, Result, Ok, Err, refl, sym, ◌∙◌, ap, subst, arith, append_assoc}
+use Rattle.std.proofs.Common.{ℕ, zero, suc, ◌+◌, ◌-◌, ◌*◌, ◌≡◌, ◌≤◌, ◌<◌, min, List, [], ◌∷◌, ◌++◌, length, take, drop, cond, Bool, true}
+use Rattle.std.proofs.Common.{false, Result, Ok, Err, refl, sym, ◌∙◌, ap, subst, arith, append_assoc}
 use Rattle.std.specs.Prelude.{⊤, nat_lt, IfOk}
 use Rattle.std.proofs.lemmas.Bool.Decides.{nat_tests}
 use Rattle.std.proofs.lemmas.List.{append-nil, length-append, length-take, length-drop, drop-append-le, take-append-drop, take_all}
@@ -21,7 +22,8 @@ no_okay : (a : ℕ) → a + 0 ≡ a
 no_okay a = omega arith
 
 -- ---- behind the OKAYs
-module _ (job : Remote) (fed piece : List ℕ) (o : HeldOpening) (old new : Body) (step : Step Outcome) (h : Means job fed o old) (none : o.left ≡ 0)
+module _ (job : Remote) (fed piece : List ℕ) (o : HeldOpening) (old new : Body) (step : Step Outcome)
+    (h : Means job fed o old) (none : o.left ≡ 0)
     (feeds : (f : List ℕ) → BodyStands job f old → HasFed job (f ++ piece) step new) where
   behind_all : (more : List ℕ) → answer_step job (fed ++ (piece ++ more)) ≡ body_step job (h.behind ++ (piece ++ more))
   behind_all more = h.means (piece ++ more) ∙ ap (λ n. opened (4 * o.okays) n (body_step job) (h.behind ++ (piece ++ more))) none
@@ -49,7 +51,8 @@ module _ (job : Remote) (fed piece : List ℕ) (o : HeldOpening) (old new : Body
       }
 
 -- ---- the OKAYs
-module _ (job : Remote) (fed piece : List ℕ) (old new : HeldOpening) (body : Body) (told : Step ⊤) (h : Means job fed old body) (some : 0 < old.left)
+module _ (job : Remote) (fed piece : List ℕ) (old new : HeldOpening) (body : Body) (told : Step ⊤)
+    (h : Means job fed old body) (some : 0 < old.left)
     (opens : old.okays + old.left ≤ 2 → Opened (record old { held = old.held ++ piece }) told new) where
   o : Opened (record old { held = old.held ++ piece }) told new
   o = opens h.sum
@@ -71,7 +74,10 @@ module _ (job : Remote) (fed piece : List ℕ) (old new : HeldOpening) (body : B
 
   means_at : (t : Step ⊤) → told ≡ t → (more : List ℕ) → answer_step job ((fed ++ piece) ++ more)
       ≡ or_behind (λ refused. refused) t (opened (4 * new.okays) new.left (body_step job) (new.held ++ more))
-  means_at t is more = means_on more ∙ ap (λ t. or_behind (λ refused. refused) t (opened (4 * new.okays) new.left (body_step job) (new.held ++ more))) is
+  means_at t is more =
+      means_on more
+      ∙ ap (λ t. or_behind (λ refused. refused) t
+      (opened (4 * new.okays) new.left (body_step job) (new.held ++ more))) is
 
   okays_come : (t : Step ⊤) → told ≡ t → (more : List ℕ) → okays_at (requests job) ((fed ++ piece) ++ more)
       ≡ or_behind (λ refused. new.okays) t (new.okays + okays_at new.left (new.held ++ more))
@@ -81,7 +87,9 @@ module _ (job : Remote) (fed piece : List ℕ) (old new : HeldOpening) (body : B
       → answer_step job (fed ++ piece) ≡ or_behind (λ refused. refused) t (opened (4 * new.okays) new.left (body_step job) new.held)
   means_now t is =
       ap (answer_step job) (sym (append-nil (fed ++ piece)))
-      ∙ (means_at t is [] ∙ ap (λ b. or_behind (λ refused. refused) t (opened (4 * new.okays) new.left (body_step job) b)) (append-nil new.held))
+      ∙ (means_at t is []
+      ∙ ap (λ b. or_behind (λ refused. refused) t (opened (4 * new.okays) new.left (body_step job) b))
+      (append-nil new.held))
 
   okays_now : (t : Step ⊤) → told ≡ t
       → okays_at (requests job) (fed ++ piece) ≡ or_behind (λ refused. new.okays) t (new.okays + okays_at new.left new.held)
@@ -111,7 +119,8 @@ module _ (job : Remote) (fed piece : List ℕ) (old new : HeldOpening) (body : B
     };
   }
 
-  pub follows_done : (x : ⊤) → told ≡ Done x → (step : Step Outcome) (next : Body) → (BodyStands job [] body → HasFed job ([] ++ new.held) step next)
+  pub follows_done : (x : ⊤) → told ≡ Done x → (step : Step Outcome) (next : Body)
+      → (BodyStands job [] body → HasFed job ([] ++ new.held) step next)
       → Follows job (fed ++ piece) step new next
   follows_done x is step next feeds =
       let none = o.done x is in
@@ -143,7 +152,8 @@ pub means_in : (job : Remote) (fed : List ℕ) (o : HeldOpening) (body : Body) (
     → Means job fed r.opening r.body → Means job fed o body
 means_in job fed o body count r view h = subst (λ (r : HeldAnswer). Means job fed r.opening r.body) (sym view) h
 
-module _ {E : Type 0} (job : Remote) (piece : List ℕ) (o : HeldOpening) (body : Body) (count : ℕ) (r : HeldAnswer) (view : answer_of o body count ≡ r) where
+module _ {E : Type 0} (job : Remote) (piece : List ℕ) (o : HeldOpening) (body : Body) (count : ℕ) (r : HeldAnswer)
+    (view : answer_of o body count ≡ r) where
   pub within_body : (next : Body) (result : Result (Step Outcome) E) → o.left ≡ 0
       → IfOk result (λ step. (f : List ℕ) → BodyStands job f body → HasFed job (f ++ piece) step next)
       → IfOk result (λ step. (fed : List ℕ) → Means job fed r.opening r.body → Follows job (fed ++ piece) step o next)
@@ -151,7 +161,8 @@ module _ {E : Type 0} (job : Remote) (piece : List ℕ) (o : HeldOpening) (body 
       λ fed h. follows_body job fed piece o body next step (means_in job fed o body count r view h) none feeds
   within_body next (Err error) none feeds = tt
 
-  pub within_done : (new : HeldOpening) (next : Body) (told : Step ⊤) (x : ⊤) (held : List ℕ) (result : Result (Step Outcome) E) → 0 < o.left
+  pub within_done : (new : HeldOpening) (next : Body) (told : Step ⊤) (x : ⊤) (held : List ℕ)
+      (result : Result (Step Outcome) E) → 0 < o.left
       → (o.okays + o.left ≤ 2 → Opened (record o { held = o.held ++ piece }) told new) → told ≡ Done x → held ≡ new.held
       → IfOk result (λ step. (f : List ℕ) → BodyStands job f body → HasFed job (f ++ held) step next)
       → IfOk result (λ step. (fed : List ℕ) → Means job fed r.opening r.body → Follows job (fed ++ piece) step new next)
@@ -240,7 +251,8 @@ never_more (Refused text) true e = cc
 never_more (BadAnswer offset) true e = cc
 
 -- a piece was read of which so many bytes are looked at
-pub reads_piece : (job : Remote) (fed piece : List ℕ) (old : HeldAnswer) (n : ℕ) (step : Step Outcome) (o : HeldOpening) (body : Body) (count : ℕ)
+pub reads_piece : (job : Remote) (fed piece : List ℕ) (old : HeldAnswer) (n : ℕ) (step : Step Outcome)
+    (o : HeldOpening) (body : Body) (count : ℕ)
     → ReadingStands job fed old → n ≡ min (MAX_ANSWER - old.count) (length piece) → count ≡ old.count + n
     → Follows job (fed ++ take n piece) step o body
     → HasRead job (fed ++ piece) (limited_at (nat_lt n (length piece)) step) (record { opening = o; body = body; count = count })
@@ -252,7 +264,8 @@ reads_piece job fed piece old n step o body count h is counted f =
     take_behind fed piece (MAX_ANSWER - old.count) MAX_ANSWER sum
     ∙ ap (λ l. fed ++ l) (sym (ap (λ k. take k piece) is ∙ take_min (MAX_ANSWER - old.count) piece)) in
     let so_far : limited_at (nat_lt n (length piece)) step ≡ answer_so_far job (fed ++ piece) =
-    (λ i. limited_at (sym past i) (f.now i)) ∙ ap (λ l. limited_at (nat_lt MAX_ANSWER (length (fed ++ piece))) (answer_step job l)) (sym looked) in
+    (λ i. limited_at (sym past i) (f.now i))
+    ∙ ap (λ l. limited_at (nat_lt MAX_ANSWER (length (fed ++ piece))) (answer_step job l)) (sym looked) in
     record {
       now = so_far;
       okays = f.okays ∙ go (nat_lt n (length piece)) refl;

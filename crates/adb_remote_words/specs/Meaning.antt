@@ -1,5 +1,6 @@
 -- What the bytes of an answer mean.
-use Rattle.std.specs.Prelude.{ℕ, zero, suc, ◌+◌, ◌==◌, if◌then◌else◌, Bool, true, false, List, [], ◌∷◌, ◌++◌, take, drop, slice_index, Option, Some, None, bytes_eq}
+use Rattle.std.specs.Prelude.{ℕ, zero, suc, ◌+◌, ◌==◌, if◌then◌else◌, Bool, true, false, List, [], ◌∷◌, ◌++◌, take, drop, slice_index}
+use Rattle.std.specs.Prelude.{Option, Some, None, bytes_eq}
 use Rattle.std.specs.List.{list_any, slice_split}
 use Rattle.adb_outside.specs.declared.framer.Front.{Front}
 use Rattle.adb_outside.specs.declared.framer.Front.TheVariants as fronts
@@ -100,8 +101,10 @@ sync_step f (BadAnswer offset) = BadAnswer (offset_past offset 8)
 -- what the bytes behind the OKAYs mean
 abbrev pub body_step : Remote → List ℕ → Step Outcome
 body_step Devices bytes = frames_step Devices nothing_told (frames_from (record { awaited = awaited.List; offset = 4 }) bytes)
-body_step (Wait serial state) bytes = frames_step (Wait serial state) nothing_told (frames_from (record { awaited = awaited.List; offset = 4 }) bytes)
-body_step (Shell command) bytes = frames_step (Shell command) nothing_told (frames_from (record { awaited = awaited.Packet; offset = 8 }) bytes)
+body_step (Wait serial state) bytes = frames_step (Wait serial state) nothing_told
+    (frames_from (record { awaited = awaited.List; offset = 4 }) bytes)
+body_step (Shell command) bytes = frames_step (Shell command) nothing_told
+    (frames_from (record { awaited = awaited.Packet; offset = 8 }) bytes)
 body_step (Push path mtime text) bytes = sync_step (λ done. Pushed) (push_value bytes)
 body_step (Pull path) bytes = sync_step Pulled (pull_value bytes)
 

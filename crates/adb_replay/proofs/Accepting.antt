@@ -12,7 +12,8 @@ use Rattle.adb_capture.specs.declared.error.FormFault.{FormFault}
 use Rattle.adb_history.specs.Machine.{History, state}
 use Rattle.adb_history.specs.Refusal.{refusal_by}
 use Rattle.adb_history.specs.declared.refusal.Refusal.{Refusal}
-use Rattle.adb_history.specs.Accepted.{Accepted, refusal_of, is_input, ends_with, accept_by, unless_stopped, accept_from, accept_cut, accept_records, end_of}
+use Rattle.adb_history.specs.Accepted.{Accepted, refusal_of, is_input, ends_with, accept_by, unless_stopped, accept_from, accept_cut}
+use Rattle.adb_history.specs.Accepted.{accept_records, end_of}
 
 -- what is accepted from a record on
 abbrev pub accept_at : ℕ → Entry → History → (History → Accepted) → Accepted
@@ -29,12 +30,15 @@ accept_front offset bytes (Bad fault) h = accept_from [] (refusal_by (error_of f
 accept_front offset bytes (Whole n) h = unless_stopped (state h).stopped
     (accept_entry (entry_in offset (take n bytes)) h (accept_records (offset_after offset (take n bytes)) (drop n bytes)))
 
-pub accept_first : (offset : ℕ) (bytes : List ℕ) (h : History) → accept_records offset bytes h ≡ accept_front offset bytes (record_at offset bytes) h
+pub accept_first : (offset : ℕ) (bytes : List ℕ) (h : History)
+    → accept_records offset bytes h ≡ accept_front offset bytes (record_at offset bytes) h
 accept_first offset bytes h =
-    ap (λ (c : Cut ℕ (ℕ × Entry) FormFault). accept_cut c h) (cut_first record_at entry_in offset_after framing offset bytes) ∙ go (record_at offset bytes)
+    ap (λ (c : Cut ℕ (ℕ × Entry) FormFault). accept_cut c h)
+    (cut_first record_at entry_in offset_after framing offset bytes) ∙ go (record_at offset bytes)
   where
     go : (f : Front FormFault)
-        → accept_cut (cut_by record_at entry_in offset_after offset bytes f (cut record_at entry_in offset_after)) h ≡ accept_front offset bytes f h
+        → accept_cut (cut_by record_at entry_in offset_after offset bytes f (cut record_at entry_in offset_after)) h
+        ≡ accept_front offset bytes f h
     go More = refl
     go (Bad why) = refl
     go (Whole n) = refl

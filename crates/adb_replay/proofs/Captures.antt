@@ -1,5 +1,6 @@
 -- From the records of a reader to a whole capture.
-use Rattle.std.proofs.Common.{ℕ, ◌≡◌, ◌≢◌, Bool, true, false, cond, if◌then◌else◌, ◌<◌, length, List, [], ◌∷◌, ◌++◌, take, drop, reverse, Option, Some, None, Result, Ok, Err}
+use Rattle.std.proofs.Common.{ℕ, ◌≡◌, ◌≢◌, Bool, true, false, cond, if◌then◌else◌, ◌<◌, length, List, [], ◌∷◌, ◌++◌, take, drop, reverse}
+use Rattle.std.proofs.Common.{Option, Some, None, Result, Ok, Err}
 use Rattle.std.proofs.Common.{arith, refl, sym, ◌∙◌, ap, subst, ◌⊎◌, inl, inr}
 use Rattle.std.specs.Prelude.{option_and_then, bytes_eq}
 use Rattle.std.proofs.lemmas.List.{append_assoc, append-nil, reverse-append, take-append-drop, length-take}
@@ -105,7 +106,8 @@ front_spelled (e ∷ h) front legal p = go (cut_front front (capture_of h) (reco
       rest = inr (record { entry = e; legal = legal; rest = q.front_of.0; more = more; is = q.front_of.1 });
     }
 
-    go : IsPrefixOf front (capture_of h) ⊎ IsPast front (capture_of h) (record_of e) → (IsPrefixOf front (capture_of h) → IsSpelled front) → IsSpelled front
+    go : IsPrefixOf front (capture_of h) ⊎ IsPast front (capture_of h) (record_of e)
+        → (IsPrefixOf front (capture_of h) → IsSpelled front) → IsSpelled front
     go (inl q) shorter = shorter q
     go (inr q) shorter = inr (past q (empty_or q.front_of.0))
 
@@ -164,7 +166,8 @@ text_front (Err (Refused why)) text had written w = all_front had text written w
 
 -- what is kept goes out at last
 pub finished : (ended : Result (Unit {0}) Stop) (had text : List ℕ) (out : Out) (written : Option (List ℕ)) → KeepsAs ended had text out
-    → ((had text : List ℕ) → Keeps had text out → written ≡ Some (had ++ text)) → (out.1 ≡ [] → written ≡ out.0) → WritesText ended text had written
+    → ((had text : List ℕ) → Keeps had text out → written ≡ Some (had ++ text)) → (out.1 ≡ [] → written ≡ out.0)
+    → WritesText ended text had written
 finished (Ok done) had text out written k goes idle = goes had text k
 finished (Err ReadFault) had text out written k goes idle = all_front had text written (goes had text k)
 finished (Err WriteFault) had text out written k goes idle = record { growth = k.0.growth; is = idle k.1 ∙ k.0.is; front = k.0.front }
@@ -194,7 +197,8 @@ lost_at_last (Err OutOfMemory) had text out written k goes idle = goes had text 
 lost_at_last (Err (Refused why)) had text out written k goes idle = goes had text k
 
 -- what was reached of all that a capture gives, as a part of its text
-reached_text : (result : Result (Unit {0}) Stop) (whole : History) (had : List ℕ) (a : Accepted) (written : Option (List ℕ)) → Reaches result whole a
+reached_text : (result : Result (Unit {0}) Stop) (whole : History) (had : List ℕ) (a : Accepted)
+    (written : Option (List ℕ)) → Reaches result whole a
     → WritesText result (capture_of whole) had written → WritesText result (capture_of (drained_from [] a.inputs)) had written
 reached_text (Ok done) whole had a written r w = w ∙ ap (λ h. Some (had ++ capture_of h)) (sym r)
 reached_text (Err ReadFault) whole had a written r w = longer had _ _ written (capture_front whole _ r) w
@@ -203,7 +207,8 @@ reached_text (Err OutOfMemory) whole had a written r w = longer had _ _ written 
 reached_text (Err (Refused why)) whole had a written r w = w ∙ ap (λ h. Some (had ++ capture_of h)) (sym r)
 
 -- whatever was reached, it is a first part
-reached_part : (result : Result (Unit {0}) Stop) (whole : History) (a : Accepted) → Reaches result whole a → IsFrontOf whole (drained_from [] a.inputs)
+reached_part : (result : Result (Unit {0}) Stop) (whole : History) (a : Accepted) → Reaches result whole a
+    → IsFrontOf whole (drained_from [] a.inputs)
 reached_part (Ok done) whole a r = record { more = []; is = r }
 reached_part (Err ReadFault) whole a r = r
 reached_part (Err WriteFault) whole a r = r
@@ -214,7 +219,8 @@ reached_part (Err (Refused why)) whole a r = record { more = []; is = r }
 pub record Opened (left_first : Option (List ℕ)) (first : Moment) : Type 0 where
   pub offset : first.reader.offset ≡ 8
   pub opened : first.reader.opened ≡ true
-  pub past : (coming : List ℕ) → left_first ≡ Some coming → (rest : List ℕ) × (first.left ≡ Some rest) × (past_magic coming ≡ Some (first.reader.held ++ rest))
+  pub past : (coming : List ℕ) → left_first ≡ Some coming → (rest : List ℕ) × (first.left ≡ Some rest)
+      × (past_magic coming ≡ Some (first.reader.held ++ rest))
   pub gathered : first.out.1 ≡ magic
 
 abbrev pub fresh : Reading
@@ -239,7 +245,8 @@ record FromMagic (bytes : List ℕ) (first : Moment) : Type 0 where
   pub is : IsAhead first before
   pub same : accept_records first.reader.offset before [] ≡ accepted bytes
 
-from_magic : (left_first : Option (List ℕ)) (first : Moment) (bytes : List ℕ) → Opened left_first first → left_first ≡ Some bytes → FromMagic bytes first
+from_magic : (left_first : Option (List ℕ)) (first : Moment) (bytes : List ℕ) → Opened left_first first
+    → left_first ≡ Some bytes → FromMagic bytes first
 from_magic left_first first bytes o told =
     let p = o.past bytes told in
     let m = magic_there bytes (first.reader.held ++ p.0) p.2 in
@@ -248,7 +255,8 @@ from_magic left_first first bytes o told =
       whole = past_is bytes (first.reader.held ++ p.0) m.0 m.1;
       there = m.0;
       is = ap (option_and_then (ahead first.reader)) p.1 ∙ ap (λ b. to_give b (first.reader.held ++ p.0)) o.opened;
-      same = ap (λ n. accept_records n (first.reader.held ++ p.0) []) o.offset ∙ (ap (λ b. accept_records 8 b []) m.1 ∙ sym (accepted_with bytes m.0));
+      same = ap (λ n. accept_records n (first.reader.held ++ p.0) []) o.offset
+          ∙ (ap (λ b. accept_records 8 b []) m.1 ∙ sym (accepted_with bytes m.0));
     }
 
 replayed_is : (bytes : List ℕ) → has_magic bytes ≡ true → capture_of (drained_from [] (accepted bytes).inputs) ≡ replayed bytes
@@ -256,10 +264,12 @@ replayed_is bytes there = sym (ap (λ b. cond b (magic ++ records_of (drained (a
 
 keeps_magic : (left_first : Option (List ℕ)) (first : Moment) (had : List ℕ) → Opened left_first first → first.out.0 ≡ Some had
     → Keeps had (capture_of []) first.out
-keeps_magic left_first first had o is = record { growth = []; is = is ∙ ap Some (sym (append-nil had)); whole = o.gathered ∙ sym (append-nil magic) }
+keeps_magic left_first first had o is =
+    record { growth = []; is = is ∙ ap Some (sym (append-nil had)); whole = o.gathered ∙ sym (append-nil magic) }
 
 -- The records were replayed, and all that was kept went out.
-pub capture_replayed : (left_first written : Option (List ℕ)) (first last : Moment) (ended : Result (Unit {0}) Stop) → Opened left_first first
+pub capture_replayed : (left_first written : Option (List ℕ)) (first last : Moment) (ended : Result (Unit {0}) Stop)
+    → Opened left_first first
     → Replays first last ended
     → ((had text : List ℕ) → Keeps had text last.out → written ≡ Some (had ++ text)) → (last.out.1 ≡ [] → written ≡ last.out.0)
     → ReplaysCapture left_first last.left first.out.0 written ended
@@ -267,7 +277,8 @@ capture_replayed left_first written first last ended o r goes idle = record {
   writes = λ bytes had told has.
       let f = from_magic left_first first bytes o told in
       subst (λ (text : List ℕ). WritesText ended text had written) (replayed_is bytes f.there)
-      (reached_text ended r.whole had (accepted bytes) written (subst (λ (a : Accepted). Reaches ended r.whole a) f.same (r.reaches f.before f.is))
+      (reached_text ended r.whole had (accepted bytes) written
+      (subst (λ (a : Accepted). Reaches ended r.whole a) f.same (r.reaches f.before f.is))
       (text had has));
   ends = λ bytes told.
       let f = from_magic left_first first bytes o told in
@@ -309,7 +320,8 @@ capture_replayed left_first written first last ended o r goes idle = record {
         ap capture_of (sym (ap (λ (a : Accepted). drained_from [] a.inputs) same ∙ u.reached)) ∙ replayed_is (magic ++ u.consumed) refl
 
     text : (had : List ℕ) → first.out.0 ≡ Some had → WritesText ended (capture_of r.whole) had written
-    text had has = finished ended had (capture_of r.whole) last.out written (r.on.kept had (keeps_magic left_first first had o has)) goes idle
+    text had has = finished ended had (capture_of r.whole) last.out written
+        (r.on.kept had (keeps_magic left_first first had o has)) goes idle
 
 -- it did not end well
 not_done : (why : Stop) → ◌≡◌ {A = Result (Unit {0}) Stop} (Err why) (Ok tt) → ⊥
@@ -336,7 +348,8 @@ capture_lost left_first written first last ended o r goes idle = record {
 }
   where
     front : (had : List ℕ) → first.out.0 ≡ Some had → HasFront had (capture_of r.whole) written
-    front had has = lost_at_last ended had (capture_of r.whole) last.out written (r.on.kept had (keeps_magic left_first first had o has)) goes idle
+    front had has = lost_at_last ended had (capture_of r.whole) last.out written
+        (r.on.kept had (keeps_magic left_first first had o has)) goes idle
 
 -- nothing went out
 nothing_spelled : (had : List ℕ) (written : Option (List ℕ)) → written ≡ Some had → GrowsSpelled had written
@@ -387,7 +400,9 @@ capture_unopened opened left_first left_opened written capture.ReadFault o = rec
         rest = k.0;
         is = sym k.2 ∙ ap (λ b. b ++ k.0) held;
         is_left = k.1;
-        goes_out = has ∙ ap Some (sym (append-nil had) ∙ ap (λ text. had ++ text) (sym (nothing_replayed opened.held (short_no_magic opened.held short))));
+        goes_out = has
+            ∙ ap Some (sym (append-nil had) ∙ ap (λ text. had ++ text)
+            (sym (nothing_replayed opened.held (short_no_magic opened.held short))));
       };
   stops = λ ok bytes told killed. absurd (not_done ReadFault ok);
 }

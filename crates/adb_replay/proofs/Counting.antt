@@ -21,7 +21,15 @@ rises_on x y z a b (inr last) = split (cases y z)
 module _ {A : Type 0} (steady : A → Type 0) (faults : A → ℕ) where
   -- no call was made
   pub counts_first : (a : A) → Counts steady faults a a false
-  counts_first a = record { count = omega arith; fault = λ e. (let clash : false ≡ true = e in cc); stands = λ e. refl; keeps = λ s. s; steady = λ s. refl }
+  counts_first a =
+      record {
+        count = omega arith;
+        fault = λ e. (let clash : false ≡ true = e in cc);
+        stands = λ e. refl;
+        keeps =
+            λ s. s;
+        steady = λ s. refl;
+      }
 
   -- two calls were made
   pub counts_then : (a b c : A) {f g : Bool} → Counts steady faults a b f → Counts steady faults b c g → Counts steady faults a c (f || g)

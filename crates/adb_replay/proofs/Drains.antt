@@ -1,5 +1,6 @@
 -- Handing out all that is due.
-use Rattle.std.proofs.Common.{ℕ, ◌≡◌, List, [], ◌∷◌, ◌++◌, reverse, Option, Some, None, Result, Ok, Err, refl, sym, ◌∙◌, ap, subst, ◌⊎◌, inl}
+use Rattle.std.proofs.Common.{ℕ, ◌≡◌, List, [], ◌∷◌, ◌++◌, reverse, Option, Some, None, Result, Ok, Err, refl, sym, ◌∙◌, ap, subst, ◌⊎◌}
+use Rattle.std.proofs.Common.{inl}
 use Rattle.std.proofs.Common.{inr}
 use Rattle.std.proofs.lemmas.List.{append_assoc, append-nil, reverse-append}
 use Rattle.adb_capture.specs.Records.{record_of, records_of, magic}
@@ -26,7 +27,8 @@ written_more e h = ap records_of (reverse-append (e ∷ []) h) ∙ two (reverse 
 pub capture_more : (e : Entry) (h : History) → capture_of h ++ record_of e ≡ capture_of (e ∷ h)
 capture_more e h = append_assoc magic (written_of h) (record_of e) ∙ ap (λ bytes. magic ++ bytes) (sym (written_more e h))
 
-pub entry_kept : (e : Entry) (h : History) (had : List ℕ) {before after : Out} → KeepsEntry (Ok tt) e before after → Keeps had (capture_of h) before
+pub entry_kept : (e : Entry) (h : History) (had : List ℕ) {before after : Out} → KeepsEntry (Ok tt) e before after
+    → Keeps had (capture_of h) before
     → Keeps had (capture_of (e ∷ h)) after
 entry_kept e h had {after = after} keeps k = subst (λ (t : List ℕ). Keeps had t after) (capture_more e h) (keeps had (capture_of h) k)
 
@@ -36,13 +38,18 @@ pub record Loses (why : Stop) (e : Entry) (h : History) (before after : Out) : T
   pub at : (whole ≡ h) ⊎ (whole ≡ e ∷ h)
   pub on : GoesOn (Err why) h whole before after
 
-pub loses : (why : Stop) (e : Entry) (h : History) {before after : Out} → IsLegal (e ∷ h) → IsLoss (Err why) → KeepsEntry (Err why) e before after
+pub loses : (why : Stop) (e : Entry) (h : History) {before after : Out} → IsLegal (e ∷ h) → IsLoss (Err why)
+    → KeepsEntry (Err why) e before after
     → Loses why e h before after
 loses ReadFault e h {after = after} legal loss keeps = absurd loss
 loses WriteFault e h {after = after} legal loss keeps = record {
   whole = e ∷ h;
   at = inr refl;
-  on = record { legal = legal; kept = λ had k. subst (λ (t : List ℕ). LosesRest had t after) (capture_more e h) (keeps had (capture_of h) k) };
+  on = record {
+    legal = legal;
+    kept = λ had k. subst (λ (t : List ℕ). LosesRest had t after) (capture_more e h)
+        (keeps had (capture_of h) k);
+  };
 }
 loses OutOfMemory e h {after = after} legal loss keeps = record {
   whole = h;
@@ -85,7 +92,8 @@ draining_stopped new d = record {
 }
 
 -- there is none
-pub draining_over : {h : History} {before now : Out} {holds : Kept} (new : Kept) → ((h : History) → IsLegal h → IsDrainedFrom h) → Hands holds None new
+pub draining_over : {h : History} {before now : Out} {holds : Kept} (new : Kept)
+    → ((h : History) → IsLegal h → IsDrainedFrom h) → Hands holds None new
     → Draining h before now holds → Drains (Ok tt) h before now new
 draining_over {h} new drains hands d =
     let n = hands d.done d.lawful in

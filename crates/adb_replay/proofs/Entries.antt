@@ -69,7 +69,8 @@ module _ (offset : ℕ) (e : Entry) (h : History) where
   made_reached : (now : Kept) → Made now → (whole : History) → IsFrontOf whole (drain_all (e ∷ h)) → IsReached e h whole
   made_reached now m whole front = inr (m.none, m.input, front)
 
-  gives_part : (why : Stop) (whole : History) (new : Kept) → IsLoss (Err why) → IsReached e h whole → EntryGives (Err why) offset e h whole new
+  gives_part : (why : Stop) (whole : History) (new : Kept) → IsLoss (Err why) → IsReached e h whole
+      → EntryGives (Err why) offset e h whole new
   gives_part ReadFault whole new loss reached = absurd loss
   gives_part WriteFault whole new loss reached = reached
   gives_part OutOfMemory whole new loss reached = reached
@@ -88,7 +89,8 @@ module _ (offset : ℕ) (e : Entry) (h : History) where
           (subst (λ (w : History). IsFrontOf w (drain_all (e ∷ h))) (sym same) (drain_front (e ∷ h)))
 
   -- it was kept, and what was due then was handed out, or a part of it
-  pub kept_and_drained : (now new : Kept) (mid : Out) {before after : Out} (result : Result (Unit {0}) Stop) → Made now → KeepsEntry (Ok tt) e before mid
+  pub kept_and_drained : (now new : Kept) (mid : Out) {before after : Out} (result : Result (Unit {0}) Stop)
+      → Made now → KeepsEntry (Ok tt) e before mid
       → IsLoss result → Drains result (e ∷ h) mid after new → ReplaysEntry result offset e h before after new
   kept_and_drained now new mid {before} {after} result m keeps loss d = record {
     whole = d.whole;

@@ -14,7 +14,8 @@ all_out had text out none k =
 -- what was gathered went out
 pub goes_out : (had text : List ℕ) (before : Out) (written : Option (List ℕ)) → Keeps had text before
     → ((out : List ℕ) → before.0 ≡ Some out → written ≡ Some (out ++ before.1)) → written ≡ Some (had ++ text)
-goes_out had text before written k told = told (had ++ k.growth) k.is ∙ ap Some (append_assoc had k.growth before.1 ∙ ap (λ t. had ++ t) k.whole)
+goes_out had text before written k told = told (had ++ k.growth) k.is
+    ∙ ap Some (append_assoc had k.growth before.1 ∙ ap (λ t. had ++ t) k.whole)
 
 -- a front of it did
 pub goes_out_in_part : (had text : List ℕ) (taken : ℕ) (before : Out) (written : Option (List ℕ)) → Keeps had text before
@@ -24,7 +25,8 @@ goes_out_in_part had text taken before written k told = record {
   is = told (had ++ k.growth) k.is ∙ ap Some (append_assoc had k.growth (take taken before.1));
   front = (
     drop taken before.1,
-    append_assoc k.growth (take taken before.1) (drop taken before.1) ∙ (ap (λ g. k.growth ++ g) (take-append-drop taken before.1) ∙ k.whole),
+    append_assoc k.growth (take taken before.1) (drop taken before.1)
+        ∙ (ap (λ g. k.growth ++ g) (take-append-drop taken before.1) ∙ k.whole),
   );
 }
 

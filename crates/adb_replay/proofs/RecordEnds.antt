@@ -1,5 +1,6 @@
 -- How the replay of the records of a reader ends.
-use Rattle.std.proofs.Common.{ℕ, ◌≡◌, ◌≢◌, true, false, if◌then◌else◌, List, [], ◌∷◌, ◌++◌, drop, Option, Some, None, Result, Ok, Err, refl, sym}
+use Rattle.std.proofs.Common.{ℕ, ◌≡◌, ◌≢◌, true, false, if◌then◌else◌, List, [], ◌∷◌, ◌++◌, drop, Option, Some, None, Result, Ok, Err, refl}
+use Rattle.std.proofs.Common.{sym}
 use Rattle.std.proofs.Common.{◌∙◌, ap, subst, ◌⊎◌, inl, inr}
 use Rattle.std.specs.Prelude.{option_and_then, option_map}
 use Rattle.std.proofs.lemmas.List.{append_assoc}
@@ -22,14 +23,16 @@ use Rattle.adb_history.specs.declared.refusal.Refusal.{Refusal}
 use Rattle.adb_replay.specs.Keeping.{Out, Keeps}
 use Rattle.adb_replay.specs.Kills.{IsKilled, EndsInRecord, ReadsToKill}
 use Rattle.adb_replay.specs.Stop.{stop_of}
-use Rattle.adb_replay.specs.Replay.{capture_of, IsDrained, IsFrontOf, ReplaysEntry, EntryGives, IsReached, Reaches, EndsAs, Moment, IsAhead, Consumes, Replays}
+use Rattle.adb_replay.specs.Replay.{capture_of, IsDrained, IsFrontOf, ReplaysEntry, EntryGives, IsReached, Reaches, EndsAs, Moment, IsAhead}
+use Rattle.adb_replay.specs.Replay.{Consumes, Replays}
 use Rattle.adb_replay.specs.Replay.{moment}
 use Rattle.adb_replay.specs.declared.stop.Stop.{Stop}
 use Rattle.adb_replay.specs.declared.stop.Stop.TheVariants.{ReadFault, WriteFault, OutOfMemory, Refused}
 use Rattle.adb_entries.proofs.Adding.{drained_adds}
 use Rattle.adb_replay.proofs.Accepting.{accept_front, accept_first, accept_stopped, nothing_given, nothing_refused}
 use Rattle.adb_replay.proofs.Drains.{goes_on}
-use Rattle.adb_replay.proofs.Records.{ComesOn, Came, Replaying, comes, gives_done, front_so_far, held_stopped, Gives, given_next, Turn, IsRunning, came_on}
+use Rattle.adb_replay.proofs.Records.{ComesOn, Came, Replaying, comes, gives_done, front_so_far, held_stopped, Gives, given_next, Turn}
+use Rattle.adb_replay.proofs.Records.{IsRunning, came_on}
 
 -- ---- the records are over
 ahead_empty : (held coming : List ℕ) → held ++ coming ≡ [] → coming ≡ []
@@ -37,7 +40,8 @@ ahead_empty [] coming e = e
 ahead_empty (b ∷ held) coming e = let clash : b ∷ (held ++ coming) ≡ [] = e in cc
 
 -- a front of what is ahead was told
-split_ahead : (f : List ℕ → Option (List ℕ)) (o : Option (List ℕ)) (y : List ℕ) → option_and_then f o ≡ Some y → (x : List ℕ) × (o ≡ Some x) × (f x ≡ Some y)
+split_ahead : (f : List ℕ → Option (List ℕ)) (o : Option (List ℕ)) (y : List ℕ) → option_and_then f o ≡ Some y
+    → (x : List ℕ) × (o ≡ Some x) × (f x ≡ Some y)
 split_ahead f None y e = let clash : None ≡ Some y = e in cc
 split_ahead f (Some x) y e = (x, refl, e)
 
@@ -49,15 +53,21 @@ left_empty new opened e =
     s.1 ∙ ap Some (ahead_empty new.reader.held s.0 none)
 
 -- The source was read to its end.
-pub replaying_over : {first now : Moment} {holds : Kept} (new : Moment) → now.out ≡ new.out → Gives now (Ok None) new → new.reader.opened ≡ true
+pub replaying_over : {first now : Moment} {holds : Kept} (new : Moment) → now.out ≡ new.out → Gives now (Ok None) new
+    → new.reader.opened ≡ true
     → holds.stopped ≡ false → Replaying first now holds → Replays first new (Ok tt)
 replaying_over {first} {now} {holds} new same gives opened running r = record {
   whole = r.done;
-  on = record { legal = r.drained.lawful.legal; kept = λ had k. subst (λ (out : Out). Keeps had (capture_of r.done) out) same (r.kept had k) };
+  on = record {
+    legal = r.drained.lawful.legal;
+    kept = λ had k. subst
+        (λ (out : Out). Keeps had (capture_of r.done) out) same (r.kept had k);
+  };
   reaches = λ before was. reached (comes r before was);
   consumes = λ is before was. cc;
   stops = λ ok before was killed. absurd
-      (let clash : false ≡ true = sym (held_stopped false r running) ∙ (ap (λ h. (state h).stopped) (sym (reached (comes r before was))) ∙ killed) in cc);
+      (let clash : false ≡ true = sym (held_stopped false r running)
+      ∙ (ap (λ h. (state h).stopped) (sym (reached (comes r before was))) ∙ killed) in cc);
   ends = λ before was. let c = comes r before was in (
     c.refused ∙ (ap (λ b. (accept_records now.reader.offset b r.done).refused) (over c).0 ∙ nothing_refused (state r.done).stopped),
     λ running. left_empty new opened (over c).1,
@@ -106,7 +116,8 @@ replaying_killed {first} {now} {holds} stopped r = record {
         s = split_ahead (ahead now.reader) now.left c.rest c.told
 
         rest_is : c.rest ≡ now.reader.held ++ s.0
-        rest_is = let told : Some (now.reader.held ++ s.0) ≡ Some c.rest = ap (λ b. to_give b (now.reader.held ++ s.0)) (sym r.opened) ∙ s.2 in cc
+        rest_is = let told : Some (now.reader.held ++ s.0) ≡ Some c.rest =
+            ap (λ b. to_give b (now.reader.held ++ s.0)) (sym r.opened) ∙ s.2 in cc
 
         is_killed : IsKilled (accept_records first.reader.offset c.used [])
         is_killed = ap (λ h. (state h).stopped) (gives_done first now r.done c) ∙ killed
@@ -114,7 +125,8 @@ replaying_killed {first} {now} {holds} stopped r = record {
         none_is_killed : (used : List ℕ) → used ≡ [] → IsKilled (accept_records first.reader.offset used []) → ⊥
         none_is_killed used none is =
             let first_none : (accept_records first.reader.offset [] []).inputs ≡ [] = ap (λ (a : Accepted). a.inputs)
-            (accept_first first.reader.offset [] [] ∙ ap (λ f. accept_front first.reader.offset [] f []) (framing.empty first.reader.offset))
+            (accept_first first.reader.offset [] [] ∙ ap (λ f. accept_front first.reader.offset [] f [])
+            (framing.empty first.reader.offset))
             ∙ nothing_given (state []).stopped None in
             let clash : false ≡ true = sym (ap (λ inputs. (state (drained_from [] inputs)).stopped)
             (ap (λ b. (accept_records first.reader.offset b []).inputs) none ∙ first_none)) ∙ is in
@@ -142,13 +154,16 @@ module _ (offset : ℕ) (before : List ℕ) (h : History) (running : IsRunning h
   refused_ahead : (f : Front FormFault) (why : CaptureError) → record_at offset before ≡ f
       → accept_front offset before f h ≡ unless_stopped (state h).stopped (refused_as why) → accept_records offset before h ≡ refused_as why
   refused_ahead f why is front =
-      accept_first offset before h ∙ (ap (λ k. accept_front offset before k h) is ∙ (front ∙ ap (λ b. unless_stopped b (refused_as why)) running))
+      accept_first offset before h
+      ∙ (ap (λ k. accept_front offset before k h) is
+      ∙ (front ∙ ap (λ b. unless_stopped b (refused_as why)) running))
 
   truncated_ahead : (at : ℕ) → before ≢ [] → at ≡ offset
       → accept_front offset before More h ≡ unless_stopped (state h).stopped (refused_as (capture.Truncated at))
   truncated_ahead at some is = go before some
     where
-      go : (bytes : List ℕ) → bytes ≢ [] → accept_front offset bytes More h ≡ unless_stopped (state h).stopped (refused_as (capture.Truncated at))
+      go : (bytes : List ℕ) → bytes ≢ [] → accept_front offset bytes More h
+          ≡ unless_stopped (state h).stopped (refused_as (capture.Truncated at))
       go [] some = absurd (some refl)
       go (b ∷ bytes) some = ap (λ n. unless_stopped (state h).stopped (refused_as (capture.Truncated n))) (sym is)
 
@@ -170,7 +185,8 @@ past_opened : (reader : Reading) → reader.opened ≡ true → taken_by reader 
 past_opened reader opened = ap (λ b. if b then magic ++ reader.held else reader.held) opened
 
 -- The source failed: what the reader holds gives no record more, and is all that was taken past the last one.
-consumed : {first now : Moment} {holds : Kept} (new : Moment) (r : Replaying first now holds) → StopsWithin now.reader now.left new.reader new.left
+consumed : {first now : Moment} {holds : Kept} (new : Moment) (r : Replaying first now holds)
+    → StopsWithin now.reader now.left new.reader new.left
     → (before : List ℕ) → IsAhead first before → Consumes first new r.done before
 consumed {first} {now} {holds} new r stops before was = record {
   consumed = c.used ++ new.reader.held;
@@ -202,7 +218,8 @@ consumed {first} {now} {holds} new r stops before was = record {
         let is : now.reader.held ++ s.0 ≡ c.rest = cc in sym is ∙ sym same
 
     part : record_at now.reader.offset new.reader.held ≡ More
-    part = ap (λ n. record_at n new.reader.held) (sym stops.offset) ∙ subst (λ b. IsPart b new.reader.offset new.reader.held) opened stops.part
+    part = ap (λ n. record_at n new.reader.held) (sym stops.offset)
+        ∙ subst (λ b. IsPart b new.reader.offset new.reader.held) opened stops.part
 
     none : (accept_records now.reader.offset new.reader.held r.done).inputs ≡ []
     none = ap (λ (a : Accepted). a.inputs) (accept_first now.reader.offset new.reader.held r.done
@@ -212,7 +229,8 @@ consumed {first} {now} {holds} new r stops before was = record {
 -- The reader stopped.
 pub replaying_stopped : {first now : Moment} {holds : Kept} (new : Moment) (e : CaptureError) → now.out ≡ new.out → Gives now (Err e) new
     → holds.stopped ≡ false → Replaying first now holds → Replays first new (Err (stop_of e))
-replaying_stopped {first} {now} {holds} new e same gives running r = go e (λ c was. given_next now new (Err e) gives r.sound was) (gives r.sound).fault
+replaying_stopped {first} {now} {holds} new e same gives running r =
+    go e (λ c was. given_next now new (Err e) gives r.sound was) (gives r.sound).fault
   where
     keeps : (had : List ℕ) → Keeps had (capture_of []) first.out → Keeps had (capture_of r.done) new.out
     keeps had k = subst (λ (out : Out). Keeps had (capture_of r.done) out) same (r.kept had k)
@@ -232,7 +250,8 @@ replaying_stopped {first} {now} {holds} new e same gives running r = go e (λ c 
         none c = refusal_ahead now.reader.offset c.before r.done (held_stopped false r running) e stops (refused c.before c.is)
 
     go : (e : CaptureError) → ((before : List ℕ) → IsAhead now before → IsRefused now.reader.offset before e)
-        → (◌≡◌ {A = Result (Option (ℕ × Entry)) CaptureError} (Err e) (Err capture.ReadFault) → StopsWithin now.reader now.left new.reader new.left)
+        → (◌≡◌ {A = Result (Option (ℕ × Entry)) CaptureError} (Err e) (Err capture.ReadFault)
+        → StopsWithin now.reader now.left new.reader new.left)
         → Replays first new (Err (stop_of e))
     go capture.BadMagic refused stops = refusal capture.BadMagic _ refl (λ e. cc) refused
     go (capture.BadRecord at why) refused stops = refusal (capture.BadRecord at why) _ refl (λ e. cc) refused
@@ -303,10 +322,14 @@ replaying_lost {first} {holds} t last why running entry r = record {
     reaches OutOfMemory g before was = reached_front t r still x.whole g before was
     reaches (Refused named) g before was =
         let c = came_on t r still (comes r before was) in
-        c.inputs ∙ (ap (λ w. drained_from r.done (accept_by w (is_input t.entry) r.done t.offset t.entry (accept_records t.new.reader.offset c.others)).inputs)
+        c.inputs ∙ (ap
+        (λ w. drained_from r.done
+        (accept_by w (is_input t.entry) r.done t.offset t.entry
+        (accept_records t.new.reader.offset c.others)).inputs)
         g.0.because ∙ sym g.1)
 
-    consumes : (w : Stop) → EntryGives (Err w) t.offset t.entry r.done x.whole last → ◌≡◌ {A = Result (Unit {0}) Stop} (Err w) (Err ReadFault)
+    consumes : (w : Stop) → EntryGives (Err w) t.offset t.entry r.done x.whole last
+        → ◌≡◌ {A = Result (Unit {0}) Stop} (Err w) (Err ReadFault)
         → (before : List ℕ) → IsAhead first before → Consumes first t.new x.whole before
     consumes ReadFault g fault before was = absurd g
     consumes WriteFault g fault before was = cc
@@ -320,7 +343,9 @@ replaying_lost {first} {holds} t last why running entry r = record {
     ends OutOfMemory g before was = tt
     ends (Refused named) g before was =
         let c = came_on t r still (comes r before was) in
-        c.refused ∙ (ap (λ w. (accept_by w (is_input t.entry) r.done t.offset t.entry (accept_records t.new.reader.offset c.others)).refused) g.0.because
+        c.refused ∙ (ap
+        (λ w. (accept_by w (is_input t.entry) r.done t.offset t.entry
+        (accept_records t.new.reader.offset c.others)).refused) g.0.because
         ∙ ap (λ n. refused_at n named.reason) (sym g.0.at))
 
 -- Of where the reader stands at the end nothing is said.

@@ -1,12 +1,14 @@
 -- Replaying the records of a reader: what has come so far, and what is still ahead.
-use Rattle.std.proofs.Common.{ℕ, ◌≡◌, ◌+◌, ◌⊎◌, inl, inr, arith, Bool, true, false, cond, List, [], ◌++◌, take, drop, Option, Some, None, Result, Ok}
+use Rattle.std.proofs.Common.{ℕ, ◌≡◌, ◌+◌, ◌⊎◌, inl, inr, arith, Bool, true, false, cond, List, [], ◌++◌, take, drop, Option, Some, None}
+use Rattle.std.proofs.Common.{Result, Ok}
 use Rattle.std.proofs.Common.{refl, sym, ◌∙◌, ap, subst}
 use Rattle.std.specs.Prelude.{length}
 use Rattle.std.proofs.lemmas.List.{append_assoc, append-nil, length-append, take-append-drop, take_at, drop_at, length-take-le}
 use Rattle.adb_outside.specs.declared.framer.Front.TheVariants.{Whole}
 use Rattle.adb_capture.specs.Records.{entry_in, offset_after, record_at}
 use Rattle.adb_capture.proofs.Fronts.{framing}
-use Rattle.adb_capture_reader.specs.Reading.{Reading, ahead_of, AnswersNext, AwaitsNext, GivesNext, GivesRecord, HoldsLittle, passed, passed_by}
+use Rattle.adb_capture_reader.specs.Reading.{Reading, ahead_of, AnswersNext, AwaitsNext, GivesNext, GivesRecord, HoldsLittle, passed}
+use Rattle.adb_capture_reader.specs.Reading.{passed_by}
 use Rattle.adb_capture.specs.declared.entry.Entry.{Entry}
 use Rattle.adb_capture.specs.declared.error.CaptureError.{CaptureError}
 use Rattle.adb_history.specs.Machine.{History, state}
@@ -39,7 +41,8 @@ pub record Came (first now : Moment) (done : History) (before : List ℕ) : Type
   pub told : IsAhead now rest
   pub place : now.reader.offset ≡ first.reader.offset + length used
   pub last : (used ≡ []) ⊎ EndsInRecord first.reader.offset used
-  pub on : (more : List ℕ) → IsAlike (accept_records first.reader.offset (used ++ more) []) done (accept_records now.reader.offset more done)
+  pub on : (more : List ℕ) → IsAlike (accept_records first.reader.offset (used ++ more) []) done
+      (accept_records now.reader.offset more done)
 
 -- How far a replay has come: the history now.
 pub record Replaying (first now : Moment) (holds : Kept) : Type 0 where
@@ -156,14 +159,17 @@ IsRunning h = (state h).stopped ≡ false
 pub record CameOn (t : Turn) (done : History) (all : Accepted) : Type 0 where
   pub others : List ℕ
   pub is : IsAhead t.new others
-  pub inputs : drained_from [] all.inputs ≡ drained_from done (accept_at t.offset t.entry done (accept_records t.new.reader.offset others)).inputs
+  pub inputs : drained_from [] all.inputs ≡ drained_from done
+      (accept_at t.offset t.entry done (accept_records t.new.reader.offset others)).inputs
   pub refused : all.refused ≡ (accept_at t.offset t.entry done (accept_records t.new.reader.offset others)).refused
 
 -- from a record that came on, whatever follows it
 front_accepted : (t : Turn) (done : History) (before : List ℕ)
-    → (g : GivesRecord t.now.reader.offset before (t.offset, t.entry) t.new.reader.offset (ahead_of t.new.reader t.new.left)) → (more : List ℕ)
+    → (g : GivesRecord t.now.reader.offset before (t.offset, t.entry) t.new.reader.offset
+    (ahead_of t.new.reader t.new.left)) → (more : List ℕ)
     → IsRunning done
-    → accept_records t.now.reader.offset (take g.size before ++ more) done ≡ accept_at t.offset t.entry done (accept_records t.new.reader.offset more)
+    → accept_records t.now.reader.offset (take g.size before ++ more) done
+    ≡ accept_at t.offset t.entry done (accept_records t.new.reader.offset more)
 front_accepted t done before g more running =
     accept_first at bytes done
     ∙ (ap (λ f. accept_front at bytes f done) (framing.whole at front more g.size (framing.alone at before g.size g.whole))
@@ -200,13 +206,15 @@ came_on t r running c = record {
     g : GivesRecord t.now.reader.offset c.before (t.offset, t.entry) t.new.reader.offset (ahead_of t.new.reader t.new.left)
     g = given_next t.now t.new (Ok (Some (t.offset, t.entry))) t.given r.sound c.is
 
-    given : accept_records t.now.reader.offset c.before r.done ≡ accept_at t.offset t.entry r.done (accept_records t.new.reader.offset (drop g.size c.before))
+    given : accept_records t.now.reader.offset c.before r.done
+        ≡ accept_at t.offset t.entry r.done (accept_records t.new.reader.offset (drop g.size c.before))
     given = ap (λ b. accept_records t.now.reader.offset b r.done) (sym (take-append-drop g.size c.before))
         ∙ front_accepted t r.done c.before g (drop g.size c.before) running
 
 -- an input that is accepted, or a hand-out that is passed over
 accept_on : (b : Bool) (h : History) (offset : ℕ) (e : Entry) (others : History → Accepted)
-    → (drained_from h (accept_by None b h offset e others).inputs ≡ drained_from (cond b (drained_after h e) h) (others (cond b (drained_after h e) h)).inputs)
+    → (drained_from h (accept_by None b h offset e others).inputs
+    ≡ drained_from (cond b (drained_after h e) h) (others (cond b (drained_after h e) h)).inputs)
     × ((accept_by None b h offset e others).refused ≡ (others (cond b (drained_after h e) h)).refused)
 accept_on true h offset e others = (refl, refl)
 accept_on false h offset e others = (refl, refl)
@@ -226,7 +234,8 @@ gives_done first now done c =
 
 -- a record that came is the last of them
 last_came : (first : Moment) (t : Turn) (done : History) {before : List ℕ} → (c : Came first t.now done before)
-    → (g : GivesRecord t.now.reader.offset c.rest (t.offset, t.entry) t.new.reader.offset (ahead_of t.new.reader t.new.left)) → IsRunning done
+    → (g : GivesRecord t.now.reader.offset c.rest (t.offset, t.entry) t.new.reader.offset
+    (ahead_of t.new.reader t.new.left)) → IsRunning done
     → EndsInRecord first.reader.offset (c.used ++ take g.size c.rest)
 last_came first t done c g running = record {
   older = c.used;
@@ -266,7 +275,9 @@ replaying_on {first} {holds} t new ready running entry few r = record {
             let next = front_accepted t r.done c.rest g more (held_stopped false r running) in
             record {
               inputs = ap (λ (a : Accepted). drained_from [] a.inputs) all
-                  ∙ (so_far.inputs ∙ (ap (λ (a : Accepted). drained_from r.done a.inputs) next ∙ (made (accept_records t.new.reader.offset more)).0));
+                  ∙ (so_far.inputs
+                  ∙ (ap (λ (a : Accepted). drained_from r.done a.inputs) next
+                  ∙ (made (accept_records t.new.reader.offset more)).0));
               refused = ap (λ (a : Accepted). a.refused) all
                   ∙ (so_far.refused ∙ (ap (λ (a : Accepted). a.refused) next ∙ (made (accept_records t.new.reader.offset more)).1));
             };

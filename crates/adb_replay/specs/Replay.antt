@@ -69,7 +69,8 @@ EntryGives (Err OutOfMemory) offset e h whole new = IsReached e h whole
 EntryGives (Err (Refused why)) offset e h whole new = IsRefusedAt offset e h why × (whole ≡ h)
 
 -- A record was replayed.
-pub record ReplaysEntry (result : Result (Unit {0}) Stop) (offset : ℕ) (e : Entry) (h : History) (before after : Out) (new : Kept) : Type 0 where
+pub record ReplaysEntry (result : Result (Unit {0}) Stop) (offset : ℕ) (e : Entry) (h : History) (before after : Out)
+    (new : Kept) : Type 0 where
   pub whole : History
   pub on : GoesOn result h whole before after
   pub gives : EntryGives result offset e h whole new

@@ -70,8 +70,10 @@ pub record WritesConsumed (capture had : List ℕ) (left written : Option (List 
   pub goes_out : written ≡ Some (had ++ replayed consumed)
 
 -- A capture was replayed. What was gathered is lost where the sink failed alone: else whole records went out.
-pub record ReplaysCapture (left_before left_after written_before written_after : Option (List ℕ)) (result : Result (Unit {0}) Stop) : Type 0 where
-  pub writes : (bytes had : List ℕ) → left_before ≡ Some bytes → written_before ≡ Some had → WritesText result (replayed bytes) had written_after
+pub record ReplaysCapture (left_before left_after written_before written_after : Option (List ℕ))
+    (result : Result (Unit {0}) Stop) : Type 0 where
+  pub writes : (bytes had : List ℕ) → left_before ≡ Some bytes → written_before ≡ Some had
+      → WritesText result (replayed bytes) had written_after
   pub ends : (bytes : List ℕ) → left_before ≡ Some bytes → EndsAs result (accepted bytes) left_after
   pub spells : (had : List ℕ) → written_before ≡ Some had → GrowsSpelled had written_after
   pub whole : result ≢ Err WriteFault → (had : List ℕ) → written_before ≡ Some had → GrowsWhole had written_after

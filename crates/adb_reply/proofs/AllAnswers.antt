@@ -1,5 +1,6 @@
 -- What holds of each reply that there is holds of the answer to each request.
-use Rattle.std.proofs.Common.{ℕ, ◌≡◌, ◌++◌, ◌+◌, Bool, true, false, cond, List, [], length, codes, Option, Some, None, is_some, Result, Ok, Err, refl}
+use Rattle.std.proofs.Common.{ℕ, ◌≡◌, ◌++◌, ◌+◌, Bool, true, false, cond, List, [], length, codes, Option, Some, None, is_some, Result, Ok}
+use Rattle.std.proofs.Common.{Err, refl}
 use Rattle.std.proofs.Common.{nat_lt, nat_eq, not, ◌&&◌}
 use Rattle.std.specs.Map.{values_of}
 use Rattle.std.specs.Fmt.{decimal}
@@ -46,10 +47,12 @@ pub record Answers (rows : List (ℕ × Row)) (forwards : List (ℕ × ForwardRo
       → Q (record { bytes = []; next = Bind transport local remote (nat_eq local 0) })
   pub unbinds : (port : ℕ) → Q (record { bytes = codes "OKAYOKAY"; next = Unbind port })
   pub unbinds_all : Q (record { bytes = codes "OKAYOKAY"; next = UnbindAll })
-  pub opens : (id : ℕ) (text : List ℕ) (row : Row) → R (asks.Service text) → at id rows ≡ Some row → nat_lt row.maxdata (length text + 1) ≡ false
+  pub opens : (id : ℕ) (text : List ℕ) (row : Row) → R (asks.Service text) → at id rows ≡ Some row
+      → nat_lt row.maxdata (length text + 1) ≡ false
       → Q (record { bytes = []; next = Open id text })
 
-module _ {rows : List (ℕ × Row)} {forwards : List (ℕ × ForwardRow)} {R : Request → Type 0} {Q : Answer → Type 0} (k : Answers rows forwards R Q) where
+module _ {rows : List (ℕ × Row)} {forwards : List (ℕ × ForwardRow)} {R : Request → Type 0} {Q : Answer → Type 0}
+    (k : Answers rows forwards R Q) where
   -- of the device that a request asks
   module _ (of : Chosen → Answer) (device : (id : ℕ) → Q (of (Device id))) (refused : (why : List ℕ) → Q (of (Refused (failed why)))) where
     by_choice : (by : Selector) (chosen : Result ℕ Refusal) → Q (of (device_or by chosen))
@@ -60,7 +63,8 @@ module _ {rows : List (ℕ × Row)} {forwards : List (ℕ × ForwardRow)} {R : R
     of_device selected (By by) ready = by_choice by (choice (values_of rows) by ready)
     of_device None Own ready = by_choice Any (choice (values_of rows) Any ready)
     of_device (Some id) Own ready =
-        by_test (λ chosen. Q (of chosen)) (is_some (at id rows)) (λ e. by_choice (Id id) (choice (values_of rows) (Id id) ready)) (λ e. refused no_transport)
+        by_test (λ chosen. Q (of chosen)) (is_some (at id rows))
+        (λ e. by_choice (Id id) (choice (values_of rows) (Id id) ready)) (λ e. refused no_transport)
 
   facts : (fact : Fact) (selected : Option ℕ) (on : Which) → Q (fact_answer rows selected fact on)
   facts fact selected on = of_device (tells rows fact) (λ id. of_row (at id rows)) k.fails selected on (asks_ready fact)
@@ -69,14 +73,17 @@ module _ {rows : List (ℕ × Row)} {forwards : List (ℕ × ForwardRow)} {R : R
       of_row None = k.fails no_transport
       of_row (Some row) = k.tells (string (fact_of fact row))
 
-  forwarding : (on : Which) (norebind : Bool) (local : ℕ) (remote : List ℕ) (selected : Option ℕ) → R (asks.Forward on norebind local remote)
+  forwarding : (on : Which) (norebind : Bool) (local : ℕ) (remote : List ℕ) (selected : Option ℕ)
+      → R (asks.Forward on norebind local remote)
       → Q (forwards_by forwards norebind local remote (asked_device rows selected on true))
-  forwarding on norebind local remote selected right = of_device (forwards_by forwards norebind local remote) on_device k.fails selected on true
+  forwarding on norebind local remote selected right = of_device (forwards_by forwards norebind local remote)
+      on_device k.fails selected on true
     where
       on_device : (transport : ℕ) → Q (forwards_to forwards norebind transport local remote)
       on_device transport =
           by_test Q (is_some (at local forwards) && norebind) (λ e. k.fails (codes "cannot rebind existing socket"))
-          (λ e. by_test Q (not (is_some (at local forwards)) && nat_eq (length forwards) MAX_FORWARDS) (λ f. k.fails (codes "too many forwards"))
+          (λ e. by_test Q (not (is_some (at local forwards)) && nat_eq (length forwards) MAX_FORWARDS)
+          (λ f. k.fails (codes "too many forwards"))
           (λ f. by_test Q (is_some (at local forwards)) (λ is. k.rebinds on norebind transport local remote right is)
           (λ none. k.binds on norebind transport local remote right)))
 
@@ -87,7 +94,8 @@ module _ {rows : List (ℕ × Row)} {forwards : List (ℕ × ForwardRow)} {R : R
       of_row : (o : Option Row) → at id rows ≡ o → Q (opens_at id text o)
       of_row None is = k.fails no_transport
       of_row (Some row) is =
-          by_test Q (nat_lt row.maxdata (length text + 1)) (λ e. k.fails (codes "service name too long")) (λ e. k.opens id text row right is e)
+          by_test Q (nat_lt row.maxdata (length text + 1)) (λ e. k.fails (codes "service name too long"))
+          (λ e. k.opens id text row right is e)
 
   -- What holds of each reply that there is holds of the answer to each request.
   pub answer_all : (selected : Option ℕ) (request : Request) → R request → Q (answer rows forwards selected request)
@@ -103,7 +111,8 @@ module _ {rows : List (ℕ × Row)} {forwards : List (ℕ × ForwardRow)} {R : R
   answer_all selected (asks.Forward on norebind local remote) right = forwarding on norebind local remote selected right
   answer_all selected asks.BadForward right = k.fails (codes "bad forward specification")
   answer_all selected (asks.KillForward port) right =
-      by_test Q (is_some (at port forwards)) (λ e. k.unbinds port) (λ e. k.fails (codes "listener 'tcp:" ++ decimal port ++ codes "' not found"))
+      by_test Q (is_some (at port forwards)) (λ e. k.unbinds port)
+      (λ e. k.fails (codes "listener 'tcp:" ++ decimal port ++ codes "' not found"))
   answer_all selected asks.KillAll right = k.unbinds_all
   answer_all selected asks.ListForward right = k.tells (string (forward_list forwards))
   answer_all selected (asks.Service text) right = opening selected text right

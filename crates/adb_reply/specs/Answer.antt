@@ -1,5 +1,6 @@
 -- What a request is answered with, as a function of values (SERVICES.TXT, "HOST SERVICES").
-use Rattle.std.specs.Prelude.{ℕ, ◌+◌, Bool, true, false, nat_eq, nat_lt, ◌&&◌, not, if◌then◌else◌, List, [], ◌++◌, length, Option, Some, None}
+use Rattle.std.specs.Prelude.{ℕ, ◌+◌, Bool, true, false, nat_eq, nat_lt, ◌&&◌, not, if◌then◌else◌, List, [], ◌++◌, length, Option, Some}
+use Rattle.std.specs.Prelude.{None}
 use Rattle.std.specs.Prelude.{is_some, codes, decimal}
 use Rattle.std.specs.Map.{values_of}
 use Rattle.byteorder.specs.Endian.{little_bytes}
@@ -124,7 +125,8 @@ answer rows forwards selected (asks.Serialno on) = fact_answer rows selected Ser
 answer rows forwards selected (asks.Devpath on) = fact_answer rows selected Devpath on
 answer rows forwards selected (asks.GetState on) = fact_answer rows selected GetState on
 answer rows forwards selected (asks.Features on) = fact_answer rows selected Features on
-answer rows forwards selected (asks.Forward on norebind local remote) = forwards_by forwards norebind local remote (asked_device rows selected on true)
+answer rows forwards selected (asks.Forward on norebind local remote) =
+    forwards_by forwards norebind local remote (asked_device rows selected on true)
 answer rows forwards selected asks.BadForward = failed (codes "bad forward specification")
 answer rows forwards selected (asks.KillForward port) = unbinds forwards port
 answer rows forwards selected asks.KillAll = record { bytes = codes "OKAYOKAY"; next = UnbindAll }

@@ -3,7 +3,8 @@ use Rattle.std.specs.Prelude.{ℕ, List, [], ◌++◌, take, codes, decimal}
 use Rattle.adb_outside.specs.declared.kinds.Selector.{Selector}
 use Rattle.adb_outside.specs.declared.kinds.Selector.TheVariants.{Serial, Id}
 use Rattle.adb_registry.specs.declared.choice.Refusal.{Refusal}
-use Rattle.adb_registry.specs.declared.choice.Refusal.TheVariants.{NoAny, ManyAny, NoUsb, ManyUsb, NoLocal, ManyLocal, NoSerial, ManySerial, NoId}
+use Rattle.adb_registry.specs.declared.choice.Refusal.TheVariants.{NoAny, ManyAny, NoUsb, ManyUsb, NoLocal, ManyLocal, NoSerial, ManySerial}
+use Rattle.adb_registry.specs.declared.choice.Refusal.TheVariants.{NoId}
 use Rattle.adb_registry.specs.declared.choice.Refusal.TheVariants.{Offline, Unauthorized}
 use Rattle.adb_reply.specs.declared.refusals.TheConstants.{MAX_PRINTED_SERIAL}
 

@@ -9,7 +9,8 @@ use Rattle.adb_request.specs.declared.request.Which.{Which}
 use Rattle.adb_request.specs.declared.request.Which.TheVariants.{Own, By}
 use Rattle.adb_request.specs.declared.request.Request.{Request}
 use Rattle.adb_request.specs.declared.request.Request.TheVariants as asks
-use Rattle.adb_request.specs.Forms.{behind, is_remote, is_form, semicolon, local_in, forward_between, forward_at, forward_of, killed_at, row, fixed_form}
+use Rattle.adb_request.specs.Forms.{behind, is_remote, is_form, semicolon, local_in, forward_between, forward_at, forward_of, killed_at}
+use Rattle.adb_request.specs.Forms.{row, fixed_form}
 use Rattle.adb_request.specs.Forms.{forward_form, form}
 use Rattle.adb_request.specs.Rows.{plain_rows, transport_rows, row_of}
 use Rattle.adb_request.specs.Meaning.{Split, id_in, splits_behind, colon, host_request, serial_request, id_request, or_unknown}
@@ -128,7 +129,8 @@ serial_asked text = then_each (λ (split : Split). form (By (Serial split.before
 id_asked : (text : List ℕ) → Each (id_request text)
 id_asked text = then_each (λ place. option_and_then (λ id. form (By (Id id)) (drop (place + 1) text)) (id_in (take place text)))
     (position (λ byte. byte == colon) text)
-    (λ place. then_each (λ id. form (By (Id id)) (drop (place + 1) text)) (id_in (take place text)) (λ id. form_asked (By (Id id)) (drop (place + 1) text)))
+    (λ place. then_each (λ id. form (By (Id id)) (drop (place + 1) text)) (id_in (take place text))
+    (λ id. form_asked (By (Id id)) (drop (place + 1) text)))
 
 behind_asked : (word : List ℕ) (f : List ℕ → Option Request) (text : List ℕ) → ((rest : List ℕ) → Each (f rest))
     → Each (option_map (λ rest. or_unknown (f rest)) (behind word text))

@@ -1,5 +1,6 @@
 -- A text is one of the forms behind a prefix exactly where a row fits it.
-use Rattle.std.proofs.Common.{ℕ, ◌≡◌, ◌||◌, ◌++◌, length, drop, Bool, true, false, cond, codes, List, Option, Some, None, is_some, refl, ◌∙◌, ap, nat_eq}
+use Rattle.std.proofs.Common.{ℕ, ◌≡◌, ◌||◌, ◌++◌, length, drop, Bool, true, false, cond, codes, List, Option, Some, None, is_some, refl}
+use Rattle.std.proofs.Common.{◌∙◌, ap, nat_eq}
 use Rattle.std.specs.Prelude.{Result, Ok, Err, IfOk}
 use Rattle.std.specs.Option.{option_or, option_map}
 use Rattle.std.specs.Str.{bytes_eq}

@@ -1,5 +1,6 @@
 -- Where a text is cut at a byte that stands in no number.
-use Rattle.std.proofs.Common.{◌||◌, append_assoc, is_some, ℕ, ◌+◌, ◌≡◌, ◌<◌, ◌==◌, ◌&&◌, Bool, true, false, cond, nat_le, nat_lt, List, [], ◌∷◌, ◌++◌}
+use Rattle.std.proofs.Common.{◌||◌, append_assoc, is_some, ℕ, ◌+◌, ◌≡◌, ◌<◌, ◌==◌, ◌&&◌, Bool, true, false, cond, nat_le, nat_lt, List, []}
+use Rattle.std.proofs.Common.{◌∷◌, ◌++◌}
 use Rattle.std.proofs.Common.{length, take, drop, Option, Some, None, refl, sym, ◌∙◌, ap, arith, suc, position}
 use Rattle.std.specs.Prelude.{option_and_then}
 use Rattle.std.proofs.lemmas.Bool.{lt-ltb, ne_eqb}
@@ -58,11 +59,14 @@ none_in_digits b (d ∷ digits) no_digit all =
     other : (d : ℕ) → is_digit d ≡ true → (d == b) ≡ false
     other d is = ne_eqb d b (λ same. let clash : true ≡ false = sym is ∙ (ap is_digit same ∙ no_digit) in cc)
 
-pub none_in_number : (b most : ℕ) (digits : List ℕ) (n : ℕ) → is_digit b ≡ false → number_in most digits ≡ Some n → list_any (λ d. d == b) digits ≡ false
+pub none_in_number : (b most : ℕ) (digits : List ℕ) (n : ℕ) → is_digit b ≡ false → number_in most digits ≡ Some n
+    → list_any (λ d. d == b) digits ≡ false
 none_in_number b most digits n no_digit is = go (is_digits most digits) refl is
   where
     go : (v : Bool) → is_digits most digits ≡ v → cond v (Some (digits_value digits)) None ≡ Some n → list_any (λ d. d == b) digits ≡ false
-    go true e h = none_in_digits b digits no_digit (both_true (nat_lt 0 (length digits) && nat_le (length digits) most) (list_all is_digit digits) e).1
+    go true e h =
+        none_in_digits b digits no_digit
+        (both_true (nat_lt 0 (length digits) && nat_le (length digits) most) (list_all is_digit digits) e).1
     go false e h = cc
 
 -- what a number was that is at most so much
@@ -70,17 +74,20 @@ pub number_there : (most limit : ℕ) (digits : List ℕ) (n : ℕ) → option_a
     × (number_in most digits ≡ Some m)
 number_there most limit digits n is = go (number_in most digits) refl is
   where
-    go : (o : Option ℕ) → number_in most digits ≡ o → option_and_then (at_most limit) o ≡ Some n → (m : ℕ) × (number_in most digits ≡ Some m)
+    go : (o : Option ℕ) → number_in most digits ≡ o → option_and_then (at_most limit) o ≡ Some n
+        → (m : ℕ) × (number_in most digits ≡ Some m)
     go (Some m) e h = (m, e)
     go None e h = cc
 
 -- a serial without a colon ends at the colon behind it
 pub splits_first : (front serial text : List ℕ) → list_any (λ byte. byte == colon) serial ≡ false → is_form text ≡ true
-    → find (λ split. is_form split.after) (splits_behind front (serial ++ colon ∷ text)) ≡ Some (record { before = front ++ serial; after = text })
+    → find (λ split. is_form split.after) (splits_behind front (serial ++ colon ∷ text))
+    ≡ Some (record { before = front ++ serial; after = text })
 splits_first front [] text none is = rw (is, append-nil) refl
 splits_first front (b ∷ serial) text none is =
     let e = either_false (b == colon) (list_any (λ byte. byte == colon) serial) none in
-    rw e.0 (splits_first (front ++ b ∷ []) serial text e.1 is ∙ ap (λ f. Some (record { before = f; after = text })) (append_assoc front (b ∷ []) serial))
+    rw e.0 (splits_first (front ++ b ∷ []) serial text e.1 is
+    ∙ ap (λ f. Some (record { before = f; after = text })) (append_assoc front (b ∷ []) serial))
 
 -- a form that is read is one
 pub form_fits : (on : Which) (text : List ℕ) (request : Request) → form on text ≡ Some request → is_form text ≡ true

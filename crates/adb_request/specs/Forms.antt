@@ -1,5 +1,6 @@
 -- The forms of requests that stand behind a prefix, which says of which device they ask (SERVICES.TXT, `<host-prefix>:<command>`).
-use Rattle.std.specs.Prelude.{ℕ, ◌+◌, Bool, true, false, ◌||◌, ◌&&◌, ◌==◌, nat_eq, nat_lt, nat_le, if◌then◌else◌, List, length, take, drop, Option}
+use Rattle.std.specs.Prelude.{ℕ, ◌+◌, Bool, true, false, ◌||◌, ◌&&◌, ◌==◌, nat_eq, nat_lt, nat_le, if◌then◌else◌, List, length, take, drop}
+use Rattle.std.specs.Prelude.{Option}
 use Rattle.std.specs.Prelude.{Some, None, codes, bytes_eq, option_and_then, option_map, position}
 use Rattle.std.specs.Option.{option_or}
 use Rattle.std.specs.List.{starts_with}
@@ -8,7 +9,8 @@ use Rattle.adb_outside.specs.Decimal.{number_in}
 use Rattle.adb_outside.specs.declared.remote.TheConstants.{MAX_REMOTE}
 use Rattle.adb_request.specs.declared.request.Which.{Which}
 use Rattle.adb_request.specs.declared.request.Request.{Request}
-use Rattle.adb_request.specs.declared.request.Request.TheVariants.{Serialno, Devpath, GetState, Features, Forward, BadForward, KillForward, KillAll}
+use Rattle.adb_request.specs.declared.request.Request.TheVariants.{Serialno, Devpath, GetState, Features, Forward, BadForward, KillForward}
+use Rattle.adb_request.specs.declared.request.Request.TheVariants.{KillAll}
 use Rattle.adb_request.specs.declared.request.Request.TheVariants.{ListForward}
 
 -- what stands behind a word that a text begins with

@@ -4,7 +4,8 @@ use Rattle.adb_outside.specs.declared.kinds.Selector.TheVariants.{Any, Usb, Loca
 use Rattle.adb_request.specs.declared.request.Which.{Which}
 use Rattle.adb_request.specs.declared.request.Which.TheVariants.{Own, By}
 use Rattle.adb_request.specs.declared.request.Request.{Request}
-use Rattle.adb_request.specs.declared.request.Request.TheVariants.{Version, Kill, Devices, Track, Transport, Serialno, Devpath, GetState, Features}
+use Rattle.adb_request.specs.declared.request.Request.TheVariants.{Version, Kill, Devices, Track, Transport, Serialno, Devpath, GetState}
+use Rattle.adb_request.specs.declared.request.Request.TheVariants.{Features}
 use Rattle.adb_request.specs.declared.request.Request.TheVariants.{KillAll, ListForward}
 
 -- the requests behind `host:` that say nothing else

@@ -1,5 +1,6 @@
 -- Slots after a change, and the rows that they show then.
-use Rattle.std.proofs.Common.{ℕ, ◌+◌, ◌≡◌, ◌≢◌, ◌≤◌, ◌<◌, zero, suc, Bool, true, false, cond, List, [], ◌∷◌, length, get_or, drop, filter, Option, Some, None}
+use Rattle.std.proofs.Common.{ℕ, ◌+◌, ◌≡◌, ◌≢◌, ◌≤◌, ◌<◌, zero, suc, Bool, true, false, cond, List, [], ◌∷◌, length, get_or, drop, filter}
+use Rattle.std.proofs.Common.{Option, Some, None}
 use Rattle.std.proofs.Common.{refl, sym, ◌∙◌, ap, subst, arith}
 use Rattle.std.specs.Prelude.{nat_eq, is_some}
 use Rattle.std.proofs.lemmas.List.{at_drop_more}
@@ -89,7 +90,8 @@ module _ {X : Type 0} where
       apart same = omega (arith, same, stands_low (suc s.number) n ss i r.1 st)
 
       go : (row : Option X) → rows_of (with_row_at i (Some w) ss) ≡ set_value (is_at (nat_cmp n)) (rows_of ss) w
-          → listed_at s.number row (rows_of (with_row_at i (Some w) ss)) ≡ set_value (is_at (nat_cmp n)) (listed_at s.number row (rows_of ss)) w
+          → listed_at s.number row (rows_of (with_row_at i (Some w) ss))
+          ≡ set_value (is_at (nat_cmp n)) (listed_at s.number row (rows_of ss)) w
       go None later = later
       go (Some x) later = rw (at_other n s.number apart) (ap (λ (es : List (ℕ × X)). (s.number, x) ∷ es) later)
 
@@ -162,7 +164,8 @@ module _ {X : Type 0} where
       rest = filter (λ (e : ℕ × X). nat_eq e.0 n) (rows_of ss)
 
       shown : (b : Bool) (row : Option X) → nat_eq s.number n ≡ b → rows_of left ≡ rest
-          → cond b (listed_at s.number row (rows_of left)) (rows_of left) ≡ filter (λ (e : ℕ × X). nat_eq e.0 n) (listed_at s.number row (rows_of ss))
+          → cond b (listed_at s.number row (rows_of left)) (rows_of left)
+          ≡ filter (λ (e : ℕ × X). nat_eq e.0 n) (listed_at s.number row (rows_of ss))
       shown true None is later = later
       shown false None is later = later
       shown true (Some x) is later = rw is (ap (λ (es : List (ℕ × X)). (s.number, x) ∷ es) later)

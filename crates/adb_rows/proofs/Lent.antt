@@ -20,7 +20,8 @@ module _ {X : Type 0} where
     live = live ∙ sound.live ∙ ap (λ (s : _). length (rows_of s.items)) (sym slots);
   }
 
-  pub still_has : (n place : ℕ) (was now : Shelf X) → now.slots ≡ was.slots → HasRowAt n was.slots.items place → HasRowAt n now.slots.items place
+  pub still_has : (n place : ℕ) (was now : Shelf X) → now.slots ≡ was.slots → HasRowAt n was.slots.items place
+      → HasRowAt n now.slots.items place
   still_has n place was now slots has = subst (λ (s : _). HasRowAt n s.items place) (sym slots) has
 
   counts_one : (row : Option X) → IsSome row → count_of row ≡ 1
@@ -34,7 +35,8 @@ module _ {X : Type 0} (n place : ℕ) (shelf : Shelf X) (has : HasRowAt n shelf.
   row_is : (slot_at shelf place).row ≡ row_at place shelf.slots.items
   row_is = row_there place shelf.slots.items (record { number = 0; row = None }) (stands_within n shelf.slots.items place has.0)
 
-  sound_with : (row : Option X) → count_of row ≡ count_of (row_at place shelf.slots.items) → IsSound shelf → IsSound (with_row_in shelf place row)
+  sound_with : (row : Option X) → count_of row ≡ count_of (row_at place shelf.slots.items) → IsSound shelf
+      → IsSound (with_row_in shelf place row)
   sound_with row same sound = record {
     rises = subst (RisesFrom 0) (sym (items_are row)) (put_rises 0 shelf.slots.items place row sound.rises);
     live =

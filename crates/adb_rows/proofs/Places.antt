@@ -109,7 +109,8 @@ module _ {X : Type 0} where
   stands_low low n (s ∷ ss) (suc i) r st = omega (arith, r.0, stands_low (suc s.number) n ss i r.1 st)
 
   -- a number behind that of the last slot
-  pub fits_behind : (low n : ℕ) (ss : List (Slot X)) (k : ℕ) (last : Slot X) → RisesFrom low ss → length ss ≡ suc k → Some last ≡ slice_get ss k
+  pub fits_behind : (low n : ℕ) (ss : List (Slot X)) (k : ℕ) (last : Slot X) → RisesFrom low ss → length ss ≡ suc k
+      → Some last ≡ slice_get ss k
       → last.number < n → FitsAt n ss (length ss)
   fits_behind low n [] k last r long is behind = tt
   fits_behind low n (s ∷ []) zero last r long is behind = (subst (λ (t : Slot X). t.number < n) (same_Some last s is) behind, tt)
@@ -176,7 +177,8 @@ module _ {X : Type 0} where
         (λ k d l m. over (suc k) d (omega (arith, l)) (omega (arith, m))),
   )
 
-  searchable : (low n : ℕ) (ss : List (Slot X)) → RisesFrom low ss → IsNonDecreasingBy (λ (s : Slot X). ordering_index (nat_cmp s.number n)) ss
+  searchable : (low n : ℕ) (ss : List (Slot X)) → RisesFrom low ss
+      → IsNonDecreasingBy (λ (s : Slot X). ordering_index (nat_cmp s.number n)) ss
   searchable low n ss r i j d le h = higher (get_or ss i d).number (get_or ss j d).number n (rising_at low ss i j d r le h)
 
   pub found : (n : ℕ) (ss : List (Slot X)) (r : Result ℕ ℕ) → RisesFrom 0 ss → IsSearchInRange r (length ss)

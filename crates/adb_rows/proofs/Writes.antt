@@ -30,7 +30,8 @@ module _ {X : Type 0} (n : ℕ) (w : X) where
       go true is later = rw (apart e.0 is) refl
       go false is later = ap (cond (other e.0) (Some e.1)) later
 
-  updates : (es : List (ℕ × X)) → IsSome (lookup (is_at (nat_cmp n)) es) → UpdatesBy (nat_cmp n) es (set_value (is_at (nat_cmp n)) es w) (Some w)
+  updates : (es : List (ℕ × X)) → IsSome (lookup (is_at (nat_cmp n)) es)
+      → UpdatesBy (nat_cmp n) es (set_value (is_at (nat_cmp n)) es w) (Some w)
   unfolding KeepsOthers
   updates es there =
       let each = λ (q : ℕ). lookup-set_value (eq_by_cmp_equiv nat_cmp_total) (is_at (nat_cmp n)) one_class q w es there in (

@@ -23,7 +23,8 @@ module _ {X : Type 0} where
 -- The shelf ends with the last row that was put behind the result at that place.
 abbrev pub LendsAt : (V : RattleType) → MutBor (Shelf V.Denot) → ℕ → Option (MutBor V.Denot) → Fml
 LendsAt V shelf place result =
-    LendsIf (shelf_row V) V shelf result (λ row. with_row_in shelf.now place (Some row)) (with_row_in shelf.now place (slot_at shelf.now place).row)
+    LendsIf (shelf_row V) V shelf result (λ row. with_row_in shelf.now place (Some row))
+    (with_row_in shelf.now place (slot_at shelf.now place).row)
 
 -- The rows have, at the number that the query finds, what was last written through the result, and are as before where it is `None`.
 abbrev pub lends_row : (V : RattleType) → MutBor (Table V.Denot) → (ℕ → Ordering) → Option (MutBor V.Denot) → Fml

@@ -9,7 +9,8 @@ use Rattle.adb_run_load.proofs.Sums.{told_more}
 use Rattle.adb_run_load.proofs.PastLeads.{down_added}
 use Rattle.adb_run_load.proofs.SentUp.{up_added}
 
-pub count_added : (e : Entry) (h : History) (old new : Count) → IsLegal (e ∷ h) → IsCount h old → AddsUp e old.up new.up → AddsDown e old.down new.down
+pub count_added : (e : Entry) (h : History) (old new : Count) → IsLegal (e ∷ h) → IsCount h old
+    → AddsUp e old.up new.up → AddsDown e old.down new.down
     → new.entries ≡ told (old.entries + 1) → IsCount (e ∷ h) new
 count_added e h old new legal k ups downs one = record {
   entries = one ∙ (ap (λ n. told (n + 1)) k.entries ∙ (told_more (length h) 1 ∙ ap told (longer (length h))));

@@ -1,5 +1,6 @@
 -- Who is handed something came before.
-use Rattle.std.proofs.Common.{ℕ, ◌≡◌, ◌≤◌, ◌<◌, ◌⊎◌, inl, inr, true, false, leb, List, ◌∷◌, Option, Some, None, refl, sym, ◌∙◌, subst, arith, zero, suc}
+use Rattle.std.proofs.Common.{ℕ, ◌≡◌, ◌≤◌, ◌<◌, ◌⊎◌, inl, inr, true, false, leb, List, ◌∷◌, Option, Some, None, refl, sym, ◌∙◌, subst}
+use Rattle.std.proofs.Common.{arith, zero, suc}
 use Rattle.std.proofs.lemmas.Bool.Decides.{leb_tells}
 use Rattle.adb_capture.specs.declared.entry.Entry.TheVariants.{Put, Send}
 use Rattle.adb_history.specs.Rows.{Client, Link}
@@ -13,7 +14,8 @@ use Rattle.adb_history.proofs.OrderlyStates.{orderly}
 nobody : {A : Type 0} {row : A} → None ≡ Some row → ⊥
 nobody e = cc
 
-drawn_there : {A : Type 0} (drawn n : ℕ) (rows : ℕ → Option A) (row : A) → IsDrawnOnly drawn rows → rows n ≡ Some row → (0 < n) × (n ≤ drawn)
+drawn_there : {A : Type 0} (drawn n : ℕ) (rows : ℕ → Option A) (row : A) → IsDrawnOnly drawn rows → rows n ≡ Some row
+    → (0 < n) × (n ≤ drawn)
 drawn_there drawn zero rows row only there = absurd (nobody (sym only.zero ∙ there))
 drawn_there drawn (suc n) rows row only there = (omega arith, go (leb_tells (suc n) drawn))
   where

@@ -1,5 +1,6 @@
 -- How far a load came.
-use Rattle.std.proofs.Common.{ℕ, ◌+◌, ◌≡◌, true, cond, List, [], ◌∷◌, ◌++◌, Option, Some, None, Result, Ok, Err, refl, sym, ◌∙◌, ap, subst, Bool}
+use Rattle.std.proofs.Common.{ℕ, ◌+◌, ◌≡◌, true, cond, List, [], ◌∷◌, ◌++◌, Option, Some, None, Result, Ok, Err, refl, sym, ◌∙◌, ap, subst}
+use Rattle.std.proofs.Common.{Bool}
 use Rattle.std.specs.Prelude.{OnErr}
 use Rattle.std.proofs.lemmas.List.{append_assoc}
 use Rattle.adb_capture.specs.declared.entry.Entry.{Entry}
@@ -53,7 +54,8 @@ then_more h inputs holds front =
     }
 
 -- entries come in two parts
-pub drained_parts : (h : History) (first others : List Entry) → drained_from h (first ++ others) ≡ drained_from (drained_from h first) others
+pub drained_parts : (h : History) (first others : List Entry)
+    → drained_from h (first ++ others) ≡ drained_from (drained_from h first) others
 drained_parts h [] others = refl
 drained_parts h (e ∷ first) others = drained_parts (drained_after h e) first others
 
@@ -76,7 +78,8 @@ HandingOut start count_start holds count = (h : History) → IsLawful start h �
 abbrev pub Hands : Kept → Option Entry → Kept → Type 0
 Hands holds out new = (h : History) → IsLawful holds h → HandsNext h out new
 
-module _ (drains : (h : History) → IsLegal h → IsDrainedFrom h) {h : History} {holds : Kept} {count : Count} (d : Draining h holds count) where
+module _ (drains : (h : History) → IsLegal h → IsDrainedFrom h) {h : History} {holds : Kept} {count : Count}
+    (d : Draining h holds count) where
   -- no memory for it
   pub draining_stopped : HoldsFront (drain_all h) holds
   draining_stopped = subst (λ (whole : History). HoldsFront whole holds) (sym d.ends) (before_draining d.done holds d.lawful)
@@ -133,7 +136,8 @@ input_in (act ∷ acts) (f ∷ front) rest e is = let others : entries_of acts �
 
 -- each entry of a load may come when it comes
 abbrev pub AreAccepted : Type 0
-AreAccepted = (seed streams : ℕ) (front rest : List Entry) (e : Entry) → load seed streams ≡ front ++ e ∷ rest → IsLegal (drained_from [] front)
+AreAccepted = (seed streams : ℕ) (front rest : List Entry) (e : Entry) → load seed streams ≡ front ++ e ∷ rest
+    → IsLegal (drained_from [] front)
     → IsTaken (drained_from [] front) e
 
 -- How far a load has come: the entries that were made, and those that are still to come.
@@ -174,7 +178,8 @@ module _ {seed streams : ℕ} {ahead : List Entry} {holds : Kept} {count : Count
         → IsLawful new (drained_after (drained_from [] r.inputs) e) × IsCount (drained_after (drained_from [] r.inputs) e) count_new
         → Running seed streams rest new count_new
     running_on new count_new reached =
-        let same : drained_from [] (r.inputs ++ e ∷ []) ≡ drained_after (drained_from [] r.inputs) e = drained_parts [] r.inputs (e ∷ []) in record {
+        let same : drained_from [] (r.inputs ++ e ∷ []) ≡ drained_after (drained_from [] r.inputs) e =
+        drained_parts [] r.inputs (e ∷ []) in record {
           inputs = r.inputs ++ e ∷ [];
           is = split ∙ sym (append_assoc r.inputs (e ∷ []) rest);
           lawful = subst (λ (x : History). IsLawful new x) (sym same) reached.0;

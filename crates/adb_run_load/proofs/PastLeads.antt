@@ -30,12 +30,15 @@ module _ (h : History) (c : ℕ) (old new : Down) (d : IsDown h old) (next : c �
   total =
       let first : bytes_put (came_count h + 1) h ≡ [] = d.later (came_count h + 1) (omega arith) in
       comes.total ∙ (d.total
-      ∙ ap told (sym (sum_longer (λ c. length (bytes_put c h) - lead_len) (came_count h) (none_past (bytes_put (came_count h + 1) h) first))))
+      ∙ ap told (sym
+      (sum_longer (λ c. length (bytes_put c h) - lead_len) (came_count h)
+      (none_past (bytes_put (came_count h + 1) h) first))))
 
   leads : (q : ℕ) → 0 < q → q ≤ came_count h + 1 → lead_at (at q new.leads.entries) ≡ lead_len - length (bytes_put q h)
   leads q positive within = go (eqb_tells q c)
     where
-      go : ((eqb q c ≡ true) × (q ≡ c)) ⊎ ((eqb q c ≡ false) × (q ≢ c)) → lead_at (at q new.leads.entries) ≡ lead_len - length (bytes_put q h)
+      go : ((eqb q c ≡ true) × (q ≡ c)) ⊎ ((eqb q c ≡ false) × (q ≢ c))
+          → lead_at (at q new.leads.entries) ≡ lead_len - length (bytes_put q h)
       go (inl same) =
           let none : bytes_put q h ≡ [] = d.later q (omega (arith, same.1, next)) in
           ap (λ (n : ℕ). lead_at (at n new.leads.entries)) same.1 ∙ (ap lead_at comes.leads.here ∙ all_left (bytes_put q h) none)
@@ -69,7 +72,8 @@ module _ (h : History) (c : ℕ) (bytes : List ℕ) (old new : Down) (d : IsDown
   put_total =
       let size = size_here c refl in
       let delta = length bytes - lead_at (at c old.leads.entries) in
-      let here : length (bytes_put c (Put c bytes ∷ h)) - lead_len ≡ length (bytes_put c h) - lead_len + delta = omega (arith, size, lead) in
+      let here : length (bytes_put c (Put c bytes ∷ h)) - lead_len ≡ length (bytes_put c h) - lead_len + delta =
+      omega (arith, size, lead) in
       let grown = sum_grown (λ q. length (bytes_put q h) - lead_len) (λ q. length (bytes_put q (Put c bytes ∷ h)) - lead_len)
       c delta (came_count h) came.0 came.1
       (λ q other. ap (λ (b : List ℕ). length b - lead_len) (put_other q other)) here in

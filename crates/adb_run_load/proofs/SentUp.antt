@@ -29,7 +29,8 @@ pub wrote_piece : (fed piece : List ℕ) (old mid new : Deframing) (written : �
     → Wrote fed piece written new
 wrote_piece fed piece old mid new written read takes counted none stands =
     let fed_mid = takes fed (framed fed).given read.stands in
-    let are : (framed (fed ++ piece)).given ≡ (framed fed).given ++ mid.given = (for_stands (fed ++ piece) (framed fed).given mid fed_mid).frames in
+    let are : (framed (fed ++ piece)).given ≡ (framed fed).given ++ mid.given =
+    (for_stands (fed ++ piece) (framed fed).given mid fed_mid).frames in
     record {
       more = mid.given;
       are = are;
@@ -41,7 +42,8 @@ wrote_piece fed piece old mid new written read takes counted none stands =
     }
 
 -- the same on a link that has a deframer
-pub wrote_on : (fed piece : List ℕ) (t written : ℕ) (old new : Up) (begun now : Option Deframing) → HasBegun fed begun → WritesAt piece written begun now
+pub wrote_on : (fed piece : List ℕ) (t written : ℕ) (old new : Up) (begun now : Option Deframing) → HasBegun fed begun
+    → WritesAt piece written begun now
     → at t new.links.entries ≡ now → new.total ≡ told (old.total + written) → WroteOn fed piece t old new
 wrote_on fed piece t written old new None now has writes is total = absurd has
 wrote_on fed piece t written old new (Some cutter) None has writes is total = absurd writes
@@ -70,7 +72,8 @@ module _ (h : History) (up : Up) (u : IsUp h up) where
       total = u.total ∙ ap told (sym (sum_longer (λ t. wrote_in (sent t h)) (plugged_count h) nothing))
 
 -- bytes were sent to a link
-module _ (h : History) (t : ℕ) (bytes : List ℕ) (old new : Up) (u : IsUp h old) (came : (0 < t) × (t ≤ plugged_count h)) (w : Writes t bytes old new) where
+module _ (h : History) (t : ℕ) (bytes : List ℕ) (old new : Up) (u : IsUp h old)
+    (came : (0 < t) × (t ≤ plugged_count h)) (w : Writes t bytes old new) where
   sent_here : (q : ℕ) → q ≡ t → bytes_sent q (Send t bytes ∷ h) ≡ bytes_sent q h ++ bytes
   sent_here q same = ap (λ b. cond b (bytes_sent q h ++ bytes) (bytes_sent q h)) (eq-eqb t q (sym same))
 
@@ -84,7 +87,8 @@ module _ (h : History) (t : ℕ) (bytes : List ℕ) (old new : Up) (u : IsUp h o
   sent_total =
       let here : wrote_in (sent t (Send t bytes ∷ h)) ≡ wrote_in (sent t h) + wrote_in on.more =
       ap (λ (b : List ℕ). wrote_in (framed b).given) (sent_here t refl) ∙ (ap wrote_in on.are ∙ wrote_append (sent t h) on.more) in
-      let grown = sum_grown (λ q. wrote_in (sent q h)) (λ q. wrote_in (sent q (Send t bytes ∷ h))) t (wrote_in on.more) (plugged_count h) came.0 came.1
+      let grown = sum_grown (λ q. wrote_in (sent q h)) (λ q. wrote_in (sent q (Send t bytes ∷ h))) t
+      (wrote_in on.more) (plugged_count h) came.0 came.1
       (λ q other. ap (λ (b : List ℕ). wrote_in (framed b).given) (sent_other q other)) here in
       on.counted ∙ (ap (λ n. told (n + told (wrote_in on.more))) u.total ∙ (told_both (up_of h) (wrote_in on.more) ∙ ap told (sym grown)))
 
@@ -94,7 +98,8 @@ module _ (h : History) (t : ℕ) (bytes : List ℕ) (old new : Up) (u : IsUp h o
       at_t : HasReadAt (bytes_sent t (Send t bytes ∷ h)) (at t new.links.entries)
       at_t = subst (λ (b : List ℕ). HasReadAt b (at t new.links.entries)) (sym (sent_here t refl)) on.read
 
-      go : ((eqb q t ≡ true) × (q ≡ t)) ⊎ ((eqb q t ≡ false) × (q ≢ t)) → HasReadAt (bytes_sent q (Send t bytes ∷ h)) (at q new.links.entries)
+      go : ((eqb q t ≡ true) × (q ≡ t)) ⊎ ((eqb q t ≡ false) × (q ≢ t))
+          → HasReadAt (bytes_sent q (Send t bytes ∷ h)) (at q new.links.entries)
       go (inl same) = subst (λ (n : ℕ). HasReadAt (bytes_sent n (Send t bytes ∷ h)) (at n new.links.entries)) (sym same.1) at_t
       go (inr other) =
           subst (λ (b : List ℕ). HasReadAt b (at q new.links.entries)) (sym (sent_other q other.1))

@@ -61,6 +61,7 @@ wrote_append [] qs = omega arith
 wrote_append (p ∷ ps) qs = go (is_wrte p.command) (wrote_append ps qs)
   where
     go : (b : Bool) → wrote_in (ps ++ qs) ≡ wrote_in ps + wrote_in qs
-        → cond b (length p.payload + wrote_in (ps ++ qs)) (wrote_in (ps ++ qs)) ≡ cond b (length p.payload + wrote_in ps) (wrote_in ps) + wrote_in qs
+        → cond b (length p.payload + wrote_in (ps ++ qs)) (wrote_in (ps ++ qs))
+        ≡ cond b (length p.payload + wrote_in ps) (wrote_in ps) + wrote_in qs
     go true others = omega (arith, others)
     go false others = others

@@ -23,7 +23,8 @@ wrote_one p = go (is_wrte p.command)
     go false = refl
 
 module _ {old now : Deframing} {total : ℕ} (t : Taking old now total) where
-  pub taking_on : (new : Deframing) (p : Packet) (next : ℕ) → Gives now new (Some p) → next ≡ told (total + cond (is_wrte p.command) (length p.payload) 0)
+  pub taking_on : (new : Deframing) (p : Packet) (next : ℕ) → Gives now new (Some p)
+      → next ≡ told (total + cond (is_wrte p.command) (length p.payload) 0)
       → Taking old new next
   taking_on new p next g is =
       let first : now.given ≡ p ∷ new.given = ap (λ (d : Deframing). d.given) g.some in

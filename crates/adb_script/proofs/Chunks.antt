@@ -26,13 +26,15 @@ further text next bytes chunk more whole n least some front back added kept =
 
 -- the bytes behind the first are those of a greater shift
 behind : (shift from n m size : ℕ) → n + m ≡ size
-    → drop n (map (λ place. (place + shift) % 251) (range_with_len from size)) ≡ map (λ place. (place + (shift + n)) % 251) (range_with_len from m)
+    → drop n (map (λ place. (place + shift) % 251) (range_with_len from size))
+    ≡ map (λ place. (place + (shift + n)) % 251) (range_with_len from m)
 behind shift from zero m size all =
     let left : size ≡ m = omega (arith, all) in
     same from size ∙ ap (λ (k : ℕ). map (λ place. (place + (shift + 0)) % 251) (range_with_len from k)) left
   where
     same : (from size : ℕ)
-        → map (λ place. (place + shift) % 251) (range_with_len from size) ≡ map (λ place. (place + (shift + 0)) % 251) (range_with_len from size)
+        → map (λ place. (place + shift) % 251) (range_with_len from size)
+        ≡ map (λ place. (place + (shift + 0)) % 251) (range_with_len from size)
     same from zero = refl
     same from (suc size) =
         let here : (from + shift) % 251 ≡ (from + (shift + 0)) % 251 = ap (λ (k : ℕ). k % 251) (omega arith) in

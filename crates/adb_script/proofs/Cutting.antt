@@ -1,5 +1,6 @@
 -- Texts that are cut at the first byte that passes a test: words at a space, and lines behind their newline.
-use Rattle.std.proofs.Common.{ℕ, suc, ◌+◌, ◌-◌, ◌≡◌, ◌<◌, ◌≤◌, Bool, true, false, cond, not, ltb, List, [], ◌∷◌, length, take, drop, Some, None}
+use Rattle.std.proofs.Common.{ℕ, suc, ◌+◌, ◌-◌, ◌≡◌, ◌<◌, ◌≤◌, Bool, true, false, cond, not, ltb, List, [], ◌∷◌, length, take, drop, Some}
+use Rattle.std.proofs.Common.{None}
 use Rattle.std.proofs.Common.{refl, ◌∙◌, ap, sym, subst, arith}
 use Rattle.std.specs.List.{slice_split, onto_first, before_first, position, position_or_len}
 use Rattle.std.proofs.lemmas.Bool.Decides.{nat_tests}
@@ -34,7 +35,8 @@ unfound p xs e = go (ltb k (length xs)) refl e
     go false is e = grind (arith, nat_tests)
 
 -- a text with such a byte is cut there
-pub cut_there : (p : ℕ → Bool) (xs : List ℕ) (i : ℕ) → position p xs ≡ Some i → slice_split p xs ≡ take i xs ∷ slice_split p (drop (i + 1) xs)
+pub cut_there : (p : ℕ → Bool) (xs : List ℕ) (i : ℕ) → position p xs ≡ Some i
+    → slice_split p xs ≡ take i xs ∷ slice_split p (drop (i + 1) xs)
 cut_there p xs i e =
     let f = found p xs i e in
     subst (λ (k : ℕ). slice_split p xs ≡ take k xs ∷ slice_split p (drop (k + 1) xs)) (sym f.place) (slice_split_first p xs 0 f.within)
@@ -44,7 +46,8 @@ whole : (p : ℕ → Bool) (xs : List ℕ) → length xs ≤ position_or_len p x
 whole p [] h = refl
 whole p (x ∷ xs) h = go (p x) h (whole p xs)
   where
-    go : (t : Bool) → length (x ∷ xs) ≤ cond (not t) (1 + position_or_len p xs) 0 → (length xs ≤ position_or_len p xs → slice_split p xs ≡ xs ∷ [])
+    go : (t : Bool) → length (x ∷ xs) ≤ cond (not t) (1 + position_or_len p xs) 0
+        → (length xs ≤ position_or_len p xs → slice_split p xs ≡ xs ∷ [])
         → cond t ([] ∷ slice_split p xs) (onto_first x (slice_split p xs)) ≡ (x ∷ xs) ∷ []
     go true h more = absurd (omega (arith, h))
     go false h more = ap (onto_first x) (more (omega (arith, h)))
@@ -61,7 +64,8 @@ line_there (x ∷ xs) h = go (is_newline x) h (line_there xs)
     k : ℕ
     k = position_or_len is_newline xs
 
-    go : (t : Bool) → cond (not t) (1 + k) 0 < length (x ∷ xs) → (k < length xs → lines_of xs ≡ take (k + 1) xs ∷ lines_of (drop (k + 1) xs))
+    go : (t : Bool) → cond (not t) (1 + k) 0 < length (x ∷ xs)
+        → (k < length xs → lines_of xs ≡ take (k + 1) xs ∷ lines_of (drop (k + 1) xs))
         → cond t ((x ∷ []) ∷ lines_of xs) (onto_first x (lines_of xs))
         ≡ take (cond (not t) (1 + k) 0 + 1) (x ∷ xs) ∷ lines_of (drop (cond (not t) (1 + k) 0 + 1) (x ∷ xs))
     go true h more = refl
@@ -151,7 +155,8 @@ some_words (x ∷ xs) e = go (is_space x) e
     go false e = onto (words_of xs) e
 
 -- a line of four words and more is none
-pub four_words : (text name rest word count another more : List ℕ) → words_of text ≡ name ∷ words_of rest → words_of rest ≡ word ∷ words_of count
+pub four_words : (text name rest word count another more : List ℕ) → words_of text ≡ name ∷ words_of rest
+    → words_of rest ≡ word ∷ words_of count
     → words_of count ≡ another ∷ words_of more → None ≡ line_of_words (words_of text)
 four_words text name rest word count another more one two three =
     let many : line_of_words (name ∷ word ∷ another ∷ words_of more) ≡ None = go (words_of more) (some_words more) in

@@ -26,19 +26,23 @@ module _ (script rest text more : List ℕ) (lines : List Line) (cuts : CutsLine
   refused_as : bad_among (length lines + 1) (length script - length rest) (first ∷ lines_of more) ≡ first_bad script
   refused_as = ap (λ (ls : List (List ℕ)). bad_among (length lines + 1) (length script - length rest) ls) (sym cuts.first) ∙ old.bad
 
-  by_end : cond (is_bad (length lines + 1) end first) (Some (length lines + 1)) (bad_among (length lines + 1 + 1) end (lines_of more)) ≡ first_bad script
-  by_end = ap (λ (e : ℕ). cond (is_bad (length lines + 1) e first) (Some (length lines + 1)) (bad_among (length lines + 1 + 1) e (lines_of more))) (sym at_end)
+  by_end : cond (is_bad (length lines + 1) end first) (Some (length lines + 1))
+      (bad_among (length lines + 1 + 1) end (lines_of more)) ≡ first_bad script
+  by_end = ap (λ (e : ℕ). cond (is_bad (length lines + 1) e first) (Some (length lines + 1))
+      (bad_among (length lines + 1 + 1) e (lines_of more))) (sym at_end)
       ∙ refused_as
 
   -- it is a line
-  pub reads_line : (line : Line) → line_of text ≡ Some line → length lines + 1 ≤ MAX_LINES → end ≤ MAX_SCRIPT → Reads script more (lines ++ line ∷ [])
+  pub reads_line : (line : Line) → line_of text ≡ Some line → length lines + 1 ≤ MAX_LINES → end ≤ MAX_SCRIPT
+      → Reads script more (lines ++ line ∷ [])
   reads_line line is few short =
       let some : is_none (said first) ≡ false = ap (λ (o : Option Line). is_none o) (says ∙ is) in
       let good : is_bad (length lines + 1) end first ≡ false = grind (arith, nat_tests) in
       let count : length (lines ++ line ∷ []) + 1 ≡ length lines + 1 + 1 = omega (arith, length-append lines (line ∷ [])) in
       record {
         bad = ap (λ (n : ℕ). bad_among n end (lines_of more)) count
-            ∙ (ap (λ (t : Bool). cond t (Some (length lines + 1)) (bad_among (length lines + 1 + 1) end (lines_of more))) (sym good) ∙ by_end);
+            ∙ (ap (λ (t : Bool). cond t (Some (length lines + 1))
+            (bad_among (length lines + 1 + 1) end (lines_of more))) (sym good) ∙ by_end);
         all = append_assoc lines (line ∷ []) (all_said (lines_of more))
             ∙ (ap (λ (o : Option Line). lines ++ (option_to_list o ++ all_said (lines_of more))) (sym (says ∙ is))
             ∙ (ap (λ (ls : List (List ℕ)). lines ++ all_said ls) (sym cuts.first) ∙ old.all));

@@ -1,5 +1,6 @@
 -- The bytes (place + shift) mod 251 begin anew after 251 of them.
-use Rattle.std.proofs.Common.{ℕ, zero, suc, ◌+◌, ◌-◌, ◌%◌, ◌≡◌, ◌≤◌, ◌&&◌, min, Bool, true, false, List, [], ◌∷◌, ◌++◌, length, take, drop, map}
+use Rattle.std.proofs.Common.{ℕ, zero, suc, ◌+◌, ◌-◌, ◌%◌, ◌≡◌, ◌≤◌, ◌&&◌, min, Bool, true, false, List, [], ◌∷◌, ◌++◌, length, take, drop}
+use Rattle.std.proofs.Common.{map}
 use Rattle.std.proofs.Common.{refl, ◌∙◌, ap, sym, arith}
 use Rattle.std.specs.List.{range_with_len}
 use Rattle.std.specs.Prelude.{bytes_eq, nat_eq}
@@ -49,7 +50,8 @@ pattern_cut shift size n is = go (size - n) refl
     go (suc m) left =
         let whole : n ≡ 251 = omega (arith, left, is) in
         parts shift 0 n (suc m) size (0 + 251) (omega (arith, left)) (omega (arith, whole))
-        ∙ (ap (λ (bs : List ℕ). pattern shift n ++ bs) (anew shift 0 (suc m)) ∙ ap (λ (bs : List ℕ). bs ++ pattern shift (suc m)) (sym front))
+        ∙ (ap (λ (bs : List ℕ). pattern shift n ++ bs) (anew shift 0 (suc m))
+        ∙ ap (λ (bs : List ℕ). bs ++ pattern shift (suc m)) (sym front))
 
 and_behind : (a b c : Bool) → (a && (b && c)) ≡ ((a && b) && c)
 and_behind true b c = refl
@@ -88,18 +90,22 @@ pub other_length : (bytes : List ℕ) (shift size : ℕ) → (length bytes ≡ s
 other_length bytes shift size other = go (bytes_eq bytes (pattern shift size)) refl
   where
     go : (t : Bool) → bytes_eq bytes (pattern shift size) ≡ t → false ≡ t
-    go true is = absurd (other (ap (λ (bs : List ℕ). length bs) ((bytes_eq-Decides bytes (pattern shift size)).0 is) ∙ length_pattern shift size))
+    go true is = absurd
+        (other (ap (λ (bs : List ℕ). length bs) ((bytes_eq-Decides bytes (pattern shift size)).0 is)
+        ∙ length_pattern shift size))
     go false is = refl
 
 -- so many bytes are compared part by part
 pub compared : (shift n : ℕ) (rest front more : List ℕ) → n ≡ min 251 (length rest) → front ≡ take n rest → more ≡ drop n rest
-    → bytes_eq rest (pattern shift (length rest)) ≡ (bytes_eq front (take (length front) (pattern shift 251)) && bytes_eq more (pattern shift (length more)))
+    → bytes_eq rest (pattern shift (length rest))
+    ≡ (bytes_eq front (take (length front) (pattern shift 251)) && bytes_eq more (pattern shift (length more)))
 compared shift n rest front more is begins ends =
     let whole : rest ≡ front ++ more =
     sym (ap (λ (bs : List ℕ). bs ++ more) begins ∙ (ap (λ (bs : List ℕ). take n rest ++ bs) ends ∙ take-append-drop n rest)) in
     let size : length front ≡ n = ap (λ (bs : List ℕ). length bs) begins ∙ omega (arith, is, length-take n rest) in
     let left : length rest - n ≡ length more = omega (arith, ap (λ (bs : List ℕ). length bs) ends, length-drop n rest) in
-    let same : length front ≡ length (take n (pattern shift 251)) = omega (arith, size, is, length-take n (pattern shift 251), length_pattern shift 251) in
+    let same : length front ≡ length (take n (pattern shift 251)) =
+    omega (arith, size, is, length-take n (pattern shift 251), length_pattern shift 251) in
     ap (λ (bs : List ℕ). bytes_eq bs (pattern shift (length rest))) whole
     ∙ (ap (λ (bs : List ℕ). bytes_eq (front ++ more) bs) (pattern_cut shift (length rest) n is)
     ∙ (both_equal front more (take n (pattern shift 251)) (pattern shift (length rest - n)) same

@@ -24,6 +24,7 @@ one_fed kind all rest piece more old new is feeding feeds = record {
 }
 
 -- the last piece tells what all mean
-pub all_fed : {V : Type 0} (kind : AnswerKind) (value : List ℕ → Step V) (all rest : List ℕ) (read : Read) (step : Step V) → Feeding kind all rest read
+pub all_fed : {V : Type 0} (kind : AnswerKind) (value : List ℕ → Step V) (all rest : List ℕ) (read : Read)
+    (step : Step V) → Feeding kind all rest read
     → ((fed : List ℕ) → StandsFor kind fed read → step ≡ value (fed ++ rest)) → step ≡ value all
 all_fed kind value all rest read step feeding told = told feeding.fed feeding.stands ∙ ap value feeding.is

@@ -33,7 +33,8 @@ pub push_printed : (files : List Entry) (number size : ℕ) (path : List ℕ) �
     → line_answer files number (Asks (Pushes path size)) ≡ pushed_by files number path size (put_refusal files path size)
 push_printed files number size path short time =
     ap (push_line_of path size) (push_served 33188 (omega arith) (omega arith) files path (pattern 0 size) number short time)
-    ∙ (ap (λ (n : ℕ). push_line_of path size (send_by files path (pushed_file number size) (put_refusal files path n))) (length_pattern 0 size)
+    ∙ (ap (λ (n : ℕ). push_line_of path size
+    (send_by files path (pushed_file number size) (put_refusal files path n))) (length_pattern 0 size)
     ∙ pushed_as files number path size (put_refusal files path size))
 
 -- ---- a pull
@@ -41,7 +42,8 @@ push_printed files number size path short time =
 abbrev pub Reads : Type 0
 Reads = (bytes : List ℕ) → pull_value (chunk_bytes bytes ++ answer_bytes answers.ChunkEnd) ≡ steps.Done bytes
 
-pulled_as : Reads → (path : List ℕ) (o : Option FileError) (file : Option File) → pulled_line path (pull_value (recv_by o file)) ≡ pulled_text path o file
+pulled_as : Reads → (path : List ℕ) (o : Option FileError) (file : Option File)
+    → pulled_line path (pull_value (recv_by o file)) ≡ pulled_text path o file
 pulled_as reads path (Some refusal) file = ap (pulled_line path) (pull_refused refusal)
 pulled_as reads path None None = refl
 pulled_as reads path None (Some file) = ap (pulled_line path) (reads file.bytes)
@@ -53,7 +55,8 @@ pull_printed reads files number path short =
     ∙ ap (λ (text : List ℕ). record { files = files; text = text }) (pulled_as reads path (read_refusal files path) (file_at path files))
 
 -- a pull of a file is handed its bytes
-pub pull_handed : Reads → (files : List Entry) (number : ℕ) (path : List ℕ) (file : File) → length path ≤ 1000 → read_refusal files path ≡ None
+pub pull_handed : Reads → (files : List Entry) (number : ℕ) (path : List ℕ) (file : File) → length path ≤ 1000
+    → read_refusal files path ≡ None
     → file_at path files ≡ Some file → pull_value (exchange files number (Pulls path)).answer ≡ steps.Done file.bytes
 pull_handed reads files number path file short granted there =
     ap (λ (s : Served). pull_value s.answer) (pull_served files path short)

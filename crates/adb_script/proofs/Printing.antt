@@ -18,12 +18,15 @@ use Rattle.adb_script.proofs.Shown.{listing_words, stat_words}
 pub stat_printed : (files : List Entry) (number : ℕ) (path : List ℕ) → IsFileMap files → length path ≤ MAX_WORD
     → line_answer files number (Asks (Stats path)) ≡ stat_over files path
 stat_printed files number path ok short =
-    ap (λ (s : Served). record { files = s.files; text = stat_line path (stat_value s.answer) }) (stat_served files path (omega (arith, short)))
-    ∙ ap (λ (step : Step StatValue). record { files = files; text = stat_line path step }) (stat_read (stat_in files path) (stat_words files path ok))
+    ap (λ (s : Served). record { files = s.files; text = stat_line path (stat_value s.answer) })
+    (stat_served files path (omega (arith, short)))
+    ∙ ap (λ (step : Step StatValue). record { files = files; text = stat_line path step })
+    (stat_read (stat_in files path) (stat_words files path ok))
 
 pub list_printed : (files : List Entry) (number : ℕ) (path : List ℕ) → IsFileMap files → length path ≤ MAX_WORD
     → line_answer files number (Asks (Lists path)) ≡ listed_over files path
 list_printed files number path ok short =
-    ap (λ (s : Served). record { files = s.files; text = listed_line path (list_value s.answer) }) (list_served files path (omega (arith, short)))
+    ap (λ (s : Served). record { files = s.files; text = listed_line path (list_value s.answer) })
+    (list_served files path (omega (arith, short)))
     ∙ ap (λ (step : Step (List Dirent)). record { files = files; text = listed_line path step })
     (list_read (listing path files) (listing_words files path ok))

@@ -1,5 +1,6 @@
 -- What a command prints, behind its packets.
-use Rattle.std.proofs.Common.{ℕ, zero, suc, ◌+◌, ◌≡◌, ◌≤◌, Bool, true, false, cond, eqb, List, [], ◌∷◌, ◌++◌, length, take, drop, Option, Some, None}
+use Rattle.std.proofs.Common.{ℕ, zero, suc, ◌+◌, ◌≡◌, ◌≤◌, Bool, true, false, cond, eqb, List, [], ◌∷◌, ◌++◌, length, take, drop, Option}
+use Rattle.std.proofs.Common.{Some, None}
 use Rattle.std.proofs.Common.{refl, sym, ◌∙◌, ap, subst, append_assoc, arith}
 use Rattle.std.specs.Prelude.{bytes_eq, codes, slice_get}
 use Rattle.std.proofs.lemmas.Bool.Decides.{nat_tests}
@@ -69,7 +70,8 @@ out_read (suc k) id from (byte ∷ bytes) more known plain fits =
     let some : eqb (length all) 0 ≡ false = grind (arith, nat_tests) in
     let small : length front ≤ 1048576 = omega (arith, length-take MAX_OUTPUT all) in
     let spell : output_at (suc k) id all ++ more ≡ spelling packet ++ (output_at k id left ++ more) =
-    ap (λ (t : Bool). cond t [] (spelling packet ++ output_at k id left) ++ more) some ∙ append_assoc (spelling packet) (output_at k id left) more in
+    ap (λ (t : Bool). cond t [] (spelling packet ++ output_at k id left) ++ more) some
+    ∙ append_assoc (spelling packet) (output_at k id left) more in
     let cut = read_again from packet (output_at k id left ++ more) (record { id = known; bytes = small }) in
     let is : given from (output_at (suc k) id all ++ more) ≡ packet ∷ given (past from (spelling packet)) (output_at k id left ++ more) =
     ap (given from) spell ∙ ap (λ (c : Reading). c.given) cut in
@@ -96,7 +98,8 @@ outcome_read outcome =
     let first = out_read (length outcome.stdout) STDOUT start outcome.stdout (err ++ last) (omega arith) refl (omega arith) in
     let second = out_read (length outcome.stderr) STDERR first.next outcome.stderr last (omega arith) refl (omega arith) in
     let exit = exit_read second.next outcome.status in
-    let none : (id : ℕ) → payloads id (given second.next last) ≡ payloads id (packet_of EXIT (outcome.status ∷ []) ∷ []) = λ id. ap (payloads id) exit in
+    let none : (id : ℕ) → payloads id (given second.next last)
+    ≡ payloads id (packet_of EXIT (outcome.status ∷ []) ∷ []) = λ id. ap (payloads id) exit in
     let stdout : payloads STDOUT (packets_in (spelled true outcome)) ≡ outcome.stdout =
     ap (λ (bs : List ℕ). payloads STDOUT (packets_in bs)) whole
     ∙ (first.said STDOUT ∙ (ap (λ (bs : List ℕ). outcome.stdout ++ bs) (second.said STDOUT ∙ none STDOUT) ∙ append-nil outcome.stdout)) in
@@ -109,7 +112,8 @@ outcome_read outcome =
 
 -- ---- a command whose input is closed at once
 closed_answer : (files : List Entry) (words : List (List ℕ)) (t : Bool) → is_echo_of_input words ≡ t
-    → (cond t (input_answer (packets_in end_of_input) (fault_in end_of_input)) (record { bytes = spelled true (outcome_of files words); ended = true })).bytes
+    → (cond t (input_answer (packets_in end_of_input) (fault_in end_of_input))
+    (record { bytes = spelled true (outcome_of files words); ended = true })).bytes
     ≡ spelled true (outcome_of files words)
 closed_answer files words false is = refl
 closed_answer files [] true is = absurd (cc)

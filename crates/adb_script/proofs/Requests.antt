@@ -1,5 +1,6 @@
 -- What a sync service makes of the text of a push, and of a pull, and what its refusals mean.
-use Rattle.std.proofs.Common.{ℕ, zero, suc, ◌+◌, ◌-◌, ◌*◌, ◌%◌, ◌^◌, ◌≡◌, ◌<◌, ◌≤◌, ◌&&◌, Bool, true, false, cond, not, eqb, ltb, leb, List, [], ◌∷◌, ◌++◌, length}
+use Rattle.std.proofs.Common.{ℕ, zero, suc, ◌+◌, ◌-◌, ◌*◌, ◌%◌, ◌^◌, ◌≡◌, ◌<◌, ◌≤◌, ◌&&◌, Bool, true, false, cond, not, eqb, ltb, leb, List}
+use Rattle.std.proofs.Common.{[], ◌∷◌, ◌++◌, length}
 use Rattle.std.proofs.Common.{take, drop, map, fold, Option, Some, None, sym, refl, ◌∙◌, ap, subst, append_assoc, arith}
 use Rattle.std.specs.Prelude.{bit_and, decimal, if◌then◌else◌, option_and_then}
 use Rattle.std.specs.Int.Digits.{AllBelowBase, digits_of, number_from_digits_after}
@@ -77,7 +78,8 @@ chunks_sent (suc k) s send (byte ∷ bytes) mtime on short fits =
     let spelled : chunks_at (suc k) all ++ end ≡ frame ++ (chunks_at k left ++ end) =
     ap (λ (t : Bool). cond t [] (frame ++ chunks_at k left) ++ end) some ∙ append_assoc frame (chunks_at k left) end in
     let next : AskFormat = past_ask s frame in
-    let rest = chunks_sent k next (record send { bytes = send.bytes ++ chunk }) left mtime refl short (omega (arith, fits, length-drop MAX_CHUNK all)) in
+    let rest = chunks_sent k next (record send { bytes = send.bytes ++ chunk }) left mtime refl short
+    (omega (arith, fits, length-drop MAX_CHUNK all)) in
     subst (λ (bs : List ℕ). Sent send all mtime (asks_from s bs)) (sym spelled)
     (subst (λ (bs : List ℕ). Sent send bs mtime (asks_from s (frame ++ (chunks_at k left ++ end)))) (take-append-drop MAX_CHUNK all)
     (chunk_sent s send chunk left (chunks_at k left ++ end) mtime on (omega (arith, length-take MAX_CHUNK all)) rest))
@@ -85,7 +87,8 @@ chunks_sent (suc k) s send (byte ∷ bytes) mtime on short fits =
 -- ---- a mode in decimal
 no_comma : (digits : List ℕ) → last_comma (map (λ d. 48 + d) digits) ≡ None
 no_comma [] = refl
-no_comma (d ∷ digits) = ap (comma_behind (48 + d)) (no_comma digits) ∙ ap (λ t. if t then Some 0 else None) (ne_eqb (48 + d) 44 (λ e. omega (arith, e)))
+no_comma (d ∷ digits) = ap (comma_behind (48 + d)) (no_comma digits)
+    ∙ ap (λ t. if t then Some 0 else None) (ne_eqb (48 + d) 44 (λ e. omega (arith, e)))
 
 all_digits : (digits : List ℕ) → AllBelowBase 10 digits → list_all is_digit (map (λ d. 48 + d) digits) ≡ true
 all_digits [] below = refl
@@ -99,7 +102,8 @@ value_behind : (value : ℕ) (digits : List ℕ) → fold (λ value digit. 10 * 
     ≡ number_from_digits_after 10 value digits
 value_behind value [] = refl
 value_behind value (d ∷ digits) =
-    ap (λ (n : ℕ). fold (λ value digit. 10 * value + (digit - 48)) n (map (λ d. 48 + d) digits)) (omega arith) ∙ value_behind (value * 10 + d) digits
+    ap (λ (n : ℕ). fold (λ value digit. 10 * value + (digit - 48)) n (map (λ d. 48 + d) digits)) (omega arith)
+    ∙ value_behind (value * 10 + d) digits
 
 number_is : (n : ℕ) → 0 < n → n < 2 ^ 32 → number_in 10 (decimal n) ≡ Some n
 number_is n some fits =
@@ -108,10 +112,12 @@ number_is n some fits =
     let first = decimal_nonempty n (omega (arith, fits)) in
     let least : ltb 0 (length (decimal n)) ≡ true = grind (arith, nat_tests, first) in
     let most : leb (length (decimal n)) 10 ≡ true = grind (arith, nat_tests, size) in
-    let all : list_all is_digit (decimal n) ≡ true = ap (list_all is_digit) text ∙ all_digits (digits_of 10 n) (all_below_base_digits_of 10 n (omega arith)) in
+    let all : list_all is_digit (decimal n) ≡ true = ap (list_all is_digit) text
+    ∙ all_digits (digits_of 10 n) (all_below_base_digits_of 10 n (omega arith)) in
     let value : digits_value (decimal n) ≡ n =
     ap digits_value text ∙ (value_behind 0 (digits_of 10 n) ∙ number_digits_of 10 n (omega arith)) in
-    let are : is_digits 10 (decimal n) ≡ true = and_from (ltb 0 (length (decimal n)) && leb (length (decimal n)) 10) (list_all is_digit (decimal n))
+    let are : is_digits 10 (decimal n) ≡ true = and_from (ltb 0 (length (decimal n)) && leb (length (decimal n)) 10)
+    (list_all is_digit (decimal n))
     (and_from (ltb 0 (length (decimal n))) (leb (length (decimal n)) 10) least most) all in
     ap (λ (t : Bool). cond t (Some (digits_value (decimal n))) None) are ∙ ap Some value
 
@@ -162,7 +168,8 @@ sent_goes_on files path file (Some refusal) = refl
 
 module _ (mode : ℕ) (least : MIN_MODE ≤ mode) (most : mode ≤ MAX_MODE) where
   sent_as : (files : List Entry) (path bytes : List ℕ) (mtime : ℕ)
-      → serve_one files (Sends path (decimal mode) bytes mtime) ≡ send_by files path (sent_file mode mtime bytes) (put_refusal files path (length bytes))
+      → serve_one files (Sends path (decimal mode) bytes mtime)
+      ≡ send_by files path (sent_file mode mtime bytes) (put_refusal files path (length bytes))
   sent_as files path bytes mtime = go (is_path path) refl
     where
       file : File
@@ -176,7 +183,8 @@ module _ (mode : ℕ) (least : MIN_MODE ≤ mode) (most : mode ≤ MAX_MODE) whe
           (cond (ltb MAX_STORED (total (without path files) + length bytes)) (Some refusals.NoSpace) None))
 
       go : (t : Bool) → is_path path ≡ t
-          → serve_one files (Sends path (decimal mode) bytes mtime) ≡ send_by files path (sent_file mode mtime bytes) (put_refusal files path (length bytes))
+          → serve_one files (Sends path (decimal mode) bytes mtime)
+          ≡ send_by files path (sent_file mode mtime bytes) (put_refusal files path (length bytes))
       go true is =
           ap (λ (t : Bool). cond t (send_moded files path bytes mtime (stored_mode (decimal mode))) bad) is
           ∙ ap (send_moded files path bytes mtime) (kept mode least most)
@@ -185,7 +193,8 @@ module _ (mode : ℕ) (least : MIN_MODE ≤ mode) (most : mode ≤ MAX_MODE) whe
           ∙ sym (ap (send_by files path file) (ap (λ (t : Bool). cond (not t) (Some refusals.BadPath) behind) is))
 
   pub push_served : (files : List Entry) (path bytes : List ℕ) (mtime : ℕ) → length path ≤ 1000 → mtime < 2 ^ 32
-      → served files (push_text path mode mtime bytes) ≡ send_by files path (sent_file mode mtime bytes) (put_refusal files path (length bytes))
+      → served files (push_text path mode mtime bytes) ≡ send_by files path (sent_file mode mtime bytes)
+      (put_refusal files path (length bytes))
   push_served files path bytes mtime short time =
       let by = send_by files path (sent_file mode mtime bytes) (put_refusal files path (length bytes)) in
       ap (serve_all files) (push_requests mode least most path bytes mtime short time)
@@ -201,10 +210,12 @@ push_refused refusals.NoFile = refl
 push_refused refusals.OutOfMemory = refl
 
 -- ---- a pull
-pub pull_served : (files : List Entry) (path : List ℕ) → length path ≤ 1000 → served files (pull_text path) ≡ answered files (recv_bytes files path)
+pub pull_served : (files : List Entry) (path : List ℕ) → length path ≤ 1000
+    → served files (pull_text path) ≡ answered files (recv_bytes files path)
 pull_served files path short =
     let asked : requests_in (pull_text path) ≡ Receives path ∷ [] =
-    ap (λ (c : AskReading). requests_of None c.given ++ fault_request c.fault) (last_ask asks_start (asks.Recv path) (omega (arith, short)) tt refl) in
+    ap (λ (c : AskReading). requests_of None c.given ++ fault_request c.fault)
+    (last_ask asks_start (asks.Recv path) (omega (arith, short)) tt refl) in
     ap (serve_all files) asked ∙ same_served (answered files (recv_bytes files path)) refl
 
 pub pull_refused : (refusal : FileError) → pull_value (fail_bytes (refusal_text refusal)) ≡ steps.Refused (refusal_text refusal)

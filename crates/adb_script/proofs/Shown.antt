@@ -13,7 +13,8 @@ use Rattle.adb_files.specs.declared.file.File.{File}
 use Rattle.adb_files.specs.declared.stat.Stat.{Stat}
 use Rattle.adb_files.specs.Entries.{Entry}
 use Rattle.adb_files.specs.Files.{IsFileMap, file_at, is_directory, total}
-use Rattle.adb_files.specs.Listing.{directory_stat, dirent_of, listing, name_below, part_at, rest_below, shown_in, slash_in, stat_at, stat_below, stat_of, with_shown}
+use Rattle.adb_files.specs.Listing.{directory_stat, dirent_of, listing, name_below, part_at, rest_below, shown_in, slash_in, stat_at}
+use Rattle.adb_files.specs.Listing.{stat_below, stat_of, with_shown}
 use Rattle.adb_files.specs.Paths.{path_cmp, is_path, is_below, inside}
 use Rattle.adb_files.specs.Served.{file_stat, stat_in}
 use Rattle.adb_script.proofs.Listed.{HasStatWords, HasWords}
@@ -29,7 +30,8 @@ FitsShown shown = HasWords (dirent_of shown)
 abbrev Fits : Entry → Type 0
 Fits entry = (length entry.path < 2 ^ 32) × HasStatWords (stat_of entry.file)
 
-all_fit : (files : List Entry) → AllByRecursion (λ (e : Entry). length e.path < 2 ^ 32) files → AllByRecursion (λ (e : Entry). e.file.mode < 2 ^ 32) files
+all_fit : (files : List Entry) → AllByRecursion (λ (e : Entry). length e.path < 2 ^ 32) files
+    → AllByRecursion (λ (e : Entry). e.file.mode < 2 ^ 32) files
     → AllByRecursion (λ (e : Entry). e.file.mtime < 2 ^ 32) files → total files < 2 ^ 32 → AllByRecursion Fits files
 all_fit [] short modes times room = tt
 all_fit (e ∷ files) short modes times room =

@@ -1,5 +1,6 @@
 -- A file that was put is read.
-use Rattle.std.proofs.Common.{ℕ, ◌+◌, ◌^◌, ◌≡◌, ◌<◌, ◌≤◌, ◌&&◌, ◌||◌, Bool, true, false, cond, not, List, [], ◌∷◌, ◌++◌, length, take, filter, Option, Some, None}
+use Rattle.std.proofs.Common.{ℕ, ◌+◌, ◌^◌, ◌≡◌, ◌<◌, ◌≤◌, ◌&&◌, ◌||◌, Bool, true, false, cond, not, List, [], ◌∷◌, ◌++◌, length, take}
+use Rattle.std.proofs.Common.{filter, Option, Some, None}
 use Rattle.std.proofs.Common.{refl, ◌∙◌, ap, sym, subst, append_assoc, arith, get_or}
 use Rattle.std.specs.Prelude.{codes, bytes_eq, decimal, option_map}
 use Rattle.std.specs.List.{find, list_any}
@@ -45,9 +46,11 @@ module _ (path : List ℕ) (file : File) where
   found_behind (e ∷ files) rest = go (is_before e) refl (found_behind files rest)
     where
       go : (t : Bool) → is_before e ≡ t → find is_here (filter is_before files ++ entry_of path file ∷ rest) ≡ Some (entry_of path file)
-          → find is_here (cond t (e ∷ filter is_before files) (filter is_before files) ++ entry_of path file ∷ rest) ≡ Some (entry_of path file)
+          → find is_here (cond t (e ∷ filter is_before files) (filter is_before files) ++ entry_of path file ∷ rest)
+          ≡ Some (entry_of path file)
       go true is more =
-          let other : bytes_eq e.path path ≡ false = apart_by_order e.path path (path_cmp e.path path) (other_order (path_cmp e.path path) is) refl in
+          let other : bytes_eq e.path path ≡ false = apart_by_order e.path path (path_cmp e.path path)
+          (other_order (path_cmp e.path path) is) refl in
           ap (λ (t : Bool). cond t (Some e) (find is_here (filter is_before files ++ entry_of path file ∷ rest))) other ∙ more
       go false is more = more
 
@@ -59,7 +62,8 @@ none_kept : (test keeps : Entry → Bool) (files : List Entry) → list_any test
 none_kept test keeps [] none = refl
 none_kept test keeps (e ∷ files) none = go (test e) (keeps e) refl none (none_kept test keeps files)
   where
-    go : (t k : Bool) → test e ≡ t → (t || list_any test files) ≡ false → (list_any test files ≡ false → list_any test (filter keeps files) ≡ false)
+    go : (t k : Bool) → test e ≡ t → (t || list_any test files) ≡ false
+        → (list_any test files ≡ false → list_any test (filter keeps files) ≡ false)
         → list_any test (cond k (e ∷ filter keeps files) (filter keeps files)) ≡ false
     go true k is none more = absurd (cc)
     go false true is none more = ap (λ (t : Bool). t || list_any test (filter keeps files)) is ∙ more none
@@ -84,7 +88,8 @@ plain_there : (path : List ℕ) (file : File) (files : List Entry) → is_path p
     → is_directory (with_file path file files) path ≡ false
 plain_there path file files form plain =
     let below : Entry → Bool = λ (entry : Entry). is_below path entry.path in
-    let parts = both_false (is_path path) (bytes_eq path (codes "/")) (list_any (λ (entry : Entry). is_below path entry.path) files) form plain in
+    let parts = both_false (is_path path) (bytes_eq path (codes "/"))
+    (list_any (λ (entry : Entry). is_below path entry.path) files) form plain in
     let front = none_kept below (λ (entry : Entry). is_lt (path_cmp entry.path path)) files parts.1 in
     let back = none_kept below (λ (entry : Entry). is_lt (path_cmp path entry.path)) files parts.1 in
     let here = not_below path parts.0 in
@@ -100,12 +105,14 @@ read_granted : (path : List ℕ) (file : File) (files : List Entry) (size : ℕ)
 read_granted path file files size none =
     let g = granted files path size none in
     let now = with_file path file files in
-    ap (λ (t : Bool). cond (not t) (Some refusals.BadPath) (cond (is_directory now path) (Some refusals.IsDirectory) (none_there (file_at path now)))) g.form
+    ap (λ (t : Bool). cond (not t) (Some refusals.BadPath)
+    (cond (is_directory now path) (Some refusals.IsDirectory) (none_there (file_at path now)))) g.form
     ∙ (ap (λ (t : Bool). cond t (Some refusals.IsDirectory) (none_there (file_at path now))) (plain_there path file files g.form g.plain)
     ∙ ap none_there (file_there path file files))
 
 -- ---- `ok` is printed where the file is stored alone
-apart : (head why : List ℕ) (size : ℕ) → head ++ codes " refused " ++ why ++ codes "\n" ≡ head ++ codes " ok " ++ decimal size ++ codes "\n" → ⊥
+apart : (head why : List ℕ) (size : ℕ) → head ++ codes " refused " ++ why ++ codes "\n"
+    ≡ head ++ codes " ok " ++ decimal size ++ codes "\n" → ⊥
 apart head why size e =
     let refused : head ++ codes " refused " ++ why ++ codes "\n" ≡ head ++ (codes " refused " ++ (why ++ codes "\n")) =
     append_assoc (head ++ codes " refused ") why (codes "\n") ∙ append_assoc head (codes " refused ") (why ++ codes "\n") in
@@ -137,5 +144,6 @@ pulled_behind reads files number later size path short time ok =
     (record {
       value = pull_handed reads now later path file short free there;
       text = ap (λ (a : Answered). a.text) (pull_printed reads now later path short)
-          ∙ (ap (λ (o : Option FileError). pulled_text path o (file_at path now)) free ∙ ap (λ (f : Option File). pulled_text path None f) there);
+          ∙ (ap (λ (o : Option FileError). pulled_text path o (file_at path now)) free
+          ∙ ap (λ (f : Option File). pulled_text path None f) there);
     })

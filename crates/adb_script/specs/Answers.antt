@@ -51,19 +51,22 @@ pushed_line path size (steps.BadAnswer offset) = []
 -- a pull prints how many bytes came, and their sum
 abbrev pub pulled_line : List ℕ → Step (List ℕ) → List ℕ
 pulled_line path steps.More = []
-pulled_line path (steps.Done bytes) = codes "pull " ++ path ++ codes " ok " ++ decimal (length bytes) ++ codes " " ++ decimal (sum bytes) ++ codes "\n"
+pulled_line path (steps.Done bytes) = codes "pull " ++ path ++ codes " ok " ++ decimal (length bytes) ++ codes " "
+    ++ decimal (sum bytes) ++ codes "\n"
 pulled_line path (steps.Refused why) = codes "pull " ++ path ++ codes " refused " ++ why ++ codes "\n"
 pulled_line path (steps.BadAnswer offset) = []
 
 abbrev pub stat_line : List ℕ → Step StatValue → List ℕ
 stat_line path steps.More = []
 stat_line path (steps.Done found) =
-    codes "stat " ++ path ++ codes " " ++ decimal found.mode ++ codes " " ++ decimal found.size ++ codes " " ++ decimal found.mtime ++ codes "\n"
+    codes "stat " ++ path ++ codes " " ++ decimal found.mode ++ codes " " ++ decimal found.size ++ codes " "
+    ++ decimal found.mtime ++ codes "\n"
 stat_line path (steps.Refused why) = []
 stat_line path (steps.BadAnswer offset) = []
 
 abbrev pub entry_word : Dirent → List ℕ
-entry_word entry = codes " " ++ entry.name ++ codes ":" ++ decimal entry.mode ++ codes ":" ++ decimal entry.size ++ codes ":" ++ decimal entry.mtime
+entry_word entry = codes " " ++ entry.name ++ codes ":" ++ decimal entry.mode ++ codes ":" ++ decimal entry.size
+    ++ codes ":" ++ decimal entry.mtime
 
 abbrev pub listing_line : List ℕ → List Dirent → List ℕ
 listing_line path entries = codes "list " ++ path ++ codes " " ++ decimal (length entries) ++ flat_map entry_word entries ++ codes "\n"
@@ -122,7 +125,8 @@ pub record Answered : Type 0 where
   pub text : List ℕ
 
 abbrev pub line_answer : List Entry → ℕ → Line → Answered
-line_answer files number (Asks asked) = record { files = (exchange files number asked).files; text = printed asked (exchange files number asked).answer }
+line_answer files number (Asks asked) =
+    record { files = (exchange files number asked).files; text = printed asked (exchange files number asked).answer }
 line_answer files number (Echoes streams size) = record { files = files; text = echoed_line streams size }
 
 -- the answer lines of lines from a number on, over some files

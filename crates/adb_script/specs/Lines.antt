@@ -1,5 +1,6 @@
 -- What a line of a script asks for.
-use Rattle.std.specs.Prelude.{ℕ, ◌*◌, ◌==◌, ◌&&◌, nat_lt, nat_le, nat_eq, if◌then◌else◌, Bool, not, List, [], ◌∷◌, length, drop, Option, Some, None, codes, bytes_eq}
+use Rattle.std.specs.Prelude.{ℕ, ◌*◌, ◌==◌, ◌&&◌, nat_lt, nat_le, nat_eq, if◌then◌else◌, Bool, not, List, [], ◌∷◌, length, drop, Option}
+use Rattle.std.specs.Prelude.{Some, None, codes, bytes_eq}
 use Rattle.std.specs.List.{slice_split, starts_with}
 use Rattle.adb_outside.specs.Decimal.{number_in}
 use Rattle.adb_script.specs.declared.line.EchoLine.{EchoLine}

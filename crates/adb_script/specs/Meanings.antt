@@ -26,7 +26,8 @@ pushed_by files number path size None = record {
   files = with_file path (pushed_file number size) files;
   text = pushed_line path size (steps.Done tt);
 }
-pushed_by files number path size (Some refusal) = record { files = files; text = pushed_line path size (steps.Refused (refusal_text refusal)) }
+pushed_by files number path size (Some refusal) =
+    record { files = files; text = pushed_line path size (steps.Refused (refusal_text refusal)) }
 
 -- what a pull prints by what refuses it, and the file that is there
 abbrev pub pulled_text : List ℕ → Option FileError → Option File → List ℕ
@@ -45,7 +46,8 @@ pub record IsPulled (files : List Entry) (number : ℕ) (path bytes : List ℕ) 
 
 -- a stat: the files stay, and what the path names is printed, a file, a directory, or nothing with three zeros
 abbrev pub stat_text : List ℕ → Stat → List ℕ
-stat_text path stat = codes "stat " ++ path ++ codes " " ++ decimal stat.mode ++ codes " " ++ decimal stat.size ++ codes " " ++ decimal stat.mtime ++ codes "\n"
+stat_text path stat = codes "stat " ++ path ++ codes " " ++ decimal stat.mode ++ codes " " ++ decimal stat.size
+    ++ codes " " ++ decimal stat.mtime ++ codes "\n"
 
 abbrev pub stat_over : List Entry → List ℕ → Answered
 stat_over files path = record { files = files; text = stat_text path (stat_in files path) }

@@ -1,5 +1,6 @@
 -- What a command wrote, by its packets, and how it is printed.
-use Rattle.std.specs.Prelude.{ℕ, ◌+◌, ◌/◌, ◌%◌, ◌==◌, ◌&&◌, ◌≡◌, nat_lt, nat_le, if◌then◌else◌, not, List, [], ◌∷◌, ◌++◌, Option, Some, None, slice_get}
+use Rattle.std.specs.Prelude.{ℕ, ◌+◌, ◌/◌, ◌%◌, ◌==◌, ◌&&◌, ◌≡◌, nat_lt, nat_le, if◌then◌else◌, not, List, [], ◌∷◌, ◌++◌, Option, Some}
+use Rattle.std.specs.Prelude.{None, slice_get}
 use Rattle.std.specs.List.{flat_map}
 use Rattle.adb_shell.specs.declared.packet.ShellPacket.{ShellPacket}
 use Rattle.adb_script.specs.declared.output.Output.{Output}

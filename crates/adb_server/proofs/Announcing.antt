@@ -38,7 +38,8 @@ served_at port OutOfMemory before after line not = inr line
 served_at port WriteFault before after line not = absurd (not refl)
 
 -- A server that served has written the port that its yard shows.
-pub served_here : (shown : Option ℕ) (port : ℕ) (served : Served) (before after : Option (List ℕ)) → ((here : ℕ) → shown ≡ Some here → port ≡ here)
+pub served_here : (shown : Option ℕ) (port : ℕ) (served : Served) (before after : Option (List ℕ))
+    → ((here : ℕ) → shown ≡ Some here → port ≡ here)
     → HasAnnounced port (Ok tt) before after → served ≢ WriteFault → NamesPort shown served before after
 served_here shown port served before after is line not here eq = subst (λ n. AnnouncesAt n served before after) (is here eq)
     (served_at port served before after line not)
@@ -52,6 +53,8 @@ told_at port RecordFault before after never = absurd never
 told_at port DoorFault before after never = absurd never
 
 -- A server that could not write it has written a part of the line with that port, or nothing.
-pub told_here : (shown : Option ℕ) (port : ℕ) (served : Served) (before after : Option (List ℕ)) → ((here : ℕ) → shown ≡ Some here → port ≡ here)
+pub told_here : (shown : Option ℕ) (port : ℕ) (served : Served) (before after : Option (List ℕ))
+    → ((here : ℕ) → shown ≡ Some here → port ≡ here)
     → HasAnnounced port (Err served) before after → NamesPort shown served before after
-told_here shown port served before after is line here eq = subst (λ n. AnnouncesAt n served before after) (is here eq) (told_at port served before after line)
+told_here shown port served before after is line here eq = subst (λ n. AnnouncesAt n served before after) (is here eq)
+    (told_at port served before after line)

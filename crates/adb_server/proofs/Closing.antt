@@ -21,4 +21,5 @@ closed_by I O X Z E M K (came.Forward port) before (Some answers) comes told = a
 -- A door that admitted nobody since it is closed reported that last.
 pub closed_last : {I O X Z E M K : Type 0} (a b : Option Telling) (before after : Option (List Arrival))
     → IsAdmission {I = I} {O = O} {X = X} {Z = Z} {E = E} {M = M} {K = K} Closed a b before after → HasClosed after
-closed_last {I = I} {O = O} {X = X} {Z = Z} {E = E} {M = M} {K = K} a b before after is = closed_by I O X Z E M K is.arrival before after is.comes is.asked
+closed_last {I = I} {O = O} {X = X} {Z = Z} {E = E} {M = M} {K = K} a b before after is =
+    closed_by I O X Z E M K is.arrival before after is.comes is.asked

@@ -22,7 +22,8 @@ keeps_by stands faults shut recorder OutOfMemory is fault not = (is.recorded, is
 keeps_by stands faults shut recorder WriteFault is fault not = absurd (not refl)
 
 -- A server that could not write its line has no recorder.
-pub keeps_none : {R : Type 0} (stands : R → List Entry → Type 0) (faults : R → ℕ) (port : ℕ) (served : Served) (before after : Option (List ℕ))
+pub keeps_none : {R : Type 0} (stands : R → List Entry → Type 0) (faults : R → ℕ) (port : ℕ) (served : Served)
+    (before after : Option (List ℕ))
     → HasAnnounced port (Err served) before after → KeepsHistory {R = R} stands faults served None
 keeps_none stands faults port WriteFault before after line = refl
 keeps_none stands faults port OutOfMemory before after same = tt

@@ -12,7 +12,8 @@ pub record HasServed {R : Type 0} (stands : R → List Entry → Type 0) (P : R 
   pub recorded : HasRecorded stands last
   pub so : P last
 
--- After Done the recorder kept the whole history and never failed. After RecordFault it failed, and kept the entries before that. After another end it did not
+-- After Done the recorder kept the whole history and never failed. After RecordFault it failed, and kept the entries
+-- before that. After another end it did not
 -- fail, and if it comes back, it kept the history until then; a server that could not write its line has no recorder.
 abbrev pub KeepsHistory : {R : Type 0} → (R → List Entry → Type 0) → (R → ℕ) → Served → Option R → Type 0
 KeepsHistory stands faults Done recorder = HasServed stands (λ r. faults r ≡ 0) recorder

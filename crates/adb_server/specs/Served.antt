@@ -1,5 +1,6 @@
 -- How a server ended, what its note then holds, and what its door reported.
-use Rattle.std.specs.Prelude.{ℕ, ◌≡◌, ◌≢◌, ◌⊎◌, Bool, true, false, List, ◌++◌, [], ◌∷◌, Option, Some, IfSome, Result, Ok, Err, codes, decimal}
+use Rattle.std.specs.Prelude.{ℕ, ◌≡◌, ◌≢◌, ◌⊎◌, Bool, true, false, List, ◌++◌, [], ◌∷◌, Option, Some, IfSome, Result, Ok, Err, codes}
+use Rattle.std.specs.Prelude.{decimal}
 use Rattle.adb_outside.specs.Sink.{TellsWrite}
 use Rattle.adb_outside.specs.declared.sink.Wrote.{Wrote}
 use Rattle.adb_outside.specs.declared.sink.Wrote.TheVariants.{All, Failed as Cut}
@@ -37,7 +38,8 @@ pub record TellsPort (wanted : ℕ) (wrote : Wrote) (before after : Option (List
   pub asked : wanted ≢ 0 → port ≡ wanted
   pub line : TellsWrite before after (listening_line port) wrote
 
--- A server that served has written where it listens, and nothing else. One that did not has written nothing, or a part of that if the note failed.
+-- A server that served has written where it listens, and nothing else. One that did not has written nothing, or a
+-- part of that if the note failed.
 abbrev pub Announces : ℕ → Served → Option (List ℕ) → Option (List ℕ) → Type 0
 Announces asked Done before after = TellsPort asked All before after
 Announces asked RecordFault before after = TellsPort asked All before after

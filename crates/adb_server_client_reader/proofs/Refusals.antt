@@ -1,5 +1,6 @@
 -- What is known where a hall gives room or refuses a call.
-use Rattle.std.proofs.Common.{ℕ, ◌+◌, ◌-◌, ◌≡◌, ◌<◌, ◌≤◌, Bool, true, false, List, [], ◌∷◌, ◌++◌, length, reverse, Option, Some, None, Result, Ok}
+use Rattle.std.proofs.Common.{ℕ, ◌+◌, ◌-◌, ◌≡◌, ◌<◌, ◌≤◌, Bool, true, false, List, [], ◌∷◌, ◌++◌, length, reverse, Option, Some, None}
+use Rattle.std.proofs.Common.{Result, Ok}
 use Rattle.std.proofs.Common.{Err, refl, sym, ap, ◌∙◌, subst, arith, inl, inr}
 use Rattle.std.specs.Prelude.{◌⊎◌, ◌||◌, ◌&&◌, is_some, nat_lt, nat_le, if◌then◌else◌}
 use Rattle.std.proofs.lemmas.List.{append_assoc, reverse-append}
@@ -78,7 +79,8 @@ rooms_by true (Some why) room r error is = cc
 rooms_by false None room r error is = cc
 rooms_by false (Some why) room r error is = cc
 
-no_room_by : (drawn : Bool) (shut : Option DeskError) (room : Room) (why : DeskError) (error : HubError) → Err why ≡ drawn_room drawn shut room error
+no_room_by : (drawn : Bool) (shut : Option DeskError) (room : Room) (why : DeskError) (error : HubError)
+    → Err why ≡ drawn_room drawn shut room error
     → (is_some shut ≡ true) ⊎ (drawn ≡ false)
 no_room_by true None room why error is = cc
 no_room_by true (Some other) room why error is = inl refl
@@ -92,7 +94,8 @@ room_told c r a b entries tells rooms =
     (rooms_by (is_drawn a.hub.joined c) a.shut (room_of ((state (reverse entries)).clients c)) r (NoClient c)
     (rooms.told (reverse entries) tells.lawful)).2
 
-not_starved : (shut : Option DeskError) (drawn : Bool) (room : Room) (c : ℕ) (error : DeskError) → Err error ≡ drawn_room drawn shut room (NoClient c)
+not_starved : (shut : Option DeskError) (drawn : Bool) (room : Room) (c : ℕ) (error : DeskError)
+    → Err error ≡ drawn_room drawn shut room (NoClient c)
     → (is_some shut ≡ true) ⊎ (is_starved error ≡ false)
 not_starved (Some why) drawn room c error is = inl refl
 not_starved None true room c error is = cc
@@ -106,7 +109,8 @@ room_fed c error a b entries tells rooms =
     (rooms.told (reverse entries) tells.lawful)
 
 -- Why the hall refused to answer with the room.
-pub room_refused : (c : ℕ) (error : DeskError) (a b : Telling) (entries : List Entry) → Tells a entries → Rooms (owner.Client c) (Err error) a b
+pub room_refused : (c : ℕ) (error : DeskError) (a b : Telling) (entries : List Entry) → Tells a entries
+    → Rooms (owner.Client c) (Err error) a b
     → (room_of ((state (reverse entries)).clients c) ≡ Shut) ⊎ (is_some a.shut ≡ true)
 room_refused c error a b entries tells rooms =
     let room : Room = room_of ((state (reverse entries)).clients c) in
@@ -119,7 +123,8 @@ room_refused c error a b entries tells rooms =
 past_fits : (held n m : ℕ) → room_past held ≡ Space m → n ≤ m → nat_lt MAX_HELD (held + n) ≡ false
 past_fits held n m is le = go (nat_le MAX_HELD held) refl is
   where
-    go : (b : Bool) → nat_le MAX_HELD held ≡ b → (if b then Later else Space (MAX_HELD - held)) ≡ Space m → nat_lt MAX_HELD (held + n) ≡ false
+    go : (b : Bool) → nat_le MAX_HELD held ≡ b → (if b then Later else Space (MAX_HELD - held)) ≡ Space m
+        → nat_lt MAX_HELD (held + n) ≡ false
     go true test room = cc
     go false test room = let same : MAX_HELD - held ≡ m = cc in grind (arith, nat_tests)
 
@@ -133,7 +138,8 @@ asking_fits true much held n m is le = cc
 asking_fits false true held n m is le = cc
 asking_fits false false held n m is le = past_fits held n m is le
 
-phase_fits : (phase : Phase) (client : Client) (n m : ℕ) → room_in phase client ≡ Space m → n ≤ m → nat_lt MAX_HELD (length client.held + n) ≡ false
+phase_fits : (phase : Phase) (client : Client) (n m : ℕ) → room_in phase client ≡ Space m → n ≤ m
+    → nat_lt MAX_HELD (length client.held + n) ≡ false
 phase_fits Asking client n m is le =
     asking_fits client.about.ended (nat_lt MAX_DUE_TO_CLIENT (length client.due)) (length client.held) n m is le
 phase_fits (Opening l) client n m is le = ended_fits client.about.ended (length client.held) n m is le
@@ -188,7 +194,8 @@ refused_why e error a entries holds spared going (inr refuses) = elim holds.held
 ]
 
 -- An entry was refused: nothing is told of it.
-pub still_holds : (e : Entry) (error : DeskError) (a b : Telling) (entries : List Entry) → Holds a entries → Fails e error a b → Holds b entries
+pub still_holds : (e : Entry) (error : DeskError) (a b : Telling) (entries : List Entry) → Holds a entries
+    → Fails e error a b → Holds b entries
 still_holds e error a b entries holds (inl refuses) = subst (λ (t : Telling). Holds t entries) (sym refuses.same) holds
 still_holds e error a b entries holds (inr broken) = record { told = broken.told ∙ holds.told; held = inr (ap is_some broken.shut) }
 

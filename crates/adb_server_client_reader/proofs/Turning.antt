@@ -1,5 +1,6 @@
 -- The turns of a reader, each by itself and one after another.
-use Rattle.std.proofs.Common.{ℕ, ◌≡◌, ◌≤◌, Bool, true, false, List, [], ◌∷◌, ◌++◌, reverse, Option, Some, None, Result, Ok, Err, refl, sym, ap, ◌∙◌}
+use Rattle.std.proofs.Common.{ℕ, ◌≡◌, ◌≤◌, Bool, true, false, List, [], ◌∷◌, ◌++◌, reverse, Option, Some, None, Result, Ok, Err, refl, sym}
+use Rattle.std.proofs.Common.{ap, ◌∙◌}
 use Rattle.std.proofs.Common.{subst, arith, inl, inr}
 use Rattle.std.specs.Prelude.{◌⊎◌, is_some, option_to_list, IfSome}
 use Rattle.std.proofs.lemmas.List.{append-nil, append_assoc, reverse-append}
@@ -22,7 +23,8 @@ use Rattle.adb_server_hall.specs.Passes.{after_submit}
 use Rattle.adb_server_hall.specs.Made.{IsStopped, Tells, bytes_in}
 use Rattle.adb_server_hall.proofs.Made.{bytes_in_append, where_some}
 use Rattle.adb_server_client_reader.specs.Forwards.{IsAnswered, TellsMore, left_waiting, paired}
-use Rattle.adb_server_client_reader.specs.Reading.{AreTurns, Done, Ends, EndsBy, Finished, GivesUp, Goes, Holds, IsOfReader, IsOver, IsRefusedBehind}
+use Rattle.adb_server_client_reader.specs.Reading.{AreTurns, Done, Ends, EndsBy, Finished, GivesUp, Goes, Holds, IsOfReader, IsOver}
+use Rattle.adb_server_client_reader.specs.Reading.{IsRefusedBehind}
 use Rattle.adb_server_client_reader.specs.Reading.{IsSpared, Knows, Reads, Rests, Seen, Shown, SoFar, Turns, all_of, end_of, read_of}
 use Rattle.adb_server_client_reader.specs.declared.next.Next.TheVariants.{Go, Stop}
 use Rattle.adb_server_client_reader.proofs.Walks.{rises_unless, tells_one, tells_same, turns_more, turns_none}
@@ -94,7 +96,8 @@ rest_nil c entries t first now unfailed memory why = record {
   none = refl;
   unfailed = unfailed;
   memory = memory;
-  why = subst (λ (es : List Entry). (room_of ((state (reverse es)).clients c) ≡ Shut) ⊎ (room_of ((state (reverse es)).clients c) ≡ Later) ⊎ IsOver t)
+  why = subst (λ (es : List Entry). (room_of ((state (reverse es)).clients c) ≡ Shut)
+      ⊎ (room_of ((state (reverse es)).clients c) ≡ Later) ⊎ IsOver t)
       (sym (append-nil entries)) why;
 }
 
@@ -233,7 +236,8 @@ done_cut c entries piece coming rest first now refused x left is pairs le waits 
       left_now = left;
       taken = is ∙ ap (λ (bs : List ℕ). bs ++ rest) (read_brings c piece x.ended);
       lost = inl refl;
-      why = subst (λ (es : List Entry). Rests c (reverse es) x.hall first now.shown x.ended ⊎ Ends c (reverse es) x.hall rest first now.shown x.ended)
+      why = subst (λ (es : List Entry). Rests c (reverse es) x.hall first now.shown x.ended
+          ⊎ Ends c (reverse es) x.hall rest first now.shown x.ended)
           same (x.why rest);
     }
   where
@@ -243,7 +247,8 @@ done_cut c entries piece coming rest first now refused x left is pairs le waits 
 
 -- ---- whole turns
 -- a piece behind which its client waits for nothing
-abbrev pub read_whole : (c : ℕ) (entries : List Entry) (piece coming rest : List ℕ) (first : Shown) (now : Seen) (a : Telling) → now.tells ≡ Some a
+abbrev pub read_whole : (c : ℕ) (entries : List Entry) (piece coming rest : List ℕ) (first : Shown) (now : Seen)
+    (a : Telling) → now.tells ≡ Some a
     → Tells a (entries ++ Read c piece ∷ []) → left_waiting (Read c piece) (reverse entries) ≡ None → now.left ≡ Some rest
     → coming ≡ piece ++ rest → now.shown.answered ≡ first.answered → first.bind_faults ≤ now.shown.bind_faults
     → now.shown.port_faults ≡ first.port_faults → now.shown.starved ≡ first.starved → SoFar c entries coming first now
@@ -266,8 +271,10 @@ read_whole c entries piece coming rest first now a tells told waits left is same
 }
 
 -- a piece, and the Bound of the port that its client waited for then
-abbrev pub bound_whole : (c : ℕ) (entries : List Entry) (piece coming rest : List ℕ) (first : Shown) (now : Seen) (asked port : ℕ) (a : Telling)
-    → now.tells ≡ Some a → Tells a (entries ++ Read c piece ∷ Bound c port ∷ []) → left_waiting (Read c piece) (reverse entries) ≡ Some asked
+abbrev pub bound_whole : (c : ℕ) (entries : List Entry) (piece coming rest : List ℕ) (first : Shown) (now : Seen)
+    (asked port : ℕ) (a : Telling)
+    → now.tells ≡ Some a → Tells a (entries ++ Read c piece ∷ Bound c port ∷ [])
+    → left_waiting (Read c piece) (reverse entries) ≡ Some asked
     → now.left ≡ Some rest → coming ≡ piece ++ rest → TellsOneMore first.answered (asked, port) now.shown.answered
     → (port ≡ 0 → Rises first.bind_faults now.shown.bind_faults) → first.bind_faults ≤ now.shown.bind_faults
     → now.shown.port_faults ≡ first.port_faults → now.shown.starved ≡ first.starved → SoFar c entries coming first now
@@ -303,7 +310,8 @@ done_gone c entries coming first now x shut = record {
   refused = None;
   rest = x.rest;
   tells_now = x.tells_now;
-  holds = subst (λ (es : List Entry). Holds x.hall (entries ++ es)) (sym (append-nil x.made)) (held_of_tells x.hall (entries ++ x.made) x.tells);
+  holds = subst (λ (es : List Entry). Holds x.hall (entries ++ es)) (sym (append-nil x.made))
+      (held_of_tells x.hall (entries ++ x.made) x.tells);
   turns = x.turns;
   cut_off = tt;
   behind = tt;
@@ -327,7 +335,8 @@ turns_behind c entries xs ys refused first mid now p q le =
     turns_more c (reverse entries) xs ys refused first mid now p
     (subst (λ (h : History). AreTurns c h ys refused mid now) (reverse-append entries xs) q) le
 
-abbrev pub so_far_more : (c : ℕ) (entries : List Entry) (coming : List ℕ) (first : Shown) (mid now : Seen) (x : SoFar c entries coming first mid)
+abbrev pub so_far_more : (c : ℕ) (entries : List Entry) (coming : List ℕ) (first : Shown) (mid now : Seen)
+    (x : SoFar c entries coming first mid)
     → SoFar c (entries ++ x.made) x.rest mid.shown now → mid.shown.bind_faults ≤ now.shown.bind_faults → SoFar c entries coming first now
 so_far_more c entries coming first mid now x y le = record {
   hall = y.hall;
@@ -354,7 +363,8 @@ module _ (first mid now : Shown) (unfailed : mid.port_faults ≡ first.port_faul
   ends_from rest t Starved by = (by.0, by.1 ∙ unfailed)
   ends_from rest t NoThread by = by
 
-  why_from : (c : ℕ) (h : History) (t : Telling) (rest : List ℕ) (ended : Option Cause) → Rests c h t mid now ended ⊎ Ends c h t rest mid now ended
+  why_from : (c : ℕ) (h : History) (t : Telling) (rest : List ℕ) (ended : Option Cause)
+      → Rests c h t mid now ended ⊎ Ends c h t rest mid now ended
       → Rests c h t first now ended ⊎ Ends c h t rest first now ended
   why_from c h t rest ended (inl x) =
       inl (record { none = x.none; unfailed = x.unfailed ∙ unfailed; memory = spared_from t x.memory; why = x.why })
@@ -393,9 +403,11 @@ done_after c entries coming first mid now x y le =
       left_now = y.left_now;
       taken = x.taken ∙ ap (λ (bs : List ℕ). bytes_in x.made ++ bs) y.taken ∙ bytes_behind c x.made y.made y.cut y.ended y.dropped y.rest;
       lost = y.lost;
-      why = why_from first mid.shown now.shown x.unfailed x.memory c (reverse (entries ++ all_of c (x.made ++ y.made) y.cut y.ended)) y.hall y.rest
+      why = why_from first mid.shown now.shown x.unfailed x.memory c
+          (reverse (entries ++ all_of c (x.made ++ y.made) y.cut y.ended)) y.hall y.rest
           y.ended (subst
-          (λ (es : List Entry). Rests c (reverse es) y.hall mid.shown now.shown y.ended ⊎ Ends c (reverse es) y.hall y.rest mid.shown now.shown y.ended)
+          (λ (es : List Entry). Rests c (reverse es) y.hall mid.shown now.shown y.ended
+          ⊎ Ends c (reverse es) y.hall y.rest mid.shown now.shown y.ended)
           same y.why);
     }
 

@@ -1,5 +1,6 @@
 -- Entries one behind the other, and what is said of each of them.
-use Rattle.std.proofs.Common.{ℕ, ◌+◌, ◌≡◌, ◌≤◌, Bool, true, false, List, [], ◌∷◌, ◌++◌, reverse, Option, Some, None, refl, sym, ap, ◌∙◌, subst, arith, inl, inr}
+use Rattle.std.proofs.Common.{ℕ, ◌+◌, ◌≡◌, ◌≤◌, Bool, true, false, List, [], ◌∷◌, ◌++◌, reverse, Option, Some, None, refl, sym, ap, ◌∙◌}
+use Rattle.std.proofs.Common.{subst, arith, inl, inr}
 use Rattle.std.specs.Prelude.{◌==◌, if◌then◌else◌, option_to_list}
 use Rattle.std.proofs.lemmas.List.{append-nil, append_assoc, reverse-append}
 use Rattle.std.proofs.lemmas.List.Elements.{All-nil, All-append}
@@ -7,7 +8,8 @@ use Rattle.std.proofs.lemmas.Bool.{eqb-true}
 use Rattle.adb_outside.specs.Outside.{Rises, TellsOneMore}
 use Rattle.adb_capture.specs.declared.entry.Entry.{Entry}
 use Rattle.adb_history.specs.Machine.{History}
-use Rattle.adb_server_client_reader.specs.Forwards.{AreAnswered, IsAnswered, RisesBy, TellsMore, asked_at, asked_ports, left_waiting, unbound}
+use Rattle.adb_server_client_reader.specs.Forwards.{AreAnswered, IsAnswered, RisesBy, TellsMore, asked_at, asked_ports, left_waiting}
+use Rattle.adb_server_client_reader.specs.Forwards.{unbound}
 use Rattle.adb_server_client_reader.specs.Reading.{AreTurns, IsOfReader, Shown}
 
 -- the history behind an entry and those that follow it
@@ -26,7 +28,8 @@ next_more c None xs ys is = tt
 next_more c (Some asked) [] ys is = absurd is
 next_more c (Some asked) (e ∷ xs) ys is = is
 
-answered_more : (c : ℕ) (h : History) (xs ys : List Entry) → AreAnswered c h xs → AreAnswered c (reverse xs ++ h) ys → AreAnswered c h (xs ++ ys)
+answered_more : (c : ℕ) (h : History) (xs ys : List Entry) → AreAnswered c h xs → AreAnswered c (reverse xs ++ h) ys
+    → AreAnswered c h (xs ++ ys)
 answered_more c h [] ys p q = q
 answered_more c h (e ∷ xs) ys p q = (
   next_more c (left_waiting e h) xs ys p.0,
@@ -70,7 +73,8 @@ pub tells_same : {A : Type 0} (before after : Option (List A)) → after ≡ bef
 tells_same {A = A} before after same = subst (λ (t : Option (List A)). TellsMore before [] t) (sym same) (tells_none before)
 
 -- no turn
-pub turns_none : (c : ℕ) (h : History) (refused : Option (ℕ × ℕ)) (first now : Shown) → TellsMore first.answered (option_to_list refused) now.answered
+pub turns_none : (c : ℕ) (h : History) (refused : Option (ℕ × ℕ)) (first now : Shown)
+    → TellsMore first.answered (option_to_list refused) now.answered
     → first.bind_faults ≤ now.bind_faults → AreTurns c h [] refused first now
 turns_none c h refused first now pairs le = record {
   mine = All-nil (IsOfReader c);
@@ -80,7 +84,8 @@ turns_none c h refused first now pairs le = record {
 }
 
 -- turns behind others
-pub turns_more : (c : ℕ) (h : History) (xs ys : List Entry) (refused : Option (ℕ × ℕ)) (first mid now : Shown) → AreTurns c h xs None first mid
+pub turns_more : (c : ℕ) (h : History) (xs ys : List Entry) (refused : Option (ℕ × ℕ)) (first mid now : Shown)
+    → AreTurns c h xs None first mid
     → AreTurns c (reverse xs ++ h) ys refused mid now → mid.bind_faults ≤ now.bind_faults → AreTurns c h (xs ++ ys) refused first now
 turns_more c h xs ys refused first mid now p q le =
     let front : List (ℕ × ℕ) = asked_ports h xs in

@@ -10,7 +10,8 @@ use Rattle.adb_server_hall.specs.Passes.{ArePair, or_marked}
 use Rattle.adb_server_client_reader.specs.declared.admitting.Admitted.{Admitted}
 use Rattle.adb_server_client_reader.specs.declared.admitting.Admitted.TheVariants.{Client, Device, Closed, Failed, Refused}
 
--- One Join where a client came to the main port, one Enter where one came to a forward's, unless the hall refused it. No entry where a device or
+-- One Join where a client came to the main port, one Enter where one came to a forward's, unless the hall refused it.
+-- No entry where a device or
 -- nobody came.
 abbrev pub Admits : {I O X Z E M K : Type 0} → Arrival → Admitted I O X Z E M K → Telling → Telling → Type 0
 Admits came.Port (Client input output reading writing) a b = Entered (Join reading.pass.number) a b
@@ -33,7 +34,8 @@ ComesBy came.Closed Closed = ⊤
 ComesBy came.Failed Failed = ⊤
 ComesBy _ _ = ⊥
 
--- The door was asked once, and the client that it answered was admitted; a device is returned. Over a hall that shows nothing too, each answer of
+-- The door was asked once, and the client that it answered was admitted; a device is returned. Over a hall that shows
+-- nothing too, each answer of
 -- the door has its result.
 pub record IsAdmission {I O X Z E M K : Type 0} (admitted : Admitted I O X Z E M K) (hall_before hall_after : Option Telling)
     (door_before door_after : Option (List Arrival)) : Type 0 where

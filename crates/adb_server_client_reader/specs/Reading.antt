@@ -1,5 +1,6 @@
 -- What a client's reader does, over a hall that shows its entries and a port that shows its bytes.
-use Rattle.std.specs.Prelude.{ℕ, ◌≡◌, ◌≤◌, ◌<◌, ◌⊎◌, ⊤, Bool, true, false, is_some, List, [], ◌∷◌, ◌++◌, All, length, reverse, Option, Some, None, IfSome}
+use Rattle.std.specs.Prelude.{ℕ, ◌≡◌, ◌≤◌, ◌<◌, ◌⊎◌, ⊤, Bool, true, false, is_some, List, [], ◌∷◌, ◌++◌, All, length, reverse, Option, Some}
+use Rattle.std.specs.Prelude.{None, IfSome}
 use Rattle.std.specs.Prelude.{option_to_list}
 use Rattle.adb_outside.specs.Outside.{Rises}
 use Rattle.adb_outside.specs.declared.kinds.Cause.{Cause}
@@ -66,7 +67,8 @@ pub record Holds (t : Telling) (entries : List Entry) : Type 0 where
   pub told : t.told ≡ Some entries
   pub held : IsLawful t.hub (reverse entries) ⊎ (is_some t.shut ≡ true)
 
--- Whole turns after a history: reads of one client, each that leaves it waiting followed at once by its Bound. The binder was asked for just
+-- Whole turns after a history: reads of one client, each that leaves it waiting followed at once by its Bound. The
+-- binder was asked for just
 -- these ports, and maybe for one more that the hall refused; its count rose for each that could not be bound.
 pub record AreTurns (c : ℕ) (h : History) (made : List Entry) (refused : Option (ℕ × ℕ)) (first now : Shown) : Type 0 where
   pub mine : All (IsOfReader c) made
@@ -97,7 +99,8 @@ IsOver t = (is_some t.shut ≡ true) ⊎ (t.hub.stopped ≡ true)
 abbrev pub IsSpared : Shown → Shown → Telling → Type 0
 IsSpared first now t = (now.starved ≡ first.starved) ⊎ (is_some t.shut ≡ true)
 
--- The input was ended by this cause; or it was not, since the hall refused that: the client is read no more, the hall is shut, or a kill was made.
+-- The input was ended by this cause; or it was not, since the hall refused that: the client is read no more, the hall
+-- is shut, or a kill was made.
 abbrev pub IsEnd : ℕ → History → Telling → Cause → Option Cause → Type 0
 IsEnd c h t cause ended = (ended ≡ Some cause) ⊎ ((ended ≡ None) × ((room_of ((state h).clients c) ≡ Shut) ⊎ IsOver t))
 
@@ -179,7 +182,8 @@ Turns room next c first now = (a : Telling) (entries : List Entry) (coming : Lis
 -- It had taken a piece of the port, and handed it in.
 abbrev pub HandsIn : List ℕ → Next → ℕ → Seen → Seen → Type 0
 HandsIn piece next c first now = (a : Telling) (entries : List Entry) (coming rest : List ℕ)
-    → first.tells ≡ Some a → Tells a entries → now.left ≡ Some rest → coming ≡ piece ++ rest → Fits c (length piece) (state (reverse entries))
+    → first.tells ≡ Some a → Tells a entries → now.left ≡ Some rest → coming ≡ piece ++ rest
+    → Fits c (length piece) (state (reverse entries))
     → Turned next c entries coming first.shown now
 
 -- It had handed in a piece, had the answer to it, and bound the port that its client waited for then.

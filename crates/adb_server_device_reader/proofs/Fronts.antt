@@ -12,7 +12,8 @@ use Rattle.adb_wire.proofs.Slices.{slice_headed, is_slice, goes_on}
 use Rattle.adb_server_device_reader.specs.Packets.{IsFrontOf, IsAlone, held_of, Shares}
 
 -- ---- a packet that gets memory of its own
-pub front_begins : (head : Head) (held : List ℕ) (empty front : Filled) → HEADER_LEN ≡ length held → head_at held ≡ Ok head → empty.items ≡ []
+pub front_begins : (head : Head) (held : List ℕ) (empty front : Filled) → HEADER_LEN ≡ length held
+    → head_at held ≡ Ok head → empty.items ≡ []
     → packet_len head ≤ empty.spare → front.items ≡ empty.items ++ held → front.spare + length held ≡ empty.spare → IsFrontOf head front
 front_begins head held empty front size read none room is left =
     let items : front.items ≡ held = is ∙ ap (λ (bs : List ℕ). bs ++ held) none in

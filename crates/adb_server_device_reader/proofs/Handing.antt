@@ -63,7 +63,8 @@ error_keeps p (Hub error) is = or_left p.starved _ is
 error_keeps p Later is = is
 
 -- a pass that is starved stays so
-pub still_starved : (p : PassView) (n : ℕ) (result : Result Progress DeskError) → p.starved ≡ true → (after_submit p n result).starved ≡ true
+pub still_starved : (p : PassView) (n : ℕ) (result : Result Progress DeskError) → p.starved ≡ true
+    → (after_submit p n result).starved ≡ true
 still_starved p n (Ok _) is = or_left p.starved _ is
 still_starved p n (Err error) is = error_keeps p error is
 
@@ -102,12 +103,14 @@ stands_as xs ys tells same s = record {
 }
 
 -- a hall that is not shut holds what it shows
-lawful_of : (entries : List Entry) (a : Telling) → IsLawful a.hub (reverse entries) ⊎ (is_some a.shut ≡ true) → a.shut ≡ None → IsLawful a.hub (reverse entries)
+lawful_of : (entries : List Entry) (a : Telling) → IsLawful a.hub (reverse entries) ⊎ (is_some a.shut ≡ true)
+    → a.shut ≡ None → IsLawful a.hub (reverse entries)
 lawful_of entries a (inl lawful) going = lawful
 lawful_of entries a (inr shut) going = absurd (let clash : true ≡ false = sym shut ∙ ap is_some going in cc)
 
 -- an entry was made
-entered_stands : (e : Entry) (entries : List Entry) (old new : Option Telling) (s : Stands entries old) (b : Telling) → new ≡ Some b → Entered e s.now b
+entered_stands : (e : Entry) (entries : List Entry) (old new : Option Telling) (s : Stands entries old) (b : Telling)
+    → new ≡ Some b → Entered e s.now b
     → Stands (entries ++ e ∷ []) new
 entered_stands e entries old new s b is made =
     let lawful = lawful_of entries s.now s.held made.going in
@@ -125,7 +128,8 @@ not_drawn h t legal undrawn = ap life_of (go t undrawn)
       | inr within ↦ absurd (grind (arith, nat_tests))
     ]
 
-refusal_by : (stopped drawn : Bool) (t : ℕ) (error : DeskError) → or_later (unless_stopped stopped (unless_drawn drawn (NoLink t))) false ≡ Some error
+refusal_by : (stopped drawn : Bool) (t : ℕ) (error : DeskError)
+    → or_later (unless_stopped stopped (unless_drawn drawn (NoLink t))) false ≡ Some error
     → (stopped ≡ true) ⊎ (drawn ≡ false)
 refusal_by true drawn t error e = inl refl
 refusal_by false false t error e = inr refl
@@ -133,9 +137,12 @@ refusal_by false true t error e = absurd (let clash : None ≡ Some error = e in
 
 -- the hub refuses an entry of a link only after a kill, or where the link is not there
 abbrev IsOfLink : ℕ → Entry → Type 0
-IsOfLink t e = (s : State) → desk_refusal e s ≡ or_later (unless_stopped s.stopped (unless_drawn (is_drawn s.devices.drawn t) (NoLink t))) false
+IsOfLink t e = (s : State)
+    → desk_refusal e s ≡ or_later (unless_stopped s.stopped (unless_drawn (is_drawn s.devices.drawn t) (NoLink t)))
+    false
 
-refused_by : (t : ℕ) (e : Entry) (error : DeskError) (hub : Kept) (h : History) → IsOfLink t e → IsLawful hub h → desk_refusal e (state h) ≡ Some error
+refused_by : (t : ℕ) (e : Entry) (error : DeskError) (hub : Kept) (h : History) → IsOfLink t e → IsLawful hub h
+    → desk_refusal e (state h) ≡ Some error
     → (hub.stopped ≡ true) ⊎ (link_life t (state h) ≡ Gone)
 refused_by t e error hub h of_link lawful is =
     elim (refusal_by (state h).stopped (is_drawn (state h).devices.drawn t) t error (sym (of_link (state h)) ∙ is)) [
@@ -175,7 +182,8 @@ still_told : (e : Entry) (error : DeskError) (entries : List Entry) (a b : Telli
 still_told e error entries a b told (inl refused) = ap (λ (x : Telling). x.told) refused.same ∙ told
 still_told e error entries a b told (inr broken) = broken.told ∙ told
 
-still_held : (e : Entry) (error : DeskError) (entries : List Entry) (a b : Telling) → IsLawful a.hub (reverse entries) ⊎ (is_some a.shut ≡ true)
+still_held : (e : Entry) (error : DeskError) (entries : List Entry) (a b : Telling)
+    → IsLawful a.hub (reverse entries) ⊎ (is_some a.shut ≡ true)
     → Fails e error a b → IsLawful b.hub (reverse entries) ⊎ (is_some b.shut ≡ true)
 still_held e error entries a b held (inl refused) =
     subst (λ (x : Telling). IsLawful x.hub (reverse entries) ⊎ (is_some x.shut ≡ true)) (sym refused.same) held
@@ -198,7 +206,8 @@ unmade t e error entries old s b of_link spared fails = record {
 }
 
 -- ---- an input is ended
-finished_by : (t : ℕ) (cause : Cause) (result : Result Progress DeskError) (entries : List Entry) (old new : Option Telling) (s : Stands entries old)
+finished_by : (t : ℕ) (cause : Cause) (result : Result Progress DeskError) (entries : List Entry)
+    (old new : Option Telling) (s : Stands entries old)
     (b : Telling) (was starved : Bool) → new ≡ Some b → (result ≡ Err (Hub OutOfMemory) → is_some b.shut ≡ true)
     → Submits (Detach t cause) result s.now b → IsSpared was starved b → Finished t cause entries was starved new
 unfolding entered_stands
@@ -209,7 +218,8 @@ finished_by t cause (Ok _) entries old new s b was starved is spared lives memor
   memory = memory;
 }
 finished_by t cause (Err error) entries old new s b was starved is spared fails memory =
-    let u = unmade t (Detach t cause) error entries old s b (λ s. refl) (λ (hungry : error ≡ Hub OutOfMemory). spared (ap Err hungry)) fails in
+    let u = unmade t (Detach t cause) error entries old s b (λ s. refl)
+    (λ (hungry : error ≡ Hub OutOfMemory). spared (ap Err hungry)) fails in
     record {
       last = [];
       hall = stands_at entries new b is u.told u.held;
@@ -217,7 +227,8 @@ finished_by t cause (Err error) entries old new s b was starved is spared fails 
       memory = memory;
     }
 
-pub finished : (t : ℕ) (cause : Cause) (result : Result Progress DeskError) (entries : List Entry) (old new : Option Telling) (p q : PassView)
+pub finished : (t : ℕ) (cause : Cause) (result : Result Progress DeskError) (entries : List Entry)
+    (old new : Option Telling) (p q : PassView)
     → q ≡ after_submit p 0 result → (result ≡ Err (Hub OutOfMemory) → IsShutAt new) → Where old (Submits (Detach t cause) result) new
     → Stands entries old → Finished t cause entries p.starved q.starved new
 finished t cause result entries old new p q pass spared told s =
@@ -244,7 +255,8 @@ gone t piece was starved entries progress old new told over s memory =
       stays = record { none = refl; memory = inl memory; why = inl is_gone };
     })
 
-refused : (t : ℕ) (piece : List ℕ) (error : DeskError) (hungry : Bool) (entries : List Entry) (old mid new : Option Telling) (p q : PassView) (n : ℕ)
+refused : (t : ℕ) (piece : List ℕ) (error : DeskError) (hungry : Bool) (entries : List Entry)
+    (old mid new : Option Telling) (p q : PassView) (n : ℕ)
     (starved : Bool) → is_starved error ≡ hungry → q ≡ after_submit p n (Err error) → Where old (Submits (Recv t piece) (Err error)) mid
     → Stands entries old → (q.starved ≡ true → starved ≡ true) → (Stands entries mid → GivesUp hungry t entries q.starved starved mid new)
     → Handed false t piece entries p.starved starved new
@@ -277,7 +289,8 @@ refused t piece error false entries old mid new p q n starved test pass told s k
     })
 
 -- ---- what a piece was answered with
-module _ {before : PassView} {piece : List ℕ} {entries : List Entry} {answer : Result Progress DeskError} {now : PassView} {tells : Option Telling}
+module _ {before : PassView} {piece : List ℕ} {entries : List Entry} {answer : Result Progress DeskError}
+    {now : PassView} {tells : Option Telling}
     (a : Answered before piece entries answer now tells) where
   told_memory : (progress : Progress) → answer ≡ Ok progress → now.starved ≡ before.starved
   told_memory progress is =
@@ -317,7 +330,8 @@ room_gone : (streams : ℕ) (row : Option Link) → link_room_in streams row ≡
 room_gone streams None is = refl
 room_gone streams (Some link) is = absurd (much_open (nat_lt (due_allowed streams) (length link.due)) is)
 
-shut_room : (drawn : Bool) (shut : Option DeskError) (r : Room) (error : HubError) → Ok room.Shut ≡ drawn_room drawn shut r error → r ≡ room.Shut
+shut_room : (drawn : Bool) (shut : Option DeskError) (r : Room) (error : HubError)
+    → Ok room.Shut ≡ drawn_room drawn shut r error → r ≡ room.Shut
 shut_room true None r error is = cc
 shut_room true (Some why) r error is = cc
 shut_room false None r error is = cc
@@ -377,7 +391,8 @@ room_number p q (Ok room.Shut) is = ap (λ (x : PassView). x.number) is
 room_number p q (Err error) is = ap (λ (x : PassView). x.number) is ∙ error_number p error
 
 -- the reader has waited
-pub waited : (t : ℕ) (answer : Result Room DeskError) (entries : List Entry) (old new : Option Telling) (p q : PassView) → q ≡ after_room p answer
+pub waited : (t : ℕ) (answer : Result Room DeskError) (entries : List Entry) (old new : Option Telling)
+    (p q : PassView) → q ≡ after_room p answer
     → Where old (Rooms (owner.Link t) answer) new → Stands entries old → Waited (may_follow answer) t entries p.starved q.starved new
 waited t (Ok (room.Bytes n)) entries old new p q pass told s =
     (still_stands entries old new s (asked_now t _ old new s.now s.tells_now told).0, room_keeps p q pass)

@@ -21,7 +21,8 @@ use Rattle.adb_server_hall.specs.Telling.{Telling}
 use Rattle.adb_server_hall.specs.Made.{Tells}
 use Rattle.adb_server_device_reader.specs.Handing.{Stands, IsSpared, IsCutOff, Stays, Starves, Breaks, CutAfter}
 use Rattle.adb_server_device_reader.specs.Handing.{Finished, Handed, Waited, received}
-use Rattle.adb_server_device_reader.specs.Reading.{Start, HasEnded, EndsBy, IsRest, IsEnding, IsUnfailed, Rests, Ends, Done, SoFar, Cut, Fed, HasEndedBy}
+use Rattle.adb_server_device_reader.specs.Reading.{Start, HasEnded, EndsBy, IsRest, IsEnding, IsUnfailed, Rests, Ends, Done, SoFar, Cut}
+use Rattle.adb_server_device_reader.specs.Reading.{Fed, HasEndedBy}
 use Rattle.adb_server_device_reader.specs.Reading.{Turned}
 
 -- ---- sizes
@@ -43,7 +44,8 @@ slice_fits bytes (inl (head, is, size)) = omega (arith, size, (head_reads bytes 
 slice_fits bytes (inr (fault, is, size)) = omega (arith, size)
 
 -- ---- pieces
-received_more : (t : ℕ) (entries : List Entry) (xs ys : List (List ℕ)) → entries ++ received t xs ++ received t ys ≡ entries ++ received t (xs ++ ys)
+received_more : (t : ℕ) (entries : List Entry) (xs ys : List (List ℕ))
+    → entries ++ received t xs ++ received t ys ≡ entries ++ received t (xs ++ ys)
 received_more t entries xs ys =
     append_assoc entries (received t xs) (received t ys) ∙ ap (λ (es : List Entry). entries ++ es) (sym (map-append (Recv t) xs ys))
 
@@ -159,19 +161,23 @@ fed_waited false t start held coming was starved old new x h = record {
 }
 
 -- a read brought bytes
-pub so_far_read : (t : ℕ) (start : Start) (held piece coming : List ℕ) (n : ℕ) (starved : Bool) (tells : Option Telling) → piece ≡ take n coming
+pub so_far_read : (t : ℕ) (start : Start) (held piece coming : List ℕ) (n : ℕ) (starved : Bool)
+    (tells : Option Telling) → piece ≡ take n coming
     → SoFar t start held coming starved tells → SoFar t start held (piece ++ drop n coming) starved tells
 so_far_read t start held piece coming n starved tells is x = record {
   fed = x.fed;
   slices = x.slices;
   sliced = x.sliced;
-  taken = x.taken ∙ ap (λ (bs : List ℕ). x.fed ++ bs) (sym (take-append-drop n coming) ∙ ap (λ (bs : List ℕ). bs ++ drop n coming) (sym is));
+  taken = x.taken
+      ∙ ap (λ (bs : List ℕ). x.fed ++ bs)
+      (sym (take-append-drop n coming) ∙ ap (λ (bs : List ℕ). bs ++ drop n coming) (sym is));
   hall = x.hall;
   memory = x.memory;
 }
 
 -- what was read after it is lost too
-pub cut_more : (t : ℕ) (start : Start) (piece rest : List ℕ) (starved : Bool) (tells : Option Telling) → Cut t start (piece ++ rest) starved tells
+pub cut_more : (t : ℕ) (start : Start) (piece rest : List ℕ) (starved : Bool) (tells : Option Telling)
+    → Cut t start (piece ++ rest) starved tells
     → Cut t start rest starved tells
 cut_more t start piece rest starved tells c = record {
   slices = c.slices;
@@ -179,7 +185,8 @@ cut_more t start piece rest starved tells c = record {
   lost = c.lost ++ piece;
   each = c.each;
   taken =
-      c.taken ∙ sym (append_assoc (concat c.slices ++ c.lost) piece rest) ∙ ap (λ (bs : List ℕ). bs ++ rest) (append_assoc (concat c.slices) c.lost piece);
+      c.taken ∙ sym (append_assoc (concat c.slices ++ c.lost) piece rest)
+      ∙ ap (λ (bs : List ℕ). bs ++ rest) (append_assoc (concat c.slices) c.lost piece);
   breaks = c.breaks;
 }
 
@@ -194,9 +201,11 @@ cut_of t entries last was starved now (inr starves) = inr (inr (inr starves.memo
 
 -- why a reader that was cut off stops
 why_of : (t : ℕ) (start : Start) (rest : List ℕ) (faults : ℕ) (lost : List ℕ) (starved : Bool) (entries last : List Entry) (now : Telling)
-    (ending : List (List ℕ)) → IsUnfailed start rest faults lost → Stays t entries last start.starved starved now ⊎ Starves t entries last starved now
+    (ending : List (List ℕ)) → IsUnfailed start rest faults lost
+    → Stays t entries last start.starved starved now ⊎ Starves t entries last starved now
     → Rests t start rest faults lost starved entries last now ending ⊎ Ends t start rest faults lost starved entries last now
-why_of t start rest faults lost starved entries last now ending unfailed (inl stays) = inl (record { stays = stays; unfailed = inl unfailed })
+why_of t start rest faults lost starved entries last now ending unfailed (inl stays) =
+    inl (record { stays = stays; unfailed = inl unfailed })
 why_of t start rest faults lost starved entries last now ending unfailed (inr starves) =
     inr (record { cause = Starved; by = (starves.memory, unfailed); end = starves.end })
 
@@ -214,16 +223,21 @@ done_cut t start rest faults starved tells unfailed c = record {
   taken = c.taken;
   hall = c.breaks.hall;
   whole = inr (cut_of t (start.entries ++ received t c.slices) c.last start.starved starved c.breaks.hall.now c.breaks.why);
-  why = why_of t start rest faults c.lost starved (start.entries ++ received t c.slices) c.last c.breaks.hall.now [] (inl unfailed) c.breaks.why;
+  why = why_of t start rest faults c.lost starved (start.entries ++ received t c.slices) c.last c.breaks.hall.now []
+      (inl unfailed) c.breaks.why;
 }
 
-pub turned_by : (going : Bool) (t : ℕ) (start : Start) (held rest : List ℕ) (faults : ℕ) (starved : Bool) (tells : Option Telling) (left : Option (List ℕ))
-    → left ≡ Some rest → faults ≡ start.faults → Fed going t start held rest starved tells → Turned going t start held faults starved tells left
-turned_by true t start held rest faults starved tells left is unfailed x = record { rest = rest; left_now = is; so_far = x; unfailed = unfailed }
+pub turned_by : (going : Bool) (t : ℕ) (start : Start) (held rest : List ℕ) (faults : ℕ) (starved : Bool)
+    (tells : Option Telling) (left : Option (List ℕ))
+    → left ≡ Some rest → faults ≡ start.faults → Fed going t start held rest starved tells
+    → Turned going t start held faults starved tells left
+turned_by true t start held rest faults starved tells left is unfailed x =
+    record { rest = rest; left_now = is; so_far = x; unfailed = unfailed }
 turned_by false t start held rest faults starved tells left is unfailed c =
     record { rest = rest; left_now = is; done = done_cut t start rest faults starved tells unfailed c }
 
-pub faulted : (start : Start) (rest : List ℕ) (before after : ℕ) → before ≡ start.faults → Rises before after → HasEndedBy start rest after Fault
+pub faulted : (start : Start) (rest : List ℕ) (before after : ℕ) → before ≡ start.faults → Rises before after
+    → HasEndedBy start rest after Fault
 faulted start rest before after same rose = subst (λ (n : ℕ). Rises n after) same rose
 
 has_ended : (start : Start) (rest : List ℕ) (faults : ℕ) (cause : Cause) → HasEndedBy start rest faults cause → HasEnded start rest faults
@@ -264,7 +278,8 @@ finished_done t start rest faults cause was starved tells slices ending memory e
 }
 
 -- where nothing was held
-pub done_empty : (t : ℕ) (start : Start) (piece held rest : List ℕ) (faults : ℕ) (cause : Cause) (was starved : Bool) (old new : Option Telling)
+pub done_empty : (t : ℕ) (start : Start) (piece held rest : List ℕ) (faults : ℕ) (cause : Cause) (was starved : Bool)
+    (old new : Option Telling)
     (x : SoFar t start held rest was old) → piece ≡ held → (length piece == 0) ≡ true → HasEndedBy start rest faults cause
     → Finished t cause (start.entries ++ received t x.slices) was starved new → Done t start rest faults starved new
 done_empty t start piece held rest faults cause was starved old new x same empty ended f =
@@ -275,7 +290,8 @@ done_empty t start piece held rest faults cause was starved old new x same empty
     ∙ ap (λ (bs : List ℕ). concat x.slices ++ bs ++ rest) none ∙ ap (λ (ps : List (List ℕ)). concat ps ++ [] ++ rest) (sym all))
     (subst (λ (ps : List (List ℕ)). Finished t cause (start.entries ++ received t ps) was starved new) (sym all) f)
 
-rest_is : (start : Start) (piece held rest : List ℕ) (faults : ℕ) (cause : Cause) → piece ≡ held → (length piece == 0) ≡ false → 0 < need_of held
+rest_is : (start : Start) (piece held rest : List ℕ) (faults : ℕ) (cause : Cause) → piece ≡ held
+    → (length piece == 0) ≡ false → 0 < need_of held
     → HasEndedBy start rest faults cause → IsRest start rest faults held
 rest_is start piece held rest faults cause same filled short ended =
     let long : 0 < length held = subst (λ (bs : List ℕ). 0 < length bs) same (grind (arith, nat_tests)) in
@@ -299,12 +315,14 @@ done_held t m start piece held rest faults cause was first starved old now new x
     let stands : Stands (start.entries ++ received t (x.slices ++ held ∷ [])) now =
     subst (λ (es : List Entry). Stands es now) (received_more t start.entries x.slices (held ∷ []))
     (subst (λ (bs : List ℕ). Stands (start.entries ++ received t x.slices ++ received t (bs ∷ [])) now) same h.0) in
-    finished_done t start rest faults cause first starved new x.slices (held ∷ []) (h.1 ∙ x.memory) ended x.sliced.each (inr (held, refl, is_rest))
+    finished_done t start rest faults cause first starved new x.slices (held ∷ []) (h.1 ∙ x.memory) ended
+    x.sliced.each (inr (held, refl, is_rest))
     (taken_more start.bytes x.fed held rest x.slices x.taken x.sliced.bytes)
     (subst (λ (u : ℕ). Finished u cause (start.entries ++ received t (x.slices ++ held ∷ [])) first starved new) number (finish _ stands))
 
 stopped_done : (t : ℕ) (start : Start) (held rest : List ℕ) (faults : ℕ) (was starved : Bool) (old new : Option Telling)
-    (x : SoFar t start held rest was old) → IsRest start rest faults held → Handed false t held (start.entries ++ received t x.slices) was starved new
+    (x : SoFar t start held rest was old) → IsRest start rest faults held
+    → Handed false t held (start.entries ++ received t x.slices) was starved new
     → Done t start rest faults starved new
 stopped_done t start held rest faults was starved old new x is_rest (inl h) =
     let all : List Entry = start.entries ++ received t (x.slices ++ held ∷ []) in
@@ -329,7 +347,8 @@ stopped_done t start held rest faults was starved old new x is_rest (inr h) =
     let all : List Entry = start.entries ++ received t (x.slices ++ []) in
     let breaks : Breaks t all h.last start.starved starved new =
     subst (λ (b : Bool). Breaks t all h.last b starved new) x.memory
-    (subst (λ (ps : List (List ℕ)). Breaks t (start.entries ++ received t ps) h.last was starved new) (sym (append-nil x.slices)) h.breaks) in
+    (subst (λ (ps : List (List ℕ)). Breaks t (start.entries ++ received t ps) h.last was starved new)
+    (sym (append-nil x.slices)) h.breaks) in
     record {
       pieces = x.slices ++ [];
       slices = x.slices;
@@ -348,8 +367,10 @@ stopped_done t start held rest faults was starved old new x is_rest (inr h) =
     }
 
 -- where the reader was cut off at what was held
-pub done_stopped : (t : ℕ) (start : Start) (piece held rest : List ℕ) (faults : ℕ) (cause : Cause) (was starved : Bool) (old new : Option Telling)
-    (x : SoFar t start held rest was old) → piece ≡ held → (length piece == 0) ≡ false → 0 < need_of held → HasEndedBy start rest faults cause
+pub done_stopped : (t : ℕ) (start : Start) (piece held rest : List ℕ) (faults : ℕ) (cause : Cause)
+    (was starved : Bool) (old new : Option Telling)
+    (x : SoFar t start held rest was old) → piece ≡ held → (length piece == 0) ≡ false → 0 < need_of held
+    → HasEndedBy start rest faults cause
     → Handed false t piece (start.entries ++ received t x.slices) was starved new → Done t start rest faults starved new
 done_stopped t start piece held rest faults cause was starved old new x same filled short ended h =
     stopped_done t start held rest faults was starved old new x (rest_is start piece held rest faults cause same filled short ended)

@@ -1,5 +1,6 @@
 -- What a hall shows when pieces are handed in and a link's input is ended.
-use Rattle.std.specs.Prelude.{ℕ, ◌≡◌, Bool, true, false, List, [], ◌∷◌, ◌++◌, map, reverse, length, Option, Some, is_some, Result, Ok, Err, ◌⊎◌}
+use Rattle.std.specs.Prelude.{ℕ, ◌≡◌, Bool, true, false, List, [], ◌∷◌, ◌++◌, map, reverse, length, Option, Some, is_some, Result, Ok, Err}
+use Rattle.std.specs.Prelude.{◌⊎◌}
 use Rattle.adb_outside.specs.declared.kinds.Cause.{Cause}
 use Rattle.adb_outside.specs.declared.kinds.Cause.TheVariants.{Starved}
 use Rattle.adb_capture.specs.declared.entry.Entry.{Entry}
@@ -25,7 +26,8 @@ use Rattle.adb_server_device_reader.specs.declared.next.Next.TheVariants.{Go, Pa
 abbrev pub received : ℕ → List (List ℕ) → List Entry
 received t pieces = map (Recv t) pieces
 
--- The hall shows these entries, the oldest first, and its hub holds them, unless it is shut: a recorder that refused the next one has shut it.
+-- The hall shows these entries, the oldest first, and its hub holds them, unless it is shut: a recorder that refused
+-- the next one has shut it.
 pub record Stands (entries : List Entry) (tells : Option Telling) : Type 0 where
   pub now : Telling
   pub tells_now : tells ≡ Some now
@@ -52,7 +54,8 @@ IsSpared was starved now = (starved ≡ was) ⊎ (is_some now.shut ≡ true)
 abbrev pub IsCutOff : ℕ → List Entry → Telling → Bool → Type 0
 IsCutOff t entries now starved = IsGone t entries ⊎ IsStopped now starved
 
--- The last entry ends the link's input by this cause; or there is none, since the hall refused that: the link is gone, the hall is shut, or a
+-- The last entry ends the link's input by this cause; or there is none, since the hall refused that: the link is
+-- gone, the hall is shut, or a
 -- kill was made.
 abbrev pub IsEnd : ℕ → Cause → List Entry → Telling → List Entry → Type 0
 IsEnd t cause entries now last = (last ≡ Detach t cause ∷ []) ⊎ ((last ≡ []) × (IsGone t entries ⊎ IsOver now))

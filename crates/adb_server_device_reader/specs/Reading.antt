@@ -9,7 +9,8 @@ use Rattle.adb_capture.specs.declared.entry.Entry.{Entry}
 use Rattle.adb_server_hall.specs.Telling.{Telling}
 use Rattle.adb_server_device_reader.specs.Handing.{Stands, IsCutOff, IsEnd, IsSpared, Stays, Breaks, received}
 
--- where a reader begins: the entries that the hall shows, the bytes that the device has still to send, the count of its faults, and whether an
+-- where a reader begins: the entries that the hall shows, the bytes that the device has still to send, the count of
+-- its faults, and whether an
 -- allocation for the pass had failed
 pub record Start : Type 0 where
   pub entries : List Entry
@@ -51,14 +52,17 @@ pub record Ends (t : ℕ) (start : Start) (rest : List ℕ) (faults : ℕ) (lost
   pub by : EndsBy start rest faults lost starved now cause
   pub end : IsEnd t cause entries now last
 
--- The reader stops after these entries with no end of the input: the link is gone, the hall is shut, or a kill was made. No read failed, or the
+-- The reader stops after these entries with no end of the input: the link is gone, the hall is shut, or a kill was
+-- made. No read failed, or the
 -- rest that was held then was handed in or refused.
-pub record Rests (t : ℕ) (start : Start) (rest : List ℕ) (faults : ℕ) (lost : List ℕ) (starved : Bool) (entries last : List Entry) (now : Telling)
+pub record Rests (t : ℕ) (start : Start) (rest : List ℕ) (faults : ℕ) (lost : List ℕ) (starved : Bool)
+    (entries last : List Entry) (now : Telling)
     (ending : List (List ℕ)) : Type 0 where
   pub stays : Stays t entries last start.starved starved now
   pub unfailed : IsUnfailed start rest faults lost ⊎ (ending ≢ [])
 
--- What was handed in, each piece by one entry, is slices and at most one rest after them. Joined, the pieces are what was taken of the device;
+-- What was handed in, each piece by one entry, is slices and at most one rest after them. Joined, the pieces are what
+-- was taken of the device;
 -- bytes are lost only where the reader was cut off. At most one entry more ends the link's input. The reader has a cause to stop.
 pub record Done (t : ℕ) (start : Start) (rest : List ℕ) (faults : ℕ) (starved : Bool) (tells : Option Telling) : Type 0 where
   pub pieces : List (List ℕ)

@@ -26,12 +26,16 @@ tells_more e a b entries tells made = record {
 
 pub bytes_in_append : (xs ys : List Entry) → bytes_in (xs ++ ys) ≡ bytes_in xs ++ bytes_in ys
 bytes_in_append [] ys = refl
-bytes_in_append (Read c bytes ∷ xs) ys = ap (λ bs. bytes ++ bs) (bytes_in_append xs ys) ∙ sym (append_assoc bytes (bytes_in xs) (bytes_in ys))
-bytes_in_append (Recv t bytes ∷ xs) ys = ap (λ bs. bytes ++ bs) (bytes_in_append xs ys) ∙ sym (append_assoc bytes (bytes_in xs) (bytes_in ys))
+bytes_in_append (Read c bytes ∷ xs) ys = ap (λ bs. bytes ++ bs) (bytes_in_append xs ys)
+    ∙ sym (append_assoc bytes (bytes_in xs) (bytes_in ys))
+bytes_in_append (Recv t bytes ∷ xs) ys = ap (λ bs. bytes ++ bs) (bytes_in_append xs ys)
+    ∙ sym (append_assoc bytes (bytes_in xs) (bytes_in ys))
 bytes_in_append (_ ∷ xs) ys = bytes_in_append xs ys
 
 pub bytes_out_append : (xs ys : List Entry) → bytes_out (xs ++ ys) ≡ bytes_out xs ++ bytes_out ys
 bytes_out_append [] ys = refl
-bytes_out_append (Put c bytes ∷ xs) ys = ap (λ bs. bytes ++ bs) (bytes_out_append xs ys) ∙ sym (append_assoc bytes (bytes_out xs) (bytes_out ys))
-bytes_out_append (Send t bytes ∷ xs) ys = ap (λ bs. bytes ++ bs) (bytes_out_append xs ys) ∙ sym (append_assoc bytes (bytes_out xs) (bytes_out ys))
+bytes_out_append (Put c bytes ∷ xs) ys = ap (λ bs. bytes ++ bs) (bytes_out_append xs ys)
+    ∙ sym (append_assoc bytes (bytes_out xs) (bytes_out ys))
+bytes_out_append (Send t bytes ∷ xs) ys = ap (λ bs. bytes ++ bs) (bytes_out_append xs ys)
+    ∙ sym (append_assoc bytes (bytes_out xs) (bytes_out ys))
 bytes_out_append (_ ∷ xs) ys = bytes_out_append xs ys

@@ -1,5 +1,6 @@
 -- What a desk hands out has a byte, and room for bytes is not empty: there is a history of which that is so.
-use Rattle.std.proofs.Common.{ℕ, ◌-◌, ◌≡◌, ◌<◌, Bool, true, false, List, [], ◌∷◌, length, Option, Some, None, Result, Ok, Err, refl, sym, subst, arith}
+use Rattle.std.proofs.Common.{ℕ, ◌-◌, ◌≡◌, ◌<◌, Bool, true, false, List, [], ◌∷◌, length, Option, Some, None, Result, Ok, Err, refl, sym}
+use Rattle.std.proofs.Common.{subst, arith}
 use Rattle.std.specs.Prelude.{◌≢◌, is_none, nat_le, nat_lt, if◌then◌else◌}
 use Rattle.std.proofs.lemmas.Bool.Decides.{nat_tests}
 use Rattle.adb_client.specs.declared.phase.Phase.{Phase}
@@ -45,7 +46,8 @@ some_handed e max None bytes h old new gives = absurd gives
 pub hands_some : (e : List ℕ → Entry) (max : ℕ) (all : State → Option (List ℕ)) (answer : Result Handed DeskError) (d after : DeskView)
     → IsSound d → desk.Hands d e max all answer after → IsSomeHanded max answer
 hands_some e max all (Ok (Bytes bytes)) d after sound gives = (
-  some_handed e max (all (state sound.history)) bytes sound.history d.hub after.hub (gives.steps sound.history (held_by d sound gives.going)).1,
+  some_handed e max (all (state sound.history)) bytes sound.history d.hub after.hub
+      (gives.steps sound.history (held_by d sound gives.going)).1,
   gives.within.0,
 )
 hands_some e max all (Ok Nothing) d after sound gives = tt
@@ -53,7 +55,8 @@ hands_some e max all (Ok Done) d after sound gives = tt
 hands_some e max all (Err error) d after sound gives = tt
 
 -- ---- room
-past_some : (held : ℕ) (full : Bool) → nat_le MAX_HELD held ≡ full → IsSomeRoom (Ok (if full then room.Later else room.Bytes (MAX_HELD - held)))
+past_some : (held : ℕ) (full : Bool) → nat_le MAX_HELD held ≡ full
+    → IsSomeRoom (Ok (if full then room.Later else room.Bytes (MAX_HELD - held)))
 past_some held true is = tt
 past_some held false is = grind (arith, nat_tests)
 

@@ -1,5 +1,6 @@
 -- What a hall tells, and what its calls do to it.
-use Rattle.std.specs.Prelude.{ℕ, ◌≡◌, ◌<◌, ◌≤◌, Bool, true, false, List, [], ◌∷◌, length, option_map, is_some, Option, Some, None, Result, Ok, Err, ◌⊎◌, ⊤}
+use Rattle.std.specs.Prelude.{ℕ, ◌≡◌, ◌<◌, ◌≤◌, Bool, true, false, List, [], ◌∷◌, length, option_map, is_some, Option, Some, None, Result}
+use Rattle.std.specs.Prelude.{Ok, Err, ◌⊎◌, ⊤}
 use Rattle.adb_outside.specs.declared.kinds.Cause.{Cause}
 use Rattle.adb_capture.specs.declared.entry.Entry.{Entry}
 use Rattle.adb_capture.specs.declared.entry.Entry.TheVariants.{End, Detach}
@@ -95,7 +96,8 @@ Hands e max all (Ok given) a b = HandsAt e max all given a b
 Hands e max all (Err error) a b = Fails (e []) error a b
 
 -- The same with at most `max` bytes: as many as the hall chose.
-pub record HandsFront (e : List ℕ → Entry) (max : ℕ) (all : State → Option (List ℕ)) (answer : Result Handed DeskError) (a b : Telling) : Type 0 where
+pub record HandsFront (e : List ℕ → Entry) (max : ℕ) (all : State → Option (List ℕ))
+    (answer : Result Handed DeskError) (a b : Telling) : Type 0 where
   pub most : ℕ
   pub some : 0 < most
   pub within : most ≤ max

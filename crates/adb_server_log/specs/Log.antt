@@ -1,5 +1,6 @@
 -- The view of a log, and the log after an entry is kept.
-use Rattle.std.specs.Prelude.{ℕ, ◌+◌, ◌-◌, ◌^◌, ◌≡◌, Bool, true, false, ◌||◌, if◌then◌else◌, List, [], ◌∷◌, ◌++◌, length, Option, Some, None}
+use Rattle.std.specs.Prelude.{ℕ, ◌+◌, ◌-◌, ◌^◌, ◌≡◌, Bool, true, false, ◌||◌, if◌then◌else◌, List, [], ◌∷◌, ◌++◌, length, Option, Some}
+use Rattle.std.specs.Prelude.{None}
 use Rattle.std.specs.Prelude.{option_map, is_some, Result, Ok, Err, nat_le, nat_lt, ⊤}
 use Rattle.adb_outside.specs.Outside.{Rises}
 use Rattle.adb_capture.specs.declared.entry.Entry.{Entry}
@@ -14,7 +15,8 @@ use Rattle.adb_server_log.specs.declared.error.DeskError.TheVariants.{Halted, Re
 use Rattle.adb_server_log.specs.Pass.{PassView}
 
 -- a log: what its recorder tells and how often that failed, the answer with which it is shut, the alarm, both counts, how many passes are
--- out, how many more may be made of the number that was drawn last, that number, whether the mark of the first handle is lent, and the shares
+-- out, how many more may be made of the number that was drawn last, that number, whether the mark of the first handle
+-- is lent, and the shares
 -- that no pass holds
 pub record LogView : Type 0 where
   pub told : Option (List Entry)

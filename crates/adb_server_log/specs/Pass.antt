@@ -1,7 +1,8 @@
 -- The view of a pass, and a pass after a call.
 use Rattle.std.specs.Prelude.{ℕ, ◌+◌, Bool, false, ◌||◌, if◌then◌else◌}
 
--- a pass: its number, its shares of the counts of entries and of moved bytes, whether it is marked, and whether an allocation failed in a call with it
+-- a pass: its number, its shares of the counts of entries and of moved bytes, whether it is marked, and whether an
+-- allocation failed in a call with it
 pub record PassView : Type 0 where
   pub number : ℕ
   pub entries : ℕ

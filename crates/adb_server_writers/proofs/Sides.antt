@@ -20,7 +20,8 @@ use Rattle.adb_server_writers.specs.Writing.{Side, side_of}
 
 -- A hand-out is refused only where the owner is gone, and the end of a connection only there and after a kill.
 pub record IsSide (side : Side) : Type 0 where
-  pub unasked : (h : History) (error : DeskError) → IsLegal h → desk_refusal (side.hands []) (state h) ≡ Some error → side.due (state h) ≡ None
+  pub unasked : (h : History) (error : DeskError) → IsLegal h → desk_refusal (side.hands []) (state h) ≡ Some error
+      → side.due (state h) ≡ None
   pub unended : (h : History) (cause : Cause) (error : DeskError) → IsLegal h → desk_refusal (side.ends cause) (state h) ≡ Some error
       → (side.due (state h) ≡ None) ⊎ ((state h).stopped ≡ true)
   pub ends : (cause : Cause) → is_end (side.ends cause) ≡ true
@@ -34,7 +35,8 @@ undrawn : (b : Bool) (why : HubError) (error : DeskError) → or_later (unless_d
 undrawn true why error is = absurd (let clash : None ≡ Some error = is in cc)
 undrawn false why error is = refl
 
-unended_by : (stopped b : Bool) (why : HubError) (error : DeskError) → or_later (unless_stopped stopped (unless_drawn b why)) false ≡ Some error
+unended_by : (stopped b : Bool) (why : HubError) (error : DeskError)
+    → or_later (unless_stopped stopped (unless_drawn b why)) false ≡ Some error
     → (b ≡ false) ⊎ (stopped ≡ true)
 unended_by true b why error is = inr refl
 unended_by false true why error is = absurd (let clash : None ≡ Some error = is in cc)

@@ -114,13 +114,15 @@ module _ (side : Side) (is : IsSide side) (a b : Telling) (es : List Entry) (was
     | inr lawful ↦ record {
       last = side.ends cause ∷ [];
       stands =
-          stands_of b (es ++ side.ends cause ∷ []) (tells_more (side.ends cause) a b es (record { told = stands.told; lawful = lawful }) made);
+          stands_of b (es ++ side.ends cause ∷ [])
+          (tells_more (side.ends cause) a b es (record { told = stands.told; lawful = lawful }) made);
       is = inl refl;
       memory = memory;
     }
   ]
 
-  unended : (cause : Cause) (error : DeskError) → b ≡ a → ((h : History) → IsLawful a.hub h → desk_refusal (side.ends cause) (state h) ≡ Some error)
+  unended : (cause : Cause) (error : DeskError) → b ≡ a
+      → ((h : History) → IsLawful a.hub h → desk_refusal (side.ends cause) (state h) ≡ Some error)
       → IsRefused side es b
   unended cause error same refuses = elim stands.lawful [
     | inl shut ↦ inr (inl (ap (λ (t : Telling). is_some t.shut) same ∙ shut))
@@ -154,7 +156,8 @@ module _ (side : Side) (is : IsSide side) (a b : Telling) (es : List Entry) (was
   ends_by cause (Ok said) spared made = ended cause made.0
   ends_by cause (Err error) spared fails = refused cause error (λ (hungry : error ≡ Hub OutOfMemory). spared (ap Err hungry)) fails
 
-pub where_ends : (side : Side) (is : IsSide side) (cause : Cause) (p q : PassView) (answer : Result Progress DeskError) (old new : Option Telling)
+pub where_ends : (side : Side) (is : IsSide side) (cause : Cause) (p q : PassView)
+    (answer : Result Progress DeskError) (old new : Option Telling)
     → q ≡ after_submit p 0 answer → (answer ≡ Err (Hub OutOfMemory) → IsShutAt new) → Where old (Submits (side.ends cause) answer) new
     → Where old (EndsAll side cause p.starved q.starved) new
 where_ends side is cause p q answer None new pass spared did = tt
@@ -187,17 +190,20 @@ module _ (side : Side) (max : ℕ) (a b : Telling) (es : List Entry) (tells : Te
   handed_on bytes hands = record {
     told = hands.told ∙ ap (option_map (grown (side.hands bytes))) tells.told;
     lawful = subst (λ (h : History). IsLawful b.hub h) (sym (reverse-append es (side.hands bytes ∷ [])))
-        (bytes_held side.hands max (side.due (state (reverse es))) bytes (reverse es) a.hub b.hub (hands.steps (reverse es) tells.lawful).1);
+        (bytes_held side.hands max (side.due (state (reverse es))) bytes (reverse es) a.hub b.hub
+        (hands.steps (reverse es) tells.lawful).1);
   }
 
   idle_hall : Hands side.hands max side.due (Ok Nothing) a b → Tells b es × (side.due (state (reverse es)) ≡ Some [])
   idle_hall hands =
-      let none = nothing_due side.hands max (side.due (state (reverse es))) (reverse es) a.hub b.hub (hands.steps (reverse es) tells.lawful).1 in
+      let none = nothing_due side.hands max (side.due (state (reverse es))) (reverse es) a.hub b.hub
+      (hands.steps (reverse es) tells.lawful).1 in
       (record { told = hands.told ∙ tells.told; lawful = subst (λ (k : Kept). IsLawful k (reverse es)) (sym none.1) tells.lawful }, none.0)
 
   done_hall : Hands side.hands max side.due (Ok Done) a b → Tells b es × (side.due (state (reverse es)) ≡ None)
   done_hall hands =
-      let none = owner_gone side.hands max (side.due (state (reverse es))) (reverse es) a.hub b.hub (hands.steps (reverse es) tells.lawful).1 in
+      let none = owner_gone side.hands max (side.due (state (reverse es))) (reverse es) a.hub b.hub
+      (hands.steps (reverse es) tells.lawful).1 in
       (record { told = hands.told ∙ tells.told; lawful = subst (λ (k : Kept). IsLawful k (reverse es)) (sym none.1) tells.lawful }, none.0)
 
 -- ---- a writer that was handed nothing
@@ -249,7 +255,8 @@ module _ (side : Side) (es : List Entry) (b : Telling) (tells : Option Telling) 
   rests told stands memory (inr shut) =
       stops [] told (stands_nil b es stands) (inl (record { none = refl; memory = memory; why = inr (inr shut) }))
 
-  starves : (mid : Bool) → tells ≡ Some b → starved ≡ true → Ends side Starved mid starved es b → Turned Stop side es tells was starved before before
+  starves : (mid : Bool) → tells ≡ Some b → starved ≡ true → Ends side Starved mid starved es b
+      → Turned Stop side es tells was starved before before
   starves mid told hungry ends = stops ends.last told ends.stands (inr (record { memory = hungry; ends = ends.is }))
 
 pub done_turn : (side : Side) (max : ℕ) (a b : Telling) (es : List Entry) (tells : Option Telling) (was starved : Bool) (before : Outlet)
@@ -275,7 +282,8 @@ refused_why side is error a b es tells fed (inl r) = elim r.why [
 ]
 refused_why side is error a b es tells fed (inr k) = inr (ap is_some k.shut)
 
-module _ (side : Side) (is : IsSide side) (error : DeskError) (a b d : Telling) (es : List Entry) (tells : Option Telling) (was mid starved : Bool)
+module _ (side : Side) (is : IsSide side) (error : DeskError) (a b d : Telling) (es : List Entry)
+    (tells : Option Telling) (was mid starved : Bool)
     (before : Outlet) (held : Tells a es) (told : tells ≡ Some d) (fails : Fails (side.hands []) error a b) where
   pub refused_turn : (hungry : Bool) → is_starved error ≡ hungry → GivesUp side hungry mid starved b d → (hungry ≡ false → starved ≡ was)
       → (hungry ≡ true → starved ≡ true) → Turned Stop side es tells was starved before before
@@ -342,7 +350,8 @@ module _ (side : Side) (max : ℕ) (bytes : List ℕ) (a b d : Telling) (es : Li
   handed_turn Stop broke out memory = stop_turn broke out
 
 -- ---- one turn after another
-pub so_far_first : (side : Side) (es : List Entry) (a : Telling) (tells : Option Telling) (was : Bool) (o : Outlet) → Tells a es → tells ≡ Some a
+pub so_far_first : (side : Side) (es : List Entry) (a : Telling) (tells : Option Telling) (was : Bool) (o : Outlet)
+    → Tells a es → tells ≡ Some a
     → WrittenSoFar side es tells was was o o
 so_far_first side es a tells was o held told = record {
   now = a;
@@ -357,7 +366,8 @@ so_far_first side es a tells was o held told = record {
   stays = refl;
 }
 
-made_more : (side : Side) (es mid last : List Entry) (xs ys : List (List ℕ)) → mid ≡ es ++ map side.hands xs → last ≡ mid ++ map side.hands ys
+made_more : (side : Side) (es mid last : List Entry) (xs ys : List (List ℕ)) → mid ≡ es ++ map side.hands xs
+    → last ≡ mid ++ map side.hands ys
     → last ≡ es ++ map side.hands (xs ++ ys)
 made_more side es mid last xs ys one two =
     two ∙ ap (λ (e : List Entry). e ++ map side.hands ys) one ∙ append_assoc es (map side.hands xs) (map side.hands ys)
@@ -425,10 +435,12 @@ written_after side es tells1 tells2 was mid starved first middle after x y = rec
   wrote = λ out is. y.wrote (out ++ concat x.pieces) (x.wrote out is) ∙ ap Some (append_assoc out (concat x.pieces) y.front);
   why = elim y.why [
     | inl quiet ↦
-        inl (quiet_after side y.entries y.now was mid starved y.last x.pieces y.pieces y.front y.lost first.faults middle.faults after.faults
+        inl (quiet_after side y.entries y.now was mid starved y.last x.pieces y.pieces y.front y.lost first.faults
+        middle.faults after.faults
         x.memory x.count quiet)
     | inr fails ↦
-        inr (fails_after side y.entries y.now was mid starved y.last x.pieces y.pieces y.front y.lost first.faults middle.faults after.faults
+        inr (fails_after side y.entries y.now was mid starved y.last x.pieces y.pieces y.front y.lost first.faults
+        middle.faults after.faults
         x.memory x.count fails)
   ];
   closes = elim y.closes [ inl closed ↦ inl closed | inr idle ↦ inr (idle.0, idle.1 ∙ x.stays) ];

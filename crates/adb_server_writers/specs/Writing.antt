@@ -14,7 +14,8 @@ use Rattle.adb_desk.specs.declared.act.Half.TheVariants as half
 use Rattle.adb_desk.specs.Acts.{due_of, out_entry}
 use Rattle.adb_server_hall.specs.Telling.{Telling}
 
--- the client or link that a writer writes to: the entry that hands bytes out, the entry that ends the connection, and the bytes that may be handed
+-- the client or link that a writer writes to: the entry that hands bytes out, the entry that ends the connection, and
+-- the bytes that may be handed
 -- out while the owner lives
 pub record Side : Type 0 where
   pub hands : List ℕ → Entry
@@ -39,7 +40,8 @@ pub record Outlet : Type 0 where
 abbrev pub outlet : ℕ → Option (List ℕ) → Bool → Outlet
 outlet faults written closed = record { faults = faults; written = written; closed = closed }
 
--- The hall shows these entries, the oldest first. Its hub holds them, or the hall is shut: the hub may then have made one more, which was not kept.
+-- The hall shows these entries, the oldest first. Its hub holds them, or the hall is shut: the hub may then have made
+-- one more, which was not kept.
 pub record Stands (t : Telling) (entries : List Entry) : Type 0 where
   pub told : t.told ≡ Some entries
   pub lawful : (is_some t.shut ≡ true) ⊎ IsLawful t.hub (reverse entries)
@@ -69,7 +71,8 @@ pub record WroteAll (lost : List ℕ) (before after : ℕ) : Type 0 where
   pub count : after ≡ before
   pub none : lost ≡ []
 
--- The write of the last piece failed, so that the count of faults rose: a part of that piece went out, and nothing was handed out after it. The
+-- The write of the last piece failed, so that the count of faults rose: a part of that piece went out, and nothing
+-- was handed out after it. The
 -- connection was ended for that. No allocation failed, unless the hall is shut.
 pub record FailsLast (side : Side) (entries : List Entry) (now : Telling) (was starved : Bool) (last : List Entry) (pieces : List (List ℕ))
     (front lost : List ℕ) (before after : ℕ) : Type 0 where
@@ -83,8 +86,10 @@ pub record FailsLast (side : Side) (entries : List Entry) (now : Telling) (was s
   pub ends : IsEnd side Fault entries now last
   pub memory : (starved ≡ was) ⊎ (is_some now.shut ≡ true)
 
--- A writer made an entry for each piece that was handed out to it (after these the hall showed `entries`), and at most one more, which ended its
--- connection. The bytes that it wrote are a prefix of the joined pieces: all of them, unless the write of the last piece failed. The writer has a
+-- A writer made an entry for each piece that was handed out to it (after these the hall showed `entries`), and at
+-- most one more, which ended its
+-- connection. The bytes that it wrote are a prefix of the joined pieces: all of them, unless the write of the last
+-- piece failed. The writer has a
 -- cause to return its pass, and closed its port; if nothing is due it may have left the port as it was. `was` and `starved` say whether an
 -- allocation for the pass had failed before, and has failed now.
 pub record Written (side : Side) (es : List Entry) (tells : Option Telling) (was starved : Bool) (before after : Outlet) : Type 0 where

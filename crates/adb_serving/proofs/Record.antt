@@ -12,7 +12,8 @@ use Rattle.adb_serving.specs.History.{GivesRecord, ServesHistory, records_of}
 
 module _ {R : Type 0} (stands : R → List Entry → Type 0) (faults : R → ℕ) where
   -- a recorder that came back kept a legal history, and it never failed if the server is done
-  pub recorded_of : (status : Status) (r : R) → KeepsRecord stands faults status (Some r) → HasRecorded stands r × (status ≡ Done → faults r ≡ 0)
+  pub recorded_of : (status : Status) (r : R) → KeepsRecord stands faults status (Some r)
+      → HasRecorded stands r × (status ≡ Done → faults r ≡ 0)
   recorded_of Done r k =
       let same : k.last ≡ r = (let is = k.is in cc) in
       (subst (HasRecorded stands) same k.recorded, λ done. subst (λ (x : R). faults x ≡ 0) same k.so)
@@ -40,8 +41,10 @@ module _ {R : Type 0} (stands : R → List Entry → Type 0) (faults : R → ℕ
       }
 
   -- the sink was given the record of the history that the recorder kept
-  pub serves_history : (r : R) (h : HasRecorded stands r) (had : List ℕ) (written : Option (List ℕ)) (whole : Bool) (count : ℕ) (status : Status)
-      → ServesCapture had written whole count (reverse h.history) → (status ≡ Done → (whole ≡ true) × (count ≡ 0)) → ServesHistory had written status
+  pub serves_history : (r : R) (h : HasRecorded stands r) (had : List ℕ) (written : Option (List ℕ)) (whole : Bool)
+      (count : ℕ) (status : Status)
+      → ServesCapture had written whole count (reverse h.history) → (status ≡ Done → (whole ≡ true) × (count ≡ 0))
+      → ServesHistory had written status
   serves_history r h had written whole count status capture done = record {
     history = h.history;
     legal = h.legal;
@@ -57,7 +60,8 @@ module _ {R : Type 0} (stands : R → List Entry → Type 0) (faults : R → ℕ
   }
 
 -- a thread that is stuck may keep the sink of a server that is not done
-pub keeps_sink : {S : Type 0} (told : S → Option (List ℕ)) (before : S) (status : Status) → status ≢ Done → GivesRecord told before status Stuck
+pub keeps_sink : {S : Type 0} (told : S → Option (List ℕ)) (before : S) (status : Status) → status ≢ Done
+    → GivesRecord told before status Stuck
 keeps_sink told before status undone = record { done = λ is. absurd (undone is); fault = λ is. inr refl; given = tt }
 
 -- words that ask for a record are those of a server

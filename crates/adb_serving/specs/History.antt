@@ -52,7 +52,8 @@ IfReturned (Returned sink) P = P sink
 IfReturned Dropped P = Unit {0}
 IfReturned Stuck P = Unit {0}
 
--- A server that was asked for a record ended so. At Done its sink was returned, and at RecordFault too, unless the thread that writes has not
+-- A server that was asked for a record ended so. At Done its sink was returned, and at RecordFault too, unless the
+-- thread that writes has not
 -- returned. A sink that was returned was given the record of the history.
 pub record GivesRecord {R : Type 0} (told : R → Option (List ℕ)) (before : R) (status : Status) (after : HistorySink R) : Type 0 where
   pub done : status ≡ Done → is_returned after ≡ true

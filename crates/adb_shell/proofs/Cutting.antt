@@ -12,7 +12,8 @@ use Rattle.adb_shell.proofs.Spelled.{spelled_again, spelled_front}
 
 -- a packet before others
 packet_before : (from : ShellFormat) (frame more : List ℕ) (c : Reading) → front from frame ≡ Whole (length frame) → AreBytes frame
-    → SpellsPackets (past from frame) more c.given c.reading c.rest → SpellsPackets from (frame ++ more) (packet_of from frame ∷ c.given) c.reading c.rest
+    → SpellsPackets (past from frame) more c.given c.reading c.rest
+    → SpellsPackets from (frame ++ more) (packet_of from frame ∷ c.given) c.reading c.rest
 packet_before from frame more c found are others =
     let packet = packet_of from frame in
     let again = spelled_again from frame are found in

@@ -21,23 +21,30 @@ with_packet : (offset id len there : ℕ) → id ≤ LAST_ID → len ≤ MAX_SHE
 with_packet offset id len there known short h = grind (arith, nat_tests)
 
 -- a packet that was spelled is one
-pub spelled_front : (from : ShellFormat) (packet : ShellPacket) → IsPacket packet → front from (spelling packet) ≡ Whole (length (spelling packet))
+pub spelled_front : (from : ShellFormat) (packet : ShellPacket) → IsPacket packet
+    → front from (spelling packet) ≡ Whole (length (spelling packet))
 spelled_front from packet h =
     let len : length (spelling packet) ≡ HEADER_BYTES + length packet.bytes = omega arith in
-    let said : length_of (spelling packet) ≡ length packet.bytes = little_number-reads_back 4 (length packet.bytes) packet.bytes (omega (arith, h.bytes)) in
-    there (length (spelling packet)) (front_with from.offset packet.id (length_of (spelling packet)) (length (spelling packet))) (omega (arith, len))
+    let said : length_of (spelling packet) ≡ length packet.bytes =
+    little_number-reads_back 4 (length packet.bytes) packet.bytes (omega (arith, h.bytes)) in
+    there (length (spelling packet))
+    (front_with from.offset packet.id (length_of (spelling packet)) (length (spelling packet)))
+    (omega (arith, len))
     ∙ (ap (λ k. front_with from.offset packet.id k (length (spelling packet))) said
-    ∙ (with_packet from.offset packet.id (length packet.bytes) (length (spelling packet)) h.id h.bytes (omega (arith, len)) ∙ ap Whole (sym len)))
+    ∙ (with_packet from.offset packet.id (length packet.bytes) (length (spelling packet)) h.id h.bytes
+    (omega (arith, len)) ∙ ap Whole (sym len)))
 
 pub read_again : (from : ShellFormat) (packet : ShellPacket) (more : List ℕ) → IsPacket packet
     → cut_from from (spelling packet ++ more) ≡ joined (packet ∷ []) (cut_from (past from (spelling packet)) more)
-read_again from packet more h = frame_first front packet_of past packets_are_framed from (spelling packet) more (spelled_front from packet h)
+read_again from packet more h = frame_first front packet_of past packets_are_framed from (spelling packet) more
+    (spelled_front from packet h)
 
 with_good : (offset id len there n : ℕ) → front_with offset id len there ≡ Whole n → (id ≤ LAST_ID) × (len ≤ MAX_SHELL_PAYLOAD)
 with_good offset id len there n e = grind (arith, nat_tests)
 
 -- a header and more spell a packet, where its length is that of the others
-spelled_by : (from : ShellFormat) (bytes : List ℕ) → AreBytes bytes → HEADER_BYTES ≤ length bytes → length bytes ≡ HEADER_BYTES + length_of bytes
+spelled_by : (from : ShellFormat) (bytes : List ℕ) → AreBytes bytes → HEADER_BYTES ≤ length bytes
+    → length bytes ≡ HEADER_BYTES + length_of bytes
     → spelling (packet_of from bytes) ≡ bytes
 spelled_by from [] are h e = absurd (omega (arith, h))
 spelled_by from (id ∷ bytes) are h e =

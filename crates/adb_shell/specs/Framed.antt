@@ -18,7 +18,8 @@ with_bad : (offset id len there more : ℕ) (fault : ShellFault) → there ≤ m
     → front_with offset id len more ≡ Bad fault
 with_bad offset id len there more fault h e = grind (arith, nat_tests)
 
-with_whole : (offset id len there more n : ℕ) → there ≤ more → front_with offset id len there ≡ Whole n → front_with offset id len more ≡ Whole n
+with_whole : (offset id len there more n : ℕ) → there ≤ more → front_with offset id len there ≡ Whole n
+    → front_with offset id len more ≡ Whole n
 with_whole offset id len there more n h e = grind (arith, nat_tests)
 
 -- a packet is its header and the bytes that the header says
@@ -47,7 +48,8 @@ front_there s x y h =
     let len : length (x ++ y) ≡ length x + length y = length-append x y in
     let id : id_of (x ++ y) ≡ id_of x = get_or_append_left x y 0 0 (omega (arith, h)) in
     let tail : length_of (x ++ y) ≡ length_of x =
-    ap (little_number 4) (drop-append-le 1 x y (omega (arith, h))) ∙ little_from-append 4 (drop 1 x) y (omega (arith, h, length-drop 1 x)) in
+    ap (little_number 4) (drop-append-le 1 x y (omega (arith, h)))
+    ∙ little_from-append 4 (drop 1 x) y (omega (arith, h, length-drop 1 x)) in
     there (length (x ++ y)) (front_with s.offset (id_of (x ++ y)) (length_of (x ++ y)) (length (x ++ y))) (omega (arith, h, len))
     ∙ (ap (λ k. front_with s.offset k (length_of (x ++ y)) (length (x ++ y))) id
     ∙ (ap (λ k. front_with s.offset (id_of x) k (length (x ++ y))) tail
@@ -81,9 +83,11 @@ whole_alone s x n e =
     let len : length p ≡ n = omega (arith, length-take n x, fits) in
     let header : HEADER_BYTES ≤ length p = omega (arith, len, f) in
     let split : front s (p ++ drop n x) ≡ Whole n = ap (front s) (take-append-drop n x) ∙ e in
-    let w : front_with s.offset (id_of p) (length_of p) (length p + length (drop n x)) ≡ Whole n = sym (front_there s p (drop n x) header) ∙ split in
+    let w : front_with s.offset (id_of p) (length_of p) (length p + length (drop n x)) ≡ Whole n =
+    sym (front_there s p (drop n x) header) ∙ split in
     there (length p) (front_with s.offset (id_of p) (length_of p) (length p)) header
-    ∙ (ap (front_with s.offset (id_of p) (length_of p)) len ∙ with_alone s.offset (id_of p) (length_of p) (length p + length (drop n x)) n w)
+    ∙ (ap (front_with s.offset (id_of p) (length_of p)) len ∙ with_alone s.offset (id_of p) (length_of p)
+    (length p + length (drop n x)) n w)
 
 pub packets_are_framed : IsFraming front packet_of past
 packets_are_framed =

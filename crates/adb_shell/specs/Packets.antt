@@ -40,9 +40,11 @@ front_with offset id len there =
     else (if nat_lt there (HEADER_BYTES + len) then More
     else Whole (HEADER_BYTES + len)))
 
--- What bytes begin with: a packet, or a fault of its header, first of its id and then of its length. Nothing is told before the header's five bytes are there.
+-- What bytes begin with: a packet, or a fault of its header, first of its id and then of its length. Nothing is told
+-- before the header's five bytes are there.
 abbrev pub front : ShellFormat → List ℕ → Front ShellFault
-front format bytes = if nat_lt (length bytes) HEADER_BYTES then More else front_with format.offset (id_of bytes) (length_of bytes) (length bytes)
+front format bytes = if nat_lt (length bytes) HEADER_BYTES then More else front_with format.offset (id_of bytes)
+    (length_of bytes) (length bytes)
 
 -- the packet of its whole bytes
 abbrev pub packet_of : ShellFormat → List ℕ → ShellPacket
@@ -87,7 +89,8 @@ failure_of failures.OutOfMemory = errors.OutOfMemory
 failure_of (failures.Fault fault) = error_of fault
 
 -- The bytes are the spellings of packets that may be sent, and then a rest.
-pub record SpellsPackets (from : ShellFormat) (bytes : List ℕ) (packets : List ShellPacket) (reading : ShellFormat) (rest : List ℕ) : Type 0 where
+pub record SpellsPackets (from : ShellFormat) (bytes : List ℕ) (packets : List ShellPacket) (reading : ShellFormat)
+    (rest : List ℕ) : Type 0 where
   pub whole : bytes ≡ flat_map spelling packets ++ rest
   pub each : All IsPacket packets
 

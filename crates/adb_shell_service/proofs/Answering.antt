@@ -1,5 +1,6 @@
 -- What a service answers to its input.
-use Rattle.std.specs.Prelude.{ℕ, ◌≡◌, ◌||◌, cond, Bool, true, false, List, [], ◌∷◌, ◌++◌, length, Option, Some, None, is_some, is_none, refl}
+use Rattle.std.specs.Prelude.{ℕ, ◌≡◌, ◌||◌, cond, Bool, true, false, List, [], ◌∷◌, ◌++◌, length, Option, Some, None, is_some, is_none}
+use Rattle.std.specs.Prelude.{refl}
 use Rattle.std.proofs.Common.{◌∙◌, ap, sym, subst, arith}
 use Rattle.std.specs.Io.{StartsWith}
 use Rattle.std.proofs.lemmas.Bool.{true≢false}
@@ -12,7 +13,8 @@ use Rattle.adb_shell.specs.declared.packet.ShellFault.{ShellFault}
 use Rattle.adb_shell.specs.Packets.{Reading, front, packet_of, past, start, cut_from, packets_in, fault_in, StandsFor}
 use Rattle.adb_shell.specs.Framed.{packets_are_framed}
 use Rattle.adb_files.specs.Service.{TellsUpTo, TellsFront}
-use Rattle.adb_shell_service.specs.Service.{Answer, Opening, Held, then_answered, packet_answer, input_answer, reads_input, command_answer, shell_answer}
+use Rattle.adb_shell_service.specs.Service.{Answer, Opening, Held, then_answered, packet_answer, input_answer, reads_input, command_answer}
+use Rattle.adb_shell_service.specs.Service.{shell_answer}
 use Rattle.adb_shell_service.specs.Service.{IsReading, Reads, HasAnswered, Answers, AnswersGiven}
 
 -- an answer that goes on, and one that ends
@@ -24,7 +26,12 @@ then_over a more e = ap (λ t. cond t a (record { bytes = a.bytes ++ more.bytes;
 
 -- packets behind others, where those go on
 pub input_append : (ps qs : List ShellPacket) (f : Option ShellFault) → (input_answer ps None).ended ≡ false
-    → input_answer (ps ++ qs) f ≡ record { bytes = (input_answer ps None).bytes ++ (input_answer qs f).bytes; ended = (input_answer qs f).ended }
+    → input_answer (ps ++ qs) f
+    ≡ record {
+      bytes = (input_answer ps None).bytes ++ (input_answer qs f).bytes;
+      ended =
+          (input_answer qs f).ended;
+    }
 input_append [] qs f on = refl
 input_append (p ∷ ps) qs f on = go (packet_answer p).ended refl (input_append ps qs f)
   where
@@ -33,7 +40,10 @@ input_append (p ∷ ps) qs f on = go (packet_answer p).ended refl (input_append 
         ≡ record { bytes = (input_answer ps None).bytes ++ (input_answer qs f).bytes; ended = (input_answer qs f).ended })
         → input_answer (p ∷ ps ++ qs) f
         ≡ record { bytes = (input_answer (p ∷ ps) None).bytes ++ (input_answer qs f).bytes; ended = (input_answer qs f).ended }
-    go true is behind = absurd (true≢false (sym is ∙ (sym (ap (λ (r : Answer). r.ended) (then_over (packet_answer p) (input_answer ps None) is)) ∙ on)))
+    go true is behind =
+        absurd (true≢false
+        (sym is ∙ (sym (ap (λ (r : Answer). r.ended) (then_over (packet_answer p) (input_answer ps None) is))
+        ∙ on)))
     go false is behind =
         let first = then_open (packet_answer p) (input_answer ps None) is in
         let rest = behind (sym (ap (λ (r : Answer). r.ended) first) ∙ on) in
@@ -44,13 +54,15 @@ input_append (p ∷ ps) qs f on = go (packet_answer p).ended refl (input_append 
         ∙ ap (λ (r : Answer). r.bytes ++ (input_answer qs f).bytes) (sym first)))
 
 -- packets behind the end of the input
-pub input_over : (ps qs : List ShellPacket) (f g : Option ShellFault) → (input_answer ps None).ended ≡ true → input_answer (ps ++ qs) f ≡ input_answer ps g
+pub input_over : (ps qs : List ShellPacket) (f g : Option ShellFault) → (input_answer ps None).ended ≡ true
+    → input_answer (ps ++ qs) f ≡ input_answer ps g
 input_over [] qs f g over = absurd (true≢false (sym over))
 input_over (p ∷ ps) qs f g over = go (packet_answer p).ended refl (input_over ps qs f g)
   where
     go : (t : Bool) → (packet_answer p).ended ≡ t → ((input_answer ps None).ended ≡ true → input_answer (ps ++ qs) f ≡ input_answer ps g)
         → input_answer (p ∷ ps ++ qs) f ≡ input_answer (p ∷ ps) g
-    go true is behind = then_over (packet_answer p) (input_answer (ps ++ qs) f) is ∙ sym (then_over (packet_answer p) (input_answer ps g) is)
+    go true is behind = then_over (packet_answer p) (input_answer (ps ++ qs) f) is
+        ∙ sym (then_over (packet_answer p) (input_answer ps g) is)
     go false is behind =
         let rest = behind (sym (ap (λ (r : Answer). r.ended) (then_open (packet_answer p) (input_answer ps None) is)) ∙ over) in
         ap (then_answered (packet_answer p)) rest
@@ -64,7 +76,12 @@ with_fault (p ∷ ps) f = go (packet_answer p).ended refl (with_fault ps f)
   where
     go : (t : Bool) → (packet_answer p).ended ≡ t
         → input_answer ps f ≡ record { bytes = (input_answer ps None).bytes; ended = (input_answer ps None).ended || is_some f }
-        → input_answer (p ∷ ps) f ≡ record { bytes = (input_answer (p ∷ ps) None).bytes; ended = (input_answer (p ∷ ps) None).ended || is_some f }
+        → input_answer (p ∷ ps) f
+        ≡ record {
+          bytes = (input_answer (p ∷ ps) None).bytes;
+          ended =
+              (input_answer (p ∷ ps) None).ended || is_some f;
+        }
     go true is behind =
         let over = then_over (packet_answer p) (input_answer ps None) is in
         then_over (packet_answer p) (input_answer ps f) is
@@ -98,7 +115,8 @@ sound_input ps (Some f) on = absurd
     bool_or_true false = refl
 
 -- the answer to input, where the service reads it
-pub answer_reading : (opening : Opening) (fed : List ℕ) → reads_input opening ≡ true → shell_answer opening fed ≡ input_answer (packets_in fed) (fault_in fed)
+pub answer_reading : (opening : Opening) (fed : List ℕ) → reads_input opening ≡ true
+    → shell_answer opening fed ≡ input_answer (packets_in fed) (fault_in fed)
 answer_reading opening fed reads = ap (λ t. cond t (input_answer (packets_in fed) (fault_in fed)) (command_answer opening)) reads
 
 pub answer_command : (opening : Opening) (fed : List ℕ) → reads_input opening ≡ false → shell_answer opening fed ≡ command_answer opening
@@ -117,14 +135,16 @@ ended_stays opening fed piece over = go (reads_input opening) refl
         ∙ ap (input_answer (packets_in fed)) (stays.1 ∙ sym is)
     by_fault None is reads =
         let more = grows fed piece is in
-        let ends : (input_answer (packets_in fed) None).ended ≡ true = ap (λ (f : Option ShellFault). (input_answer (packets_in fed) f).ended) (sym is)
+        let ends : (input_answer (packets_in fed) None).ended ≡ true =
+        ap (λ (f : Option ShellFault). (input_answer (packets_in fed) f).ended) (sym is)
         ∙ (ap (λ (a : Answer). a.ended) (sym (answer_reading opening fed reads)) ∙ over) in
         ap (λ (ps : List ShellPacket). input_answer ps (fault_in (fed ++ piece))) more.is
         ∙ input_over (packets_in fed) more.further (fault_in (fed ++ piece)) (fault_in fed) ends
 
     go : (t : Bool) → reads_input opening ≡ t → shell_answer opening (fed ++ piece) ≡ shell_answer opening fed
     go false reads = answer_command opening (fed ++ piece) reads ∙ sym (answer_command opening fed reads)
-    go true reads = answer_reading opening (fed ++ piece) reads ∙ (by_fault (fault_in fed) refl reads ∙ sym (answer_reading opening fed reads))
+    go true reads = answer_reading opening (fed ++ piece) reads
+        ∙ (by_fault (fault_in fed) refl reads ∙ sym (answer_reading opening fed reads))
 
 -- a service that goes on: no fault was in its input, and its packets do not end it
 record GoesOn (opening : Opening) (fed : List ℕ) : Type 0 where
@@ -155,7 +175,12 @@ further_answer opening fed piece qs is packets =
     ∙ (ap (λ (ps : List ShellPacket). input_answer ps f) packets
     ∙ (input_append (packets_in fed) qs f on.on
     ∙ (ap (λ (a : Answer). record { bytes = (input_answer (packets_in fed) None).bytes ++ a.bytes; ended = a.ended }) (with_fault qs f)
-    ∙ ap (λ (a : Answer). record { bytes = a.bytes ++ (input_answer qs None).bytes; ended = (input_answer qs None).ended || is_some f }) (sym on.answer))))
+    ∙ ap (λ (a : Answer).
+    record {
+      bytes = a.bytes ++ (input_answer qs None).bytes;
+      ended =
+          (input_answer qs None).ended || is_some f;
+    }) (sym on.answer))))
 
 -- the answer to more bytes begins with that to those before
 pub answer_grows : (opening : Opening) (fed piece : List ℕ) (input : Option Reading) → Reads opening fed input
@@ -165,7 +190,8 @@ answer_grows opening fed piece None over =
     (ap (λ (a : Answer). a.bytes) (ended_stays opening fed piece over) ∙ sym (append-nil (shell_answer opening fed).bytes))
 answer_grows opening fed piece (Some reading) is =
     let more = grows fed piece (goes_on opening fed is).sound in
-    starts_with_of_append (shell_answer opening (fed ++ piece)).bytes (shell_answer opening fed).bytes (input_answer more.further None).bytes
+    starts_with_of_append (shell_answer opening (fed ++ piece)).bytes (shell_answer opening fed).bytes
+    (input_answer more.further None).bytes
     (ap (λ (a : Answer). a.bytes) (further_answer opening fed piece more.further is more.is))
 
 -- A moment of the loop: the packets that the reader still has, and the answer that is held.
@@ -184,7 +210,8 @@ pub record Turn (now next : Moment) (packet : ShellPacket) : Type 0 where
   pub is : now.reader ≡ record next.reader { given = packet ∷ next.reader.given }
   pub push : next.out ≡ now.out ++ (packet_answer packet).bytes
 
--- A piece came to a service that goes on: how it was opened, what it was fed and what was taken of its answer before, the answer that it held, and
+-- A piece came to a service that goes on: how it was opened, what it was fed and what was taken of its answer before,
+-- the answer that it held, and
 -- its reader before and behind the piece.
 pub record Came : Type 0 where
   pub opening : Opening
@@ -246,12 +273,14 @@ piece_front {out} came front_told =
     ∙ (sym (append_assoc old said front_told.0) ∙ ap (λ (o : List ℕ). o ++ front_told.0) (sym behind))))
 
 -- what a service that goes on holds of a piece
-pub goes_on_with : {reading : Reading} {out : List ℕ} (opening : Opening) (fed taken : List ℕ) (spent : Bool) → Answers opening fed taken reading out false
+pub goes_on_with : {reading : Reading} {out : List ℕ} (opening : Opening) (fed taken : List ℕ) (spent : Bool)
+    → Answers opening fed taken reading out false
     → HasAnswered opening fed taken (record { input = Some reading; out = out; spent = spent })
 goes_on_with opening fed taken spent all = record { reads = all.reads refl; given_out = all.given_out; ends = all.ends }
 
 -- a service that has ended drops a piece
-pub ended_drops : (opening : Opening) (fed piece taken : List ℕ) (service : Held) → service.input ≡ None → HasAnswered opening fed taken service
+pub ended_drops : (opening : Opening) (fed piece taken : List ℕ) (service : Held) → service.input ≡ None
+    → HasAnswered opening fed taken service
     → HasAnswered opening (fed ++ piece) taken service
 ended_drops opening fed piece taken service none has =
     let over : (shell_answer opening fed).ended ≡ true = sym has.ends ∙ ap is_none none in

@@ -11,13 +11,15 @@ spaced first (word ∷ others) = ap (λ (more : List ℕ). first ++ 32 ∷ more)
 
 -- the same of words that are lent
 pub spaced_lent : (first : List ℕ) (others : List (Bor (List ℕ)))
-    → first ++ flat_map (λ (word : Bor (List ℕ)). 32 ∷ word.now) others ≡ join_with_byte 32 (first ∷ map (λ (word : Bor (List ℕ)). word.now) others)
+    → first ++ flat_map (λ (word : Bor (List ℕ)). 32 ∷ word.now) others
+    ≡ join_with_byte 32 (first ∷ map (λ (word : Bor (List ℕ)). word.now) others)
 spaced_lent first [] = append-nil first
 spaced_lent first (word ∷ others) = ap (λ (more : List ℕ). first ++ 32 ∷ more) (spaced_lent word.now others)
 
 -- words that were written one by one
 pub joined_words : (words : List (Bor (List ℕ))) (d : Bor (List ℕ)) (n : ℕ) (first text : List ℕ) → 1 ≤ length words → length words - 1 ≤ n
-    → first ≡ (get_or words 0 d).now → text ≡ first ++ flat_map (λ (word : Bor (List ℕ)). 32 ∷ word.now) (take n (take (length words - 1) (drop 1 words)))
+    → first ≡ (get_or words 0 d).now → text ≡ first ++ flat_map (λ (word : Bor (List ℕ)). 32 ∷ word.now)
+    (take n (take (length words - 1) (drop 1 words)))
     → text ≡ join_with_byte 32 (map (λ (word : Bor (List ℕ)). word.now) words)
 joined_words [] d n begin text some all begins told = absurd (omega arith)
 joined_words (first ∷ more) d n begin text some all begins told =

@@ -11,7 +11,8 @@ packet_bytes id bytes = spelling (record { id = id; bytes = bytes })
 -- output in packets of the most bytes and a last shorter one where a rest is left: at most so many of them
 abbrev pub output_at : ℕ → ℕ → List ℕ → List ℕ
 output_at zero id bytes = []
-output_at (suc k) id bytes = if length bytes == 0 then [] else packet_bytes id (take MAX_OUTPUT bytes) ++ output_at k id (drop MAX_OUTPUT bytes)
+output_at (suc k) id bytes = if length bytes == 0 then [] else packet_bytes id (take MAX_OUTPUT bytes)
+    ++ output_at k id (drop MAX_OUTPUT bytes)
 
 abbrev pub output_bytes : ℕ → List ℕ → List ℕ
 output_bytes id bytes = output_at (length bytes) id bytes

@@ -1,5 +1,6 @@
 -- A shell service: what it answers to all that it was fed.
-use Rattle.std.specs.Prelude.{ℕ, ◌≡◌, ◌==◌, ◌&&◌, if◌then◌else◌, Bool, true, false, List, [], ◌∷◌, ◌++◌, Option, Some, None, is_some, is_none, codes, bytes_eq}
+use Rattle.std.specs.Prelude.{ℕ, ◌≡◌, ◌==◌, ◌&&◌, if◌then◌else◌, Bool, true, false, List, [], ◌∷◌, ◌++◌, Option, Some, None, is_some}
+use Rattle.std.specs.Prelude.{is_none, codes, bytes_eq}
 use Rattle.adb_shell.specs.declared.packet.ShellPacket.{ShellPacket}
 use Rattle.adb_shell.specs.declared.packet.ShellFault.{ShellFault}
 use Rattle.adb_shell.specs.Packets.{Reading, packets_in, fault_in, StandsFor}
@@ -67,7 +68,8 @@ abbrev pub Reads : Opening → List ℕ → Option Reading → Type 0
 Reads opening fed None = (shell_answer opening fed).ended ≡ true
 Reads opening fed (Some reading) = IsReading opening fed reading
 
--- A service that was opened so, that was fed these bytes and of whose answer these were taken: the taken ones and those that are left are its answer to all the
+-- A service that was opened so, that was fed these bytes and of whose answer these were taken: the taken ones and
+-- those that are left are its answer to all the
 -- bytes, and it has ended where that ends it.
 pub record HasAnswered (opening : Opening) (fed taken : List ℕ) (service : Held) : Type 0 where
   pub reads : Reads opening fed service.input
@@ -80,7 +82,8 @@ pub record Answers (opening : Opening) (fed taken : List ℕ) (reading : Reading
   pub given_out : taken ++ out ≡ (shell_answer opening fed).bytes
   pub ends : ended ≡ (shell_answer opening fed).ended
 
--- The packets that a reader gives were answered, up to the end of the input: their answer stands behind what was there, and where no end came the
+-- The packets that a reader gives were answered, up to the end of the input: their answer stands behind what was
+-- there, and where no end came the
 -- reader has none left.
 pub record AnswersGiven (old new : Reading) (out out' : List ℕ) (closed : Bool) : Type 0 where
   pub answer : out' ≡ out ++ (input_answer old.given None).bytes

@@ -30,7 +30,8 @@ place_here_is : (link id : ℕ) (key : Option ℕ) (index : ℕ → Rows (Option
     → put_place link id key index t id ≡ cond (eqb link t) key (index t id)
 place_here_is link id key index t = ap (λ b. cond b key (index t id)) (place_here link id t)
 
-place_else_is : (link id : ℕ) (key : Option ℕ) (index : ℕ → Rows (Option ℕ)) (t q : ℕ) → q ≢ id → put_place link id key index t q ≡ index t q
+place_else_is : (link id : ℕ) (key : Option ℕ) (index : ℕ → Rows (Option ℕ)) (t q : ℕ) → q ≢ id
+    → put_place link id key index t q ≡ index t q
 place_else_is link id key index t q apart = ap (λ b. cond b key (index t q)) (place_apart link id t q (λ same. apart (sym same)))
 
 -- A new stream was put at a vacant key.
@@ -62,7 +63,8 @@ module _ (old : Kept) (new : Shelf) (a : Adds old new) where
     index_here = λ link. ap (λ f. f link a.stream.id) a.index
         ∙ (place_here_is a.stream.link a.stream.id (Some a.key) (index_of old.shelf) link
         ∙ (ap (cond (eqb a.stream.link link) (Some a.key)) (none_placed old link a.stream.id above) ∙ on (eqb a.stream.link link)));
-    index_else = λ link q apart. ap (λ f. f link q) a.index ∙ place_else_is a.stream.link a.stream.id (Some a.key) (index_of old.shelf) link q apart;
+    index_else = λ link q apart. ap (λ f. f link q) a.index ∙ place_else_is a.stream.link a.stream.id (Some a.key)
+        (index_of old.shelf) link q apart;
     rises = a.rises;
     grows = omega (arith, above);
     fits = a.fits;
@@ -156,7 +158,8 @@ module _ (id : ℕ) (stream : Option Stream) (old : Kept) (new : Shelf) (r : Rem
   removed_none e = record {
     was = r.was ∙ sym (shows old id);
     indexed = stays_indexed old new stays;
-    streams = stays_streams old new stays ∙ puts_is id None (streams_of old.shelf) (streams_of old.shelf) (shown_rises old) (shown_rises old)
+    streams = stays_streams old new stays ∙ puts_is id None (streams_of old.shelf) (streams_of old.shelf)
+        (shown_rises old) (shown_rises old)
         (record { here = shows old id ∙ ap (stream_of (slots_of old.shelf)) e; others = λ q apart. refl });
   }
     where
@@ -211,7 +214,8 @@ module _ (link id : ℕ) (part : Part) (old : Kept) where
       updates : Updates old.shelf.rows (with_value old.shelf.rows key (with_part part p.stream)) key (Some (with_part part p.stream))
       updates = Updates-with_value old.shelf.rows key (with_part part p.stream) (ap is_some p.is)
 
-      on : (b : Bool) → option_map (λ _. key) (cond b (Some p.stream) None) ≡ option_map (λ _. key) (cond b (Some (with_part part p.stream)) None)
+      on : (b : Bool) → option_map (λ _. key) (cond b (Some p.stream) None)
+          ≡ option_map (λ _. key) (cond b (Some (with_part part p.stream)) None)
       on true = refl
       on false = refl
 
@@ -234,7 +238,8 @@ module _ (link id : ℕ) (part : Part) (old : Kept) where
         key_else = λ q apart. refl;
         slot_here = updates.changed;
         slot_else = updates.others;
-        index_here = λ t. old.indexed.finds t id ∙ (ap (place_of (slots_of old.shelf) t) p.had ∙ (ap (key_if t key) p.is ∙ on (eqb p.stream.link t)));
+        index_here = λ t. old.indexed.finds t id
+            ∙ (ap (place_of (slots_of old.shelf) t) p.had ∙ (ap (key_if t key) p.is ∙ on (eqb p.stream.link t)));
         index_else = λ t q apart. refl;
         rises = old.indexed.rises;
         grows = omega arith;
@@ -246,7 +251,8 @@ module _ (link id : ℕ) (part : Part) (old : Kept) where
   pub lent : Lent id (found link id (streams_of old.shelf)) part old (with_part_at old.shelf (index_of old.shelf link id) part)
   lent = go (index_of old.shelf link id) refl
     where
-      go : (o : Option ℕ) → index_of old.shelf link id ≡ o → Lent id (found link id (streams_of old.shelf)) part old (with_part_at old.shelf o part)
+      go : (o : Option ℕ) → index_of old.shelf link id ≡ o → Lent id (found link id (streams_of old.shelf)) part old
+          (with_part_at old.shelf o part)
       go None e = lent_none e
       go (Some key) e = lent_at key e (placed_at old link id key e)
 

@@ -78,7 +78,8 @@ module _ (old : Kept) (c : Change old) where
   place_stays link q None apart e = refl
   place_stays link q (Some k) apart e = ap (key_if link k) (sym (slot_stays q k apart e))
 
-  own_place : (link : ℕ) (o : Option Stream) → c.stream ≡ o → key_if link c.key o ≡ place_of (slots_of c.new) link (option_map (λ _. c.key) o)
+  own_place : (link : ℕ) (o : Option Stream) → c.stream ≡ o → key_if link c.key o
+      ≡ place_of (slots_of c.new) link (option_map (λ _. c.key) o)
   own_place link None e = refl
   own_place link (Some x) e = ap (key_if link c.key) (sym (c.slot_here ∙ e))
 
@@ -107,7 +108,8 @@ module _ (old : Kept) (c : Change old) where
   shown_here None e = refl
   shown_here (Some x) e = c.slot_here ∙ e
 
-  stream_stays : (q : ℕ) (o : Option ℕ) → q ≢ c.id → keys_of old.shelf q ≡ o → stream_of (slots_of c.new) o ≡ stream_of (slots_of old.shelf) o
+  stream_stays : (q : ℕ) (o : Option ℕ) → q ≢ c.id → keys_of old.shelf q ≡ o
+      → stream_of (slots_of c.new) o ≡ stream_of (slots_of old.shelf) o
   stream_stays q None apart e = refl
   stream_stays q (Some k) apart e = slot_stays q k apart e
 

@@ -9,7 +9,8 @@ use Rattle.slab.specs.Slab.{Slab}
 use Rattle.adb_outside.specs.Tables.{at, IsRising}
 use Rattle.adb_stream.specs.Stream.{of_link, IsStreamAt}
 use Rattle.adb_stream.specs.Streams.{IsSound, found, IsFirstOf, HasNoneOf}
-use Rattle.adb_stream.specs.Shelf.{keys_of, slots_of, index_of, stream_of, shown_at, shown, table_of, key_if, place_of, HasStream, IsIndexed}
+use Rattle.adb_stream.specs.Shelf.{keys_of, slots_of, index_of, stream_of, shown_at, shown, table_of, key_if, place_of, HasStream}
+use Rattle.adb_stream.specs.Shelf.{IsIndexed}
 use Rattle.adb_stream.specs.declared.row.Stream.{Stream}
 use Rattle.adb_stream.specs.declared.shelf.Shelf.{Shelf}
 
@@ -25,7 +26,8 @@ shown_in rows id [] = refl
 shown_in rows id (entry ∷ entries) = go (is_eq (nat_cmp id entry.0)) (shown_in rows id entries)
   where
     go : (b : Bool) → at id (shown rows entries) ≡ option_map (shown_at rows) (at id entries)
-        → cond b (Some (shown_at rows entry.1)) (at id (shown rows entries)) ≡ option_map (shown_at rows) (cond b (Some entry.1) (at id entries))
+        → cond b (Some (shown_at rows entry.1)) (at id (shown rows entries))
+        ≡ option_map (shown_at rows) (cond b (Some entry.1) (at id entries))
     go true later = refl
     go false later = later
 
@@ -64,7 +66,8 @@ module _ (kept : Kept) where
   finds link id =
       ap (stream_of (slots_of kept.shelf)) (kept.indexed.finds link id) ∙ (go (keys_of kept.shelf id) ∙ ap (of_link link) (sym (shows id)))
     where
-      by : (key : ℕ) (o : Option Stream) → slots_of kept.shelf key ≡ o → stream_of (slots_of kept.shelf) (key_if link key o) ≡ of_link link o
+      by : (key : ℕ) (o : Option Stream) → slots_of kept.shelf key ≡ o
+          → stream_of (slots_of kept.shelf) (key_if link key o) ≡ of_link link o
       by key None e = refl
       by key (Some stream) e = on (eqb stream.link link)
         where
@@ -72,7 +75,8 @@ module _ (kept : Kept) where
           on true = e
           on false = refl
 
-      go : (o : Option ℕ) → stream_of (slots_of kept.shelf) (place_of (slots_of kept.shelf) link o) ≡ of_link link (stream_of (slots_of kept.shelf) o)
+      go : (o : Option ℕ) → stream_of (slots_of kept.shelf) (place_of (slots_of kept.shelf) link o)
+          ≡ of_link link (stream_of (slots_of kept.shelf) o)
       go None = refl
       go (Some key) = by key (slots_of kept.shelf key) refl
 
@@ -112,7 +116,13 @@ module _ (kept : Kept) where
     where
       at_key : (k : ℕ) → keys_of kept.shelf id ≡ Some k → HasStream kept.drawn (slots_of kept.shelf) id k → k ≡ key → Placed id key kept
       at_key k f has same =
-          record { had = f ∙ ap (λ n. Some n) same; stream = has.stream; is = ap (slots_of kept.shelf) (sym same) ∙ has.is; here = has.here }
+          record {
+            had = f ∙ ap (λ n. Some n) same;
+            stream = has.stream;
+            is =
+                ap (slots_of kept.shelf) (sym same) ∙ has.is;
+            here = has.here;
+          }
 
       same_key : (k : ℕ) (o : Option Stream) → key_if link k o ≡ Some key → k ≡ key
       same_key k None f = let clash : None ≡ Some key = f in cc
@@ -136,7 +146,8 @@ module _ (kept : Kept) (link : ℕ) where
       go None e is = let clash : false ≡ true = is in cc
       go (Some key) e is =
           let p = placed_at kept link id key e in
-          let there : found link id (streams_of kept.shelf) ≡ Some p.stream = sym (finds kept link id) ∙ (ap (stream_of (slots_of kept.shelf)) e ∙ p.is) in
+          let there : found link id (streams_of kept.shelf) ≡ Some p.stream =
+          sym (finds kept link id) ∙ (ap (stream_of (slots_of kept.shelf)) e ∙ p.is) in
           (omega (arith, p.here.to, kept.indexed.fits), ap is_some there)
 
   -- an id that the index has not is not found

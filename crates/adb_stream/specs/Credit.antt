@@ -4,7 +4,8 @@ use Rattle.adb_stream.specs.declared.credit.TheConstants.{CREDIT_WINDOW, CREDIT_
 use Rattle.adb_stream.specs.declared.flow.Took.{Took}
 use Rattle.adb_stream.specs.declared.flow.Took.TheVariants.{Accepted, AckNow, OutOfTurn}
 
--- How many bytes this end may send, and the other end; and of what came from there, how many are still to be handed out, and how many were and are not given
+-- How many bytes this end may send, and the other end; and of what came from there, how many are still to be handed
+-- out, and how many were and are not given
 -- back yet.
 pub record ByteCredit : Type 0 where
   pub to_send : ℕ
@@ -12,7 +13,8 @@ pub record ByteCredit : Type 0 where
   pub to_hand : ℕ
   pub gathered : ℕ
 
--- Each byte of the window is left to the other end, or to be handed out, or to be given back. Those to be given back are fewer than a step, and none where
+-- Each byte of the window is left to the other end, or to be handed out, or to be given back. Those to be given back
+-- are fewer than a step, and none where
 -- nothing is to be handed out.
 pub record IsWhole (credit : ByteCredit) : Type 0 where
   pub window : credit.left + credit.to_hand + credit.gathered ≡ CREDIT_WINDOW

@@ -1,5 +1,6 @@
 -- A cut into answers is right, and what is right is the cut.
-use Rattle.std.proofs.Common.{ℕ, ◌+◌, ◌*◌, ◌^◌, ◌≡◌, ◌≤◌, ◌<◌, cond, Bool, true, false, List, [], ◌∷◌, ◌++◌, length, take, drop, Option, Some, None, Ok, refl, sym, ◌∙◌, ap, subst, arith}
+use Rattle.std.proofs.Common.{ℕ, ◌+◌, ◌*◌, ◌^◌, ◌≡◌, ◌≤◌, ◌<◌, cond, Bool, true, false, List, [], ◌∷◌, ◌++◌, length, take, drop, Option}
+use Rattle.std.proofs.Common.{Some, None, Ok, refl, sym, ◌∙◌, ap, subst, arith}
 use Rattle.std.specs.Prelude.{codes}
 use Rattle.std.proofs.lemmas.List.{length-append, length-drop, take-append-drop, drop_all, drop-drop}
 use Rattle.std.proofs.lemmas.List.Elements.{All-nil, All-cons, All-head, All-tail}
@@ -19,7 +20,9 @@ use Rattle.adb_sync.specs.declared.error.SyncRule.TheVariants as rules
 use Rattle.adb_sync.specs.declared.layout.Layout.{Layout}
 use Rattle.adb_sync.specs.declared.layout.TheConstants.{MAX_CHUNK}
 use Rattle.adb_sync.specs.Messages.{number_at, chunk_limit}
-use Rattle.adb_sync.specs.Answers.{AnswerReading, answer_id_of, answer_layout, known_answer, answered_at, answer_front, answer_by, answer_of_bytes, end_of, past_answer, answers_from, stat_bytes, answer_bytes, IsAnswer, HasAnswerWords, EndsKind, IsIdAnd, IsSpelling, AreSpelled, SpellsAnswers, IsAnswerCut}
+use Rattle.adb_sync.specs.Answers.{AnswerReading, answer_id_of, answer_layout, known_answer, answered_at, answer_front, answer_by}
+use Rattle.adb_sync.specs.Answers.{answer_of_bytes, end_of, past_answer, answers_from, stat_bytes, answer_bytes, IsAnswer, HasAnswerWords}
+use Rattle.adb_sync.specs.Answers.{EndsKind, IsIdAnd, IsSpelling, AreSpelled, SpellsAnswers, IsAnswerCut}
 use Rattle.adb_sync.specs.Framed.{IsBehind, message_told, framed_message, answer_head, answer_heads, answers_are_framed}
 use Rattle.adb_sync.proofs.Messages.{number_fits, counted_again, is_one, within, is_within, numbers_behind, text_behind}
 
@@ -85,15 +88,19 @@ dent_behind list mode size mtime name short =
 end_read : (from : AnswerFormat) (list : Bool) (bytes : List ℕ) → from.list ≡ list → IsIdAnd (codes "DONE") (4 * cond list 4 1) bytes
     → IsReadAs from bytes (end_of list)
 end_read from list bytes kind is = read_as from ids.Done bytes (end_of list) is.0
-    (numbers_behind (cond from.list 4 1) (drop 4 bytes) (omega (arith, is.1, ap (λ (l : Bool). 4 * cond l 4 1) kind, length-drop 4 bytes))) (ap end_of kind)
+    (numbers_behind (cond from.list 4 1) (drop 4 bytes)
+    (omega (arith, is.1, ap (λ (l : Bool). 4 * cond l 4 1) kind, length-drop 4 bytes))) (ap end_of kind)
 
-spelled_read : (from : AnswerFormat) (answer : SyncAnswer) (bytes : List ℕ) → IsSpelling answer bytes → IsAnswer answer → HasAnswerWords answer
+spelled_read : (from : AnswerFormat) (answer : SyncAnswer) (bytes : List ℕ) → IsSpelling answer bytes
+    → IsAnswer answer → HasAnswerWords answer
     → EndsKind from.list answer
     → IsReadAs from bytes answer
-spelled_read from (answers.Stat mode size mtime) bytes is good words kind = subst (λ b. IsReadAs from b (answers.Stat mode size mtime)) (sym is)
+spelled_read from (answers.Stat mode size mtime) bytes is good words kind =
+    subst (λ b. IsReadAs from b (answers.Stat mode size mtime)) (sym is)
     (read_as from ids.Stat (answer_bytes (answers.Stat mode size mtime)) (answers.Stat mode size mtime) refl
     (numbers_behind 3 (stat_bytes mode size mtime) refl) (numbers_again answers.Stat mode size mtime [] words))
-spelled_read from (answers.Dent mode size mtime name) bytes is good words kind = subst (λ b. IsReadAs from b (answers.Dent mode size mtime name)) (sym is)
+spelled_read from (answers.Dent mode size mtime name) bytes is good words kind =
+    subst (λ b. IsReadAs from b (answers.Dent mode size mtime name)) (sym is)
     (read_as from ids.Dent (answer_bytes (answers.Dent mode size mtime name)) (answers.Dent mode size mtime name) refl
     (dent_behind from.list mode size mtime name good)
     (numbers_again (λ a b c. answers.Dent a b c name) mode size mtime (little_bytes 4 (length name) ++ name) words))
@@ -117,7 +124,8 @@ spells_itself answers.ChunkEnd = (refl, refl)
 spells_itself answers.Okay = (refl, refl)
 spells_itself (answers.Fail text) = refl
 
-pub answer_again : (from : AnswerFormat) (answer : SyncAnswer) (more : List ℕ) → IsAnswer answer → HasAnswerWords answer → EndsKind from.list answer
+pub answer_again : (from : AnswerFormat) (answer : SyncAnswer) (more : List ℕ) → IsAnswer answer
+    → HasAnswerWords answer → EndsKind from.list answer
     → answers_from from (answer_bytes answer ++ more) ≡ joined (answer ∷ []) (answers_from (past_answer from (answer_bytes answer)) more)
 answer_again from answer more good words kind =
     let read = spelled_read from answer (answer_bytes answer) (spells_itself answer) good words kind in
@@ -142,7 +150,8 @@ known_here list None layout e = absurd (cc)
 known_here list (Some id) layout e = (id, refl, (cc))
 
 -- the number at a place, and the bytes behind it
-next_word : (i : ℕ) (bytes : List ℕ) → AreBytes bytes → i + 4 ≤ length bytes → little_bytes 4 (number_at i bytes) ++ drop (i + 4) bytes ≡ drop i bytes
+next_word : (i : ℕ) (bytes : List ℕ) → AreBytes bytes → i + 4 ≤ length bytes
+    → little_bytes 4 (number_at i bytes) ++ drop (i + 4) bytes ≡ drop i bytes
 next_word i bytes are h =
     ap (λ more. little_bytes 4 (number_at i bytes) ++ more) (sym (drop-drop 4 i bytes))
     ∙ number_again (drop i bytes) (bytes_after i bytes are) (omega (arith, h, length-drop i bytes))
@@ -217,7 +226,8 @@ read_answer from bytes are e =
     let known = known_here from.list (answer_id_of (take 4 bytes)) m.layout m.known in
     let id = known.0 in
     let rest = drop 4 bytes in
-    let whole : letters id ++ rest ≡ bytes = ap (λ begin. begin ++ rest) (sym (id_again (take 4 bytes) id known.1)) ∙ take-append-drop 4 bytes in
+    let whole : letters id ++ rest ≡ bytes = ap (λ begin. begin ++ rest) (sym (id_again (take 4 bytes) id known.1))
+    ∙ take-append-drop 4 bytes in
     let behind = subst (λ (l : Layout). IsBehind l rest) (sym known.2) m.behind in
     subst (λ (b : List ℕ). IsSpelledAnswer from b (answer_of_bytes from b)) whole (spelled_by from id rest (bytes_after 4 bytes are) behind)
 
@@ -229,7 +239,8 @@ answers_within (answer ∷ given) rest bytes whole =
     omega (arith, answers_within given rest whole.1 whole.4, ap (length {A = ℕ}) whole.2, length-append whole.0 whole.1)
 
 -- an answer before others
-answer_before : (from : AnswerFormat) (frame more : List ℕ) (c : AnswerReading) → answer_front from frame ≡ Whole (length frame) → AreBytes frame
+answer_before : (from : AnswerFormat) (frame more : List ℕ) (c : AnswerReading)
+    → answer_front from frame ≡ Whole (length frame) → AreBytes frame
     → SpellsAnswers (past_answer from frame) more c.given c.reading c.rest
     → SpellsAnswers from (frame ++ more) (answer_of_bytes from frame ∷ c.given) c.reading c.rest
 answer_before from frame more c found are others =
@@ -247,7 +258,15 @@ answers_spelled : Frames answer_front answer_of_bytes past_answer answers_are_fr
 answers_spelled = record {
   moves = λ s frame. refl;
   within = λ s bytes c is. answers_within c.given c.rest bytes is.whole;
-  none = λ s bytes. record { whole = refl; each = All-nil IsAnswer; words = All-nil HasAnswerWords; kinds = All-nil (EndsKind s.list); list = refl };
+  none = λ s bytes.
+      record {
+        whole = refl;
+        each = All-nil IsAnswer;
+        words = All-nil HasAnswerWords;
+        kinds =
+            All-nil (EndsKind s.list);
+        list = refl;
+      };
   one = answer_before;
   all_left = λ s bytes c none is. sym (subst (λ given. AreSpelled given c.rest bytes) none is.whole);
   reads_on = λ s bytes c none is same.
@@ -272,9 +291,12 @@ answers_spelled = record {
       };
 }
 
-pub answer_cut_right : (from : AnswerFormat) (bytes : List ℕ) → from.offset < 2 ^ 64 → AreBytes bytes → IsAnswerCut from bytes (answers_from from bytes)
-answer_cut_right = right_cut answer_front answer_of_bytes past_answer answers_are_framed (λ format. format.offset) SpellsAnswers answers_spelled
+pub answer_cut_right : (from : AnswerFormat) (bytes : List ℕ) → from.offset < 2 ^ 64 → AreBytes bytes
+    → IsAnswerCut from bytes (answers_from from bytes)
+answer_cut_right = right_cut answer_front answer_of_bytes past_answer answers_are_framed (λ format. format.offset)
+    SpellsAnswers answers_spelled
 
 pub answer_cut_only : (from : AnswerFormat) (bytes : List ℕ) (c : AnswerReading) → from.offset < 2 ^ 64 → IsAnswerCut from bytes c
     → c ≡ answers_from from bytes
-answer_cut_only = only_cut answer_front answer_of_bytes past_answer answers_are_framed (λ format. format.offset) SpellsAnswers answers_spelled
+answer_cut_only = only_cut answer_front answer_of_bytes past_answer answers_are_framed (λ format. format.offset)
+    SpellsAnswers answers_spelled

@@ -1,5 +1,6 @@
 -- A cut into requests is right, and what is right is the cut.
-use Rattle.std.proofs.Common.{ℕ, suc, ◌+◌, ◌^◌, ◌≡◌, ◌≤◌, ◌<◌, nat_eq, cond, Bool, true, false, List, [], ◌∷◌, ◌++◌, length, take, drop, Option, Some, None, Result, Ok, Err, refl, sym, ◌∙◌, ap, subst, arith, add-one, append_assoc, eqb-true}
+use Rattle.std.proofs.Common.{ℕ, suc, ◌+◌, ◌^◌, ◌≡◌, ◌≤◌, ◌<◌, nat_eq, cond, Bool, true, false, List, [], ◌∷◌, ◌++◌, length, take, drop}
+use Rattle.std.proofs.Common.{Option, Some, None, Result, Ok, Err, refl, sym, ◌∙◌, ap, subst, arith, add-one, append_assoc, eqb-true}
 use Rattle.std.specs.Prelude.{codes}
 use Rattle.std.specs.List.{flat_map}
 use Rattle.std.proofs.lemmas.List.{length-append, length-drop, take-append-drop, take_at, drop_all}
@@ -21,7 +22,9 @@ use Rattle.adb_sync.specs.declared.error.SyncRule.TheVariants as rules
 use Rattle.adb_sync.specs.declared.layout.Layout.{Layout}
 use Rattle.adb_sync.specs.declared.layout.TheConstants.{MAX_PATH, MAX_CHUNK}
 use Rattle.adb_sync.specs.Messages.{message, number_at, text, path_limit, chunk_limit, limit_fault, comma_fault, last_comma, comma_behind}
-use Rattle.adb_sync.specs.Asks.{AskReading, ask_id_of, ask_layout, ask_in_place, asked_at, is_in_place, ask_front, ask_of, past_ask, asks_from, ask_bytes, id_of_ask, is_sending_after, IsAsk, HasAskWords, StandInPlace, SpellsAsks, IsAskCut, send_cut}
+use Rattle.adb_sync.specs.Asks.{AskReading, ask_id_of, ask_layout, ask_in_place, asked_at, is_in_place, ask_front, ask_of, past_ask}
+use Rattle.adb_sync.specs.Asks.{asks_from, ask_bytes, id_of_ask, is_sending_after, IsAsk, HasAskWords, StandInPlace, SpellsAsks, IsAskCut}
+use Rattle.adb_sync.specs.Asks.{send_cut}
 use Rattle.adb_sync.specs.Framed.{IsBehind, message_told, framed_message, ask_head, ask_heads, asks_are_framed}
 use Rattle.adb_sync.proofs.Messages.{number_fits, counted_again, is_one, within, is_within, numbers_behind, text_behind}
 
@@ -35,7 +38,8 @@ drop_path : (path mode : List ℕ) → drop (suc (length path)) (path ++ 44 ∷ 
 drop_path [] mode = refl
 drop_path (p ∷ path) mode = drop_path path mode
 
-cut_again : (path mode : List ℕ) → last_comma mode ≡ None → send_cut (path ++ 44 ∷ mode) (last_comma (path ++ 44 ∷ mode)) ≡ asks.Send path mode
+cut_again : (path mode : List ℕ) → last_comma mode ≡ None → send_cut (path ++ 44 ∷ mode)
+    (last_comma (path ++ 44 ∷ mode)) ≡ asks.Send path mode
 cut_again path mode none =
     let text = path ++ 44 ∷ mode in
     ap (send_cut text) (comma_at path mode none)
@@ -44,7 +48,8 @@ cut_again path mode none =
 
 -- what stands behind its id
 path_behind : (path : List ℕ) → length path ≤ MAX_PATH → IsBehind (text 1 path_limit) (little_bytes 4 (length path) ++ path)
-path_behind path short = text_behind path_limit false path (omega (arith, short)) (within MAX_PATH (length path) rules.PathTooLong short) refl
+path_behind path short = text_behind path_limit false path (omega (arith, short))
+    (within MAX_PATH (length path) rules.PathTooLong short) refl
 
 said : (ask : SyncAsk) → IsAsk ask → HasAskWords ask → IsBehind (ask_layout (id_of_ask ask)) (drop 4 (ask_bytes ask))
 said (asks.Stat path) good words = path_behind path good
@@ -96,7 +101,8 @@ said_front from ask good words place =
       behind = behind;
     })
 
-pub ask_again : (from : AskFormat) (ask : SyncAsk) (more : List ℕ) → IsAsk ask → HasAskWords ask → is_in_place from.sending (id_of_ask ask) ≡ true
+pub ask_again : (from : AskFormat) (ask : SyncAsk) (more : List ℕ) → IsAsk ask → HasAskWords ask
+    → is_in_place from.sending (id_of_ask ask) ≡ true
     → asks_from from (ask_bytes ask ++ more) ≡ joined (ask ∷ []) (asks_from (past_ask from (ask_bytes ask)) more)
 ask_again from ask more good words place =
     frame_first ask_front ask_of past_ask asks_are_framed from (ask_bytes ask) more (said_front from ask good words place)
@@ -131,7 +137,8 @@ record IsKnown (from : AskFormat) (found : Option AskId) (layout : Layout) : Typ
   place : is_in_place from.sending id ≡ true
   behind : ask_layout id ≡ layout
 
-known_here : (from : AskFormat) (found : Option AskId) (layout : Layout) → ask_in_place from.sending found ≡ Ok layout → IsKnown from found layout
+known_here : (from : AskFormat) (found : Option AskId) (layout : Layout) → ask_in_place from.sending found ≡ Ok layout
+    → IsKnown from found layout
 known_here from None layout e = absurd (cc)
 known_here from (Some id) layout e = go (is_in_place from.sending id) refl e
   where
@@ -151,7 +158,8 @@ comma_cuts (byte ∷ text) k e = go (last_comma text) refl (comma_cuts text) e
     here : last_comma text ≡ None → (t : Bool) → nat_eq byte 44 ≡ t → cond t (Some 0) None ≡ Some k → CutAtComma (byte ∷ text) k
     here none true is found =
         let first : 0 ≡ k = (cc) in
-        subst (λ (j : ℕ). CutAtComma (byte ∷ text) j) first (record { whole = ap (λ b. b ∷ text) (sym (eqb-true byte 44 is)); none_behind = none })
+        subst (λ (j : ℕ). CutAtComma (byte ∷ text) j) first
+        (record { whole = ap (λ b. b ∷ text) (sym (eqb-true byte 44 is)); none_behind = none })
     here none false is found = let clash : ◌≡◌ {A = Option ℕ} None (Some k) = found in absurd cc
 
     go : (o : Option ℕ) → last_comma text ≡ o → ((j : ℕ) → last_comma text ≡ Some j → CutAtComma text j) → comma_behind byte o ≡ Some k
@@ -159,7 +167,8 @@ comma_cuts (byte ∷ text) k e = go (last_comma text) refl (comma_cuts text) e
     go (Some j) is others found =
         let next : suc j ≡ k = (cc) in
         let cuts = others j is in
-        subst (λ (i : ℕ). CutAtComma (byte ∷ text) i) next (record { whole = ap (λ more. byte ∷ more) cuts.whole; none_behind = cuts.none_behind })
+        subst (λ (i : ℕ). CutAtComma (byte ∷ text) i) next
+        (record { whole = ap (λ more. byte ∷ more) cuts.whole; none_behind = cuts.none_behind })
     go None is others found = here is (nat_eq byte 44) refl found
 
 comma_there : (comma : Option ℕ) → comma_fault comma ≡ None → (k : ℕ) × (comma ≡ Some k)
@@ -174,7 +183,8 @@ record IsSpelledAsk (id : AskId) (bytes : List ℕ) (ask : SyncAsk) : Type 0 whe
   kind : id_of_ask ask ≡ id
 
 -- a path within its limit
-path_fits : (rest : List ℕ) → length rest ≡ 4 + number_at 0 rest → limit_fault path_limit (number_at 0 rest) ≡ None → length (drop 4 rest) ≤ MAX_PATH
+path_fits : (rest : List ℕ) → length rest ≡ 4 + number_at 0 rest → limit_fault path_limit (number_at 0 rest) ≡ None
+    → length (drop 4 rest) ≤ MAX_PATH
 path_fits rest len good = omega (arith, len, is_within MAX_PATH (number_at 0 rest) rules.PathTooLong good, length-drop 4 rest)
 
 -- a path behind its id
@@ -190,7 +200,9 @@ path_spelled id make rest asks are m =
     let path = drop 4 rest in
     let begin = letters id in
     record {
-      again = asks.bytes path ∙ (append_assoc begin (little_bytes 4 (length path)) path ∙ ap (λ r. begin ++ r) (counted_again rest are m.size));
+      again = asks.bytes path
+          ∙ (append_assoc begin (little_bytes 4 (length path)) path
+          ∙ ap (λ r. begin ++ r) (counted_again rest are m.size));
       good = asks.good path (path_fits rest m.size m.number);
       words = asks.words path;
       kind = asks.kind path;
@@ -270,31 +282,39 @@ read_ask from bytes are e =
     let m = framed_message (λ format. format.offset) asked_at ask_heads from bytes e in
     let known = known_here from (ask_id_of (take 4 bytes)) m.layout m.known in
     let rest = drop 4 bytes in
-    let whole : letters known.id ++ rest ≡ bytes = ap (λ id. id ++ rest) (sym (id_again (take 4 bytes) known.id known.is)) ∙ take-append-drop 4 bytes in
+    let whole : letters known.id ++ rest ≡ bytes = ap (λ id. id ++ rest)
+    (sym (id_again (take 4 bytes) known.id known.is)) ∙ take-append-drop 4 bytes in
     let behind = subst (λ (l : Layout). IsBehind l rest) (sym known.behind) m.behind in
     record {
       id = known.id;
       known = known.is;
       place = known.place;
-      spelled = subst (λ (b : List ℕ). IsSpelledAsk known.id b (ask_of from b)) whole (spelled_by from known.id rest (bytes_after 4 bytes are) behind);
+      spelled = subst (λ (b : List ℕ). IsSpelledAsk known.id b (ask_of from b)) whole
+          (spelled_by from known.id rest (bytes_after 4 bytes are) behind);
     }
 
 -- ---- cuts
 -- a request before others
 ask_before : (from : AskFormat) (frame more : List ℕ) (c : AskReading) → ask_front from frame ≡ Whole (length frame) → AreBytes frame
-    → SpellsAsks (past_ask from frame) more c.given c.reading c.rest → SpellsAsks from (frame ++ more) (ask_of from frame ∷ c.given) c.reading c.rest
+    → SpellsAsks (past_ask from frame) more c.given c.reading c.rest
+    → SpellsAsks from (frame ++ more) (ask_of from frame ∷ c.given) c.reading c.rest
 ask_before from frame more c found are others =
     let ask = ask_of from frame in
     let r = read_ask from frame are found in
     let kind = r.spelled.kind in
-    let sends : is_sending_after (ask_id_of (take 4 frame)) ≡ is_sending_after (Some (id_of_ask ask)) = ap is_sending_after (r.known ∙ ap Some (sym kind)) in
+    let sends : is_sending_after (ask_id_of (take 4 frame)) ≡ is_sending_after (Some (id_of_ask ask)) =
+    ap is_sending_after (r.known ∙ ap Some (sym kind)) in
     record {
       whole =
           ap (λ b. b ++ more) (sym r.spelled.again)
           ∙ (ap (λ b. ask_bytes ask ++ b) others.whole ∙ sym (append_assoc (ask_bytes ask) (flat_map ask_bytes c.given) c.rest));
       each = All-cons IsAsk ask c.given r.spelled.good others.each;
       words = All-cons HasAskWords ask c.given r.spelled.words others.words;
-      in_place = (ap (is_in_place from.sending) kind ∙ r.place, subst (λ (s : Bool). StandInPlace s c.given c.reading.sending) sends others.in_place);
+      in_place = (
+        ap (is_in_place from.sending) kind ∙ r.place,
+        subst
+            (λ (s : Bool). StandInPlace s c.given c.reading.sending) sends others.in_place,
+      );
     }
 
 -- reading goes on as it began
@@ -302,7 +322,8 @@ reads_on : (from : AskFormat) (bytes : List ℕ) (c : AskReading) → c.given �
     → c.reading.offset ≡ from.offset → c.reading ≡ from
 reads_on from bytes c none is same =
     let sends : c.reading.sending ≡ from.sending = subst (λ given. StandInPlace from.sending given c.reading.sending) none is.in_place in
-    ap (λ (k : ℕ). record { offset = k; sending = c.reading.sending }) same ∙ ap (λ (s : Bool). record { offset = from.offset; sending = s }) sends
+    ap (λ (k : ℕ). record { offset = k; sending = c.reading.sending }) same
+    ∙ ap (λ (s : Bool). record { offset = from.offset; sending = s }) sends
 
 asks_spelled : Frames ask_front ask_of past_ask asks_are_framed (λ format. format.offset) SpellsAsks
 asks_spelled = record {
@@ -325,7 +346,8 @@ asks_spelled = record {
           whole = refl;
           each = All-tail IsAsk ask c.given is.each;
           words = All-tail HasAskWords ask c.given is.words;
-          in_place = subst (λ (o : Option AskId). StandInPlace (is_sending_after o) c.given c.reading.sending) (sym (said_id ask)) is.in_place.1;
+          in_place = subst (λ (o : Option AskId). StandInPlace (is_sending_after o) c.given c.reading.sending)
+              (sym (said_id ask)) is.in_place.1;
         };
       };
 }
@@ -333,5 +355,6 @@ asks_spelled = record {
 pub ask_cut_right : (from : AskFormat) (bytes : List ℕ) → from.offset < 2 ^ 64 → AreBytes bytes → IsAskCut from bytes (asks_from from bytes)
 ask_cut_right = right_cut ask_front ask_of past_ask asks_are_framed (λ format. format.offset) SpellsAsks asks_spelled
 
-pub ask_cut_only : (from : AskFormat) (bytes : List ℕ) (c : AskReading) → from.offset < 2 ^ 64 → IsAskCut from bytes c → c ≡ asks_from from bytes
+pub ask_cut_only : (from : AskFormat) (bytes : List ℕ) (c : AskReading) → from.offset < 2 ^ 64 → IsAskCut from bytes c
+    → c ≡ asks_from from bytes
 ask_cut_only = only_cut ask_front ask_of past_ask asks_are_framed (λ format. format.offset) SpellsAsks asks_spelled

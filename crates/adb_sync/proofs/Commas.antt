@@ -1,5 +1,6 @@
 -- The last comma is the last byte that is one.
-use Rattle.std.proofs.Common.{ℕ, ◌≡◌, ◌<◌, Bool, true, false, zero, suc, List, [], ◌∷◌, length, cond, nat_eq, slice_index, Option, Some, None, MatchOption, refl, sym, ◌∙◌, ap, arith, eqb-true, eq-eqb}
+use Rattle.std.proofs.Common.{ℕ, ◌≡◌, ◌<◌, Bool, true, false, zero, suc, List, [], ◌∷◌, length, cond, nat_eq, slice_index, Option, Some}
+use Rattle.std.proofs.Common.{None, MatchOption, refl, sym, ◌∙◌, ap, arith, eqb-true, eq-eqb}
 use Rattle.bstr.specs.Find.{IsLastByte, is_byte}
 use Rattle.adb_sync.specs.Messages.{last_comma, comma_behind}
 
@@ -12,7 +13,8 @@ pub record HasLast (xs : List ℕ) (k : ℕ) : Type 0 where
 abbrev HasNone : List ℕ → Type 0
 HasNone xs = (k : ℕ) → k < length xs → slice_index xs k ≡ 44 → ⊥
 
-behind : (b : ℕ) (xs : List ℕ) (r : Option ℕ) → MatchOption r (HasNone xs) (HasLast xs) → MatchOption (comma_behind b r) (HasNone (b ∷ xs)) (HasLast (b ∷ xs))
+behind : (b : ℕ) (xs : List ℕ) (r : Option ℕ) → MatchOption r (HasNone xs) (HasLast xs)
+    → MatchOption (comma_behind b r) (HasNone (b ∷ xs)) (HasLast (b ∷ xs))
 behind b xs (Some i) h = record {
   within = omega (arith, h.within);
   here = h.here;

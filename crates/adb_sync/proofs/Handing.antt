@@ -1,8 +1,10 @@
 -- Bytes handed out in chunks.
-use Rattle.std.specs.Prelude.{ℕ, zero, suc, ◌+◌, ◌-◌, ◌≡◌, ◌≢◌, ◌<◌, ◌≤◌, ◌==◌, min, cond, Bool, true, false, List, [], ◌++◌, length, take, drop, refl}
+use Rattle.std.specs.Prelude.{ℕ, zero, suc, ◌+◌, ◌-◌, ◌≡◌, ◌≢◌, ◌<◌, ◌≤◌, ◌==◌, min, cond, Bool, true, false, List, [], ◌++◌, length, take}
+use Rattle.std.specs.Prelude.{drop, refl}
 use Rattle.std.proofs.Common.{◌∙◌, ap, sym, arith}
 use Rattle.std.proofs.lemmas.Bool.{eq-eqb, ne_eqb}
-use Rattle.std.proofs.lemmas.List.{take_min, drop_min, length-append, length-take, length-drop, append_assoc, drop-drop, drop-append-le, drop-take, drop_all, nil_from_length}
+use Rattle.std.proofs.lemmas.List.{take_min, drop_min, length-append, length-take, length-drop, append_assoc, drop-drop, drop-append-le}
+use Rattle.std.proofs.lemmas.List.{drop-take, drop_all, nil_from_length}
 use Rattle.adb_sync.specs.declared.answer.SyncAnswer.TheVariants as answers
 use Rattle.adb_sync.specs.Answers.{answer_bytes}
 use Rattle.adb_sync.specs.declared.layout.TheConstants.{MAX_CHUNK}
@@ -16,7 +18,8 @@ enough zero (suc m) bytes h g =
     sym (ap (λ t. cond t [] (answer_bytes (answers.Chunk (take MAX_CHUNK bytes)) ++ chunks_at m (drop MAX_CHUNK bytes)))
     (eq-eqb (length bytes) 0 (omega arith)))
 enough (suc k) zero bytes h g =
-    ap (λ t. cond t [] (answer_bytes (answers.Chunk (take MAX_CHUNK bytes)) ++ chunks_at k (drop MAX_CHUNK bytes))) (eq-eqb (length bytes) 0 (omega arith))
+    ap (λ t. cond t [] (answer_bytes (answers.Chunk (take MAX_CHUNK bytes)) ++ chunks_at k (drop MAX_CHUNK bytes)))
+    (eq-eqb (length bytes) 0 (omega arith))
 enough (suc k) (suc m) bytes h g = go (length bytes == 0)
     (enough k m (drop MAX_CHUNK bytes) (omega (arith, h, length-drop MAX_CHUNK bytes)) (omega (arith, g, length-drop MAX_CHUNK bytes)))
   where
@@ -28,15 +31,18 @@ enough (suc k) (suc m) bytes h g = go (length bytes == 0)
 
 -- a chunk comes off
 pub chunk_more : (bytes : List ℕ) → length bytes ≢ 0
-    → chunk_bytes bytes ≡ answer_bytes (answers.Chunk (take (min MAX_CHUNK (length bytes)) bytes)) ++ chunk_bytes (drop (min MAX_CHUNK (length bytes)) bytes)
+    → chunk_bytes bytes ≡ answer_bytes (answers.Chunk (take (min MAX_CHUNK (length bytes)) bytes))
+    ++ chunk_bytes (drop (min MAX_CHUNK (length bytes)) bytes)
 chunk_more bytes some =
     enough (length bytes) (suc (length bytes)) bytes (omega arith) (omega arith)
     ∙ (ap (λ t. cond t [] (answer_bytes (answers.Chunk (take MAX_CHUNK bytes)) ++ chunks_at (length bytes) (drop MAX_CHUNK bytes)))
     (ne_eqb (length bytes) 0 some)
     ∙ (ap (λ (rest : List ℕ). answer_bytes (answers.Chunk (take MAX_CHUNK bytes)) ++ rest)
-    (enough (length bytes) (length (drop MAX_CHUNK bytes)) (drop MAX_CHUNK bytes) (omega (arith, length-drop MAX_CHUNK bytes)) (omega arith))
+    (enough (length bytes) (length (drop MAX_CHUNK bytes)) (drop MAX_CHUNK bytes)
+    (omega (arith, length-drop MAX_CHUNK bytes)) (omega arith))
     ∙ (ap (λ (front : List ℕ). answer_bytes (answers.Chunk front) ++ chunk_bytes (drop MAX_CHUNK bytes)) (sym (take_min MAX_CHUNK bytes))
-    ∙ ap (λ (rest : List ℕ). answer_bytes (answers.Chunk (take (min MAX_CHUNK (length bytes)) bytes)) ++ chunk_bytes rest) (sym (drop_min MAX_CHUNK bytes)))))
+    ∙ ap (λ (rest : List ℕ). answer_bytes (answers.Chunk (take (min MAX_CHUNK (length bytes)) bytes))
+    ++ chunk_bytes rest) (sym (drop_min MAX_CHUNK bytes)))))
 
 pub chunk_none : (bytes : List ℕ) → length bytes ≡ 0 → chunk_bytes bytes ≡ []
 chunk_none bytes none = ap chunk_bytes (nil_from_length bytes none)
@@ -94,7 +100,8 @@ spent chunk bytes whole header here =
     none = omega arith
 
 -- where the header was taken, bytes of a chunk are taken
-pub takes_bytes : (chunk : Chunk) (bytes : List ℕ) (n taken : ℕ) → 8 ≤ chunk.header_taken → taken ≡ min n (chunk.to - chunk.from) → IsWithin chunk bytes
+pub takes_bytes : (chunk : Chunk) (bytes : List ℕ) (n taken : ℕ) → 8 ≤ chunk.header_taken
+    → taken ≡ min n (chunk.to - chunk.from) → IsWithin chunk bytes
     → HasFront chunk bytes → TakesHere n taken chunk (record chunk { from = chunk.from + taken }) bytes
 takes_bytes chunk bytes n taken header is within front = record {
   here = omega (
@@ -108,7 +115,8 @@ takes_bytes chunk bytes n taken header is within front = record {
     within.from,
   );
   some = λ wanted left. positive wanted left taken refl;
-  left = moves behind_header bytes more chunk.from chunk.to taken (omega (arith, length-drop chunk.header_taken chunk.header, within.header))
+  left = moves behind_header bytes more chunk.from chunk.to taken
+      (omega (arith, length-drop chunk.header_taken chunk.header, within.header))
       (omega arith) within.to;
   within = record { header = within.header; header_taken = within.header_taken; from = omega (arith, within.from); to = within.to };
 }

@@ -1,5 +1,6 @@
 -- A message and its bytes.
-use Rattle.std.proofs.Common.{ℕ, ◌+◌, ◌*◌, ◌^◌, ◌≡◌, ◌≤◌, ◌<◌, cond, Bool, true, List, ◌++◌, length, drop, Option, Some, None, refl, ◌∙◌, ap, arith}
+use Rattle.std.proofs.Common.{ℕ, ◌+◌, ◌*◌, ◌^◌, ◌≡◌, ◌≤◌, ◌<◌, cond, Bool, true, List, ◌++◌, length, drop, Option, Some, None, refl, ◌∙◌}
+use Rattle.std.proofs.Common.{ap, arith}
 use Rattle.std.proofs.lemmas.List.{length-drop}
 use Rattle.std.specs.Str.{bytes_eq}
 use Rattle.std.proofs.lemmas.Bool.Decides.{nat_tests}
@@ -20,7 +21,8 @@ pub number_fits : (i : ℕ) (bytes : List ℕ) → AreBytes bytes → number_at 
 number_fits i bytes are = little_from-lt 0 4 (drop i bytes) (byte_at (drop i bytes) (bytes_after i bytes are))
 
 -- a number that is the length of the bytes behind it
-pub counted_again : (bytes : List ℕ) → AreBytes bytes → length bytes ≡ 4 + number_at 0 bytes → little_bytes 4 (length (drop 4 bytes)) ++ drop 4 bytes ≡ bytes
+pub counted_again : (bytes : List ℕ) → AreBytes bytes → length bytes ≡ 4 + number_at 0 bytes
+    → little_bytes 4 (length (drop 4 bytes)) ++ drop 4 bytes ≡ bytes
 counted_again bytes are len =
     let same : length (drop 4 bytes) ≡ number_at 0 bytes = omega (arith, len, length-drop 4 bytes) in
     ap (λ k. little_bytes 4 k ++ drop 4 bytes) same ∙ number_again bytes are (omega (arith, len))
@@ -46,5 +48,6 @@ pub text_behind : (limit : Option Limit) (comma : Bool) (text : List ℕ) → le
     → cond comma (comma_fault (last_comma text)) None ≡ None
     → IsBehind (record { head = 4; limit = limit; counted = true; comma = comma }) (little_bytes 4 (length text) ++ text)
 text_behind limit comma text short good whole =
-    let count : number_at 0 (little_bytes 4 (length text) ++ text) ≡ length text = little_number-reads_back 4 (length text) text (omega (arith, short)) in
+    let count : number_at 0 (little_bytes 4 (length text) ++ text) ≡ length text =
+    little_number-reads_back 4 (length text) text (omega (arith, short)) in
     record { head = omega arith; number = ap (limit_fault limit) count ∙ good; size = omega (arith, count); body = whole }

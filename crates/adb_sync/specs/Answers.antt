@@ -1,6 +1,7 @@
 -- What the answering side writes (SYNC.TXT): STAT with three numbers; DENT with four and a name; DATA with a chunk; DONE,
 -- after a list with sixteen bytes; OKAY; FAIL with a text.
-use Rattle.std.specs.Prelude.{ℕ, ◌+◌, ◌^◌, ◌<◌, ◌≤◌, ◌≡◌, if◌then◌else◌, Bool, true, false, List, [], ◌∷◌, ◌++◌, length, take, drop, replicate, Option, Some, None, Result, Ok, Err, codes, bytes_eq, All}
+use Rattle.std.specs.Prelude.{ℕ, ◌+◌, ◌^◌, ◌<◌, ◌≤◌, ◌≡◌, if◌then◌else◌, Bool, true, false, List, [], ◌∷◌, ◌++◌, length, take, drop}
+use Rattle.std.specs.Prelude.{replicate, Option, Some, None, Result, Ok, Err, codes, bytes_eq, All}
 use Rattle.byteorder.specs.Endian.{little_bytes}
 use Rattle.adb_outside.specs.declared.framer.Front.{Front}
 use Rattle.adb_outside.specs.Framing.{Cut, cut, given_in, fault_in, offset_past, Stands, IsRightCut}
@@ -27,7 +28,8 @@ answer_id_of bytes =
     else (if bytes_eq bytes (codes "FAIL") then Some ids.Fail
     else None)))))
 
--- What stands behind an id: numbers, with a DENT a name; a chunk; a text. That of a DONE holds nothing that is read, and it is longer after a list.
+-- What stands behind an id: numbers, with a DENT a name; a chunk; a text. That of a DONE holds nothing that is read,
+-- and it is longer after a list.
 abbrev pub answer_layout : Bool → AnswerId → Layout
 answer_layout list ids.Stat = numbers 3
 answer_layout list ids.Dent = text 4 None
@@ -160,7 +162,8 @@ AreSpelled (answer ∷ others) rest bytes =
     (frame : List ℕ) × (more : List ℕ) × (bytes ≡ frame ++ more) × IsSpelling answer frame × AreSpelled others rest more
 
 -- The bytes are those of answers that may be written and read here, and then a rest.
-pub record SpellsAnswers (from : AnswerFormat) (bytes : List ℕ) (given : List SyncAnswer) (reading : AnswerFormat) (rest : List ℕ) : Type 0 where
+pub record SpellsAnswers (from : AnswerFormat) (bytes : List ℕ) (given : List SyncAnswer) (reading : AnswerFormat)
+    (rest : List ℕ) : Type 0 where
   pub whole : AreSpelled given rest bytes
   pub each : All IsAnswer given
   pub words : All HasAnswerWords given

@@ -1,5 +1,7 @@
--- What the asking side writes (SYNC.TXT): STAT, LIST and RECV with a path; SEND with a path and a mode, then any number of DATA, then DONE; QUIT.
-use Rattle.std.specs.Prelude.{ℕ, ◌+◌, ◌^◌, ◌<◌, ◌≤◌, ◌≡◌, if◌then◌else◌, Bool, true, false, not, List, [], ◌∷◌, ◌++◌, length, take, drop, Option, Some, None, Result, Ok, Err, codes, bytes_eq, All}
+-- What the asking side writes (SYNC.TXT): STAT, LIST and RECV with a path; SEND with a path and a mode, then any
+-- number of DATA, then DONE; QUIT.
+use Rattle.std.specs.Prelude.{ℕ, ◌+◌, ◌^◌, ◌<◌, ◌≤◌, ◌≡◌, if◌then◌else◌, Bool, true, false, not, List, [], ◌∷◌, ◌++◌, length, take, drop}
+use Rattle.std.specs.Prelude.{Option, Some, None, Result, Ok, Err, codes, bytes_eq, All}
 use Rattle.std.specs.List.{flat_map}
 use Rattle.adb_outside.specs.declared.framer.Front.{Front}
 use Rattle.adb_outside.specs.Framing.{Cut, cut, given_in, fault_in, offset_past, Stands, IsRightCut}
@@ -47,7 +49,8 @@ ask_layout ids.Data = text 1 chunk_limit
 ask_layout ids.Done = numbers 1
 ask_layout ids.Quit = record { head = 4; limit = Some (record { most = 0; rule = rules.UnknownId }); counted = false; comma = false }
 
--- An id outside a SEND that is none is unknown; one that may not stand here, and inside a SEND each other than DATA and DONE, is out of place.
+-- An id outside a SEND that is none is unknown; one that may not stand here, and inside a SEND each other than DATA
+-- and DONE, is out of place.
 abbrev pub ask_in_place : Bool → Option AskId → Result Layout SyncRule
 ask_in_place sending None = Err (if sending then rules.BadPlace else rules.UnknownId)
 ask_in_place sending (Some id) = if is_in_place sending id then Ok (ask_layout id) else Err rules.BadPlace
@@ -159,10 +162,12 @@ ask_bytes (asks.Chunk bytes) = message (codes "DATA") (length bytes) bytes
 ask_bytes (asks.Finish mtime) = message (codes "DONE") mtime []
 ask_bytes asks.Quit = message (codes "QUIT") 0 []
 
--- each request stands where it may, inside a SEND or outside one, given those before it; and whether what follows the last one is inside a SEND
+-- each request stands where it may, inside a SEND or outside one, given those before it; and whether what follows the
+-- last one is inside a SEND
 abbrev pub StandInPlace : Bool → List SyncAsk → Bool → Type 0
 StandInPlace sending [] behind = behind ≡ sending
-StandInPlace sending (ask ∷ others) behind = (is_in_place sending (id_of_ask ask) ≡ true) × StandInPlace (is_sending_after (Some (id_of_ask ask))) others behind
+StandInPlace sending (ask ∷ others) behind = (is_in_place sending (id_of_ask ask) ≡ true)
+    × StandInPlace (is_sending_after (Some (id_of_ask ask))) others behind
 
 -- The bytes are those of requests that may be written and stand where they may, and then a rest.
 pub record SpellsAsks (from : AskFormat) (bytes : List ℕ) (given : List SyncAsk) (reading : AskFormat) (rest : List ℕ) : Type 0 where

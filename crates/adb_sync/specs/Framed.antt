@@ -1,7 +1,9 @@
 -- What bytes begin with stays so, whatever follows: messages are a format.
-use Rattle.std.specs.Prelude.{ℕ, ◌+◌, ◌-◌, ◌≡◌, ◌≤◌, nat_lt, cond, Bool, true, false, List, ◌++◌, length, take, drop, Option, Some, None, Result, Ok, Err, refl}
+use Rattle.std.specs.Prelude.{ℕ, ◌+◌, ◌-◌, ◌≡◌, ◌≤◌, nat_lt, cond, Bool, true, false, List, ◌++◌, length, take, drop, Option, Some, None}
+use Rattle.std.specs.Prelude.{Result, Ok, Err, refl}
 use Rattle.std.proofs.Common.{◌∙◌, ap, sym, subst, arith}
-use Rattle.std.proofs.lemmas.List.{length-append, length-drop, length-take, take-append-le, drop-append-le, take-append-drop, take-take, drop-take, take_all}
+use Rattle.std.proofs.lemmas.List.{length-append, length-drop, length-take, take-append-le, drop-append-le, take-append-drop, take-take}
+use Rattle.std.proofs.lemmas.List.{drop-take, take_all}
 use Rattle.std.proofs.lemmas.Bool.Decides.{nat_tests}
 use Rattle.byteorder.specs.Endian.{little_number}
 use Rattle.byteorder.specs.Numbers.{little_from-append}
@@ -27,11 +29,13 @@ pub there : (len need : ℕ) (told : Front SyncFault) → need ≤ len → cond 
 there len need told h = grind (arith, nat_tests)
 
 -- where something is told, enough is there
-pub told_there : (len need : ℕ) (told f : Front SyncFault) → (f ≡ More → ⊥) → cond (nat_lt len need) More told ≡ f → (need ≤ len) × (told ≡ f)
+pub told_there : (len need : ℕ) (told f : Front SyncFault) → (f ≡ More → ⊥) → cond (nat_lt len need) More told ≡ f
+    → (need ≤ len) × (told ≡ f)
 told_there len need told f apart e = grind (arith, nat_tests)
 
 -- where a message is told, nothing is broken
-whole_told : (offset : ℕ) (broken : Option SyncRule) (told : Front SyncFault) (m : ℕ) → or_bad offset broken told ≡ Whole m → (broken ≡ None) × (told ≡ Whole m)
+whole_told : (offset : ℕ) (broken : Option SyncRule) (told : Front SyncFault) (m : ℕ)
+    → or_bad offset broken told ≡ Whole m → (broken ≡ None) × (told ≡ Whole m)
 whole_told offset None told m e = (refl, e)
 whole_told offset (Some rule) told m e = absurd (cc)
 
@@ -42,7 +46,8 @@ number_there i x y h =
     ∙ little_from-append 4 (drop i x) y (omega (arith, h, length-drop i x))
 
 -- what is told stays so, whatever follows: of a body, and past an id
-body_stays : (offset : ℕ) (layout : Layout) (n : ℕ) (x y : List ℕ) (f : Front SyncFault) → (f ≡ More → ⊥) → front_of_body offset layout n x ≡ f
+body_stays : (offset : ℕ) (layout : Layout) (n : ℕ) (x y : List ℕ) (f : Front SyncFault) → (f ≡ More → ⊥)
+    → front_of_body offset layout n x ≡ f
     → front_of_body offset layout n (x ++ y) ≡ f
 body_stays offset layout n x y f apart e =
     let b = body_len layout n in
@@ -51,7 +56,8 @@ body_stays offset layout n x y f apart e =
     there (length (x ++ y)) b (or_bad offset (body_fault layout (take b (x ++ y))) all) (omega (arith, h, length-append x y))
     ∙ (ap (λ body. or_bad offset (body_fault layout body) all) (take-append-le b x y h.0) ∙ h.1)
 
-or_bad_stays : (offset : ℕ) (broken : Option SyncRule) (told later f : Front SyncFault) → (told ≡ f → later ≡ f) → or_bad offset broken told ≡ f
+or_bad_stays : (offset : ℕ) (broken : Option SyncRule) (told later f : Front SyncFault) → (told ≡ f → later ≡ f)
+    → or_bad offset broken told ≡ f
     → or_bad offset broken later ≡ f
 or_bad_stays offset None told later f stays e = stays e
 or_bad_stays offset (Some rule) told later f stays e = e
@@ -69,7 +75,8 @@ past_id_stays offset (Ok layout) x y f heads apart e =
     there (length (x ++ y)) hd (numbered (head_number layout (x ++ y)) (drop hd (x ++ y))) (omega (arith, h.0, length-append x y))
     ∙ (ap (λ k. numbered k (drop hd (x ++ y))) same
     ∙ (ap (numbered n) (drop-append-le hd x y h.0)
-    ∙ or_bad_stays offset (limit_fault layout.limit n) (front_of_body offset layout n (drop hd x)) (front_of_body offset layout n (drop hd x ++ y)) f
+    ∙ or_bad_stays offset (limit_fault layout.limit n) (front_of_body offset layout n (drop hd x))
+    (front_of_body offset layout n (drop hd x ++ y)) f
     (body_stays offset layout n (drop hd x) y f apart) h.1))
 
 -- the bytes behind an id are a head and a body that break nothing
@@ -80,7 +87,8 @@ pub record IsBehind (layout : Layout) (rest : List ℕ) : Type 0 where
   pub body : body_fault layout (drop layout.head rest) ≡ None
 
 -- such bytes are told
-behind_told : (offset : ℕ) (layout : Layout) (rest : List ℕ) → IsBehind layout rest → front_past_id offset (Ok layout) rest ≡ Whole (4 + length rest)
+behind_told : (offset : ℕ) (layout : Layout) (rest : List ℕ) → IsBehind layout rest
+    → front_past_id offset (Ok layout) rest ≡ Whole (4 + length rest)
 behind_told offset layout rest h =
     let hd = layout.head in
     let n = head_number layout rest in
@@ -113,14 +121,16 @@ told_behind offset layout rest m low e =
     let b = body_len layout n in
     let tail = drop hd rest in
     let all : Front SyncFault = Whole (4 + hd + b) in
-    let head = told_there (length rest) hd (or_bad offset (limit_fault layout.limit n) (front_of_body offset layout n tail)) (Whole m) (λ c. cc) e in
+    let head = told_there (length rest) hd
+    (or_bad offset (limit_fault layout.limit n) (front_of_body offset layout n tail)) (Whole m) (λ c. cc) e in
     let number = whole_told offset (limit_fault layout.limit n) (front_of_body offset layout n tail) m head.1 in
     let body = told_there (length tail) b (or_bad offset (body_fault layout (take b tail)) all) (Whole m) (λ c. cc) number.1 in
     let good = whole_told offset (body_fault layout (take b tail)) all m body.1 in
     let p = take (hd + b) rest in
     let long : length p ≡ hd + b = omega (arith, length-take (hd + b) rest, length-drop hd rest, head.0, body.0) in
     let again : head_number layout p ≡ n =
-    sym (number_there (hd - 4) p (drop (hd + b) rest) (omega (arith, long, low))) ∙ ap (number_at (hd - 4)) (take-append-drop (hd + b) rest) in
+    sym (number_there (hd - 4) p (drop (hd + b) rest) (omega (arith, long, low)))
+    ∙ ap (number_at (hd - 4)) (take-append-drop (hd + b) rest) in
     let size : 4 + hd + b ≡ m = same_whole (4 + hd + b) m good.1 in
     record {
       len = hd + b;
@@ -181,7 +191,8 @@ module _ {S : Type 0} (offset : S → ℕ) (layout_at : S → List ℕ → Resul
               };
             }
 
-    stays : (s : S) (x y : List ℕ) (f : Front SyncFault) → (f ≡ More → ⊥) → front offset layout_at s x ≡ f → front offset layout_at s (x ++ y) ≡ f
+    stays : (s : S) (x y : List ℕ) (f : Front SyncFault) → (f ≡ More → ⊥) → front offset layout_at s x ≡ f
+        → front offset layout_at s (x ++ y) ≡ f
     stays s x y f apart e =
         let past : List ℕ → List ℕ → Front SyncFault = λ id rest. front_past_id (offset s) (layout_at s id) rest in
         let h = told_there (length x) 4 (past (take 4 x) (drop 4 x)) f apart e in
@@ -220,7 +231,8 @@ ask_head asked.Quit = omega arith
 pub ask_heads : (s : AskFormat) (id : List ℕ) (layout : Layout) → asked_at s id ≡ Ok layout → 4 ≤ layout.head
 ask_heads s id layout e = go (ask_id_of id) e
   where
-    by_place : (t : Bool) (one : AskId) → cond {A = Result Layout SyncRule} t (Ok (ask_layout one)) (Err BadPlace) ≡ Ok layout → 4 ≤ layout.head
+    by_place : (t : Bool) (one : AskId) → cond {A = Result Layout SyncRule} t (Ok (ask_layout one)) (Err BadPlace)
+        ≡ Ok layout → 4 ≤ layout.head
     by_place true one is = let same : ask_layout one ≡ layout = cc in subst (λ (l : Layout). 4 ≤ l.head) same (ask_head one)
     by_place false one is = absurd (cc)
 

@@ -1,6 +1,7 @@
 -- Sync messages, requests and answers (SYNC.TXT): four bytes of id, a head of numbers, the lowest byte first, and a body as
 -- long as the last number says, or none.
-use Rattle.std.specs.Prelude.{ℕ, ◌+◌, ◌-◌, ◌*◌, ◌≤◌, ◌==◌, nat_lt, if◌then◌else◌, true, false, List, [], ◌∷◌, ◌++◌, length, take, drop, suc, Option, Some, None, Result, Ok, Err}
+use Rattle.std.specs.Prelude.{ℕ, ◌+◌, ◌-◌, ◌*◌, ◌≤◌, ◌==◌, nat_lt, if◌then◌else◌, true, false, List, [], ◌∷◌, ◌++◌, length, take, drop, suc}
+use Rattle.std.specs.Prelude.{Option, Some, None, Result, Ok, Err}
 use Rattle.byteorder.specs.Endian.{little_number, little_bytes}
 use Rattle.adb_outside.specs.declared.framer.Front.{Front}
 use Rattle.adb_outside.specs.declared.framer.Front.TheVariants.{More, Bad, Whole}
@@ -90,7 +91,8 @@ abbrev pub front_past_id : ℕ → Result Layout SyncRule → List ℕ → Front
 front_past_id offset (Err rule) rest = Bad (record { offset = offset; rule = rule })
 front_past_id offset (Ok layout) rest =
     if nat_lt (length rest) layout.head then More
-    else or_bad offset (limit_fault layout.limit (head_number layout rest)) (front_of_body offset layout (head_number layout rest) (drop layout.head rest))
+    else or_bad offset (limit_fault layout.limit (head_number layout rest))
+    (front_of_body offset layout (head_number layout rest) (drop layout.head rest))
 
 -- What bytes begin with, by what stands behind each id.
 abbrev pub front : {S : Type 0} → (S → ℕ) → (S → List ℕ → Result Layout SyncRule) → S → List ℕ → Front SyncFault

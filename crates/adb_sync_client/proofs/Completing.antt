@@ -1,5 +1,6 @@
 -- Answer bytes that more is wanted of can come to an end.
-use Rattle.std.proofs.Common.{ℕ, zero, suc, ◌+◌, ◌-◌, ◌≡◌, ◌<◌, ◌≤◌, ◌⊎◌, inl, inr, Bool, true, false, List, [], ◌∷◌, ◌++◌, length, take, drop, Option, Some, None}
+use Rattle.std.proofs.Common.{ℕ, zero, suc, ◌+◌, ◌-◌, ◌≡◌, ◌<◌, ◌≤◌, ◌⊎◌, inl, inr, Bool, true, false, List, [], ◌∷◌, ◌++◌, length, take}
+use Rattle.std.proofs.Common.{drop, Option, Some, None}
 use Rattle.std.proofs.Common.{min, replicate, leb, sym, refl, ◌∙◌, ap, subst, append_assoc, arith}
 use Rattle.std.specs.Prelude.{codes}
 use Rattle.std.proofs.lemmas.Bool.Decides.{leb_tells}
@@ -58,7 +59,8 @@ enough s id bytes long is small fits =
     let found : answer_id_of (take 4 bytes) ≡ Some id = ap answer_id_of is ∙ letters_id id in
     there (length bytes) 4 (front_past_id s.offset (answered_at s (take 4 bytes)) rest) long
     ∙ (ap (λ o. front_past_id s.offset (known_answer s.list o) rest) found
-    ∙ (there (length rest) layout.head (or_bad s.offset (limit_fault layout.limit n) (front_of_body s.offset layout n body)) (omega (arith, fits))
+    ∙ (there (length rest) layout.head
+    (or_bad s.offset (limit_fault layout.limit n) (front_of_body s.offset layout n body)) (omega (arith, fits))
     ∙ (ap (λ o. or_bad s.offset o (front_of_body s.offset layout n body)) small
     ∙ (there (length body) b (or_bad s.offset (body_fault layout (take b body)) all) (omega (arith, fits, length-drop layout.head rest))
     ∙ ap (λ o. or_bad s.offset o all) (no_comma s.list id (take b body))))))
@@ -71,7 +73,8 @@ record IsOpen (e : Expected) (bytes : List ℕ) : Type 0 where
 is_open : (e : Expected) (bytes : List ℕ) → expected_front e bytes ≡ More → IsOpen e bytes
 is_open e bytes told = go (stray_in e.kind bytes) refl told
   where
-    go : (stray : Option ℕ) → stray_in e.kind bytes ≡ stray → or_stray e.answers.offset stray (whole_front (answer_front e.answers bytes)) ≡ More
+    go : (stray : Option ℕ) → stray_in e.kind bytes ≡ stray → or_stray e.answers.offset stray
+        (whole_front (answer_front e.answers bytes)) ≡ More
         → IsOpen e bytes
     go None clear more = record { clear = clear; none = λ n is. let clash : Whole n ≡ More = sym (ap whole_front is) ∙ more in absurd (cc) }
     go (Some place) clear more = absurd (cc)
@@ -82,12 +85,14 @@ record Completes (e : Expected) (bytes : List ℕ) : Type 0 where
   are : AreBytes more
   whole : expected_front e (bytes ++ more) ≡ Whole (length (bytes ++ more))
 
-clear_told : (e : Expected) (bytes : List ℕ) (n : ℕ) → stray_in e.kind bytes ≡ None → answer_front e.answers bytes ≡ Whole n → expected_front e bytes ≡ Whole n
+clear_told : (e : Expected) (bytes : List ℕ) (n : ℕ) → stray_in e.kind bytes ≡ None
+    → answer_front e.answers bytes ≡ Whole n → expected_front e bytes ≡ Whole n
 clear_told e bytes n clear whole =
     ap (λ stray. or_stray e.answers.offset stray (whole_front (answer_front e.answers bytes))) clear ∙ ap whole_front whole
 
 -- zeros complete what has an id
-long_completes : (e : Expected) (bytes : List ℕ) (said : ℕ) (o : Opening e.kind e.answers.list said) → number_at 4 bytes ≡ said → 4 ≤ length bytes
+long_completes : (e : Expected) (bytes : List ℕ) (said : ℕ) (o : Opening e.kind e.answers.list said)
+    → number_at 4 bytes ≡ said → 4 ≤ length bytes
     → take 4 bytes ≡ letters o.id → ((n : ℕ) → answer_front e.answers bytes ≡ Whole n → ⊥) → Completes e bytes
 long_completes e bytes said o says long is none = go (leb_tells need (length rest))
   where
@@ -124,18 +129,24 @@ long_completes e bytes said o says long is none = go (leb_tells need (length res
         let head = take 8 all in
         let four : take 4 head ≡ letters o.id = take-take 4 8 all (omega arith) ∙ front in
         clear_of_begins e.kind [] head
-        (o.again head (begins_long (letters o.id) head (omega (arith, long, length-append bytes zs, length-take 8 all)) (four_letters o.id) four)
+        (o.again head
+        (begins_long (letters o.id) head (omega (arith, long, length-append bytes zs, length-take 8 all))
+        (four_letters o.id) four)
         (number_taken all ∙ number))
 
     whole : length rest < need → answer_front e.answers (bytes ++ zs) ≡ Whole (length (bytes ++ zs))
     whole h =
-        let fits : layout.head + body_len layout (head_number layout (drop 4 (bytes ++ zs))) ≡ need = ap (λ n. layout.head + body_len layout n) same in
+        let fits : layout.head + body_len layout (head_number layout (drop 4 (bytes ++ zs))) ≡ need =
+        ap (λ n. layout.head + body_len layout n) same in
         enough e.answers o.id (bytes ++ zs) (omega (arith, long, length-append bytes zs)) front (o.small (drop 4 (bytes ++ zs)) number)
         (omega (arith, fits, size h, length-drop 4 (bytes ++ zs)))
         ∙ ap Whole (omega (arith, fits, size h))
 
-    go : ((leb need (length rest) ≡ true) × (need ≤ length rest)) ⊎ ((leb need (length rest) ≡ false) × (length rest < need)) → Completes e bytes
-    go (inl h) = absurd (none (4 + layout.head + body_len layout (head_number layout rest)) (enough e.answers o.id bytes long is (o.small rest says) h.1))
+    go : ((leb need (length rest) ≡ true) × (need ≤ length rest))
+        ⊎ ((leb need (length rest) ≡ false) × (length rest < need)) → Completes e bytes
+    go (inl h) = absurd
+        (none (4 + layout.head + body_len layout (head_number layout rest))
+        (enough e.answers o.id bytes long is (o.small rest says) h.1))
     go (inr h) = record {
       more = zs;
       are = All-replicate (λ byte. byte < 256) (need - length rest) 0 (omega arith);
@@ -161,7 +172,8 @@ short_completes e bytes o short here =
     let front : bytes ≡ take (length bytes) name = sym (ap (λ k. take k bytes) at ∙ take_all (length bytes) bytes (omega arith))
     ∙ (begins_front name bytes here ∙ ap (λ k. take k name) at) in
     let whole : bytes ++ more ≡ name = ap (λ (l : List ℕ). l ++ more) front ∙ take-append-drop (length bytes) name in
-    let number : number_at 4 name ≡ number_at 4 bytes = number_short name (omega (arith, four)) ∙ sym (number_short bytes (omega (arith, short))) in
+    let number : number_at 4 name ≡ number_at 4 bytes = number_short name (omega (arith, four))
+    ∙ sym (number_short bytes (omega (arith, short))) in
     let not_yet : (n : ℕ) → answer_front e.answers name ≡ Whole n → ⊥ =
     λ n is. let l = answer_is_long e.answers name n is in absurd (omega (arith, four, l.low, l.fits)) in
     let c = long_completes e name (number_at 4 bytes) o number (omega (arith, four)) (take_all 4 name (omega (arith, four))) not_yet in
@@ -188,7 +200,8 @@ completes e bytes told = go (leb_tells 4 (length bytes))
     go (inl long) =
         let name = letters o.opening.id in
         let at : min (length head) 4 ≡ 4 = omega (arith, long.1, length-take 8 bytes) in
-        let front : take 4 head ≡ take 4 name = ap (λ k. take k head) (sym at) ∙ (begins_front name head o.here ∙ ap (λ k. take k name) at) in
+        let front : take 4 head ≡ take 4 name = ap (λ k. take k head) (sym at)
+        ∙ (begins_front name head o.here ∙ ap (λ k. take k name) at) in
         long_completes e bytes (number_at 4 head) o.opening (sym (number_taken bytes)) long.1
         (sym (take-take 4 8 bytes (omega arith)) ∙ (front ∙ take_all 4 name (omega (arith, four_letters o.opening.id)))) h.none
     go (inr short) =
@@ -205,7 +218,8 @@ last_answer kinds.Stat = codes "STAT" ++ replicate 12 0
 last_answer kinds.List = codes "DONE" ++ replicate 16 0
 
 ended_bytes : (id : AnswerId) (n : ℕ) → AreBytes (letters id ++ replicate n 0)
-ended_bytes id n = All-append (λ byte. byte < 256) (letters id) (replicate n 0) (letter_bytes id) (All-replicate (λ byte. byte < 256) n 0 (omega arith))
+ended_bytes id n = All-append (λ byte. byte < 256) (letters id) (replicate n 0) (letter_bytes id)
+    (All-replicate (λ byte. byte < 256) n 0 (omega arith))
 
 last_bytes : (kind : AnswerKind) → AreBytes (last_answer kind)
 last_bytes kinds.Push = ended_bytes ids.Okay 4
@@ -242,7 +256,9 @@ ends_behind e said frame more is h =
 
 ends_last : (e : Expected) (said : Said) → e.answers.list ≡ is_list e.kind → HasEnded (means e said (last_answer e.kind))
 ends_last e said list =
-    subst (λ l. HasEnded (means (record { kind = e.kind; answers = record { offset = e.answers.offset; list = l } }) said (last_answer e.kind))) (sym list)
+    subst (λ l. HasEnded
+    (means (record { kind = e.kind; answers = record { offset = e.answers.offset; list = l } }) said
+    (last_answer e.kind))) (sym list)
     (last_ends e.kind e.answers.offset said)
 
 -- more is wanted behind an answer that goes on
@@ -252,7 +268,8 @@ wanted_on Done said further h = absurd (cc)
 wanted_on (Refused text) said further h = absurd (cc)
 
 by_front : (e : Expected) (said : Said) (bytes : List ℕ) → e.answers.list ≡ is_list e.kind
-    → ((e : Expected) (said : Said) (more : List ℕ) → e.answers.list ≡ is_list e.kind → length more < length bytes → means e said more ≡ steps.More
+    → ((e : Expected) (said : Said) (more : List ℕ) → e.answers.list ≡ is_list e.kind → length more < length bytes
+    → means e said more ≡ steps.More
     → Ends e said more)
     → means e said bytes ≡ steps.More → Ends e said bytes
 by_front e said bytes list others wanted = go (expected_front e bytes) refl
@@ -268,7 +285,8 @@ by_front e said bytes list others wanted = go (expected_front e bytes) refl
           ends = subst (λ (l : List ℕ). HasEnded (means e said l)) (append_assoc bytes c.more last)
               (ends_behind e said frame last c.whole (ends_last (past_expected e frame) (told_by said (expected_answer e frame)) list));
         }
-    go (Bad fault) is = let clash : steps.BadAnswer fault ≡ steps.More = sym (means_first e said bytes (Bad fault) is) ∙ wanted in absurd (cc)
+    go (Bad fault) is = let clash : steps.BadAnswer fault ≡ steps.More =
+        sym (means_first e said bytes (Bad fault) is) ∙ wanted in absurd (cc)
     go (Whole n) is =
         let frame = take n bytes in
         let more = drop n bytes in
@@ -280,17 +298,21 @@ by_front e said bytes list others wanted = go (expected_front e bytes) refl
         let further = means (past_expected e frame) (told_by said answer) more in
         let behind = wanted_on (next_of answer) (told_by said answer) further
         (sym (means_frame e said frame more found) ∙ (ap (means e said) whole ∙ wanted)) in
-        let h = others (past_expected e frame) (told_by said answer) more list (omega (arith, fits.0, fits.1, length-drop n bytes)) behind in
+        let h = others (past_expected e frame) (told_by said answer) more list
+        (omega (arith, fits.0, fits.1, length-drop n bytes)) behind in
         record {
           more = h.more;
           are = h.are;
-          ends = subst (λ (l : List ℕ). HasEnded (means e said l)) (sym (append_assoc frame more h.more) ∙ ap (λ (l : List ℕ). l ++ h.more) whole)
+          ends = subst (λ (l : List ℕ). HasEnded (means e said l))
+              (sym (append_assoc frame more h.more) ∙ ap (λ (l : List ℕ). l ++ h.more) whole)
               (ends_behind e said frame (more ++ h.more) found h.ends);
         }
 
-can_end : (k : ℕ) (e : Expected) (said : Said) (bytes : List ℕ) → length bytes ≤ k → e.answers.list ≡ is_list e.kind → means e said bytes ≡ steps.More
+can_end : (k : ℕ) (e : Expected) (said : Said) (bytes : List ℕ) → length bytes ≤ k → e.answers.list ≡ is_list e.kind
+    → means e said bytes ≡ steps.More
     → Ends e said bytes
-can_end zero e said bytes fits list wanted = by_front e said bytes list (λ e said more list fewer _. absurd (omega (arith, fits, fewer))) wanted
+can_end zero e said bytes fits list wanted = by_front e said bytes list
+    (λ e said more list fewer _. absurd (omega (arith, fits, fewer))) wanted
 can_end (suc k) e said bytes fits list wanted =
     by_front e said bytes list (λ e said more list fewer wanted. can_end k e said more (omega (arith, fits, fewer)) list wanted) wanted
 

@@ -1,5 +1,6 @@
 -- The fault of answer bytes is their first byte after which no answer can follow.
-use Rattle.std.proofs.Common.{ℕ, zero, suc, ◌+◌, ◌^◌, ◌≡◌, ◌<◌, ◌≤◌, Bool, true, false, List, [], ◌∷◌, ◌++◌, length, take, drop, Option, Some, None}
+use Rattle.std.proofs.Common.{ℕ, zero, suc, ◌+◌, ◌^◌, ◌≡◌, ◌<◌, ◌≤◌, Bool, true, false, List, [], ◌∷◌, ◌++◌, length, take, drop, Option}
+use Rattle.std.proofs.Common.{Some, None}
 use Rattle.std.proofs.Common.{sym, refl, ◌∙◌, ap, subst, arith}
 use Rattle.std.specs.Prelude.{if◌then◌else◌}
 use Rattle.std.proofs.Math.Seq.{take-append-add}
@@ -19,7 +20,8 @@ use Rattle.adb_sync_client.specs.declared.step.Step.{Step}
 use Rattle.adb_sync_client.specs.declared.step.Step.TheVariants as steps
 use Rattle.adb_sync_client.specs.declared.told.Next.{Next}
 use Rattle.adb_sync_client.specs.declared.told.Next.TheVariants.{GoesOn, Done, Refused}
-use Rattle.adb_sync_client.specs.Expected.{may_begin, stray_behind, stray_in, whole_front, or_stray, expected_front, expected_answer, past_expected}
+use Rattle.adb_sync_client.specs.Expected.{may_begin, stray_behind, stray_in, whole_front, or_stray, expected_front, expected_answer}
+use Rattle.adb_sync_client.specs.Expected.{past_expected}
 use Rattle.adb_sync_client.specs.Expected.{expected_start}
 use Rattle.adb_sync_client.specs.Framed.{answer_is_long, expected_are_framed}
 use Rattle.adb_sync_client.specs.Values.{Said, told_nothing, told_by, next_of, ended_or, meant, answer_value}
@@ -32,7 +34,8 @@ record IsStray (kind : AnswerKind) (before bytes : List ℕ) (place : ℕ) : Typ
   clear : stray_behind kind before (take at bytes) ≡ None
   here : stray_behind kind before (take (suc at) bytes) ≡ Some place
 
-is_stray : (kind : AnswerKind) (before bytes : List ℕ) (place : ℕ) → stray_behind kind before bytes ≡ Some place → IsStray kind before bytes place
+is_stray : (kind : AnswerKind) (before bytes : List ℕ) (place : ℕ) → stray_behind kind before bytes ≡ Some place
+    → IsStray kind before bytes place
 is_stray kind before [] place e = cc
 is_stray kind before (byte ∷ bytes) place e = go (may_begin kind grown) refl e (is_stray kind grown bytes place)
   where
@@ -104,15 +107,18 @@ is_bad_front e bytes fault told = go (stray_in e.kind bytes) refl told
         let inside : place < length (take 8 bytes) = omega (arith, h.within, at) in
         let low : place < 8 = omega (arith, inside, length-take 8 bytes) in
         let none : stray_in e.kind (take place bytes) ≡ None =
-        ap (stray_behind e.kind []) (sym (head place (omega (arith, low)))) ∙ (ap (λ n. stray_behind e.kind [] (take n (take 8 bytes))) (sym at) ∙ h.clear) in
+        ap (stray_behind e.kind []) (sym (head place (omega (arith, low))))
+        ∙ (ap (λ n. stray_behind e.kind [] (take n (take 8 bytes))) (sym at) ∙ h.clear) in
         let next : place + 1 ≡ suc h.at = omega (arith, at) in
         let some : stray_in e.kind (take (place + 1) bytes) ≡ Some place =
-        ap (stray_behind e.kind []) (sym (head (place + 1) (omega (arith, low)))) ∙ (ap (λ n. stray_behind e.kind [] (take n (take 8 bytes))) next ∙ h.here) in
+        ap (stray_behind e.kind []) (sym (head (place + 1) (omega (arith, low))))
+        ∙ (ap (λ n. stray_behind e.kind [] (take n (take 8 bytes))) next ∙ h.here) in
         record {
           place = place;
           within = omega (arith, inside, length-take 8 bytes);
           is = sym same;
-          before = ap (front (take place bytes)) none ∙ short_is_more e.answers (take place bytes) (omega (arith, low, length-take place bytes));
+          before = ap (front (take place bytes)) none ∙ short_is_more e.answers (take place bytes)
+              (omega (arith, low, length-take place bytes));
           here = ap (front (take (place + 1) bytes)) some ∙ ap Bad same;
         }
 
@@ -148,12 +154,14 @@ means_first e said bytes front is =
 -- behind a whole answer
 abbrev pub means_behind : Expected → Said → List ℕ → List ℕ → Step Said
 means_behind e said frame more =
-    let answer = expected_answer e frame in ended_or (next_of answer) (told_by said answer) (means (past_expected e frame) (told_by said answer) more)
+    let answer = expected_answer e frame in ended_or (next_of answer) (told_by said answer)
+    (means (past_expected e frame) (told_by said answer) more)
 
 pub means_frame : (e : Expected) (said : Said) (frame more : List ℕ) → expected_front e frame ≡ Whole (length frame)
     → means e said (frame ++ more) ≡ means_behind e said frame more
 means_frame e said frame more is =
-    ap (λ (c : Held). meant said c.given c.fault) (frame_first expected_front expected_answer past_expected expected_are_framed e frame more is)
+    ap (λ (c : Held). meant said c.given c.fault)
+    (frame_first expected_front expected_answer past_expected expected_are_framed e frame more is)
 
 -- what is bad is what follows an answer that goes on
 goes_on : (next : Next) (said : Said) (further : Step Said) (offset : ℕ) → ended_or next said further ≡ steps.BadAnswer offset
@@ -182,7 +190,8 @@ bad_behind e said frame more offset is on h =
 
 -- by what the bytes begin with, given that it holds of fewer bytes
 by_front : (e : Expected) (said : Said) (bytes : List ℕ) (offset : ℕ)
-    → ((e : Expected) (said : Said) (more : List ℕ) → length more < length bytes → means e said more ≡ steps.BadAnswer offset → IsFirstBad e said more offset)
+    → ((e : Expected) (said : Said) (more : List ℕ) → length more < length bytes
+    → means e said more ≡ steps.BadAnswer offset → IsFirstBad e said more offset)
     → means e said bytes ≡ steps.BadAnswer offset → IsFirstBad e said bytes offset
 by_front e said bytes offset others bad = go (expected_front e bytes) refl
   where
@@ -213,13 +222,15 @@ by_front e said bytes offset others bad = go (expected_front e bytes) refl
         subst (λ (b : List ℕ). IsFirstBad e said b offset) whole
         (bad_behind e said frame more offset found behind.0 (others (past_expected e frame) (told_by said answer) more fewer behind.1))
 
-first_bad : (k : ℕ) (e : Expected) (said : Said) (bytes : List ℕ) (offset : ℕ) → length bytes ≤ k → means e said bytes ≡ steps.BadAnswer offset
+first_bad : (k : ℕ) (e : Expected) (said : Said) (bytes : List ℕ) (offset : ℕ) → length bytes ≤ k
+    → means e said bytes ≡ steps.BadAnswer offset
     → IsFirstBad e said bytes offset
 first_bad zero e said bytes offset fits bad = by_front e said bytes offset (λ e said more fewer _. absurd (omega (arith, fits, fewer))) bad
 first_bad (suc k) e said bytes offset fits bad =
     by_front e said bytes offset (λ e said more fewer bad. first_bad k e said more offset (omega (arith, fits, fewer)) bad) bad
 
-pub first_stray : (kind : AnswerKind) (bytes : List ℕ) (offset : ℕ) → length bytes < 2 ^ 64 → answer_value kind bytes ≡ steps.BadAnswer offset
+pub first_stray : (kind : AnswerKind) (bytes : List ℕ) (offset : ℕ) → length bytes < 2 ^ 64
+    → answer_value kind bytes ≡ steps.BadAnswer offset
     → (offset < length bytes) × (answer_value kind (take offset bytes) ≡ steps.More)
     × (answer_value kind (take (offset + 1) bytes) ≡ steps.BadAnswer offset)
 first_stray kind bytes offset room bad =

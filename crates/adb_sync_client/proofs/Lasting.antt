@@ -17,7 +17,8 @@ ended_stays said [] further fault some = absurd (some refl)
 ended_stays said (answer ∷ given) further fault some = go (next_of answer) some (ended_stays (told_by said answer) given further fault)
   where
     go : (next : Next) → ended_or next (told_by said answer) (meant (told_by said answer) given None) ≢ More
-        → (meant (told_by said answer) given None ≢ More → meant (told_by said answer) (given ++ further) fault ≡ meant (told_by said answer) given None)
+        → (meant (told_by said answer) given None ≢ More → meant (told_by said answer) (given ++ further) fault
+        ≡ meant (told_by said answer) given None)
         → ended_or next (told_by said answer) (meant (told_by said answer) (given ++ further) fault)
         ≡ ended_or next (told_by said answer) (meant (told_by said answer) given None)
     go GoesOn some others = others some
@@ -29,13 +30,15 @@ held_stays : (r : Read) (more : List ℕ) → meaning r ≢ More → meaning_wit
 held_stays r more = go r.next r.cut.fault
   where
     go : (next : Next) (fault : Option ℕ)
-        → let now : Read = record r { cut = record r.cut { fault = fault }; next = next } in meaning now ≢ More → meaning_with now more ≡ meaning now
+        → let now : Read = record r { cut = record r.cut { fault = fault }; next = next } in meaning now ≢ More
+        → meaning_with now more ≡ meaning now
     go Done fault some = refl
     go (Refused text) fault some = refl
     go GoesOn (Some fault) some = refl
     go GoesOn None some = ended_stays r.said r.cut.given _ _ some
 
-pub value_stays : (kind : AnswerKind) (bytes more : List ℕ) → answer_value kind bytes ≢ More → answer_value kind (bytes ++ more) ≡ answer_value kind bytes
+pub value_stays : (kind : AnswerKind) (bytes more : List ℕ) → answer_value kind bytes ≢ More
+    → answer_value kind (bytes ++ more) ≡ answer_value kind bytes
 value_stays kind bytes more some =
     let nothing : Held = record { given = []; reading = expected_start kind; rest = []; fault = None } in
     let start : Read = record { cut = nothing; said = told_nothing; next = GoesOn; spent = false } in

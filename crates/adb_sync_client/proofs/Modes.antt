@@ -8,7 +8,8 @@ use Rattle.adb_sync.specs.Messages.{last_comma, comma_behind}
 
 no_comma_in : (digits : List ℕ) → last_comma (map (λ d. 48 + d) digits) ≡ None
 no_comma_in [] = refl
-no_comma_in (d ∷ digits) = ap (comma_behind (48 + d)) (no_comma_in digits) ∙ ap (λ t. if t then Some 0 else None) (ne_eqb (48 + d) 44 (λ e. omega (arith, e)))
+no_comma_in (d ∷ digits) = ap (comma_behind (48 + d)) (no_comma_in digits)
+    ∙ ap (λ t. if t then Some 0 else None) (ne_eqb (48 + d) 44 (λ e. omega (arith, e)))
 
 no_comma : (n : ℕ) → n < 2 ^ 32 → last_comma (decimal n) ≡ None
 no_comma zero h = ap last_comma (decimal_digit 0 (omega arith))

@@ -1,5 +1,6 @@
 -- What an answer begins with: its id, the number behind it, and which heads may begin one.
-use Rattle.std.proofs.Common.{ℕ, zero, suc, ◌+◌, ◌-◌, ◌≡◌, ◌<◌, ◌≤◌, ◌⊎◌, inl, inr, Bool, true, false, List, [], ◌∷◌, ◌++◌, length, take, drop, Some, None}
+use Rattle.std.proofs.Common.{ℕ, zero, suc, ◌+◌, ◌-◌, ◌≡◌, ◌<◌, ◌≤◌, ◌⊎◌, inl, inr, Bool, true, false, List, [], ◌∷◌, ◌++◌, length, take}
+use Rattle.std.proofs.Common.{drop, Some, None}
 use Rattle.std.proofs.Common.{min, replicate, slice_index, sym, refl, ◌∙◌, ap, append_assoc, arith}
 use Rattle.std.specs.Prelude.{if◌then◌else◌, ◌||◌, nat_le, codes}
 use Rattle.std.proofs.lemmas.Bool.Decides.{nat_tests}
@@ -121,12 +122,14 @@ may_less kind x y h =
     (goes_less kind x y) (begins_less (codes "FAIL") x y) h
 
 -- bytes with which an answer may begin have no stray byte, and the other way round
-pub clear_of_begins : (kind : AnswerKind) (before bytes : List ℕ) → may_begin kind (before ++ bytes) ≡ true → stray_behind kind before bytes ≡ None
+pub clear_of_begins : (kind : AnswerKind) (before bytes : List ℕ) → may_begin kind (before ++ bytes) ≡ true
+    → stray_behind kind before bytes ≡ None
 clear_of_begins kind before [] h = refl
 clear_of_begins kind before (byte ∷ bytes) h =
     let grown = before ++ byte ∷ [] in
     let all : may_begin kind (grown ++ bytes) ≡ true = ap (may_begin kind) (append_assoc before (byte ∷ []) bytes) ∙ h in
-    ap (λ t. if t then stray_behind kind grown bytes else Some (length before)) (may_less kind grown bytes all) ∙ clear_of_begins kind grown bytes all
+    ap (λ t. if t then stray_behind kind grown bytes else Some (length before)) (may_less kind grown bytes all)
+    ∙ clear_of_begins kind grown bytes all
 
 pub begins_of_clear : (kind : AnswerKind) (before bytes : List ℕ) → may_begin kind before ≡ true → stray_behind kind before bytes ≡ None
     → may_begin kind (before ++ bytes) ≡ true
@@ -173,7 +176,8 @@ letter_bytes ids.Fail = four_bytes 70 65 73 76 (omega arith) (omega arith) (omeg
 -- The id of an answer of a kind, and a number that may stand behind it: whatever has both may begin an answer.
 pub record Opening (kind : AnswerKind) (list : Bool) (number : ℕ) : Type 0 where
   pub id : AnswerId
-  pub small : (rest : List ℕ) → number_at 0 rest ≡ number → limit_fault (answer_layout list id).limit (head_number (answer_layout list id) rest) ≡ None
+  pub small : (rest : List ℕ) → number_at 0 rest ≡ number → limit_fault (answer_layout list id).limit
+      (head_number (answer_layout list id) rest) ≡ None
   pub again : (other : List ℕ) → begins (letters id) other ≡ true → number_at 4 other ≡ number → may_begin kind other ≡ true
 
 pub record Opens (kind : AnswerKind) (list : Bool) (head : List ℕ) : Type 0 where
@@ -183,7 +187,8 @@ pub record Opens (kind : AnswerKind) (list : Bool) (head : List ℕ) : Type 0 wh
 -- an id whose number has no limit
 free : (kind : AnswerKind) (list : Bool) (head : List ℕ) (id : AnswerId)
     → ((rest : List ℕ) → limit_fault (answer_layout list id).limit (head_number (answer_layout list id) rest) ≡ None)
-    → ((other : List ℕ) → begins (letters id) other ≡ true → may_begin kind other ≡ true) → begins (letters id) head ≡ true → Opens kind list head
+    → ((other : List ℕ) → begins (letters id) other ≡ true → may_begin kind other ≡ true)
+    → begins (letters id) head ≡ true → Opens kind list head
 free kind list head id small again here = record {
   opening = record { id = id; small = λ rest same. small rest; again = λ other is same. again other is };
   here = here;
@@ -211,11 +216,13 @@ pub opens : (kind : AnswerKind) (list : Bool) (head : List ℕ) → may_begin ki
 opens kind list head h = by kind (or_cases (goes_on kind head) (begins (codes "FAIL") head) h)
   where
     fails : (kind : AnswerKind) → begins (codes "FAIL") head ≡ true → Opens kind list head
-    fails kind is = free kind list head ids.Fail (λ rest. refl) (λ other is. or_right (goes_on kind other) (begins (codes "FAIL") other) is) is
+    fails kind is = free kind list head ids.Fail (λ rest. refl)
+        (λ other is. or_right (goes_on kind other) (begins (codes "FAIL") other) is) is
 
     goes : (kind : AnswerKind) (id : AnswerId)
         → ((rest : List ℕ) → limit_fault (answer_layout list id).limit (head_number (answer_layout list id) rest) ≡ None)
-        → ((other : List ℕ) → begins (letters id) other ≡ true → goes_on kind other ≡ true) → begins (letters id) head ≡ true → Opens kind list head
+        → ((other : List ℕ) → begins (letters id) other ≡ true → goes_on kind other ≡ true)
+        → begins (letters id) head ≡ true → Opens kind list head
     goes kind id small again is =
         free kind list head id small (λ other is. or_left (goes_on kind other) (begins (codes "FAIL") other) (again other is)) is
 
@@ -224,8 +231,10 @@ opens kind list head h = by kind (or_cases (goes_on kind head) (begins (codes "F
     pulls (inr is) = goes kinds.Pull ids.Done (λ rest. refl) (λ other is. or_right (begins_chunk other) (begins (codes "DONE") other) is) is
 
     lists : (begins (codes "DENT") head ≡ true) ⊎ (begins (codes "DONE") head ≡ true) → Opens kinds.List list head
-    lists (inl is) = goes kinds.List ids.Dent (λ rest. refl) (λ other is. or_left (begins (codes "DENT") other) (begins (codes "DONE") other) is) is
-    lists (inr is) = goes kinds.List ids.Done (λ rest. refl) (λ other is. or_right (begins (codes "DENT") other) (begins (codes "DONE") other) is) is
+    lists (inl is) = goes kinds.List ids.Dent (λ rest. refl)
+        (λ other is. or_left (begins (codes "DENT") other) (begins (codes "DONE") other) is) is
+    lists (inr is) = goes kinds.List ids.Done (λ rest. refl)
+        (λ other is. or_right (begins (codes "DENT") other) (begins (codes "DONE") other) is) is
 
     by : (kind : AnswerKind) → (goes_on kind head ≡ true) ⊎ (begins (codes "FAIL") head ≡ true) → Opens kind list head
     by kind (inr is) = fails kind is

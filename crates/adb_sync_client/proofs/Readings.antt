@@ -38,11 +38,13 @@ two_pieces given reading rest None x y = go (cut_from reading (rest ++ x)).fault
   where
     go : (fault : Option ℕ) → (cut_from reading (rest ++ x)).fault ≡ fault
         → let k = cut_from reading (rest ++ x) in
-        IsHeldAlike (held_after expected_front expected_answer past_expected (joined given k) y fault) (joined given (cut_from reading (rest ++ (x ++ y))))
+        IsHeldAlike (held_after expected_front expected_answer past_expected (joined given k) y fault)
+        (joined given (cut_from reading (rest ++ (x ++ y))))
     go None is =
         let k = cut_from reading (rest ++ x) in
         let whole = ap (cut_from reading) (sym (append_assoc rest x y))
-        ∙ cut_piece expected_front expected_answer past_expected expected_are_framed (length (rest ++ x)) reading (rest ++ x) y (omega arith) is in
+        ∙ cut_piece expected_front expected_answer past_expected expected_are_framed (length (rest ++ x)) reading
+        (rest ++ x) y (omega arith) is in
         record {
           given = append_assoc given k.given (cut_from k.reading (k.rest ++ y)).given ∙ ap (λ (c : Held). given ++ c.given) (sym whole);
           fault = ap (λ (c : Held). c.fault) (sym whole);
@@ -61,7 +63,8 @@ means_alike r a b h = λ i. ended_or r.next r.said (meant r.said (h.given i) (h.
 
 pub more_on : (r : Read) (x y : List ℕ) → meaning_with (with_more r x) y ≡ meaning_with r (x ++ y)
 more_on r x y =
-    means_alike r (after_piece (after_piece r.cut x) y) (after_piece r.cut (x ++ y)) (two_pieces r.cut.given r.cut.reading r.cut.rest r.cut.fault x y)
+    means_alike r (after_piece (after_piece r.cut x) y) (after_piece r.cut (x ++ y))
+    (two_pieces r.cut.given r.cut.reading r.cut.rest r.cut.fault x y)
 
 same_fault : (a b : Option ℕ) → ◌≡◌ {A = Result (Unit {0}) (FeedError ℕ)} (answer_of Fault a) (answer_of Fault b) → a ≡ b
 same_fault None None e = refl
@@ -71,7 +74,8 @@ same_fault (Some a) (Some b) e = let same : a ≡ b = cc in ap Some same
 
 -- a piece that was cut, and then told
 pub continues : (old : Read) (piece : List ℕ) (told : Option ℕ) (cut : Held) (new : Read) → cut ≡ after_piece old.cut piece
-    → answer_of Fault told ≡ answer_of Fault cut.fault → Gathers (record old { cut = cut }) new → new.cut.fault ≡ cut.fault → Continues old piece told new
+    → answer_of Fault told ≡ answer_of Fault cut.fault → Gathers (record old { cut = cut }) new
+    → new.cut.fault ≡ cut.fault → Continues old piece told new
 continues old piece told cut new is answer gathers stays = record {
   now = gathers.same.now ∙ ap (λ (k : Held). meaning (record old { cut = k })) is;
   later = λ more. gathers.same.later more ∙ (ap (λ (k : Held). meaning_with (record old { cut = k }) more) is ∙ more_on old piece more);

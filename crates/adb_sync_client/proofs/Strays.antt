@@ -1,5 +1,6 @@
 -- The first stray byte, place by place.
-use Rattle.std.proofs.Common.{ℕ, suc, ◌+◌, ◌≡◌, ◌<◌, ◌≤◌, min, List, [], ◌∷◌, ◌++◌, length, take, drop, Bool, true, false, Option, Some, None, sym, ◌∙◌, ap, arith}
+use Rattle.std.proofs.Common.{ℕ, suc, ◌+◌, ◌≡◌, ◌<◌, ◌≤◌, min, List, [], ◌∷◌, ◌++◌, length, take, drop, Bool, true, false, Option, Some}
+use Rattle.std.proofs.Common.{None, sym, ◌∙◌, ap, arith}
 use Rattle.std.specs.Prelude.{get_or, if◌then◌else◌}
 use Rattle.std.proofs.Math.Seq.{take-suc, drop-cons}
 use Rattle.std.proofs.lemmas.List.{get_or-take, length-take, drop_all}
@@ -31,19 +32,24 @@ at_next : (kind : AnswerKind) (bytes : List ℕ) (i : ℕ) → may_begin kind (t
 at_next kind bytes i = ap (λ k. may_begin kind (take k bytes)) (one_on i)
 
 -- the next one is or is not, and where none is left none is
-pub stray_here : (kind : AnswerKind) (bytes : List ℕ) (i : ℕ) → i < min 8 (length bytes) → ClearUpTo kind bytes i → may_begin kind (take (i + 1) bytes) ≡ false
+pub stray_here : (kind : AnswerKind) (bytes : List ℕ) (i : ℕ) → i < min 8 (length bytes) → ClearUpTo kind bytes i
+    → may_begin kind (take (i + 1) bytes) ≡ false
     → Some i ≡ stray_in kind bytes
 stray_here kind bytes i within clear stray =
-    let on : ℕ → List ℕ → Bool → Option ℕ = λ i bytes may. if may then stray_behind kind (take (suc i) bytes) (drop (suc i) (take 8 bytes)) else Some i in
+    let on : ℕ → List ℕ → Bool → Option ℕ = λ i bytes may. if may then stray_behind kind (take (suc i) bytes)
+    (drop (suc i) (take 8 bytes)) else Some i in
     sym (clear ∙ stray_next kind bytes i within ∙ ap (on i bytes) (at_next kind bytes i ∙ stray))
 
-pub clear_on : (kind : AnswerKind) (bytes : List ℕ) (i : ℕ) → i < min 8 (length bytes) → ClearUpTo kind bytes i → may_begin kind (take (i + 1) bytes) ≡ true
+pub clear_on : (kind : AnswerKind) (bytes : List ℕ) (i : ℕ) → i < min 8 (length bytes) → ClearUpTo kind bytes i
+    → may_begin kind (take (i + 1) bytes) ≡ true
     → ClearUpTo kind bytes (i + 1)
 clear_on kind bytes i within clear sound =
-    let on : ℕ → List ℕ → Bool → Option ℕ = λ i bytes may. if may then stray_behind kind (take (suc i) bytes) (drop (suc i) (take 8 bytes)) else Some i in
+    let on : ℕ → List ℕ → Bool → Option ℕ = λ i bytes may. if may then stray_behind kind (take (suc i) bytes)
+    (drop (suc i) (take 8 bytes)) else Some i in
     clear ∙ (stray_next kind bytes i within ∙ (ap (on i bytes) (at_next kind bytes i ∙ sound)
     ∙ ap (λ k. stray_behind kind (take k bytes) (drop k (take 8 bytes))) (one_on i)))
 
-pub all_clear : (kind : AnswerKind) (bytes : List ℕ) (i : ℕ) → min 8 (length bytes) ≤ i → ClearUpTo kind bytes i → None ≡ stray_in kind bytes
+pub all_clear : (kind : AnswerKind) (bytes : List ℕ) (i : ℕ) → min 8 (length bytes) ≤ i → ClearUpTo kind bytes i
+    → None ≡ stray_in kind bytes
 all_clear kind bytes i past clear =
     sym (clear ∙ ap (stray_behind kind (take i bytes)) (drop_all i (take 8 bytes) (omega (arith, past, length-take 8 bytes))))

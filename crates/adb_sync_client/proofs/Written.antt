@@ -1,5 +1,6 @@
 -- What a service writes of a file, and of a refusal, is what the asking side reads.
-use Rattle.std.proofs.Common.{ℕ, zero, suc, ◌+◌, ◌-◌, ◌≡◌, ◌≤◌, ◌||◌, Bool, true, false, cond, List, [], ◌∷◌, ◌++◌, length, take, drop, None}
+use Rattle.std.proofs.Common.{ℕ, zero, suc, ◌+◌, ◌-◌, ◌≡◌, ◌≤◌, ◌||◌, Bool, true, false, cond, List, [], ◌∷◌, ◌++◌, length, take, drop}
+use Rattle.std.proofs.Common.{None}
 use Rattle.std.proofs.Common.{eqb, leb, sym, refl, ◌∙◌, ap, append_assoc, arith}
 use Rattle.std.proofs.lemmas.Bool.Decides.{nat_tests}
 use Rattle.std.proofs.lemmas.List.{length-take, length-drop, take-append-drop, append-nil}
@@ -52,11 +53,13 @@ module _ (s : AnswerFormat) (chunk : List ℕ) (small : length chunk ≤ MAX_CHU
   size = omega arith
 
   chunk_begins : may_begin kinds.Pull (take 8 frame) ≡ true
-  chunk_begins = ap (λ (n : ℕ). leb n MAX_CHUNK || false || false) eight ∙ ap (λ (t : Bool). t || false || false) (within_most (length chunk) small)
+  chunk_begins = ap (λ (n : ℕ). leb n MAX_CHUNK || false || false) eight
+      ∙ ap (λ (t : Bool). t || false || false) (within_most (length chunk) small)
 
   chunk_front : expected_front pulls frame ≡ Whole (length frame)
   chunk_front = clear_front pulls frame (length frame) chunk_begins
-      (enough s ids.Data frame (omega (arith, size)) refl (ap (limit_fault chunk_limit) count ∙ no_fault (length chunk) small) (omega (arith, count, size))
+      (enough s ids.Data frame (omega (arith, size)) refl
+      (ap (limit_fault chunk_limit) count ∙ no_fault (length chunk) small) (omega (arith, count, size))
       ∙ ap Whole (omega (arith, count, size)))
 
   chunk_means : (said : Said) (more : List ℕ)
@@ -68,15 +71,18 @@ module _ (s : AnswerFormat) (chunk : List ℕ) (small : length chunk ≤ MAX_CHU
 end_means : (s : AnswerFormat) (said : Said) → s.list ≡ false
     → means (record { kind = kinds.Pull; answers = s }) said (answer_bytes answers.ChunkEnd) ≡ steps.Done said
 end_means s said plain =
-    ap (λ (list : Bool). means (record { kind = kinds.Pull; answers = record { offset = s.offset; list = list } }) said (answer_bytes answers.ChunkEnd)) plain
+    ap (λ (list : Bool). means (record { kind = kinds.Pull; answers = record { offset = s.offset; list = list } })
+    said (answer_bytes answers.ChunkEnd)) plain
 
 -- all the chunks of a file
 pulled : (k : ℕ) (s : AnswerFormat) (said : Said) (bytes : List ℕ) → s.list ≡ false → length bytes ≤ k
     → means (record { kind = kinds.Pull; answers = s }) said (chunks_at k bytes ++ answer_bytes answers.ChunkEnd)
     ≡ steps.Done (record said { bytes = said.bytes ++ bytes })
-pulled zero s said [] plain fits = end_means s said plain ∙ ap (λ (all : List ℕ). steps.Done (record said { bytes = all })) (sym (append-nil said.bytes))
+pulled zero s said [] plain fits = end_means s said plain ∙ ap
+    (λ (all : List ℕ). steps.Done (record said { bytes = all })) (sym (append-nil said.bytes))
 pulled zero s said (byte ∷ bytes) plain fits = absurd (omega (arith, fits))
-pulled (suc k) s said [] plain fits = end_means s said plain ∙ ap (λ (all : List ℕ). steps.Done (record said { bytes = all })) (sym (append-nil said.bytes))
+pulled (suc k) s said [] plain fits = end_means s said plain
+    ∙ ap (λ (all : List ℕ). steps.Done (record said { bytes = all })) (sym (append-nil said.bytes))
 pulled (suc k) s said (byte ∷ bytes) plain fits =
     let all : List ℕ = byte ∷ bytes in
     let chunk = take MAX_CHUNK all in
@@ -85,7 +91,8 @@ pulled (suc k) s said (byte ∷ bytes) plain fits =
     let frame = answer_bytes (answers.Chunk chunk) in
     let told : Said = record said { bytes = said.bytes ++ chunk } in
     let some : eqb (length all) 0 ≡ false = grind (arith, nat_tests) in
-    ap (λ (t : Bool). means (record { kind = kinds.Pull; answers = s }) said (cond t [] (frame ++ chunks_at k left) ++ answer_bytes answers.ChunkEnd)) some
+    ap (λ (t : Bool). means (record { kind = kinds.Pull; answers = s }) said
+    (cond t [] (frame ++ chunks_at k left) ++ answer_bytes answers.ChunkEnd)) some
     ∙ (ap (means (record { kind = kinds.Pull; answers = s }) said) (append_assoc frame (chunks_at k left) (answer_bytes answers.ChunkEnd))
     ∙ (chunk_means s chunk small said (chunks_at k left ++ answer_bytes answers.ChunkEnd)
     ∙ (pulled k (past_answer s frame) told left plain (omega (arith, fits, length-drop MAX_CHUNK all))
@@ -93,4 +100,5 @@ pulled (suc k) s said (byte ∷ bytes) plain fits =
     (append_assoc said.bytes chunk left ∙ ap (λ (bs : List ℕ). said.bytes ++ bs) (take-append-drop MAX_CHUNK all)))))
 
 pub file_is_pulled : (bytes : List ℕ) → pull_value (chunk_bytes bytes ++ answer_bytes answers.ChunkEnd) ≡ steps.Done bytes
-file_is_pulled bytes = ap (step_map (λ (said : Said). said.bytes)) (pulled (length bytes) (answers_start false) told_nothing bytes refl (omega arith))
+file_is_pulled bytes = ap (step_map (λ (said : Said). said.bytes))
+    (pulled (length bytes) (answers_start false) told_nothing bytes refl (omega arith))

@@ -20,7 +20,8 @@ pub record Asks (kind : AnswerKind) (text : List ℕ) (new : Asking) : Type 0 wh
 abbrev pub Gives : List ℕ → List ℕ → List ℕ → Type 0
 Gives text gone left = gone ++ left ≡ text
 
--- A piece of the answer was taken: where memory lasted, the step is the value of all the bytes that were fed. The bytes that are left of the
+-- A piece of the answer was taken: where memory lasted, the step is the value of all the bytes that were fed. The
+-- bytes that are left of the
 -- request stay. After want of memory the machine is spent: each call answers it and changes nothing.
 pub record Feeds {V E : Type 0} (kind : AnswerKind) (value : List ℕ → Step V) (old : Asking) (piece : List ℕ) (answer : Result (Step V) E)
     (new : Asking) : Type 0 where
@@ -32,7 +33,8 @@ pub record Feeds {V E : Type 0} (kind : AnswerKind) (value : List ℕ → Step V
   pub stays : old.read.spent ≡ true → IsErr answer × (new ≡ old)
 
 -- The same, where nothing is fed behind the answer's end: the value is given away there, and what is held then stands for nothing.
-pub record FeedsToEnd {V E : Type 0} (kind : AnswerKind) (value : List ℕ → Step V) (old : Asking) (piece : List ℕ) (answer : Result (Step V) E)
+pub record FeedsToEnd {V E : Type 0} (kind : AnswerKind) (value : List ℕ → Step V) (old : Asking) (piece : List ℕ)
+    (answer : Result (Step V) E)
     (new : Asking) : Type 0 where
   pub told : IfOk answer (λ step. (fed : List ℕ) → StandsFor kind fed old.read → step ≡ value (fed ++ piece))
   pub stands : IfOk answer (λ step. step ≡ More → (fed : List ℕ) → StandsFor kind fed old.read → StandsFor kind (fed ++ piece) new.read)

@@ -1,5 +1,6 @@
 -- What a request is answered with (SYNC.TXT), byte by byte.
-use Rattle.std.specs.Prelude.{ℕ, nat_le, ◌||◌, ◌&&◌, min, if◌then◌else◌, Bool, true, false, List, [], ◌∷◌, ◌++◌, length, take, Option, Some, None}
+use Rattle.std.specs.Prelude.{ℕ, nat_le, ◌||◌, ◌&&◌, min, if◌then◌else◌, Bool, true, false, List, [], ◌∷◌, ◌++◌, length, take, Option, Some}
+use Rattle.std.specs.Prelude.{None}
 use Rattle.std.specs.Prelude.{codes, bytes_eq}
 use Rattle.adb_outside.specs.declared.framer.Front.{Front}
 use Rattle.adb_outside.specs.declared.framer.Front.TheVariants.{More, Bad, Whole}
@@ -17,7 +18,8 @@ use Rattle.adb_sync_client.specs.declared.expected.Expected.{Expected}
 abbrev pub begins : List ℕ → List ℕ → Bool
 begins id head = bytes_eq (take (min (length head) 4) head) (take (min (length head) 4) id)
 
--- A DATA stands at the front, as far as there are bytes, and is not too long: its length, with zeros for the bytes that are missing, is the least
+-- A DATA stands at the front, as far as there are bytes, and is not too long: its length, with zeros for the bytes
+-- that are missing, is the least
 -- that can follow.
 abbrev pub begins_chunk : List ℕ → Bool
 begins_chunk head = begins (codes "DATA") head && nat_le (number_at 4 head) MAX_CHUNK

@@ -1,5 +1,6 @@
 -- What the bytes of expected answers begin with stays so, whatever follows: they are a format.
-use Rattle.std.specs.Prelude.{ℕ, zero, suc, ◌≡◌, ◌≤◌, Bool, true, false, if◌then◌else◌, List, [], ◌∷◌, ◌++◌, length, take, Option, Some, None, refl}
+use Rattle.std.specs.Prelude.{ℕ, zero, suc, ◌≡◌, ◌≤◌, Bool, true, false, if◌then◌else◌, List, [], ◌∷◌, ◌++◌, length, take, Option, Some}
+use Rattle.std.specs.Prelude.{None, refl}
 use Rattle.std.proofs.Common.{◌∙◌, ap, sym, arith}
 use Rattle.std.proofs.lemmas.List.{length-take, length-drop, take-append-le, take-take}
 use Rattle.adb_outside.specs.declared.framer.Front.{Front}
@@ -11,17 +12,20 @@ use Rattle.adb_sync.specs.Answers.{answered_at, answer_front}
 use Rattle.adb_sync.specs.Framed.{answers_are_framed, answer_heads, framed_message}
 use Rattle.adb_sync_client.specs.declared.kind.AnswerKind.{AnswerKind}
 use Rattle.adb_sync_client.specs.declared.expected.Expected.{Expected}
-use Rattle.adb_sync_client.specs.Expected.{may_begin, stray_behind, stray_in, whole_front, or_stray, expected_front, expected_answer, past_expected}
+use Rattle.adb_sync_client.specs.Expected.{may_begin, stray_behind, stray_in, whole_front, or_stray, expected_front, expected_answer}
+use Rattle.adb_sync_client.specs.Expected.{past_expected}
 
 -- the first stray byte stays so
 stray_stays : (n : ℕ) (kind : AnswerKind) (before x y : List ℕ) (place : ℕ) → stray_behind kind before (take n x) ≡ Some place
     → stray_behind kind before (take n (x ++ y)) ≡ Some place
 stray_stays zero kind before x y place e = cc
 stray_stays (suc n) kind before [] y place e = cc
-stray_stays (suc n) kind before (byte ∷ x) y place e = go (may_begin kind (before ++ byte ∷ [])) e (stray_stays n kind (before ++ byte ∷ []) x y place)
+stray_stays (suc n) kind before (byte ∷ x) y place e = go (may_begin kind (before ++ byte ∷ [])) e
+    (stray_stays n kind (before ++ byte ∷ []) x y place)
   where
     go : (t : Bool) → (if t then stray_behind kind (before ++ byte ∷ []) (take n x) else Some (length before)) ≡ Some place
-        → (stray_behind kind (before ++ byte ∷ []) (take n x) ≡ Some place → stray_behind kind (before ++ byte ∷ []) (take n (x ++ y)) ≡ Some place)
+        → (stray_behind kind (before ++ byte ∷ []) (take n x) ≡ Some place
+        → stray_behind kind (before ++ byte ∷ []) (take n (x ++ y)) ≡ Some place)
         → (if t then stray_behind kind (before ++ byte ∷ []) (take n (x ++ y)) else Some (length before)) ≡ Some place
     go true is further = further is
     go false is further = is
@@ -62,7 +66,8 @@ record IsSound (e : Expected) (bytes : List ℕ) (n : ℕ) : Type 0 where
 is_sound : (e : Expected) (bytes : List ℕ) (n : ℕ) → expected_front e bytes ≡ Whole n → IsSound e bytes n
 is_sound e bytes n is = go (stray_in e.kind bytes) refl is
   where
-    go : (stray : Option ℕ) → stray_in e.kind bytes ≡ stray → or_stray e.answers.offset stray (whole_front (answer_front e.answers bytes)) ≡ Whole n
+    go : (stray : Option ℕ) → stray_in e.kind bytes ≡ stray → or_stray e.answers.offset stray
+        (whole_front (answer_front e.answers bytes)) ≡ Whole n
         → IsSound e bytes n
     go None clear told =
         let whole = same_answer (answer_front e.answers bytes) n told in
@@ -73,18 +78,21 @@ pub whole_answer : (e : Expected) (bytes : List ℕ) (n : ℕ) → expected_fron
 whole_answer e bytes n is = (is_sound e bytes n is).whole
 
 -- where the first eight bytes are clear, a whole answer is told
-sound_told : (e : Expected) (bytes : List ℕ) (n : ℕ) → stray_in e.kind bytes ≡ None → answer_front e.answers bytes ≡ Whole n → expected_front e bytes ≡ Whole n
+sound_told : (e : Expected) (bytes : List ℕ) (n : ℕ) → stray_in e.kind bytes ≡ None
+    → answer_front e.answers bytes ≡ Whole n → expected_front e bytes ≡ Whole n
 sound_told e bytes n clear whole =
     ap (λ stray. or_stray e.answers.offset stray (whole_front (answer_front e.answers bytes))) clear ∙ ap whole_front whole
 
 stays_bad : (e : Expected) (x y : List ℕ) (fault : ℕ) → expected_front e x ≡ Bad fault → expected_front e (x ++ y) ≡ Bad fault
 stays_bad e x y fault is = go (stray_in e.kind x) refl is
   where
-    go : (stray : Option ℕ) → stray_in e.kind x ≡ stray → or_stray e.answers.offset stray (whole_front (answer_front e.answers x)) ≡ Bad fault
+    go : (stray : Option ℕ) → stray_in e.kind x ≡ stray → or_stray e.answers.offset stray
+        (whole_front (answer_front e.answers x)) ≡ Bad fault
         → expected_front e (x ++ y) ≡ Bad fault
     go None clear told = absurd (no_fault (answer_front e.answers x) fault told)
     go (Some place) found told =
-        ap (λ stray. or_stray e.answers.offset stray (whole_front (answer_front e.answers (x ++ y)))) (stray_stays 8 e.kind [] x y place found) ∙ told
+        ap (λ stray. or_stray e.answers.offset stray (whole_front (answer_front e.answers (x ++ y))))
+        (stray_stays 8 e.kind [] x y place found) ∙ told
 
 pub expected_are_framed : IsFraming expected_front expected_answer past_expected
 expected_are_framed = record {

@@ -13,6 +13,7 @@ call_found (Some other) call e = cc
 call_found None call e = cc
 
 -- they fit
-pub given_fits : {A : Type 0} (words : List (String A)) (call : Call) → ◌≡◌ {A = Result Call WordsError} (Ok call) (ok_or (tool_of (texts words)) Usage)
+pub given_fits : {A : Type 0} (words : List (String A)) (call : Call)
+    → ◌≡◌ {A = Result Call WordsError} (Ok call) (ok_or (tool_of (texts words)) Usage)
     → FitsCall call
 given_fits words call e = all_fits (texts words) call (call_found (tool_of (texts words)) call e)

@@ -31,15 +31,18 @@ pub none_out : (text had : List ℕ) (written : Option (List ℕ)) → written �
 none_out text had written is = record { growth = []; is = is ∙ ap Some (sym (append-nil had)); front = (text, refl) }
 
 -- words are one command
-one_command : {A : Type 0} (words : List (String A)) (one other : Command) → command_of (texts words) ≡ Some one → command_of (texts words) ≡ Some other
+one_command : {A : Type 0} (words : List (String A)) (one other : Command) → command_of (texts words) ≡ Some one
+    → command_of (texts words) ≡ Some other
     → one ≡ other
 one_command words one other is is_other = let same : Some one ≡ Some other = sym is ∙ is_other in cc
 
-some_command : {A : Type 0} (words : List (String A)) (one : Command) → command_of (texts words) ≡ Some one → command_of (texts words) ≡ None → ⊥
+some_command : {A : Type 0} (words : List (String A)) (one : Command) → command_of (texts words) ≡ Some one
+    → command_of (texts words) ≡ None → ⊥
 some_command words one is none = let clash : Some one ≡ None = sym is ∙ none in cc
 
 -- the command of a kind of scripts
-scripted : {A : Type 0} (kind : ScriptKind) (words : List (String A)) → IsOfKind kind words → (command : Command) × (command_of (texts words) ≡ Some command)
+scripted : {A : Type 0} (kind : ScriptKind) (words : List (String A)) → IsOfKind kind words
+    → (command : Command) × (command_of (texts words) ≡ Some command)
 scripted kinds.Local words is = (Local is.0, is.1)
 scripted kinds.Copy words is = (Copy is.0, is.1)
 
@@ -116,8 +119,10 @@ module _ {A S K : Type 0} (words : List (String A)) (s : Sight S) (k : Sight K) 
     pub like : ToldAs end (Generated result)
     pub leaves : LeavesLoad s k source source_new sink sink_new seed streams result
 
-  same_load : (seed streams other_seed other_streams : ℕ) (result : Result (Unit {0}) LoadStop) → Gen seed streams ≡ Gen other_seed other_streams
-      → LeavesLoad s k source source_new sink sink_new other_seed other_streams result → LeavesLoad s k source source_new sink sink_new seed streams result
+  same_load : (seed streams other_seed other_streams : ℕ) (result : Result (Unit {0}) LoadStop)
+      → Gen seed streams ≡ Gen other_seed other_streams
+      → LeavesLoad s k source source_new sink sink_new other_seed other_streams result
+      → LeavesLoad s k source source_new sink sink_new seed streams result
   same_load seed streams other_seed other_streams result same leaves =
       let seeds : other_seed ≡ seed = cc in
       let both : other_streams ≡ streams = cc in
@@ -138,7 +143,8 @@ module _ {A S K : Type 0} (words : List (String A)) (s : Sight S) (k : Sight K) 
   as_load (Generated result) seed streams is leaves = record {
     result = result;
     like = refl;
-    leaves = same_load seed streams leaves.0 leaves.1 result (one_command words (Gen seed streams) (Gen leaves.0 leaves.1) is leaves.2) leaves.3;
+    leaves = same_load seed streams leaves.0 leaves.1 result
+        (one_command words (Gen seed streams) (Gen leaves.0 leaves.1) is leaves.2) leaves.3;
   }
   as_load (Answered result) seed streams is leaves =
       absurd (other_kind leaves.0 words (Gen seed streams) (λ number e. cc) (λ number e. cc) leaves.1 is)
@@ -171,7 +177,8 @@ module _ {A S K : Type 0} (words : List (String A)) (s : Sight S) (k : Sight K) 
   as_script kind (Answered result) is leaves = record {
     result = result;
     like = refl;
-    leaves = subst (λ (other : ScriptKind). LeavesScript s k source source_new sink sink_new other result) (one_kind kind leaves.0 words is leaves.1) leaves.2;
+    leaves = subst (λ (other : ScriptKind). LeavesScript s k source source_new sink sink_new other result)
+        (one_kind kind leaves.0 words is leaves.1) leaves.2;
   }
 
   -- ---- words that are none

@@ -37,7 +37,8 @@ told_starved notice status (inr (inl lost)) is = absurd (let clash : OutOfMemory
 told_starved notice status (inr (inr unmade)) is = inr unmade.0
 
 -- The end of a command whose sink failed is told as WriteFault.
-pub told_lost : (end : CommandEnd) (status : Status) → IsTold (notice_of end) status → (notice_of end).status ≡ WriteFault → status ≡ WriteFault
+pub told_lost : (end : CommandEnd) (status : Status) → IsTold (notice_of end) status
+    → (notice_of end).status ≡ WriteFault → status ≡ WriteFault
 told_lost end status (inl own) is = own ∙ is
 told_lost end status (inr (inl lost)) is = lost.1
 told_lost end status (inr (inr unmade)) is = absurd (made_writes end is unmade.0)
@@ -54,7 +55,8 @@ told_lost end status (inr (inr unmade)) is = absurd (made_writes end is unmade.0
 -- ---- which counts rose
 module _ {S K N : Type 0} (s : Sight S) (k : Sight K) (n : Sight N) (source source_new : S) (sink sink_new : K) (note note_new : N)
     (end : CommandEnd) (status : Status)
-    (reads : CountsSource end (Counts s.steady s.faults source source_new)) (writes : Counts k.steady k.faults sink sink_new (fails_sink end))
+    (reads : CountsSource end (Counts s.steady s.faults source source_new))
+    (writes : Counts k.steady k.faults sink sink_new (fails_sink end))
     (tells : TellsCommand end status n note note_new) where
   abbrev Reads : CommandEnd → Type 0
   Reads end = CountsSource end (Counts s.steady s.faults source source_new)

@@ -62,7 +62,8 @@ rises_on {x = x} {y = y} {z = z} first second = go (first.fault refl)
     go (inr last) = grind (arith, last, first.count, second.count)
 
 -- It rose over the first, and again over one more that failed too.
-pub rises_twice : {a b c : Type 0} {x y z : ℕ} {failed : Bool} → Counted a b x y true → Counted b c y z failed → failed ≡ true → RisesTwice x z
+pub rises_twice : {a b c : Type 0} {x y z : ℕ} {failed : Bool} → Counted a b x y true → Counted b c y z failed
+    → failed ≡ true → RisesTwice x z
 rises_twice {y = y} first second e = record { mid = y; first = first.fault refl; again = second.fault e }
 
 -- ---- which line is at hand
@@ -87,15 +88,19 @@ notes_as hand other on WriteFault rose again had after (inr n) = inr (
 notes_as hand other on _ rose again had after n = n
 
 -- the line that alone is at hand may be at hand
-pub notes_of : (status : Status) (line : List ℕ) (hand : Status → List ℕ → Type 0) → hand status line → (ended : Status) (rose again : Type 0) (had : List ℕ)
+pub notes_of : (status : Status) (line : List ℕ) (hand : Status → List ℕ → Type 0) → hand status line
+    → (ended : Status) (rose again : Type 0) (had : List ℕ)
     (after : Option (List ℕ)) → NotesBy ended (IsJust status line) rose again had after → NotesBy ended hand rose again had after
 notes_of status line hand comes ended rose again had after n = notes_as (IsJust status line) hand
-    (λ s l is. subst (λ (t : Status). hand t l) (sym is.0) (subst (λ (k : List ℕ). hand status k) (sym is.1) comes)) ended rose again had after n
+    (λ s l is. subst (λ (t : Status). hand t l) (sym is.0) (subst (λ (k : List ℕ). hand status k) (sym is.1) comes))
+    ended rose again had after n
 
 -- ---- a line that is made in memory of its own
-pub made_said : (own : Status) (line text : List ℕ) → text ≡ line → (ended : Status) (rose again : Type 0) (had : List ℕ) (after : Option (List ℕ))
+pub made_said : (own : Status) (line text : List ℕ) → text ≡ line
+    → (ended : Status) (rose again : Type 0) (had : List ℕ) (after : Option (List ℕ))
     → NotesBy ended (IsJust own text) rose again had after → NotesBy ended (IsLineOr own line) rose again had after
-made_said own line text same ended rose again had after n = notes_of own text (IsLineOr own line) (inl (refl, same)) ended rose again had after n
+made_said own line text same ended rose again had after n = notes_of own text (IsLineOr own line) (inl (refl, same))
+    ended rose again had after n
 
 -- there was no memory for it
 pub made_starved : (own : Status) (line : List ℕ) (ended : Status) (rose again : Type 0) (had : List ℕ) (after : Option (List ℕ))

@@ -30,7 +30,8 @@ module _ {N : Type 0} (own status : Status) (line : List ℕ) (n : Sight N) (not
       → TellsNotice (fixed own line) lost status n note note_new
   fixed_told lost some ends written counts = record {
     own = told ends;
-    notes = λ had has. notes_as (IsJust own line) (IsAtHand (fixed own line)) (λ s l is. inl is) status _ _ had (n.told note_new) (written had has);
+    notes = λ had has. notes_as (IsJust own line) (IsAtHand (fixed own line)) (λ s l is. inl is) status _ _ had
+        (n.told note_new) (written had has);
     shows = λ is_made. absurd (let clash : false ≡ true = is_made in cc);
     fault = λ is. inr (counts.fault (ap tells_write_fault is));
     stood = λ other. counts.stands (unlost status other);
@@ -43,7 +44,8 @@ module _ {N : Type 0} (own status : Status) (line : List ℕ) (n : Sight N) (not
 
   -- a line that is made
   pub made_told : (lost : Bool) → own ≢ Done → (status ≡ own) ⊎ (status ≡ OutOfMemory) ⊎ (status ≡ WriteFault) → Written (IsLineOr own line)
-      → (status ≡ own → TellsWrite (n.told note) (n.told note_new) line All) → Counted → TellsNotice (made own line) lost status n note note_new
+      → (status ≡ own → TellsWrite (n.told note) (n.told note_new) line All) → Counted
+      → TellsNotice (made own line) lost status n note note_new
   made_told lost some ends written shows counts = record {
     own = told ends;
     notes = λ had has. notes_as (IsLineOr own line) (IsAtHand (made own line)) hand status _ _ had (n.told note_new) (written had has);
@@ -68,7 +70,8 @@ pub lost_line_told : {N : Type 0} (status : Status) (n : Sight N) (note note_new
     → TellsNotice (fixed WriteFault write_fault_line) true status n note note_new
 lost_line_told status n note note_new is written = record {
   own = inl is;
-  notes = λ had has. notes_as (IsJust WriteFault write_fault_line) (IsAtHand (fixed WriteFault write_fault_line)) (λ s l same. inl same) status _ _ had
+  notes = λ had has. notes_as (IsJust WriteFault write_fault_line) (IsAtHand (fixed WriteFault write_fault_line))
+      (λ s l same. inl same) status _ _ had
       (n.told note_new) (written had has);
   shows = λ is_made. absurd (let clash : false ≡ true = is_made in cc);
   fault = λ again. inl refl;

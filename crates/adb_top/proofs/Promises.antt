@@ -43,11 +43,13 @@ module _ {A S K N : Type 0} (words : List (String A)) (status : Status) (s : Sig
   shows : (like : CommandEnd) → notice_of end ≡ notice_of like → (notice_of like).is_made ≡ true → status ≡ (notice_of like).status
       → TellsWrite (n.told note) (n.told note_new) (notice_of like).line All
   shows like same = subst
-      (λ (notice : Notice). notice.is_made ≡ true → status ≡ notice.status → TellsWrite (n.told note) (n.told note_new) notice.line All) same
+      (λ (notice : Notice). notice.is_made ≡ true → status ≡ notice.status
+      → TellsWrite (n.told note) (n.told note_new) notice.line All) same
       tells.shows
 
   -- a fault that the end names comes with a count that rose
-  unread_by : (like : CommandEnd) → notice_of end ≡ notice_of like → ¬ Rose s.faults source source_new → (notice_of like).status ≡ ReadFault → ⊥
+  unread_by : (like : CommandEnd) → notice_of end ≡ notice_of like → ¬ Rose s.faults source source_new
+      → (notice_of like).status ≡ ReadFault → ⊥
   unread_by like same no_read is = no_read (ends.end_rose s k n source source_new sink sink_new note note_new end status reads writes tells
       (ap (λ (notice : Notice). notice.status) same ∙ is))
 
@@ -77,23 +79,28 @@ module _ {A S K N : Type 0} (words : List (String A)) (status : Status) (s : Sig
         (replay.leaves.writes capture had was has)
 
     run_consumed : status ≡ ReadFault → WritesRead s.told source source_new k.told sink sink_new
-    run_consumed fault = λ capture had was has. replay.leaves.consumes (by.read_replay replay.result status replay_told fault) capture had was has
+    run_consumed fault = λ capture had was has. replay.leaves.consumes
+        (by.read_replay replay.result status replay_told fault) capture had was has
 
     run_whole : status ≢ WriteFault → WritesWhole k.told sink sink_new
     run_whole other = replay.leaves.whole (λ lost. other (by.lost_replay replay.result status replay_told lost))
 
     run_ends : EndsCapture status s.told source source_new
-    run_ends = λ capture was. by.ends_by replay.result status replay_told (accepted capture) (s.told source_new) (replay.leaves.ends capture was)
+    run_ends = λ capture was. by.ends_by replay.result status replay_told (accepted capture) (s.told source_new)
+        (replay.leaves.ends capture was)
 
     run_names : NamesRefusal status (s.told source) n.told note note_new
-    run_names = λ bad capture had was has. by.replay_named replay.result status replay_told (accepted capture) (s.told source_new) had (n.told note)
+    run_names = λ bad capture had was has. by.replay_named replay.result status replay_told (accepted capture)
+        (s.told source_new) had (n.told note)
         (n.told note_new) (replay.leaves.ends capture was) (shows (Replayed replay.result) replay.like) bad has
 
     run_completes : None → Completes status (s.told source)
     run_completes none = λ capture was. by.completes_by replay.result status (accepted capture) (s.told source_new)
         (whole none.write none.noted (Replayed replay.result) replay.like) (replay.leaves.ends capture was)
-        (λ e. unread_by (Replayed replay.result) replay.like none.read (ap (λ (r : Result (Unit {0}) Stop). (notice_of (Replayed r)).status) e))
-        (λ e. unwritten none.write none.noted (Replayed replay.result) replay.like (ap (λ (r : Result (Unit {0}) Stop). (notice_of (Replayed r)).status) e))
+        (λ e. unread_by (Replayed replay.result) replay.like none.read
+        (ap (λ (r : Result (Unit {0}) Stop). (notice_of (Replayed r)).status) e))
+        (λ e. unwritten none.write none.noted (Replayed replay.result) replay.like
+        (ap (λ (r : Result (Unit {0}) Stop). (notice_of (Replayed r)).status) e))
 
   -- ---- a history that is judged
   module _ (is : IsCheck words) where
@@ -104,21 +111,25 @@ module _ {A S K N : Type 0} (words : List (String A)) (status : Status) (s : Sig
     check_told = told (Judged check.result) check.like
 
     run_judged : WritesVerdict status s.told source source_new k.told sink sink_new
-    run_judged = λ capture had was has. by.checks_by check.result status check_told (formed capture) (s.told source_new) had (k.told sink_new)
+    run_judged = λ capture had was has. by.checks_by check.result status check_told (formed capture)
+        (s.told source_new) had (k.told sink_new)
         (check.leaves.judges capture was) (check.leaves.writes capture had was has)
 
     run_ends_check : EndsCheck status s.told source source_new
-    run_ends_check = λ capture was. by.ends_check_by check.result status check_told (formed capture) (s.told source_new) (check.leaves.judges capture was)
+    run_ends_check = λ capture was. by.ends_check_by check.result status check_told (formed capture)
+        (s.told source_new) (check.leaves.judges capture was)
 
     run_names_form : NamesForm status (s.told source) n.told note note_new
-    run_names_form = λ bad capture had was has. by.form_named check.result status check_told (formed capture) (s.told source_new) had (n.told note)
+    run_names_form = λ bad capture had was has. by.form_named check.result status check_told (formed capture)
+        (s.told source_new) had (n.told note)
         (n.told note_new) (check.leaves.judges capture was) (shows (Judged check.result) check.like) bad has
 
     run_checks : None → CompletesCheck status (s.told source)
     run_checks none = λ capture was. by.completes_check_by check.result status (formed capture) (s.told source_new)
         (whole none.write none.noted (Judged check.result) check.like) (check.leaves.judges capture was)
         (λ e. unread_by (Judged check.result) check.like none.read (ap (λ (r : Result Judgement Stop). (notice_of (Judged r)).status) e))
-        (λ e. unwritten none.write none.noted (Judged check.result) check.like (ap (λ (r : Result Judgement Stop). (notice_of (Judged r)).status) e))
+        (λ e. unwritten none.write none.noted (Judged check.result) check.like
+        (ap (λ (r : Result Judgement Stop). (notice_of (Judged r)).status) e))
 
   -- ---- a load
   module _ (seed streams : ℕ) (is : IsLoad seed streams words) where
@@ -129,7 +140,8 @@ module _ {A S K N : Type 0} (words : List (String A)) (status : Status) (s : Sig
     load_told = told (Generated load.result) load.like
 
     run_load : WritesLoad status seed streams k.told sink sink_new
-    run_load = λ had has. by.load_by load.result status (load_lines seed streams) had (k.told sink_new) load_told (load.leaves.writes had has)
+    run_load = λ had has. by.load_by load.result status (load_lines seed streams) had (k.told sink_new) load_told
+        (load.leaves.writes had has)
 
     run_ends_load : IsLoadEnd status
     run_ends_load = by.load_ends load.result status load_told
@@ -150,17 +162,20 @@ module _ {A S K N : Type 0} (words : List (String A)) (status : Status) (s : Sig
         (script_of.leaves.writes bytes had was has)
 
     run_ends_script : EndsScript kind status s.told source source_new
-    run_ends_script = λ bytes was. by.script_ends_by script_of.result status script_told (first_bad kind bytes) (script_of.leaves.refuses bytes was)
+    run_ends_script = λ bytes was. by.script_ends_by script_of.result status script_told (first_bad kind bytes)
+        (script_of.leaves.refuses bytes was)
         (s.told source_new) (λ done. script_of.leaves.whole done bytes was)
 
     run_names_line : NamesLine kind status (s.told source) n.told note note_new
-    run_names_line = λ bad bytes had was has. by.line_named script_of.result status script_told (first_bad kind bytes) (script_of.leaves.refuses bytes was)
+    run_names_line = λ bad bytes had was has. by.line_named script_of.result status script_told (first_bad kind bytes)
+        (script_of.leaves.refuses bytes was)
         kind bytes had (n.told note) (n.told note_new) refl (shows (Answered script_of.result) script_of.like) bad has
 
     run_runs : None → CompletesScript kind status (s.told source)
     run_runs none = λ bytes was. by.completes_script_by script_of.result status (first_bad kind bytes)
         (whole none.write none.noted (Answered script_of.result) script_of.like) (script_of.leaves.refuses bytes was)
-        (λ e. unread_by (Answered script_of.result) script_of.like none.read (ap (λ (r : Result (Unit {0}) ScriptStop). (notice_of (Answered r)).status) e))
+        (λ e. unread_by (Answered script_of.result) script_of.like none.read
+        (ap (λ (r : Result (Unit {0}) ScriptStop). (notice_of (Answered r)).status) e))
         (λ e. unwritten none.write none.noted (Answered script_of.result) script_of.like
         (ap (λ (r : Result (Unit {0}) ScriptStop). (notice_of (Answered r)).status) e))
 

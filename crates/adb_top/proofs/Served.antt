@@ -1,5 +1,6 @@
 -- How a server ended, and the note that it leaves.
-use Rattle.std.proofs.Common.{ℕ, ◌≡◌, ◌≢◌, ◌<◌, ◌≤◌, ◌⊎◌, true, false, List, [], ◌++◌, take, drop, Option, Some, refl, sym, ◌∙◌, ap, subst, inl, inr, arith}
+use Rattle.std.proofs.Common.{ℕ, ◌≡◌, ◌≢◌, ◌<◌, ◌≤◌, ◌⊎◌, true, false, List, [], ◌++◌, take, drop, Option, Some, refl, sym, ◌∙◌, ap, subst}
+use Rattle.std.proofs.Common.{inl, inr, arith}
 use Rattle.std.proofs.lemmas.List.{append-nil, take-append-drop}
 use Rattle.adb_outside.specs.Outside.{Rises, Counts}
 use Rattle.adb_outside.specs.declared.sink.Wrote.TheVariants.{All}
@@ -18,7 +19,8 @@ use Rattle.adb_top.specs.ServedNote.{IsBefore, IsListening, IsServedLine, IsStat
 use Rattle.adb_top.specs.Tells.{CountsEnd, Tells}
 
 -- ---- a note that failed later failed over the whole, too
-tried_on : {rose wider : Type 0} {had : List ℕ} {after : Option (List ℕ)} → (rose → wider) → HasTried rose had after → HasTried wider had after
+tried_on : {rose wider : Type 0} {had : List ℕ} {after : Option (List ℕ)} → (rose → wider) → HasTried rose had after
+    → HasTried wider had after
 tried_on {rose = rose} {wider = wider} on t = record { last = t.last; whole = go t.whole; is = t.is }
   where
     go : {A B : Type 0} → A ⊎ (rose × B) → A ⊎ (wider × B)
@@ -183,7 +185,8 @@ module _ {N : Type 0} (n : Sight N) where
 
   -- A run that served, by how the server ended and how that was told.
   pub serves_of : (asked : Serving) (port : ℕ) (end : Served) (status : Status) (yard_steady yard_lasting : Type 0) (note mid after : N)
-      → port ≡ asked.port → (yard_steady → end ≢ served.RecordFault) → (yard_steady → end ≢ served.DoorFault) → (yard_lasting → end ≢ served.Done)
+      → port ≡ asked.port → (yard_steady → end ≢ served.RecordFault) → (yard_steady → end ≢ served.DoorFault)
+      → (yard_lasting → end ≢ served.Done)
       → Announces port end (n.told note) (n.told mid) → Counts n.steady n.faults note mid (is_write_fault end)
       → Tells end status n mid after → Serves asked status yard_steady yard_lasting n note after
   serves_of asked port end status yard_steady yard_lasting note mid after at no_record no_door not_done announced first tells =

@@ -202,7 +202,8 @@ module _ (result : Result (Unit {0}) Stop) (status : Status) (told : IsTold (not
   }
 
   pub replay_named : (a : Accepted) (left : Option (List ℕ)) (had : List ℕ) (before after : Option (List ℕ)) → EndsAs result a left
-      → ((notice_of (Replayed result)).is_made ≡ true → status ≡ Own (Replayed result) → TellsWrite before after (notice_of (Replayed result)).line All)
+      → ((notice_of (Replayed result)).is_made ≡ true → status ≡ Own (Replayed result)
+      → TellsWrite before after (notice_of (Replayed result)).line All)
       → status ≡ BadCapture → before ≡ Some had → IsNamed a had after
   replay_named a left had before after ends shows is has =
       let bad = bad_replay is in record {
@@ -217,14 +218,17 @@ starved_by : (refused : Option Refusal) (status : Status) → status ≡ OutOfMe
 starved_by None status is = inr is
 starved_by (Some why) status is = inr is
 
-pub completes_by : (result : Result (Unit {0}) Stop) (status : Status) (a : Accepted) (left : Option (List ℕ)) → IsWhole (Replayed result) status
+pub completes_by : (result : Result (Unit {0}) Stop) (status : Status) (a : Accepted) (left : Option (List ℕ))
+    → IsWhole (Replayed result) status
     → EndsAs result a left → result ≢ Err stop.ReadFault → result ≢ Err stop.WriteFault → CompletesBy status a.refused
 completes_by result status a left (inr unmade) ends reads writes = starved_by a.refused status unmade.1
-completes_by (Ok done) status a left (inl own) ends reads writes = subst (λ (r : Option Refusal). CompletesBy status r) (sym ends.0) (inl own)
+completes_by (Ok done) status a left (inl own) ends reads writes =
+    subst (λ (r : Option Refusal). CompletesBy status r) (sym ends.0) (inl own)
 completes_by (Err stop.ReadFault) status a left (inl own) ends reads writes = absurd (reads refl)
 completes_by (Err stop.WriteFault) status a left (inl own) ends reads writes = absurd (writes refl)
 completes_by (Err stop.OutOfMemory) status a left (inl own) ends reads writes = starved_by a.refused status own
-completes_by (Err (stop.Refused why)) status a left (inl own) ends reads writes = subst (λ (r : Option Refusal). CompletesBy status r) (sym ends) (inl own)
+completes_by (Err (stop.Refused why)) status a left (inl own) ends reads writes =
+    subst (λ (r : Option Refusal). CompletesBy status r) (sym ends) (inl own)
 
 -- ---- a load
 load_front : (result : Result (Unit {0}) LoadStop) (text had : List ℕ) (written : Option (List ℕ)) → WritesLines result text had written
@@ -238,7 +242,8 @@ load_done (Ok done) is = refl
 load_done (Err load.WriteFault) is = cc
 load_done _ is = cc
 
-load_starved : (result : Result (Unit {0}) LoadStop) → (Own (Generated result) ≡ OutOfMemory) ⊎ ((notice_of (Generated result)).is_made ≡ true)
+load_starved : (result : Result (Unit {0}) LoadStop) → (Own (Generated result) ≡ OutOfMemory)
+    ⊎ ((notice_of (Generated result)).is_made ≡ true)
     → result ≡ Err load.OutOfMemory
 load_starved (Err load.OutOfMemory) either = refl
 load_starved (Ok done) (inl is) = cc
@@ -275,7 +280,8 @@ check_done (Ok (judged.Legal entries)) is = (entries, refl)
 check_done (Err stop.ReadFault) is = cc
 check_done _ is = cc
 
-check_illegal : (result : Result Judgement Stop) → Own (Judged result) ≡ Illegal → (place : ℕ) × (rule : Rule) × (result ≡ Ok (judged.Illegal place rule))
+check_illegal : (result : Result Judgement Stop) → Own (Judged result) ≡ Illegal
+    → (place : ℕ) × (rule : Rule) × (result ≡ Ok (judged.Illegal place rule))
 check_illegal (Ok (judged.Illegal place rule)) is = (place, rule, refl)
 check_illegal (Err stop.ReadFault) is = cc
 check_illegal _ is = cc
@@ -303,7 +309,8 @@ check_unwritten (Ok (judged.Legal entries)) f had written w (inr is) = absurd (l
 check_unwritten (Ok (judged.Illegal place rule)) f had written w (inl is) = absurd (let clash : Illegal ≡ OutOfMemory = is in cc)
 check_unwritten (Ok (judged.Illegal place rule)) f had written w (inr is) = absurd (let clash : false ≡ true = is in cc)
 
-check_lost : (result : Result Judgement Stop) (f : Formed) (left : Option (List ℕ)) (had : List ℕ) (written : Option (List ℕ)) → JudgesSo result f left
+check_lost : (result : Result Judgement Stop) (f : Formed) (left : Option (List ℕ)) (had : List ℕ)
+    (written : Option (List ℕ)) → JudgesSo result f left
     → WritesSo result f had written → (written ≡ Some had) ⊎ LosesLine f had written
 check_lost (Ok judgement) f left had written j w =
     inr (record { judgement = judgement; comes = j.0; front = all_out (judged_line judgement) had written w })
@@ -334,16 +341,26 @@ module _ (result : Result Judgement Stop) (status : Status) (told : IsTold (noti
     bad_capture = λ is. (let d = bad_check is in (d.0, subst (λ (r : Result Judgement Stop). JudgesSo r f left) d.1 j));
   }
 
-  pub checks_by : (f : Formed) (left : Option (List ℕ)) (had : List ℕ) (written : Option (List ℕ)) → JudgesSo result f left → WritesSo result f had written
+  pub checks_by : (f : Formed) (left : Option (List ℕ)) (had : List ℕ) (written : Option (List ℕ))
+      → JudgesSo result f left → WritesSo result f had written
       → ChecksBy status f left had written
   checks_by f left had written j w = record {
     done = λ is. (let d = done_check is in
         let l = subst (λ (r : Result Judgement Stop). JudgesSo r f left) d.1 j in
         (d.0, l.0, l.1, subst (λ (r : Result Judgement Stop). WritesSo r f had written) d.1 w));
-    illegal = λ is. (let d = illegal_check is in
-        (d.0, d.1, (subst (λ (r : Result Judgement Stop). JudgesSo r f left) d.2 j).0, subst (λ (r : Result Judgement Stop). WritesSo r f had written) d.2 w));
-    bad_capture = λ is. (let d = bad_check is in
-        (d.0, subst (λ (r : Result Judgement Stop). JudgesSo r f left) d.1 j, subst (λ (r : Result Judgement Stop). WritesSo r f had written) d.1 w));
+    illegal = λ is. (let d = illegal_check is in (
+      d.0,
+      d.1,
+      (subst (λ (r : Result Judgement Stop). JudgesSo r f left) d.2 j).0,
+      subst
+          (λ (r : Result Judgement Stop). WritesSo r f had written) d.2 w,
+    ));
+    bad_capture = λ is. (let d = bad_check is in (
+      d.0,
+      subst (λ (r : Result Judgement Stop). JudgesSo r f left) d.1 j,
+      subst
+          (λ (r : Result Judgement Stop). WritesSo r f had written) d.1 w,
+    ));
     unwritten = unwritten;
     lost = λ is. check_lost result f left had written j w;
   }
@@ -354,7 +371,8 @@ module _ (result : Result Judgement Stop) (status : Status) (told : IsTold (noti
       unwritten (inr is) = check_unwritten result f had written w (told_starved (notice_of (Judged result)) status told is)
 
   pub form_named : (f : Formed) (left : Option (List ℕ)) (had : List ℕ) (before after : Option (List ℕ)) → JudgesSo result f left
-      → ((notice_of (Judged result)).is_made ≡ true → status ≡ Own (Judged result) → TellsWrite before after (notice_of (Judged result)).line All)
+      → ((notice_of (Judged result)).is_made ≡ true → status ≡ Own (Judged result)
+      → TellsWrite before after (notice_of (Judged result)).line All)
       → status ≡ BadCapture → before ≡ Some had → IsFormNamed f had after
   form_named f left had before after j shows is has =
       let d = bad_check is in record {
@@ -364,7 +382,8 @@ module _ (result : Result Judgement Stop) (status : Status) (told : IsTold (noti
             → TellsWrite before after (notice_of (Judged r)).line All) d.1 shows refl is had has;
       }
 
-pub completes_check_by : (result : Result Judgement Stop) (status : Status) (f : Formed) (left : Option (List ℕ)) → IsWhole (Judged result) status
+pub completes_check_by : (result : Result Judgement Stop) (status : Status) (f : Formed) (left : Option (List ℕ))
+    → IsWhole (Judged result) status
     → JudgesSo result f left → result ≢ Err stop.ReadFault → result ≢ Err stop.WriteFault → CompletesCheckBy status f
 completes_check_by result status f left (inr unmade) j reads writes =
     record { legal = λ none legal. inr unmade.1; refused = λ why ill. inr unmade.1; illegal = λ none. inr unmade.1 }
@@ -457,7 +476,8 @@ module _ (result : Result (Unit {0}) ScriptStop) (status : Status) (told : IsTol
   }
 
   pub line_named : (kind : ScriptKind) (bytes had : List ℕ) (before after : Option (List ℕ)) → first_bad kind bytes ≡ bad
-      → ((notice_of (Answered result)).is_made ≡ true → status ≡ Own (Answered result) → TellsWrite before after (notice_of (Answered result)).line All)
+      → ((notice_of (Answered result)).is_made ≡ true → status ≡ Own (Answered result)
+      → TellsWrite before after (notice_of (Answered result)).line All)
       → status ≡ BadScript → before ≡ Some had → IsLineNamed kind bytes had after
   line_named kind bytes had before after same shows is has =
       let d = bad_script is in record {
@@ -474,7 +494,8 @@ starved_script_by (Some line) status is = inr is
 pub completes_script_by : (result : Result (Unit {0}) ScriptStop) (status : Status) (bad : Option ℕ) → IsWhole (Answered result) status
     → RefusesAs result bad → result ≢ Err script.ReadFault → result ≢ Err script.WriteFault → CompletesScriptBy status bad
 completes_script_by result status bad (inr unmade) refuses reads writes = starved_script_by bad status unmade.1
-completes_script_by (Ok done) status bad (inl own) refuses reads writes = subst (λ (b : Option ℕ). CompletesScriptBy status b) (sym refuses) (inl own)
+completes_script_by (Ok done) status bad (inl own) refuses reads writes =
+    subst (λ (b : Option ℕ). CompletesScriptBy status b) (sym refuses) (inl own)
 completes_script_by (Err script.ReadFault) status bad (inl own) refuses reads writes = absurd (reads refl)
 completes_script_by (Err script.WriteFault) status bad (inl own) refuses reads writes = absurd (writes refl)
 completes_script_by (Err script.OutOfMemory) status bad (inl own) refuses reads writes = starved_script_by bad status own

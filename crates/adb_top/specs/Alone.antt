@@ -18,12 +18,14 @@ use Rattle.adb_top.specs.declared.status.Status.TheVariants.{Done, Usage, ReadFa
 use Rattle.adb_top.specs.declared.status.Status.TheVariants.{DoorFault, BadScript, Refused, BadAnswer, PortFault, TooLarge, Illegal}
 
 -- No count rose.
-pub record NoneRose {S K N : Type 0} (s : Sight S) (k : Sight K) (n : Sight N) (source source_new : S) (sink sink_new : K) (note note_new : N) : Type 0 where
+pub record NoneRose {S K N : Type 0} (s : Sight S) (k : Sight K) (n : Sight N) (source source_new : S)
+    (sink sink_new : K) (note note_new : N) : Type 0 where
   pub read : ¬ Rose s.faults source source_new
   pub write : ¬ Rose k.faults sink sink_new
   pub noted : ¬ Rose n.faults note note_new
 
--- How a command ended, what that left, which streams failed, and what the note then has of it: the line of the end, or a prefix of it if the note failed.
+-- How a command ended, what that left, which streams failed, and what the note then has of it: the line of the end,
+-- or a prefix of it if the note failed.
 pub record EndsAlone {A S K N : Type 0} (words : List (String A)) (status : Status) (s : Sight S) (k : Sight K) (n : Sight N)
     (source source_new : S) (sink sink_new : K) (note note_new : N) : Type 0 where
   pub end : CommandEnd
@@ -78,6 +80,7 @@ pub record RunsAlone {A S K N : Type 0} (words : List (String A)) (status : Stat
   pub checks : IsCheck words → NoneRose s k n source source_new sink sink_new note note_new → CompletesCheck status (s.told source)
   pub makes : (seed streams : ℕ) → IsLoad seed streams words → ¬ Rose k.faults sink sink_new → ¬ Rose n.faults note note_new
       → (status ≡ Done) ⊎ (status ≡ OutOfMemory)
-  pub runs : (seed : ℕ) → IsLocal seed words → NoneRose s k n source source_new sink sink_new note note_new → CompletesScript kinds.Local status (s.told source)
+  pub runs : (seed : ℕ) → IsLocal seed words → NoneRose s k n source source_new sink sink_new note note_new
+      → CompletesScript kinds.Local status (s.told source)
   pub runs_copy : (seed : ℕ) → IsCopy seed words → NoneRose s k n source source_new sink sink_new note note_new
       → CompletesScript kinds.Copy status (s.told source)

@@ -84,9 +84,11 @@ IsTold notice status =
 
 -- the line at hand, with the status that it belongs to
 abbrev pub IsAtHand : Notice → Status → List ℕ → Type 0
-IsAtHand notice status line = IsJust notice.status notice.line status line ⊎ ((notice.is_made ≡ true) × IsJust OutOfMemory out_of_memory_line status line)
+IsAtHand notice status line = IsJust notice.status notice.line status line
+    ⊎ ((notice.is_made ≡ true) × IsJust OutOfMemory out_of_memory_line status line)
 
--- The note has the line, and the status is told so. The note failed only if the status is WriteFault, unless the sink had failed before, and never if it never
+-- The note has the line, and the status is told so. The note failed only if the status is WriteFault, unless the sink
+-- had failed before, and never if it never
 -- fails.
 pub record TellsNotice {N : Type 0} (notice : Notice) (lost : Bool) (status : Status) (n : Sight N) (note note_new : N) : Type 0 where
   pub own : IsTold notice status

@@ -6,7 +6,8 @@ use Rattle.adb_history.specs.Refusal.{reason_text}
 use Rattle.adb_history.specs.declared.refusal.Refusal.{Refusal}
 use Rattle.adb_top.specs.Faults.{Rose}
 use Rattle.adb_top.specs.declared.status.Status.{Status}
-use Rattle.adb_top.specs.declared.status.Status.TheVariants.{Done, Usage, ReadFault, WriteFault, BadCapture, OutOfMemory, RecordFault, DoorFault, BadScript, Refused, BadAnswer, PortFault, TooLarge, Illegal}
+use Rattle.adb_top.specs.declared.status.Status.TheVariants.{Done, Usage, ReadFault, WriteFault, BadCapture, OutOfMemory, RecordFault}
+use Rattle.adb_top.specs.declared.status.Status.TheVariants.{DoorFault, BadScript, Refused, BadAnswer, PortFault, TooLarge, Illegal}
 
 -- the exit code of a status
 abbrev pub code_of : Status → ℕ
@@ -26,7 +27,8 @@ code_of TooLarge = 15
 code_of Illegal = 14
 
 abbrev pub usage_line : List ℕ
-usage_line = codes "usage: adbhub replay | gen <seed> <streams> | local <seed> | serve [--port <n>] [--device <serial>] [--connect <port>] [--record]"
+usage_line = codes
+    "usage: adbhub replay | gen <seed> <streams> | local <seed> | serve [--port <n>] [--device <serial>] [--connect <port>] [--record]"
     ++ codes " | devices | push <path> | pull <path> | shell <command> | wait <serial> <state> | check | copy <seed>\n"
 
 abbrev pub read_fault_line : List ℕ

@@ -107,7 +107,8 @@ abbrev pub IsLoadEnd : Status → Type 0
 IsLoadEnd status = (status ≡ Done) ⊎ (status ≡ WriteFault) ⊎ (status ≡ OutOfMemory)
 
 -- ---- a history that is judged
--- What the source alone tells: at Done its history is legal, and it was read to its end; at Illegal an entry of it is the first that may not come, so it is
+-- What the source alone tells: at Done its history is legal, and it was read to its end; at Illegal an entry of it is
+-- the first that may not come, so it is
 -- not legal; at BadCapture it is refused by form, and the entries before that are legal.
 pub record EndsCheckBy (status : Status) (f : Formed) (left : Option (List ℕ)) : Type 0 where
   pub done : status ≡ Done → (f.refused ≡ None) × IsPromised (history_of f) × (left ≡ Some [])
@@ -118,11 +119,13 @@ pub record EndsCheckBy (status : Status) (f : Formed) (left : Option (List ℕ))
 abbrev pub EndsCheck : {S : Type 0} → Status → (S → Option (List ℕ)) → S → S → Type 0
 EndsCheck status left old new = (capture : List ℕ) → left old ≡ Some capture → EndsCheckBy status (formed capture) (left new)
 
--- What went out of the line of what a history comes to: all of it at Done and Illegal; at WriteFault all, a front, or nothing of it; and nothing else.
+-- What went out of the line of what a history comes to: all of it at Done and Illegal; at WriteFault all, a front, or
+-- nothing of it; and nothing else.
 pub record ChecksBy (status : Status) (f : Formed) (left : Option (List ℕ)) (had : List ℕ) (written : Option (List ℕ)) : Type 0 where
   pub done : status ≡ Done → (entries : ℕ) × ComesTo (judged.Legal entries) f × (left ≡ Some [])
       × (written ≡ Some (had ++ judged_line (judged.Legal entries)))
-  pub illegal : status ≡ Illegal → (place : ℕ) × (rule : Rule) × ComesTo (judged.Illegal place rule) f × (written ≡ Some (had ++ illegal_line place rule))
+  pub illegal : status ≡ Illegal → (place : ℕ) × (rule : Rule) × ComesTo (judged.Illegal place rule) f
+      × (written ≡ Some (had ++ illegal_line place rule))
   pub bad_capture : status ≡ BadCapture → (why : Refusal) × IsIllFormed why f × (written ≡ Some had)
   pub unwritten : (status ≡ ReadFault) ⊎ (status ≡ OutOfMemory) → written ≡ Some had
   pub lost : status ≡ WriteFault → (written ≡ Some had) ⊎ LosesLine f had written
@@ -142,9 +145,11 @@ pub record IsFormNamed (f : Formed) (had : List ℕ) (after : Option (List ℕ))
 -- At BadCapture the note names why.
 abbrev pub NamesForm : {N : Type 0} → Status → Option (List ℕ) → (N → Option (List ℕ)) → N → N → Type 0
 NamesForm status left written old new =
-    status ≡ BadCapture → (capture had : List ℕ) → left ≡ Some capture → written old ≡ Some had → IsFormNamed (formed capture) had (written new)
+    status ≡ BadCapture → (capture had : List ℕ) → left ≡ Some capture → written old ≡ Some had
+    → IsFormNamed (formed capture) had (written new)
 
--- What a capture that is judged comes to, unless memory ran out: Done if it has its form and its entries are legal; BadCapture if it is refused by form and
+-- What a capture that is judged comes to, unless memory ran out: Done if it has its form and its entries are legal;
+-- BadCapture if it is refused by form and
 -- the entries before that are legal; Illegal if they are not.
 pub record CompletesCheckBy (status : Status) (f : Formed) : Type 0 where
   pub legal : f.refused ≡ None → IsLegal (history_of f) → (status ≡ Done) ⊎ (status ≡ OutOfMemory)
@@ -155,12 +160,14 @@ abbrev pub CompletesCheck : Status → Option (List ℕ) → Type 0
 CompletesCheck status left = (capture : List ℕ) → left ≡ Some capture → CompletesCheckBy status (formed capture)
 
 -- ---- a script
--- What went out: at Done all answer lines, and nothing where a line is refused; at WriteFault and OutOfMemory all, a front, or nothing of them.
+-- What went out: at Done all answer lines, and nothing where a line is refused; at WriteFault and OutOfMemory all, a
+-- front, or nothing of them.
 pub record AnswersBy (kind : ScriptKind) (status : Status) (script had : List ℕ) (written : Option (List ℕ)) : Type 0 where
   pub done : status ≡ Done → WritesLines kind script had written
   pub unwritten : (status ≡ ReadFault) ⊎ (status ≡ BadScript) → written ≡ Some had
   pub starved : status ≡ OutOfMemory → (written ≡ Some had) ⊎ StopsOut kind stop.OutOfMemory script had written
-  pub lost : status ≡ WriteFault → (written ≡ Some had) ⊎ StopsOut kind stop.OutOfMemory script had written ⊎ LosesLines kind script had written
+  pub lost : status ≡ WriteFault → (written ≡ Some had) ⊎ StopsOut kind stop.OutOfMemory script had written
+      ⊎ LosesLines kind script had written
 
 abbrev pub WritesAnswers : {K : Type 0} → ScriptKind → Status → Option (List ℕ) → (K → Option (List ℕ)) → K → K → Type 0
 WritesAnswers kind status left written old new =

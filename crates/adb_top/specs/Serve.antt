@@ -9,7 +9,8 @@ use Rattle.adb_top.specs.declared.status.Status.{Status}
 use Rattle.adb_top.specs.declared.status.Status.TheVariants.{Done, OutOfMemory}
 use Rattle.adb_top.specs.ServedNote.{ServesNote}
 
--- A server ends by a fault of its recorder or its door over no steady yard, and done over no lasting one. Over a steady yard, if the note did not
+-- A server ends by a fault of its recorder or its door over no steady yard, and done over no lasting one. Over a
+-- steady yard, if the note did not
 -- fail, it is done, or memory ran out. The note says how it ended.
 pub record Serves {N : Type 0} (asked : Serving) (status : Status) (yard_steady yard_lasting : Type 0) (n : Sight N)
     (note note_new : N) : Type 0 where

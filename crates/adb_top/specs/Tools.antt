@@ -12,9 +12,11 @@ use Rattle.adb_words.specs.declared.tool.Call.{Call}
 use Rattle.adb_words.specs.Tools.{tool_of}
 use Rattle.adb_words.specs.Words.{texts}
 use Rattle.adb_top.specs.Faults.{tells_write_fault}
-use Rattle.adb_top.specs.Notes.{usage_line, read_fault_line, write_fault_line, out_of_memory_line, port_fault_line, too_large_line, refused_line, bad_answer_line, IsJust, IsLineOr, WritesNote}
+use Rattle.adb_top.specs.Notes.{usage_line, read_fault_line, write_fault_line, out_of_memory_line, port_fault_line, too_large_line}
+use Rattle.adb_top.specs.Notes.{refused_line, bad_answer_line, IsJust, IsLineOr, WritesNote}
 use Rattle.adb_top.specs.declared.status.Status.{Status}
-use Rattle.adb_top.specs.declared.status.Status.TheVariants.{Done, Usage, ReadFault, WriteFault, OutOfMemory, Refused, BadAnswer, PortFault, TooLarge}
+use Rattle.adb_top.specs.declared.status.Status.TheVariants.{Done, Usage, ReadFault, WriteFault, OutOfMemory, Refused, BadAnswer, PortFault}
+use Rattle.adb_top.specs.declared.status.Status.TheVariants.{TooLarge}
 
 -- The status that an end may have: its own, or what a note that failed over its line makes of it, or want of memory for the line.
 abbrev pub IsStatusOf : ToolEnd → Status → Type 0

@@ -1,5 +1,6 @@
 -- The files that a script names are few, and may be copied.
-use Rattle.std.proofs.Common.{ℕ, ◌+◌, ◌-◌, ◌^◌, ◌≡◌, ◌<◌, ◌≤◌, ◌&&◌, Bool, true, false, cond, List, [], ◌∷◌, length, Option, Some, None, Result, Ok, Err}
+use Rattle.std.proofs.Common.{ℕ, ◌+◌, ◌-◌, ◌^◌, ◌≡◌, ◌<◌, ◌≤◌, ◌&&◌, Bool, true, false, cond, List, [], ◌∷◌, length, Option, Some, None}
+use Rattle.std.proofs.Common.{Result, Ok, Err}
 use Rattle.std.proofs.Common.{refl, ap, subst, arith}
 use Rattle.std.specs.Prelude.{All, nat_le, option_and_then}
 use Rattle.std.specs.declared.cmp.Ordering.{Ordering}
@@ -25,7 +26,8 @@ use Rattle.adb_trees.specs.declared.line.FileLine.{FileLine}
 use Rattle.adb_trees.specs.declared.line.TheConstants.{DIGITS}
 use Rattle.adb_trees.specs.Lines.{file_line, line_of_words, mode_of, mtime_of, size_of, said}
 use Rattle.adb_trees.specs.Trees as trees
-use Rattle.adb_trees.specs.Trees.{AreNamed, IsNamed, Tree, behind_line, file_of, is_refused, no_tree, read, reads_from, then_reads, with_line}
+use Rattle.adb_trees.specs.Trees.{AreNamed, IsNamed, Tree, behind_line, file_of, is_refused, no_tree, read, reads_from, then_reads}
+use Rattle.adb_trees.specs.Trees.{with_line}
 
 -- ---- a line
 bounds : (least most : ℕ) (o : Option ℕ) (n : ℕ) → option_and_then (λ m. cond (nat_le least m && nat_le m most) (Some m) None) o ≡ Some n
@@ -51,7 +53,8 @@ pub record IsLine (line : FileLine) : Type 0 where
 short_word : (path : List ℕ) → is_word path ≡ true → length path ≤ MAX_WORD
 short_word path is = grind (arith, nat_tests, is)
 
-by_numbers : (path mode mtime : List ℕ) (a b c : Option ℕ) (line : FileLine) → mode_of mode ≡ a → mtime_of mtime ≡ b → file_line path a b c ≡ Some line
+by_numbers : (path mode mtime : List ℕ) (a b c : Option ℕ) (line : FileLine) → mode_of mode ≡ a → mtime_of mtime ≡ b
+    → file_line path a b c ≡ Some line
     → IsLine line
 by_numbers path mode mtime None b c line is when e = absurd (let clash : None ≡ Some line = e in cc)
 by_numbers path mode mtime (Some a) None c line is when e = absurd (let clash : None ≡ Some line = e in cc)
@@ -75,7 +78,8 @@ by_words [] line e = absurd (let clash : None ≡ Some line = e in cc)
 by_words (a ∷ []) line e = absurd (let clash : None ≡ Some line = e in cc)
 by_words (a ∷ b ∷ []) line e = absurd (let clash : None ≡ Some line = e in cc)
 by_words (a ∷ b ∷ c ∷ []) line e = absurd (let clash : None ≡ Some line = e in cc)
-by_words (path ∷ mode ∷ mtime ∷ size ∷ []) line e = by_numbers path mode mtime (mode_of mode) (mtime_of mtime) (size_of size) line refl refl e
+by_words (path ∷ mode ∷ mtime ∷ size ∷ []) line e = by_numbers path mode mtime (mode_of mode) (mtime_of mtime)
+    (size_of size) line refl refl e
 by_words (a ∷ b ∷ c ∷ d ∷ f ∷ more) line e = absurd (let clash : None ≡ Some line = e in cc)
 
 -- ---- one file more
@@ -93,7 +97,8 @@ parts_few path (e ∷ files) = go (is_lt (path_cmp e.path path)) refl (is_lt (pa
   where
     go : (a : Bool) → is_lt (path_cmp e.path path) ≡ a → (b : Bool) → is_lt (path_cmp path e.path) ≡ b
         → length (before path files) + length (behind path files) ≤ length files
-        → length (cond a (e ∷ before path files) (before path files)) + length (cond b (e ∷ behind path files) (behind path files)) ≤ length (e ∷ files)
+        → length (cond a (e ∷ before path files) (before path files))
+        + length (cond b (e ∷ behind path files) (behind path files)) ≤ length (e ∷ files)
     go true less true more few = absurd (let other = never_both e.path path less in cc)
     go true less false more few = omega (arith, few)
     go false less true more few = omega (arith, few)
@@ -125,14 +130,16 @@ record Names (lines : ℕ) (files : List Entry) : Type 0 where
 with_named : (lines : ℕ) (tree : Tree) (line : FileLine) → Names lines tree.files → IsLine line → lines + 1 ≤ MAX_LINES
     → Names (lines + 1) (with_line tree line).files
 with_named lines tree line old is within = record {
-  each = all-with IsNamed line.path (file_of line) tree.files old.each (record { path = is.path; least = is.least; most = is.most; mtime = is.mtime });
+  each = all-with IsNamed line.path (file_of line) tree.files old.each
+      (record { path = is.path; least = is.least; most = is.most; mtime = is.mtime });
   few = (let few = old.few in omega (arith, few, one_more line.path (file_of line) tree.files));
   within = within;
 }
 
 -- what a line that is taken leaves
 module _ (lines end : ℕ) (tree : Tree) (line : List ℕ) (old : Names lines tree.files) where
-  by_line : (o : Option FileLine) (next : Tree) → said line ≡ o → lines + 1 ≤ MAX_LINES → trees.behind tree o ≡ Some next → Names (lines + 1) next.files
+  by_line : (o : Option FileLine) (next : Tree) → said line ≡ o → lines + 1 ≤ MAX_LINES
+      → trees.behind tree o ≡ Some next → Names (lines + 1) next.files
   by_line None next says within e = absurd (let clash : None ≡ Some next = e in cc)
   by_line (Some named) next says within e = go (is_refused tree named) e
     where
@@ -148,21 +155,30 @@ module _ (lines end : ℕ) (tree : Tree) (line : List ℕ) (old : Names lines tr
   next_named : (next : Tree) → behind_line (lines + 1) end tree line ≡ Some next → Names (lines + 1) next.files
   next_named next e = go (is_too_far (lines + 1) end) refl e
     where
-      go : (t : Bool) → is_too_far (lines + 1) end ≡ t → cond t None (trees.behind tree (said line)) ≡ Some next → Names (lines + 1) next.files
+      go : (t : Bool) → is_too_far (lines + 1) end ≡ t → cond t None (trees.behind tree (said line)) ≡ Some next
+          → Names (lines + 1) next.files
       go true far e = absurd (let clash : None ≡ Some next = e in cc)
       go false far e = by_line (said line) next refl (grind (arith, nat_tests, far)) e
 
-all_from : (lines : List (List ℕ)) (number before : ℕ) (tree final : Tree) → Names number tree.files → reads_from (number + 1) before tree lines ≡ Ok final
+all_from : (lines : List (List ℕ)) (number before : ℕ) (tree final : Tree) → Names number tree.files
+    → reads_from (number + 1) before tree lines ≡ Ok final
     → AreNamed final.files
 all_from [] number before tree final old e =
     let same : tree ≡ final = (let both : ◌≡◌ {A = Result Tree ℕ} (Ok tree) (Ok final) = e in cc) in
-    subst (λ (t : Tree). AreNamed t.files) same (record { each = old.each; few = (let few = old.few in let within = old.within in omega (arith, few, within)) })
+    subst (λ (t : Tree). AreNamed t.files) same
+    (record {
+      each = old.each;
+      few = (let few = old.few in let within = old.within in omega (arith, few, within));
+    })
 all_from (line ∷ lines) number before tree final old e =
-    go (behind_line (number + 1) (before + length line) tree line) refl (λ next. all_from lines (number + 1) (before + length line) next final) e
+    go (behind_line (number + 1) (before + length line) tree line) refl
+    (λ next. all_from lines (number + 1) (before + length line) next final) e
   where
     go : (o : Option Tree) → behind_line (number + 1) (before + length line) tree line ≡ o
-        → ((next : Tree) → Names (number + 1) next.files → reads_from (number + 1 + 1) (before + length line) next lines ≡ Ok final → AreNamed final.files)
-        → then_reads (number + 1) o (λ next. reads_from (number + 1 + 1) (before + length line) next lines) ≡ Ok final → AreNamed final.files
+        → ((next : Tree) → Names (number + 1) next.files → reads_from (number + 1 + 1) (before + length line) next
+        lines ≡ Ok final → AreNamed final.files)
+        → then_reads (number + 1) o (λ next. reads_from (number + 1 + 1) (before + length line) next lines) ≡ Ok final
+        → AreNamed final.files
     go None is more e = absurd (let clash : ◌≡◌ {A = Result Tree ℕ} (Err (number + 1)) (Ok final) = e in cc)
     go (Some next) is more e = more next (next_named number (before + length line) tree line old next is) e
 

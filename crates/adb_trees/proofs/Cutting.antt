@@ -5,7 +5,8 @@ use Rattle.adb_script.proofs.Cutting.{some_words}
 use Rattle.adb_trees.specs.Lines.{line_of_words}
 
 -- a line of five words and more names none
-pub five_words : (text path one mode two mtime three size more : List ℕ) → words_of text ≡ path ∷ words_of one → words_of one ≡ mode ∷ words_of two
+pub five_words : (text path one mode two mtime three size more : List ℕ) → words_of text ≡ path ∷ words_of one
+    → words_of one ≡ mode ∷ words_of two
     → words_of two ≡ mtime ∷ words_of three → words_of three ≡ size ∷ words_of more → None ≡ line_of_words (words_of text)
 five_words text path one mode two mtime three size more a b c d =
     let many : line_of_words (path ∷ mode ∷ mtime ∷ size ∷ words_of more) ≡ None = go (words_of more) (some_words more) in

@@ -1,5 +1,6 @@
 -- Files of which the sizes are kept: what is known of the one at a path, and one more.
-use Rattle.std.proofs.Common.{ℕ, ◌+◌, ◌*◌, ◌^◌, ◌≡◌, ◌<◌, ◌≤◌, Bool, true, false, cond, List, [], ◌∷◌, length, Some, None, option_map, is_some}
+use Rattle.std.proofs.Common.{ℕ, ◌+◌, ◌*◌, ◌^◌, ◌≡◌, ◌<◌, ◌≤◌, Bool, true, false, cond, List, [], ◌∷◌, length, Some, None, option_map}
+use Rattle.std.proofs.Common.{is_some}
 use Rattle.std.proofs.Common.{Result, Ok, Err, refl, ◌∙◌, ap, sym, subst, arith, append-nil}
 use Rattle.std.specs.Prelude.{All, IfOk, OnErr, bytes_eq}
 use Rattle.std.specs.List.{find}
@@ -28,12 +29,14 @@ use Rattle.adb_trees.proofs.AllNamed.{never_both}
 use Rattle.adb_trees.proofs.Shadows.{put_refusal-kept, with_file-kept}
 
 -- what holds of each file holds of the one at a path
-pub found : (P : Entry → Type 0) (path : List ℕ) (files : List Entry) (file : File) → All P files → file_at path files ≡ Some file → P (entry_of path file)
+pub found : (P : Entry → Type 0) (path : List ℕ) (files : List Entry) (file : File) → All P files
+    → file_at path files ≡ Some file → P (entry_of path file)
 found P path [] file all is = absurd (let clash : None ≡ Some file = is in cc)
 found P path (e ∷ files) file all is = go (bytes_eq e.path path) refl (found P path files file (All-tail P e files all)) is
   where
     go : (b : Bool) → bytes_eq e.path path ≡ b → (file_at path files ≡ Some file → P (entry_of path file))
-        → option_map (λ (x : Entry). x.file) (cond b (Some e) (find (λ (x : Entry). bytes_eq x.path path) files)) ≡ Some file → P (entry_of path file)
+        → option_map (λ (x : Entry). x.file) (cond b (Some e) (find (λ (x : Entry). bytes_eq x.path path) files))
+        ≡ Some file → P (entry_of path file)
     go true at more is =
         let there : e.path ≡ path = (bytes_eq-Decides e.path path).0 at in
         let same : e.file ≡ file = cc in
@@ -56,7 +59,8 @@ parts_less path (e ∷ files) = go (is_lt (path_cmp e.path path)) refl (is_lt (p
 
     go : (a : Bool) → is_lt (path_cmp e.path path) ≡ a → (b : Bool) → is_lt (path_cmp path e.path) ≡ b
         → total (before path files) + total (behind path files) ≤ total files
-        → total (cond a (e ∷ before path files) (before path files)) + total (cond b (e ∷ behind path files) (behind path files)) ≤ total (e ∷ files)
+        → total (cond a (e ∷ before path files) (before path files))
+        + total (cond b (e ∷ behind path files) (behind path files)) ≤ total (e ∷ files)
     go true less true more few = absurd (let other = never_both e.path path less in cc)
     go true less false more few = omega (arith, few, all, first)
     go false less true more few = omega (arith, few, all, last)
@@ -80,7 +84,8 @@ module _ (line : FileLine) (bytes : List ℕ) (old : List Entry) (is : bytes ≡
   reads : little_number 4 bytes ≡ line.size
   reads =
       ap (little_number 4) is
-      ∙ subst (λ (bs : List ℕ). little_number 4 bs ≡ line.size) (append-nil (little_bytes 4 line.size)) (little_number-reads_back 4 line.size [] size)
+      ∙ subst (λ (bs : List ℕ). little_number 4 bs ≡ line.size) (append-nil (little_bytes 4 line.size))
+      (little_number-reads_back 4 line.size [] size)
 
   named : named_entry (entry_of line.path kept_file) ≡ entry_of line.path (file_of line)
   named = ap (λ (n : ℕ). entry_of line.path (record { mode = line.mode; mtime = line.mtime; bytes = pattern 0 n })) reads
@@ -90,7 +95,8 @@ module _ (line : FileLine) (bytes : List ℕ) (old : List Entry) (is : bytes ≡
 
   room_after : total (named_files (with_file line.path kept_file old)) ≤ MAX_TREE
   room_after =
-      let all : total (named_files (with_file line.path kept_file old)) ≡ total (with_file line.path (file_of line) (named_files old)) = ap total stored in
+      let all : total (named_files (with_file line.path kept_file old))
+      ≡ total (with_file line.path (file_of line) (named_files old)) = ap total stored in
       omega (
         arith,
         all,
@@ -115,9 +121,11 @@ module _ (line : FileLine) (bytes : List ℕ) (old : List Entry) (is : bytes ≡
 
   same_refusal : put_refusal (named_files old) line.path line.size ≡ put_refusal old line.path (length bytes)
   same_refusal =
-      put_refusal-kept named_entry (λ e. refl) line.path (length bytes) line.size old fits (omega (arith, less_without line.path (named_files old), room))
+      put_refusal-kept named_entry (λ e. refl) line.path (length bytes) line.size old fits
+      (omega (arith, less_without line.path (named_files old), room))
 
-  puts_named : (put : Bool) (new : List Entry) → Puts put line.path kept_file old new → PutsLine put line (named_files old) (named_files new)
+  puts_named : (put : Bool) (new : List Entry) → Puts put line.path kept_file old new
+      → PutsLine put line (named_files old) (named_files new)
   puts_named true new p = (same_refusal ∙ p.0, ap named_files p.1 ∙ stored)
   puts_named false new p = (ap is_some same_refusal ∙ p.0, ap named_files p.1)
 

@@ -20,7 +20,8 @@ begins script = record {
 }
 
 -- what is known of the first line of what is left
-module _ (script rest text more : List ℕ) (lines : ℕ) (tree : Tree) (cuts : CutsLine rest text more) (old : Reads script rest lines tree) where
+module _ (script rest text more : List ℕ) (lines : ℕ) (tree : Tree) (cuts : CutsLine rest text more)
+    (old : Reads script rest lines tree) where
   abbrev first : List ℕ
   first = take (length rest - length more) rest
 
@@ -34,14 +35,19 @@ module _ (script rest text more : List ℕ) (lines : ℕ) (tree : Tree) (cuts : 
   says = ap line_of cuts.before_newline
 
   -- the whole is read as what is left is
-  whole : then_reads (lines + 1) (behind_line (lines + 1) end tree first) (λ next. reads_from (lines + 1 + 1) end next (lines_of more)) ≡ read script
-  whole = ap (λ (n : ℕ). then_reads (lines + 1) (behind_line (lines + 1) n tree first) (λ next. reads_from (lines + 1 + 1) n next (lines_of more)))
+  whole : then_reads (lines + 1) (behind_line (lines + 1) end tree first)
+      (λ next. reads_from (lines + 1 + 1) end next (lines_of more)) ≡ read script
+  whole = ap (λ (n : ℕ). then_reads (lines + 1) (behind_line (lines + 1) n tree first)
+      (λ next. reads_from (lines + 1 + 1) n next (lines_of more)))
       (sym at_end)
       ∙ (ap (λ (ls : List (List ℕ)). reads_from (lines + 1) (length script - length rest) tree ls) (sym cuts.first) ∙ old.so)
 
   refused : behind_line (lines + 1) end tree first ≡ None → first_bad script ≡ Some (lines + 1)
   refused is =
-      ap result_err (sym whole ∙ ap (λ (o : Option Tree). then_reads (lines + 1) o (λ next. reads_from (lines + 1 + 1) end next (lines_of more))) is)
+      ap result_err
+      (sym whole ∙ ap
+      (λ (o : Option Tree). then_reads (lines + 1) o
+      (λ next. reads_from (lines + 1 + 1) end next (lines_of more))) is)
 
   -- it stands too far behind
   pub refused_far : is_too_far (lines + 1) end ≡ true → first_bad script ≡ Some (lines + 1)
@@ -56,7 +62,8 @@ module _ (script rest text more : List ℕ) (lines : ℕ) (tree : Tree) (cuts : 
   pub reads_line : (next : Tree) → is_too_far (lines + 1) end ≡ false → lines + 1 ≤ MAX_LINES → behind tree (line_of text) ≡ Some next
       → Reads script more (lines + 1) next
   reads_line next is few taken = record {
-    so = sym (ap (λ (o : Option Tree). then_reads (lines + 1) o (λ next. reads_from (lines + 1 + 1) end next (lines_of more))) (near is ∙ taken)) ∙ whole;
+    so = sym (ap (λ (o : Option Tree). then_reads (lines + 1) o
+        (λ next. reads_from (lines + 1 + 1) end next (lines_of more))) (near is ∙ taken)) ∙ whole;
     within = omega (arith, cuts.shorter, old.within);
     few = few;
     files = (let grown = grows_by_one tree next (line_of text) taken in let files = old.files in omega (arith, grown, files));

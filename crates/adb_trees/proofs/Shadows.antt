@@ -1,5 +1,6 @@
 -- What is said of files by their paths alone holds as well where each has become another file at its path.
-use Rattle.std.proofs.Common.{ℕ, ◌+◌, ◌^◌, ◌≡◌, ◌<◌, ◌≤◌, ◌&&◌, ◌||◌, Bool, true, false, cond, not, List, [], ◌∷◌, ◌++◌, length, map, filter}
+use Rattle.std.proofs.Common.{ℕ, ◌+◌, ◌^◌, ◌≡◌, ◌<◌, ◌≤◌, ◌&&◌, ◌||◌, Bool, true, false, cond, not, List, [], ◌∷◌, ◌++◌, length, map}
+use Rattle.std.proofs.Common.{filter}
 use Rattle.std.proofs.Common.{Option, Some, None, option_map, is_some, slice_get, slice_index_or, refl, ◌∙◌, ap, sym, subst}
 use Rattle.std.specs.Prelude.{All, nat_eq, nat_lt, codes, bytes_eq}
 use Rattle.std.specs.List.{find, list_any, starts_with}
@@ -14,13 +15,15 @@ use Rattle.adb_files.specs.declared.file.FileError.{FileError}
 use Rattle.adb_files.specs.declared.file.FileError.TheVariants.{BadPath, IsDirectory, NotDirectory, NoSpace}
 use Rattle.adb_files.specs.declared.files.TheConstants.{MAX_STORED}
 use Rattle.adb_files.specs.Entries.{Entry}
-use Rattle.adb_files.specs.Files.{IsFileMap, IsRising, before, behind, file_at, is_directory, is_under_file, next_path, put_refusal, total, with_file, without}
+use Rattle.adb_files.specs.Files.{IsFileMap, IsRising, before, behind, file_at, is_directory, is_under_file, next_path, put_refusal, total}
+use Rattle.adb_files.specs.Files.{with_file, without}
 use Rattle.adb_files.specs.Paths.{is_below, is_path, path_cmp}
 use Rattle.adb_files.proofs.Rising.{entry_of}
 
 -- g leaves each path
 module _ (g : Entry → Entry) (keeps : (e : Entry) → (g e).path ≡ e.path) where
-  filter-kept : (t : List ℕ → Bool) (files : List Entry) → filter (λ (e : Entry). t e.path) (map g files) ≡ map g (filter (λ (e : Entry). t e.path) files)
+  filter-kept : (t : List ℕ → Bool) (files : List Entry) → filter (λ (e : Entry). t e.path) (map g files)
+      ≡ map g (filter (λ (e : Entry). t e.path) files)
   filter-kept t [] = refl
   filter-kept t (e ∷ files) = tested ∙ go (t e.path) (filter-kept t files)
     where
@@ -52,7 +55,8 @@ module _ (g : Entry → Entry) (keeps : (e : Entry) → (g e).path ≡ e.path) w
       ∙ (ap (λ (e : Entry). map g (before path files) ++ e ∷ map g (behind path files)) (sym is)
       ∙ sym (map-append g (before path files) (entry_of path file ∷ behind path files))))
 
-  find-kept : (t : List ℕ → Bool) (files : List Entry) → find (λ (e : Entry). t e.path) (map g files) ≡ option_map g (find (λ (e : Entry). t e.path) files)
+  find-kept : (t : List ℕ → Bool) (files : List Entry) → find (λ (e : Entry). t e.path) (map g files)
+      ≡ option_map g (find (λ (e : Entry). t e.path) files)
   find-kept t [] = refl
   find-kept t (e ∷ files) = tested ∙ go (t e.path) (find-kept t files)
     where
@@ -75,7 +79,8 @@ module _ (g : Entry → Entry) (keeps : (e : Entry) → (g e).path ≡ e.path) w
       ap (λ (o : Option Entry). is_some (option_map (λ (e : Entry). e.file) o)) (find-kept (λ p. bytes_eq p path) files)
       ∙ go (find (λ (e : Entry). bytes_eq e.path path) files)
     where
-      go : (o : Option Entry) → is_some (option_map (λ (e : Entry). e.file) (option_map g o)) ≡ is_some (option_map (λ (e : Entry). e.file) o)
+      go : (o : Option Entry) → is_some (option_map (λ (e : Entry). e.file) (option_map g o))
+          ≡ is_some (option_map (λ (e : Entry). e.file) o)
       go None = refl
       go (Some e) = refl
 
@@ -83,7 +88,8 @@ module _ (g : Entry → Entry) (keeps : (e : Entry) → (g e).path ≡ e.path) w
   pub file_at-kept : (h : File → File) → ((e : Entry) → (g e).file ≡ h e.file) → (path : List ℕ) (files : List Entry)
       → file_at path (map g files) ≡ option_map h (file_at path files)
   file_at-kept h is path files =
-      ap (option_map (λ (e : Entry). e.file)) (find-kept (λ p. bytes_eq p path) files) ∙ go (find (λ (e : Entry). bytes_eq e.path path) files)
+      ap (option_map (λ (e : Entry). e.file)) (find-kept (λ p. bytes_eq p path) files)
+      ∙ go (find (λ (e : Entry). bytes_eq e.path path) files)
     where
       go : (o : Option Entry) → option_map (λ (e : Entry). e.file) (option_map g o) ≡ option_map h (option_map (λ (e : Entry). e.file) o)
       go None = refl
@@ -93,14 +99,17 @@ module _ (g : Entry → Entry) (keeps : (e : Entry) → (g e).path ≡ e.path) w
   next_path-kept after files =
       ap (λ (es : List Entry). option_map (λ (e : Entry). e.path) (slice_get es 0)) (behind-kept after files) ∙ go (behind after files)
     where
-      go : (es : List Entry) → option_map (λ (e : Entry). e.path) (slice_get (map g es) 0) ≡ option_map (λ (e : Entry). e.path) (slice_get es 0)
+      go : (es : List Entry) → option_map (λ (e : Entry). e.path) (slice_get (map g es) 0)
+          ≡ option_map (λ (e : Entry). e.path) (slice_get es 0)
       go [] = refl
       go (e ∷ es) = ap Some (keeps e)
 
-  list_any-kept : (t : List ℕ → Bool) (files : List Entry) → list_any (λ (e : Entry). t e.path) (map g files) ≡ list_any (λ (e : Entry). t e.path) files
+  list_any-kept : (t : List ℕ → Bool) (files : List Entry) → list_any (λ (e : Entry). t e.path) (map g files)
+      ≡ list_any (λ (e : Entry). t e.path) files
   list_any-kept t [] = refl
   list_any-kept t (e ∷ files) =
-      ap (λ (p : List ℕ). t p || list_any (λ (x : Entry). t x.path) (map g files)) (keeps e) ∙ ap (λ (b : Bool). t e.path || b) (list_any-kept t files)
+      ap (λ (p : List ℕ). t p || list_any (λ (x : Entry). t x.path) (map g files)) (keeps e)
+      ∙ ap (λ (b : Bool). t e.path || b) (list_any-kept t files)
 
   pub is_directory-kept : (path : List ℕ) (files : List Entry) → is_directory (map g files) path ≡ is_directory files path
   is_directory-kept path files = ap (λ (b : Bool). is_path path && (bytes_eq path (codes "/") || b)) (list_any-kept (is_below path) files)
@@ -117,27 +126,32 @@ module _ (g : Entry → Entry) (keeps : (e : Entry) → (g e).path ≡ e.path) w
       ∙ (ap (λ (u : Bool). refusal (is_directory files path) u (nat_lt MAX_STORED (total (without path (map g files)) + other)))
       (is_under_file-kept path files)
       ∙ ap (refusal (is_directory files path) (is_under_file files path))
-      (le-ltb MAX_STORED (total (without path (map g files)) + other) room ∙ sym (le-ltb MAX_STORED (total (without path files) + size) fits)))
+      (le-ltb MAX_STORED (total (without path (map g files)) + other) room
+      ∙ sym (le-ltb MAX_STORED (total (without path files) + size) fits)))
     where
       refusal : Bool → Bool → Bool → Option FileError
       refusal directory under large =
-          cond (not (is_path path)) (Some BadPath) (cond directory (Some IsDirectory) (cond under (Some NotDirectory) (cond large (Some NoSpace) None)))
+          cond (not (is_path path)) (Some BadPath)
+          (cond directory (Some IsDirectory) (cond under (Some NotDirectory) (cond large (Some NoSpace) None)))
 
   paths-kept : (files : List Entry) → map (λ (e : Entry). e.path) (map g files) ≡ map (λ (e : Entry). e.path) files
   paths-kept [] = refl
   paths-kept (e ∷ files) =
-      ap (λ (p : List ℕ). p ∷ map (λ (x : Entry). x.path) (map g files)) (keeps e) ∙ ap (λ (ps : List (List ℕ)). e.path ∷ ps) (paths-kept files)
+      ap (λ (p : List ℕ). p ∷ map (λ (x : Entry). x.path) (map g files)) (keeps e)
+      ∙ ap (λ (ps : List (List ℕ)). e.path ∷ ps) (paths-kept files)
 
   pub rising-kept : (files : List Entry) → IsRising files → IsRising (map g files)
   rising-kept files up = subst (IsStrictlySortedBy path_cmp) (sym (paths-kept files)) up
 
   -- what holds of each path
-  pub all-kept : (P : List ℕ → Type 0) (files : List Entry) → All (λ (e : Entry). P e.path) files → All (λ (e : Entry). P e.path) (map g files)
+  pub all-kept : (P : List ℕ → Type 0) (files : List Entry) → All (λ (e : Entry). P e.path) files
+      → All (λ (e : Entry). P e.path) (map g files)
   all-kept P files all =
       All-map (λ (e : Entry). P e.path) g files (λ k d lt. subst P (sym (keeps (slice_index_or files k d))) (all k d lt))
 
   -- files are a map again, where their modes and times have their width and there is room for them
-  pub is_map-kept : (files : List Entry) → All (λ (e : Entry). (g e).file.mode < 2 ^ 32) files → All (λ (e : Entry). (g e).file.mtime < 2 ^ 32) files
+  pub is_map-kept : (files : List Entry) → All (λ (e : Entry). (g e).file.mode < 2 ^ 32) files
+      → All (λ (e : Entry). (g e).file.mtime < 2 ^ 32) files
       → total (map g files) ≤ MAX_STORED → IsFileMap files → IsFileMap (map g files)
   is_map-kept files modes times room old = record {
     rising = rising-kept files old.rising;

@@ -1,5 +1,6 @@
 -- The file of a line is taken behind a tree, or it is refused.
-use Rattle.std.proofs.Common.{ℕ, ◌+◌, ◌≡◌, ◌≤◌, ◌||◌, arith, Bool, true, false, cond, not, List, Option, Some, None, refl, ◌∙◌, ap, sym, subst}
+use Rattle.std.proofs.Common.{ℕ, ◌+◌, ◌≡◌, ◌≤◌, ◌||◌, arith, Bool, true, false, cond, not, List, Option, Some, None, refl, ◌∙◌, ap, sym}
+use Rattle.std.proofs.Common.{subst}
 use Rattle.std.specs.Prelude.{is_some, nat_lt}
 use Rattle.adb_files.specs.declared.file.FileError.{FileError}
 use Rattle.adb_files.specs.Entries.{Entry}
@@ -26,7 +27,8 @@ by_put false named large = refl
 by_put true false true = refl
 by_put true false false = refl
 
-by_none : (form named large refused : Bool) → form ≡ true → (named || large) ≡ false → refused ≡ false → (not form || named || large || refused) ≡ false
+by_none : (form named large refused : Bool) → form ≡ true → (named || large) ≡ false → refused ≡ false
+    → (not form || named || large || refused) ≡ false
 by_none true false false false f n r = refl
 by_none form true large refused f n r = absurd (cc)
 by_none form false true refused f n r = absurd (cc)
@@ -56,7 +58,8 @@ module _ (tree : Tree) (line : FileLine) where
       ap (λ (t : Bool). not (is_path line.path) || named || large || t) is ∙ by_put (is_path line.path) named large in
       (sym (refused all), same)
 
-  pub taken : (new : Tree) → (named || large) ≡ false → refusal ≡ None → new ≡ with_line tree line → Takes true (behind tree (Some line)) tree new
+  pub taken : (new : Tree) → (named || large) ≡ false → refusal ≡ None → new ≡ with_line tree line
+      → Takes true (behind tree (Some line)) tree new
   taken new free put is =
       let none : is_refused tree line ≡ false =
       by_none (is_path line.path) named large (is_some refusal) (granted tree.files line.path line.size put).form free (ap is_some put) in
@@ -71,7 +74,8 @@ module _ (files new : List Entry) (size : ℕ) (line : FileLine) where
       → Takes false (behind tree_before (Some line)) tree_before (record { files = new; size = size })
   line_refused put is p =
       let no_put = subst (λ (b : Bool). PutsLine b line files new) is p in
-      refused_put tree_before line (record { files = new; size = size }) no_put.0 (ap (λ (fs : List Entry). record { files = fs; size = size }) no_put.1)
+      refused_put tree_before line (record { files = new; size = size }) no_put.0
+      (ap (λ (fs : List Entry). record { files = fs; size = size }) no_put.1)
 
   pub line_taken : (put : Bool) → put ≡ true → PutsLine put line files new → is_some (file_at line.path files) ≡ false
       → nat_lt MAX_TREE (size + line.size) ≡ false

@@ -1,5 +1,6 @@
 -- The tree of files that the lines of a script name, and the first line that is refused.
-use Rattle.std.specs.Prelude.{ℕ, ◌+◌, ◌-◌, ◌^◌, ◌≡◌, ◌<◌, ◌≤◌, ◌||◌, nat_lt, if◌then◌else◌, Bool, true, false, not, List, [], ◌∷◌, length, All}
+use Rattle.std.specs.Prelude.{ℕ, ◌+◌, ◌-◌, ◌^◌, ◌≡◌, ◌<◌, ◌≤◌, ◌||◌, nat_lt, if◌then◌else◌, Bool, true, false, not, List, [], ◌∷◌, length}
+use Rattle.std.specs.Prelude.{All}
 use Rattle.std.specs.Prelude.{Option, Some, None, is_some, option_map, Result, Ok, Err}
 use Rattle.std.specs.Result.{result_ok, result_err}
 use Rattle.adb_files.specs.declared.file.File.{File}
@@ -27,7 +28,8 @@ no_tree = record { files = []; size = 0 }
 abbrev pub file_of : FileLine → File
 file_of line = record { mode = line.mode; mtime = line.mtime; bytes = pattern 0 line.size }
 
--- Whether a line is refused behind those so far: its path has not the form of one, or was named before, all bytes are too many, or the file may not be put.
+-- Whether a line is refused behind those so far: its path has not the form of one, or was named before, all bytes are
+-- too many, or the file may not be put.
 abbrev pub is_refused : Tree → FileLine → Bool
 is_refused tree line =
     not (is_path line.path) || is_some (file_at line.path tree.files) || nat_lt MAX_TREE (tree.size + line.size)
@@ -54,7 +56,8 @@ then_reads number (Some tree) more = more tree
 abbrev pub reads_from : ℕ → ℕ → Tree → List (List ℕ) → Result Tree ℕ
 reads_from number before tree [] = Ok tree
 reads_from number before tree (line ∷ more) =
-    then_reads number (behind_line number (before + length line) tree line) (λ next. reads_from (number + 1) (before + length line) next more)
+    then_reads number (behind_line number (before + length line) tree line)
+    (λ next. reads_from (number + 1) (before + length line) next more)
 
 abbrev pub read : List ℕ → Result Tree ℕ
 read script = reads_from 1 0 no_tree (lines_of script)

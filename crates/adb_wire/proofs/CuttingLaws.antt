@@ -1,10 +1,13 @@
 -- The cutting in the protocol's words is what the framing computes.
-use Rattle.std.proofs.Common.{ℕ, zero, suc, sum, ◌+◌, ◌^◌, ◌≡◌, ◌≤◌, ◌<◌, Bool, true, false, cond, List, [], ◌∷◌, ◌++◌, length, take, drop, reverse, find}
-use Rattle.std.proofs.Common.{Option, Some, None, IfSome, IfNone, option_to_list, Result, Ok, Err, refl, sym, ◌∙◌, ap, subst, arith, inl, inr}
+use Rattle.std.proofs.Common.{ℕ, zero, suc, sum, ◌+◌, ◌^◌, ◌≡◌, ◌≤◌, ◌<◌, Bool, true, false, cond, List, [], ◌∷◌, ◌++◌, length, take, drop}
+use Rattle.std.proofs.Common.{reverse, find}
+use Rattle.std.proofs.Common.{Option, Some, None, IfSome, IfNone, option_to_list, Result, Ok, Err, refl, sym, ◌∙◌, ap, subst, arith, inl}
+use Rattle.std.proofs.Common.{inr}
 use Rattle.std.specs.Result.{OnOk}
 use Rattle.std.proofs.Math.Nat.{mod-lt}
 use Rattle.std.proofs.lemmas.Bool.{cases_lt}
-use Rattle.std.proofs.lemmas.List.{length-append, length-drop, length-take, append-nil, append_assoc, reverse-append, take_at, drop_at, drop-drop, drop-take, take-append-drop}
+use Rattle.std.proofs.lemmas.List.{length-append, length-drop, length-take, append-nil, append_assoc, reverse-append, take_at, drop_at}
+use Rattle.std.proofs.lemmas.List.{drop-drop, drop-take, take-append-drop}
 use Rattle.std.proofs.lemmas.List.Elements.{All-take, All-drop, All-append}
 use Rattle.adb_outside.specs.declared.framer.Front.{Front}
 use Rattle.adb_outside.specs.declared.framer.Front.TheVariants.{More, Bad, Whole}
@@ -19,9 +22,12 @@ use Rattle.adb_wire.specs.declared.format.PacketFault.TheVariants.{Broken, BadSu
 use Rattle.adb_wire.specs.declared.format.PacketFormat.{PacketFormat}
 use Rattle.adb_wire.specs.Header.{IsBytes, IsHead, byte_sum_of, header_bytes, head_at}
 use Rattle.adb_wire.specs.Packet.{IsPacket, head_for, spelling, check_of}
-use Rattle.adb_wire.specs.Format.{is_cnxn, may_carry, has_sums, payload_at, sum_fault, whole_front, packet_len, front_under, front_of, packet_under, packet_with, packet_of, format_after}
-use Rattle.adb_wire.specs.FormatLaws.{head_same, front_short, front_headed, front_partial, front_full, Shows, short, broken, partial, full, shows, packets_are_framed}
-use Rattle.adb_wire.specs.Cutting.{wants_behind, wants_sums, Begins, Spells, Stops, Parts, whole_packets, Cuts, cut_packets, framed, parts_of, Adds, IsNextOf, Continues}
+use Rattle.adb_wire.specs.Format.{is_cnxn, may_carry, has_sums, payload_at, sum_fault, whole_front, packet_len, front_under, front_of}
+use Rattle.adb_wire.specs.Format.{packet_under, packet_with, packet_of, format_after}
+use Rattle.adb_wire.specs.FormatLaws.{head_same, front_short, front_headed, front_partial, front_full, Shows, short, broken, partial, full}
+use Rattle.adb_wire.specs.FormatLaws.{shows, packets_are_framed}
+use Rattle.adb_wire.specs.Cutting.{wants_behind, wants_sums, Begins, Spells, Stops, Parts, whole_packets, Cuts, cut_packets, framed}
+use Rattle.adb_wire.specs.Cutting.{parts_of, Adds, IsNextOf, Continues}
 use Rattle.adb_wire.specs.Deframing.{Deframing, StandsFor, held_after, Takes, Gives}
 use Rattle.adb_wire.proofs.HeaderLaws.{head_again, head_spelled}
 
@@ -36,16 +42,19 @@ abbrev pub behind : List Packet → PacketFormat
 behind before = record { sums = wants_sums before }
 
 -- ---- the last CNXN
-last_of : (b : Bool) (p : Packet) (earlier : Option Packet) → wants_behind (cond b (Some p) earlier) ≡ cond b (has_sums p.arg0) (wants_behind earlier)
+last_of : (b : Bool) (p : Packet) (earlier : Option Packet) → wants_behind (cond b (Some p) earlier)
+    ≡ cond b (has_sums p.arg0) (wants_behind earlier)
 last_of true p earlier = refl
 last_of false p earlier = refl
 
-wants_push : (before : List Packet) (p : Packet) → wants_sums (before ++ p ∷ []) ≡ cond (is_cnxn p.command) (has_sums p.arg0) (wants_sums before)
+wants_push : (before : List Packet) (p : Packet) → wants_sums (before ++ p ∷ [])
+    ≡ cond (is_cnxn p.command) (has_sums p.arg0) (wants_sums before)
 wants_push before p =
     ap (λ ps. wants_behind (find (λ q. is_cnxn q.command) ps)) (reverse-append before (p ∷ []))
     ∙ last_of (is_cnxn p.command) p (find (λ q. is_cnxn q.command) (reverse before))
 
-format_cases : (b : Bool) (x y : Bool) → ◌≡◌ {A = PacketFormat} (cond b (record { sums = x }) (record { sums = y })) (record { sums = cond b x y })
+format_cases : (b : Bool) (x y : Bool) → ◌≡◌ {A = PacketFormat} (cond b (record { sums = x }) (record { sums = y }))
+    (record { sums = cond b x y })
 format_cases true x y = refl
 format_cases false x y = refl
 
@@ -72,13 +81,15 @@ found before p bytes more b =
     let fits : IsHead head = record { arg0 = b.packet.arg0; arg1 = b.packet.arg1; size = b.packet.size; check = b.word } in
     let parts : bytes ≡ header_bytes head ++ (p.payload ++ more) = b.spelled ∙ append_assoc (header_bytes head) p.payload more in
     let whole : length (spelling p b.check) ≡ size_of p = length-append (header_bytes head) p.payload in
-    let size : length bytes ≡ size_of p + length more = omega (arith, ap (length {A = ℕ}) b.spelled, length-append (spelling p b.check) more, whole) in
+    let size : length bytes ≡ size_of p + length more = omega
+    (arith, ap (length {A = ℕ}) b.spelled, length-append (spelling p b.check) more, whole) in
     let read : head_at bytes ≡ Ok head = ap head_at parts ∙ head_again head (p.payload ++ more) fits in
     let behind_head = drop_at (header_bytes head) (p.payload ++ more) HEADER_LEN refl in
     let payload : payload_at head bytes ≡ p.payload =
     ap (payload_at head) parts ∙ (ap (take (length p.payload)) behind_head ∙ take_at p.payload more (length p.payload) refl) in
     let sums : sum_fault (behind before) head (payload_at head bytes) ≡ None =
-    ap (sum_fault (behind before) head) payload ∙ ap (λ (t : Bool). cond t None (Some (BadSum b.check (byte_sum_of p.payload)))) b.allowed in
+    ap (sum_fault (behind before) head) payload
+    ∙ ap (λ (t : Bool). cond t None (Some (BadSum b.check (byte_sum_of p.payload)))) b.allowed in
     record {
       front = front_full (behind before) bytes head read (omega (arith, size)) ∙ ap (whole_front (size_of p)) sums;
       packet =
@@ -97,7 +108,8 @@ front_fault (Some fault) = Bad fault
 abbrev sum_wrong : Head → List ℕ → PacketFault
 sum_wrong head payload = BadSum head.check (byte_sum_of payload)
 
-wrong_sum : (format : PacketFormat) (head : Head) (payload : List ℕ) → may_carry format.sums head.command head.check (byte_sum_of payload) ≡ false
+wrong_sum : (format : PacketFormat) (head : Head) (payload : List ℕ)
+    → may_carry format.sums head.command head.check (byte_sum_of payload) ≡ false
     → sum_fault format head payload ≡ Some (sum_wrong head payload)
 wrong_sum format head payload wrong = rw wrong refl
 
@@ -112,7 +124,8 @@ stop_front before rest (Some (Broken fault)) h = front_headed (behind before) re
 stop_front before rest (Some (BadSum said is)) h =
     let payload = payload_at h.0 rest in
     let carries : ℕ → ℕ → Bool = λ said total. may_carry (wants_sums before) h.0.command said total in
-    let wrong : carries h.0.check (byte_sum_of payload) ≡ false = ap (λ n. carries n (byte_sum_of payload)) (sym h.3) ∙ (ap (carries said) (sym h.4) ∙ h.5) in
+    let wrong : carries h.0.check (byte_sum_of payload) ≡ false =
+    ap (λ n. carries n (byte_sum_of payload)) (sym h.3) ∙ (ap (carries said) (sym h.4) ∙ h.5) in
     let same : sum_wrong h.0 payload ≡ BadSum said is = ap (λ n. BadSum n (byte_sum_of payload)) (sym h.3) ∙ ap (BadSum said) (sym h.4) in
     front_full (behind before) rest h.0 h.1 h.2
     ∙ (ap (whole_front (packet_len h.0)) (wrong_sum (behind before) h.0 payload wrong) ∙ ap Bad same)
@@ -132,7 +145,14 @@ cut_step format bytes front e = cut_first front_of item after packets_are_framed
 
 -- what is held of bytes behind these packets that are cut so
 abbrev cut_behind : List Packet → Parts → Deframing
-cut_behind before parts = record { given = parts.packets; reading = behind (before ++ parts.packets); rest = parts.rest; fault = parts.fault }
+cut_behind before parts =
+    record {
+      given = parts.packets;
+      reading = behind (before ++ parts.packets);
+      rest = parts.rest;
+      fault =
+          parts.fault;
+    }
 
 -- What is spelled and stops is what the framing computes.
 pub spells_cut : (before : List Packet) (bytes : List ℕ) (packets : List Packet) (rest : List ℕ) (fault : Option PacketFault)
@@ -184,7 +204,9 @@ payload_there bytes head u = omega (arith, u.long, length-take head.length (drop
 
 head_there : (bytes : List ℕ) (head : Head) → IsUnder bytes head → head_for (packet_under head (payload_at head bytes)) head.check ≡ head
 head_there bytes head u =
-    ap (λ (n : ℕ). record { command = head.command; arg0 = head.arg0; arg1 = head.arg1; length = n; check = head.check }) (payload_there bytes head u)
+    ap (λ (n : ℕ).
+    record { command = head.command; arg0 = head.arg0; arg1 = head.arg1; length = n; check = head.check })
+    (payload_there bytes head u)
 
 packet_there : (bytes : List ℕ) (head : Head) → IsUnder bytes head
     → packet_of (take (packet_len head) bytes) ≡ packet_under head (payload_at head bytes)
@@ -200,14 +222,17 @@ bytes_there bytes head u =
     let n : ℕ = packet_len head in
     let payload : List ℕ = payload_at head bytes in
     let s = head_spelled bytes head (omega (arith, u.long)) u.are u.read in
-    let parts : payload ++ drop head.length (drop HEADER_LEN bytes) ≡ drop HEADER_LEN bytes = take-append-drop head.length (drop HEADER_LEN bytes) in
-    let behind_head : drop HEADER_LEN bytes ≡ payload ++ drop n bytes = sym parts ∙ ap (λ rest. payload ++ rest) (drop-drop head.length HEADER_LEN bytes) in
+    let parts : payload ++ drop head.length (drop HEADER_LEN bytes) ≡ drop HEADER_LEN bytes =
+    take-append-drop head.length (drop HEADER_LEN bytes) in
+    let behind_head : drop HEADER_LEN bytes ≡ payload ++ drop n bytes =
+    sym parts ∙ ap (λ rest. payload ++ rest) (drop-drop head.length HEADER_LEN bytes) in
     s.1 ∙ (ap (λ rest. header_bytes head ++ rest) behind_head
     ∙ (sym (append_assoc (header_bytes head) payload (drop n bytes))
     ∙ ap (λ h. (header_bytes h ++ payload) ++ drop n bytes) (sym (head_there bytes head u))))
 
 -- a whole packet whose check word may stand
-good : (before : List Packet) (bytes : List ℕ) (head : Head) → IsUnder bytes head → sum_fault (behind before) head (payload_at head bytes) ≡ None
+good : (before : List Packet) (bytes : List ℕ) (head : Head) → IsUnder bytes head
+    → sum_fault (behind before) head (payload_at head bytes) ≡ None
     → Begins before (packet_of (take (packet_len head) bytes)) bytes (drop (packet_len head) bytes)
 good before bytes head u sums =
     let payload : List ℕ = payload_at head bytes in
@@ -215,7 +240,13 @@ good before bytes head u sums =
     let payload_bytes = All-take (λ b. b < 256) head.length (drop HEADER_LEN bytes) (All-drop (λ b. b < 256) HEADER_LEN bytes u.are) in
     subst (λ q. Begins before q bytes (drop (packet_len head) bytes)) (sym (packet_there bytes head u)) (record {
       check = head.check;
-      packet = record { arg0 = s.0.arg0; arg1 = s.0.arg1; size = omega (arith, payload_there bytes head u, s.0.size); bytes = payload_bytes };
+      packet = record {
+        arg0 = s.0.arg0;
+        arg1 = s.0.arg1;
+        size =
+            omega (arith, payload_there bytes head u, s.0.size);
+        bytes = payload_bytes;
+      };
       word = s.0.check;
       allowed = no_fault (may_carry (wants_sums before) head.command head.check (byte_sum_of payload)) (sum_wrong head payload) sums;
       spelled = bytes_there bytes head u;
@@ -285,13 +316,15 @@ more_fits before p bytes more fits b =
       omega (arith, ap (length {A = ℕ}) b.spelled, length-append (spelling p b.check) more, packet, length_header (head_for p b.check)),
     )
 
-sound : (k : ℕ) (before : List Packet) (bytes : List ℕ) → length bytes < k → IsBytes bytes → Sound before bytes (cut_packets (behind before) bytes)
+sound : (k : ℕ) (before : List Packet) (bytes : List ℕ) → length bytes < k → IsBytes bytes
+    → Sound before bytes (cut_packets (behind before) bytes)
 sound zero before bytes h fits = absurd (omega (arith, h))
 sound (suc k) before bytes h fits =
     subst (Sound before bytes) (sym (cut_first front_of item after packets_are_framed (behind before) bytes))
     (sound_step before bytes fits (further (sound k)) _ (shows (behind before) bytes))
   where
-    further : ((earlier : List Packet) (more : List ℕ) → length more < k → IsBytes more → Sound earlier more (cut_packets (behind earlier) more))
+    further : ((earlier : List Packet) (more : List ℕ) → length more < k → IsBytes more
+        → Sound earlier more (cut_packets (behind earlier) more))
         → RightBehind before bytes
     further right p more b =
         let m = more_fits before p bytes more fits b in right (before ++ p ∷ []) more (omega (arith, h, m.1)) m.0
@@ -313,7 +346,8 @@ cuts_same bytes parts others h i =
 abbrev pub start : PacketFormat
 start = record { sums = false }
 
-pub stands_for : (fed : List ℕ) (given : List Packet) (now : Deframing) → IsBytes fed → Stands front_of item after start fed given now → StandsFor fed given now
+pub stands_for : (fed : List ℕ) (given : List Packet) (now : Deframing) → IsBytes fed
+    → Stands front_of item after start fed given now → StandsFor fed given now
 stands_for fed given now fits h =
     let s = sound (length fed + 1) [] fed (omega arith) fits in
     let c : Deframing = framed fed in
@@ -325,7 +359,8 @@ stands_for fed given now fits h =
       open_reading = λ none. ap (λ (r : PacketFormat). r.sums) (sym (h.open_rest none).1 ∙ s.reading) ∙ ap wants_sums h.frames;
     }
 
-pub for_stands : (fed : List ℕ) (given : List Packet) (now : Deframing) → StandsFor fed given now → Stands front_of item after start fed given now
+pub for_stands : (fed : List ℕ) (given : List Packet) (now : Deframing) → StandsFor fed given now
+    → Stands front_of item after start fed given now
 for_stands fed given now h =
     let is = cuts_is fed (record { packets = given ++ now.given; rest = h.rest; fault = now.fault }) h.cuts in
     let same_rest = ap (λ (c : Deframing). c.rest) is in
@@ -333,11 +368,16 @@ for_stands fed given now h =
     record {
       frames = ap (λ (c : Deframing). c.given) is;
       fault = ap (λ (c : Deframing). c.fault) is;
-      open_rest = λ none. (same_rest ∙ sym (h.open_rest none), same_reading ∙ ap (λ (b : Bool). record { sums = b }) (sym (h.open_reading none)));
+      open_rest = λ none. (
+        same_rest ∙ sym (h.open_rest none),
+        same_reading ∙ ap (λ (b : Bool). record { sums = b })
+            (sym (h.open_reading none)),
+      );
     }
 
 -- ---- fronts
-pub no_packet : (bytes : List ℕ) (parts : Parts) → Cuts bytes parts → (p : Packet) (more : List ℕ) → Begins parts.packets p parts.rest more → ⊥
+pub no_packet : (bytes : List ℕ) (parts : Parts) → Cuts bytes parts → (p : Packet) (more : List ℕ)
+    → Begins parts.packets p parts.rest more → ⊥
 no_packet bytes parts h p more b =
     clash parts.fault (sym (stop_front parts.packets parts.rest parts.fault h.stops) ∙ (found parts.packets p parts.rest more b).front)
   where
@@ -367,12 +407,14 @@ continues front more parts all h i = go parts.fault refl
 
     go : (fault : Option PacketFault) → parts.fault ≡ fault → Continues parts all
     go None none =
-        let piece = cut_piece front_of item after packets_are_framed (length front) start front more (omega arith) (ap (λ (c : Deframing). c.fault) a ∙ none) in
+        let piece = cut_piece front_of item after packets_are_framed (length front) start front more (omega arith)
+        (ap (λ (c : Deframing). c.fault) a ∙ none) in
         let given = ap (λ (c : Deframing). c.given) piece ∙ ap (λ ps. ps ++ other.given) (ap (λ (c : Deframing). c.given) a) in
         record { others = other.given; begins = sym (ap (λ (c : Deframing). c.given) b) ∙ given; stays = stays_at }
     go (Some fault) some = record { others = []; begins = (stays_at fault some).0 ∙ sym (append-nil parts.packets); stays = stays_at }
 
-pub spelled_is_next : (front : List ℕ) (p : Packet) (check : ℕ) → IsPacket p → check < 2 ^ 32 → Adds front (front ++ spelling p check) p check
+pub spelled_is_next : (front : List ℕ) (p : Packet) (check : ℕ) → IsPacket p → check < 2 ^ 32
+    → Adds front (front ++ spelling p check) p check
 spelled_is_next front p check packet word before more all h allowed i =
     let a = cuts_is front (whole_packets before) h in
     let b = cuts_is ((front ++ spelling p check) ++ more) all i in
@@ -391,7 +433,8 @@ spelled_is_next front p check packet word before more all h allowed i =
     )
 
 -- ---- the deframer's answers
-pub first_fault : (fed : List ℕ) (given : List Packet) (now : Deframing) (parts : Parts) → StandsFor fed given now → Cuts fed parts → now.fault ≡ parts.fault
+pub first_fault : (fed : List ℕ) (given : List Packet) (now : Deframing) (parts : Parts) → StandsFor fed given now
+    → Cuts fed parts → now.fault ≡ parts.fault
 first_fault fed given now parts h i =
     ap (λ (p : Parts). p.fault) (cuts_same fed (record { packets = given ++ now.given; rest = h.rest; fault = now.fault }) parts h.cuts i)
 
@@ -406,7 +449,8 @@ pub same_held : (old : Deframing) (piece : List ℕ) (fault : Option PacketFault
 same_held old piece None = refl
 same_held old piece (Some fault) = refl
 
-pub takes : (old : Deframing) (piece : List ℕ) (new : Deframing) → IsBytes piece → framing.Takes front_of item after old piece new → Takes old piece new
+pub takes : (old : Deframing) (piece : List ℕ) (new : Deframing) → IsBytes piece
+    → framing.Takes front_of item after old piece new → Takes old piece new
 takes old piece new fits t = record {
   held = t.held ∙ same_held old piece old.fault;
   stands = stands;
@@ -422,11 +466,13 @@ pub gives : (old new : Deframing) (result : Option Packet) → framing.Gives fro
 gives old new result g = record {
   some = g.some;
   none = g.none;
-  stands = λ fed before h. stands_for fed (before ++ option_to_list result) new h.cuts.in_range (g.stands start fed before (for_stands fed before old h));
+  stands = λ fed before h. stands_for fed (before ++ option_to_list result) new h.cuts.in_range
+      (g.stands start fed before (for_stands fed before old h));
   next = λ fed before parts h i. next_is before parts.packets result (all_packets fed before old parts h i) g.some g.none;
 }
   where
-    next_is : (before all : List Packet) (next : Option Packet) → all ≡ before ++ old.given → IfSome next (λ p. old ≡ record new { given = p ∷ new.given })
+    next_is : (before all : List Packet) (next : Option Packet) → all ≡ before ++ old.given
+        → IfSome next (λ p. old ≡ record new { given = p ∷ new.given })
         → IfNone next ((old.given ≡ []) × (new ≡ old)) → IsNextOf all before next
     next_is before all None e some none = e ∙ (ap (λ ps. before ++ ps) none.0 ∙ append-nil before)
     next_is before all (Some p) e some none = (new.given, e ∙ ap (λ (d : Deframing). before ++ d.given) some)

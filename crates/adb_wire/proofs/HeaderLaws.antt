@@ -1,5 +1,6 @@
 -- A header that was written is read, and one that is read is written so.
-use Rattle.std.proofs.Common.{ℕ, zero, suc, ◌+◌, ◌*◌, ◌^◌, ◌≡◌, ◌≤◌, ◌<◌, Bool, true, false, cond, eqb, not, nat_lt, List, [], ◌∷◌, ◌++◌, length, drop, get_or}
+use Rattle.std.proofs.Common.{ℕ, zero, suc, ◌+◌, ◌*◌, ◌^◌, ◌≡◌, ◌≤◌, ◌<◌, Bool, true, false, cond, eqb, not, nat_lt, List, [], ◌∷◌, ◌++◌}
+use Rattle.std.proofs.Common.{length, drop, get_or}
 use Rattle.std.proofs.Common.{Option, Some, None, Result, Ok, Err, refl, sym, ◌∙◌, ap, subst, arith, find}
 use Rattle.std.specs.List.{flat_map}
 use Rattle.std.specs.Result.{IfOk}
@@ -68,7 +69,9 @@ word_off (a ∷ b ∷ c ∷ d ∷ rest) h fits =
     let c_fits : c < 256 = fits 2 0 (omega arith) in
     let d_fits : d < 256 = fits 3 0 (omega arith) in
     let bytes : List ℕ = a ∷ b ∷ c ∷ d ∷ [] in
-    ap (λ front. front ++ rest) (sym (le_bytes_4 bytes (little_number 4 bytes) refl (small a b c d a_fits b_fits c_fits d_fits) (omega arith)))
+    ap (λ front. front ++ rest)
+    (sym (le_bytes_4 bytes (little_number 4 bytes) refl (small a b c d a_fits b_fits c_fits d_fits)
+    (omega arith)))
   where
     small : (a b c d : ℕ) → a < 256 → b < 256 → c < 256 → d < 256 → (i : ℕ) → get_or (a ∷ b ∷ c ∷ d ∷ []) i 0 < 256
     small a b c d p q r s zero = p
@@ -119,8 +122,10 @@ head_again head more fits = reads_head (header_bytes head ++ more) head (record 
   command = word_again [] word 0 (spelled (head.arg0 ∷ head.arg1 ∷ head.length ∷ head.check ∷ magic ∷ []) ++ more) refl is.word;
   arg0 = word_again (spelled (word ∷ [])) head.arg0 1 (spelled (head.arg1 ∷ head.length ∷ head.check ∷ magic ∷ []) ++ more) refl fits.arg0;
   arg1 = word_again (spelled (word ∷ head.arg0 ∷ [])) head.arg1 2 (spelled (head.length ∷ head.check ∷ magic ∷ []) ++ more) refl fits.arg1;
-  size = word_again (spelled (word ∷ head.arg0 ∷ head.arg1 ∷ [])) head.length 3 (spelled (head.check ∷ magic ∷ []) ++ more) refl (omega (arith, fits.size));
-  check = word_again (spelled (word ∷ head.arg0 ∷ head.arg1 ∷ head.length ∷ [])) head.check 4 (spelled (magic ∷ []) ++ more) refl fits.check;
+  size = word_again (spelled (word ∷ head.arg0 ∷ head.arg1 ∷ [])) head.length 3
+      (spelled (head.check ∷ magic ∷ []) ++ more) refl (omega (arith, fits.size));
+  check = word_again (spelled (word ∷ head.arg0 ∷ head.arg1 ∷ head.length ∷ [])) head.check 4
+      (spelled (magic ∷ []) ++ more) refl fits.check;
   magic = word_again (spelled (word ∷ head.arg0 ∷ head.arg1 ∷ head.length ∷ head.check ∷ [])) magic 5 more refl is.magic;
   short = fits.size;
 })
@@ -144,11 +149,13 @@ head_reads bytes head e = by_magic (eqb (word_at 5 bytes) (magic_of (word_at 0 b
     read c = record { command = c; arg0 = word_at 1 bytes; arg1 = word_at 2 bytes; length = word_at 3 bytes; check = word_at 4 bytes }
 
     by_size : (c : Command) → word_at 5 bytes ≡ magic_of (word_at 0 bytes) → command_of (word_at 0 bytes) ≡ Some c
-        → (b : Bool) → nat_lt MAX_PAYLOAD (word_at 3 bytes) ≡ b → cond b (Err (TooLong (word_at 3 bytes))) (Ok (read c)) ≡ Ok head → Reads bytes head
+        → (b : Bool) → nat_lt MAX_PAYLOAD (word_at 3 bytes) ≡ b
+        → cond b (Err (TooLong (word_at 3 bytes))) (Ok (read c)) ≡ Ok head → Reads bytes head
     by_size c magic known true is e = absurd cc
     by_size c magic known false is e =
         let same : read c ≡ head = cc in
-        let word : word_at 0 bytes ≡ word_of head.command = command_word (word_at 0 bytes) c known ∙ ap (λ (h : Head). word_of h.command) same in
+        let word : word_at 0 bytes ≡ word_of head.command = command_word (word_at 0 bytes) c known
+        ∙ ap (λ (h : Head). word_of h.command) same in
         record {
           command = word;
           arg0 = ap (λ (h : Head). h.arg0) same;
@@ -162,12 +169,14 @@ head_reads bytes head e = by_magic (eqb (word_at 5 bytes) (magic_of (word_at 0 b
     headed : Option Command → Result Head HeadFault
     headed o = head_of o (word_at 0 bytes) (word_at 1 bytes) (word_at 2 bytes) (word_at 3 bytes) (word_at 4 bytes)
 
-    by_command : word_at 5 bytes ≡ magic_of (word_at 0 bytes) → (o : Option Command) → command_of (word_at 0 bytes) ≡ o → headed o ≡ Ok head → Reads bytes head
+    by_command : word_at 5 bytes ≡ magic_of (word_at 0 bytes) → (o : Option Command)
+        → command_of (word_at 0 bytes) ≡ o → headed o ≡ Ok head → Reads bytes head
     by_command magic None known e = absurd cc
     by_command magic (Some c) known e = by_size c magic known (nat_lt MAX_PAYLOAD (word_at 3 bytes)) refl e
 
     by_magic : (b : Bool) → eqb (word_at 5 bytes) (magic_of (word_at 0 bytes)) ≡ b
-        → cond (not b) (Err (BadMagic (word_at 0 bytes) (word_at 5 bytes))) (headed (command_of (word_at 0 bytes))) ≡ Ok head → Reads bytes head
+        → cond (not b) (Err (BadMagic (word_at 0 bytes) (word_at 5 bytes))) (headed (command_of (word_at 0 bytes)))
+        ≡ Ok head → Reads bytes head
     by_magic false is e = absurd cc
     by_magic true is e = by_command (eqb-true (word_at 5 bytes) (magic_of (word_at 0 bytes)) is) (command_of (word_at 0 bytes)) refl e
 
@@ -181,14 +190,16 @@ head_spelled bytes head h fits e =
     let s2 : drop 8 bytes ≡ word head.arg1 ++ drop 12 bytes = word_stands 2 _ bytes (omega arith) fits r.arg1 in
     let s3 : drop 12 bytes ≡ word head.length ++ drop 16 bytes = word_stands 3 _ bytes (omega arith) fits r.size in
     let s4 : drop 16 bytes ≡ word head.check ++ drop 20 bytes = word_stands 4 _ bytes (omega arith) fits r.check in
-    let s5 : drop 20 bytes ≡ word (magic_of (word_of head.command)) ++ drop HEADER_LEN bytes = word_stands 5 _ bytes (omega arith) fits r.magic in (
+    let s5 : drop 20 bytes ≡ word (magic_of (word_of head.command)) ++ drop HEADER_LEN bytes =
+    word_stands 5 _ bytes (omega arith) fits r.magic in (
       record {
         arg0 = omega (arith, r.arg0, word_fits 1 bytes (omega arith) fits);
         arg1 = omega (arith, r.arg1, word_fits 2 bytes (omega arith) fits);
         size = r.short;
         check = omega (arith, r.check, word_fits 4 bytes (omega arith) fits);
       },
-      s0 ∙ behind (word_of head.command) (s1 ∙ behind head.arg0 (s2 ∙ behind head.arg1 (s3 ∙ behind head.length (s4 ∙ behind head.check s5)))),
+      s0 ∙ behind (word_of head.command)
+          (s1 ∙ behind head.arg0 (s2 ∙ behind head.arg1 (s3 ∙ behind head.length (s4 ∙ behind head.check s5)))),
     )
   where
     word : ℕ → List ℕ

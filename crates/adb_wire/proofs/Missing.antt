@@ -1,5 +1,6 @@
 -- What a deframer holds begins with no whole packet, and how many bytes are missing to one.
-use Rattle.std.proofs.Common.{ℕ, ◌≡◌, ◌≤◌, ◌<◌, List, [], ◌∷◌, ◌++◌, length, take, drop, Option, Some, None, Result, Ok, Err, IfSome, refl, sym, ◌∙◌, ap, subst, arith, inl, inr}
+use Rattle.std.proofs.Common.{ℕ, ◌≡◌, ◌≤◌, ◌<◌, List, [], ◌∷◌, ◌++◌, length, take, drop, Option, Some, None, Result, Ok, Err, IfSome, refl}
+use Rattle.std.proofs.Common.{sym, ◌∙◌, ap, subst, arith, inl, inr}
 use Rattle.std.proofs.lemmas.Bool.{cases_lt}
 use Rattle.std.specs.List.{All}
 use Rattle.std.proofs.lemmas.List.{length-append, length-take, length-drop, take-append-drop, append-nil}
@@ -17,7 +18,8 @@ use Rattle.adb_wire.specs.declared.format.PacketFault.TheVariants.{Broken}
 use Rattle.adb_wire.specs.declared.format.PacketFormat.{PacketFormat}
 use Rattle.adb_wire.specs.Header.{head_at}
 use Rattle.adb_wire.specs.Format.{sum_fault, payload_at, packet_len, whole_front, front_of, packet_with, packet_of}
-use Rattle.adb_wire.specs.FormatLaws.{is_whole, head_same, front_short, front_headed, front_partial, short, broken, partial, full, shows, packets_are_framed}
+use Rattle.adb_wire.specs.FormatLaws.{is_whole, head_same, front_short, front_headed, front_partial, short, broken, partial, full, shows}
+use Rattle.adb_wire.specs.FormatLaws.{packets_are_framed}
 use Rattle.adb_wire.specs.Cutting.{cut_packets}
 use Rattle.adb_wire.specs.Slicing.{headed_len, need_of}
 use Rattle.adb_wire.specs.Deframing.{Deframing, held_after, IsOpen, IsSound, Waits, Gives}
@@ -40,11 +42,14 @@ held_open old piece new open_before is = go old.fault refl is
     go None e same none =
         let bytes : List ℕ = old.rest ++ piece in
         let cut = ap (λ (d : Deframing). front_of d.reading d.rest) same in
-        cut ∙ cut_open front_of item after packets_are_framed (length bytes) old.reading bytes (omega arith) (sym (ap (λ (d : Deframing). d.fault) same) ∙ none)
-    go (Some fault) e same none = ap (λ (d : Deframing). front_of d.reading d.rest) same ∙ open_before (sym (ap (λ (d : Deframing). d.fault) same) ∙ none)
+        cut ∙ cut_open front_of item after packets_are_framed (length bytes) old.reading bytes (omega arith)
+        (sym (ap (λ (d : Deframing). d.fault) same) ∙ none)
+    go (Some fault) e same none = ap (λ (d : Deframing). front_of d.reading d.rest) same
+        ∙ open_before (sym (ap (λ (d : Deframing). d.fault) same) ∙ none)
 
 -- the payload of a whole packet is not too long
-packet_sized : (format : PacketFormat) (bytes : List ℕ) (n : ℕ) → front_of format bytes ≡ Whole n → length (packet_of (take n bytes)).payload ≤ MAX_PAYLOAD
+packet_sized : (format : PacketFormat) (bytes : List ℕ) (n : ℕ) → front_of format bytes ≡ Whole n
+    → length (packet_of (take n bytes)).payload ≤ MAX_PAYLOAD
 packet_sized format bytes n whole =
     let w = is_whole format bytes n whole in
     let long : length (take n bytes) ≡ n = omega (arith, length-take n bytes, w.size, w.fits) in
@@ -55,7 +60,8 @@ packet_sized format bytes n whole =
     omega (arith, ap (length {A = ℕ}) payload, length-drop HEADER_LEN (take n bytes), long, w.size, (head_reads bytes w.head w.read).short)
 
 -- after a piece no payload is too long
-held_sized : (old : Deframing) (piece : List ℕ) (new : Deframing) → AreSized old.given → new ≡ held_after old piece old.fault → AreSized new.given
+held_sized : (old : Deframing) (piece : List ℕ) (new : Deframing) → AreSized old.given
+    → new ≡ held_after old piece old.fault → AreSized new.given
 held_sized old piece new sized is = go old.fault is
   where
     go : (fault : Option PacketFault) → new ≡ held_after old piece fault → AreSized new.given
@@ -66,13 +72,15 @@ held_sized old piece new sized is = go old.fault is
     go (Some fault) same = subst AreSized (sym (ap (λ (d : Deframing). d.given) same)) sized
 
 -- the same, as the framer says it
-pub fed_sound : (old : Deframing) (piece : List ℕ) (new : Deframing) → IsSound old → framing.Takes front_of item after old piece new → IsSound new
+pub fed_sound : (old : Deframing) (piece : List ℕ) (new : Deframing) → IsSound old
+    → framing.Takes front_of item after old piece new → IsSound new
 fed_sound old piece new sound t =
     let is = t.held ∙ same_held old piece old.fault in
     record { sized = held_sized old piece new sound.sized is; opened = held_open old piece new sound.opened is }
 
 -- and what is cut of them and a piece, without the packets before
-pub fresh_sound : (old : Deframing) (piece : List ℕ) → IsSound old → old.fault ≡ None → IsSound (cut_packets old.reading (old.rest ++ piece))
+pub fresh_sound : (old : Deframing) (piece : List ℕ) → IsSound old → old.fault ≡ None
+    → IsSound (cut_packets old.reading (old.rest ++ piece))
 fresh_sound old piece sound none =
     let fresh : Deframing = record old { given = [] } in
     let is : cut_packets old.reading (old.rest ++ piece) ≡ held_after fresh piece old.fault = sym (ap (held_after fresh piece) none) in
@@ -88,7 +96,8 @@ given_sound old new (Some p) sound g =
     let is : AreSized (p ∷ new.given) = subst AreSized (ap (λ (d : Deframing). d.given) g.some) sound.sized in (
       record {
         sized = All-rest IsSized p new.given _ refl is;
-        opened = λ none. ap (λ (d : Deframing). front_of d.reading d.rest) (sym g.some) ∙ sound.opened (ap (λ (d : Deframing). d.fault) g.some ∙ none);
+        opened = λ none. ap (λ (d : Deframing). front_of d.reading d.rest) (sym g.some)
+            ∙ sound.opened (ap (λ (d : Deframing). d.fault) g.some ∙ none);
       },
       All-head IsSized p new.given is,
     )
@@ -120,8 +129,12 @@ short_front format rest piece more few = elim (cases_lt (length rest) HEADER_LEN
         front_partial format (rest ++ piece) head (omega (arith, le, length-append rest piece)) (head_same rest piece le ∙ e)
         (omega (arith, length-append rest piece, few, slice_headed rest le ∙ ap headed_len e))
 
-pub short_waits : (held : Deframing) (piece : List ℕ) → IsOpen held → held.fault ≡ None → length piece < need_of held.rest → Waits held piece
+pub short_waits : (held : Deframing) (piece : List ℕ) → IsOpen held → held.fault ≡ None
+    → length piece < need_of held.rest → Waits held piece
 short_waits held piece open_before none few =
-    ap (joined held.given) (cut_step held.reading (held.rest ++ piece) More (short_front held.reading held.rest piece (open_before none) few))
+    ap (joined held.given)
+    (cut_step held.reading (held.rest ++ piece) More
+    (short_front held.reading held.rest piece (open_before none) few))
     ∙ (ap (λ ps. record { given = ps; reading = held.reading; rest = held.rest ++ piece; fault = None }) (append-nil held.given)
-    ∙ ap (λ (f : Option PacketFault). record { given = held.given; reading = held.reading; rest = held.rest ++ piece; fault = f }) (sym none))
+    ∙ ap (λ (f : Option PacketFault).
+    record { given = held.given; reading = held.reading; rest = held.rest ++ piece; fault = f }) (sym none))

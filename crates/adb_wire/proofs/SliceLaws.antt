@@ -1,5 +1,6 @@
 -- The slices of a stream begin with its packets.
-use Rattle.std.proofs.Common.{ℕ, ◌≡◌, ◌≤◌, ◌<◌, map, List, [], ◌∷◌, ◌++◌, length, take, drop, Some, None, Ok, zero, suc, refl, sym, ◌∙◌, ap, subst, arith, inl, inr}
+use Rattle.std.proofs.Common.{ℕ, ◌≡◌, ◌≤◌, ◌<◌, map, List, [], ◌∷◌, ◌++◌, length, take, drop, Some, None, Ok, zero, suc, refl, sym, ◌∙◌, ap}
+use Rattle.std.proofs.Common.{subst, arith, inl, inr}
 use Rattle.std.proofs.lemmas.Bool.{cases_lt}
 use Rattle.std.proofs.lemmas.List.{length-drop, take-append-drop, append_assoc}
 use Rattle.std.proofs.lemmas.List.Elements.{All-nil, All-cons}
@@ -24,7 +25,8 @@ Slices = Cut (Unit {0}) (List ℕ) ⊥
 
 -- what is cut of bytes whose first slice is whole
 first_slice : (bytes : List ℕ) (n : ℕ) → slice_len bytes ≡ n → n ≤ length bytes
-    → ((cut_slices bytes).given ≡ take n bytes ∷ (cut_slices (drop n bytes)).given) × ((cut_slices bytes).rest ≡ (cut_slices (drop n bytes)).rest)
+    → ((cut_slices bytes).given ≡ take n bytes ∷ (cut_slices (drop n bytes)).given)
+    × ((cut_slices bytes).rest ≡ (cut_slices (drop n bytes)).rest)
 first_slice bytes n size fits =
     let c = cut_step bytes (Whole n) (front_whole bytes (omega (arith, size, fits)) ∙ ap Whole size) in
     (ap (λ (k : Slices). k.given) c, ap (λ (k : Slices). k.rest) c)
@@ -41,7 +43,8 @@ record Lead (bytes : List ℕ) (packets : List Packet) (rest : List ℕ) : Type 
   pub slices : (cut_slices bytes).given ≡ spelled ++ (cut_slices rest).given
   pub same_rest : (cut_slices bytes).rest ≡ (cut_slices rest).rest
 
-lead : (before : List Packet) (bytes : List ℕ) (packets : List Packet) (rest : List ℕ) → Spells before bytes packets rest → Lead bytes packets rest
+lead : (before : List Packet) (bytes : List ℕ) (packets : List Packet) (rest : List ℕ)
+    → Spells before bytes packets rest → Lead bytes packets rest
 lead before bytes [] rest h = record {
   spelled = [];
   packets_are = refl;

@@ -1,5 +1,6 @@
 -- Slices: headers alone say how long they are, and a stream is cut into them piece by piece.
-use Rattle.std.proofs.Common.{ℕ, ◌≡◌, ◌≤◌, ◌<◌, Bool, cond, List, [], ◌∷◌, ◌++◌, length, take, drop, Option, Some, None, Result, Ok, Err, refl, sym, ◌∙◌, ap, subst, arith, inl, inr}
+use Rattle.std.proofs.Common.{ℕ, ◌≡◌, ◌≤◌, ◌<◌, Bool, cond, List, [], ◌∷◌, ◌++◌, length, take, drop, Option, Some, None, Result, Ok, Err}
+use Rattle.std.proofs.Common.{refl, sym, ◌∙◌, ap, subst, arith, inl, inr}
 use Rattle.std.proofs.Math.Seq.{take-length}
 use Rattle.std.proofs.lemmas.Bool.{cases_lt, lt-ltb, le-ltb, eq-eqb, ne_eqb}
 use Rattle.std.proofs.lemmas.List.{length-append, length-take, take-append-drop, append-nil, append_assoc, drop_all}
@@ -72,7 +73,8 @@ first_is_slice bytes le =
     is_slice (take n bytes) (omega (arith, long, same)) (omega (arith, long, same))
 
 -- more bytes of a slice, no more than it misses, are still within it
-pub slice_grows : (held more : List ℕ) → length held ≤ slice_len held → length more ≤ need_of held → length (held ++ more) ≤ slice_len (held ++ more)
+pub slice_grows : (held more : List ℕ) → length held ≤ slice_len held → length more ≤ need_of held
+    → length (held ++ more) ≤ slice_len (held ++ more)
 slice_grows held more within fits = elim (cases_lt (length held) HEADER_LEN) [
   | inl lt ↦ omega (arith, length-append held more, fits, slice_short held lt, slice_bounds (held ++ more))
   | inr le ↦ omega (arith, length-append held more, within, fits, slice_same held more le)
@@ -160,7 +162,11 @@ cuts_alone held within = elim (cases_lt (length held) (slice_len held)) [
   | inl lt ↦
       let o = open_held held (omega (arith, lt)) in
       let c = cut_step held More (front_more held lt) in
-      record { slices = ap (λ (k : Cut (Unit {0}) (List ℕ) ⊥). k.given) c ∙ sym o.0; rest = ap (λ (k : Cut (Unit {0}) (List ℕ) ⊥). k.rest) c ∙ sym o.1 }
+      record {
+        slices = ap (λ (k : Cut (Unit {0}) (List ℕ) ⊥). k.given) c ∙ sym o.0;
+        rest =
+            ap (λ (k : Cut (Unit {0}) (List ℕ) ⊥). k.rest) c ∙ sym o.1;
+      }
   | inr le ↦
       let w = whole_held held (omega (arith, le)) in
       let c = cut_step held (Whole (slice_len held)) (front_whole held le) in
@@ -186,7 +192,8 @@ takes_more held more within fits fed gave h = elim (cases_lt 0 (need_of held)) [
   | inl some ↦
       let o = open_held held some in
       let a = cuts_alone (held ++ more) (slice_grows held more within fits) in
-      let piece = cut_piece slice_front frame still slices_are_framed (length fed) tt fed more (omega arith) (never_faulty (cut_slices fed).fault) in
+      let piece = cut_piece slice_front frame still slices_are_framed (length fed) tt fed more (omega arith)
+      (never_faulty (cut_slices fed).fault) in
       let gave_before : (cut_slices fed).given ≡ gave = h.slices ∙ (ap (λ s. gave ++ s) o.0 ∙ append-nil gave) in
       let at_rest : (cut_slices fed).rest ≡ held = h.rest ∙ o.1 in
       record {
@@ -205,7 +212,8 @@ takes_more held more within fits fed gave h = elim (cases_lt 0 (need_of held)) [
     empty [] h = refl
     empty (b ∷ bytes) h = absurd (omega (arith, h))
 
-pub goes_on : (held : List ℕ) → length held ≤ slice_len held → need_of held ≡ 0 → (fed : List ℕ) (gave : List (List ℕ)) → HasSliced fed gave held
+pub goes_on : (held : List ℕ) → length held ≤ slice_len held → need_of held ≡ 0
+    → (fed : List ℕ) (gave : List (List ℕ)) → HasSliced fed gave held
     → HasSliced fed (gave ++ held ∷ []) []
 goes_on held within none fed gave h =
     let w = whole_held held none in

@@ -1,5 +1,6 @@
 -- The cutting of whole streams into packets, in the protocol's words.
-use Rattle.std.specs.Prelude.{ℕ, ◌^◌, ◌≡◌, ◌<◌, ◌≤◌, ◌⊎◌, Bool, false, ◌||◌, ◌==◌, IsTrue, List, [], ◌∷◌, ◌++◌, length, reverse, find, Option, Some, None, Ok, Err}
+use Rattle.std.specs.Prelude.{ℕ, ◌^◌, ◌≡◌, ◌<◌, ◌≤◌, ◌⊎◌, Bool, false, ◌||◌, ◌==◌, IsTrue, List, [], ◌∷◌, ◌++◌, length, reverse, find}
+use Rattle.std.specs.Prelude.{Option, Some, None, Ok, Err}
 use Rattle.adb_outside.specs.Framing.{Cut, cut}
 use Rattle.adb_wire.specs.declared.headers.Head.{Head}
 use Rattle.adb_wire.specs.declared.headers.TheConstants.{HEADER_LEN}

@@ -1,5 +1,6 @@
 -- Packets are framed: a front that is a whole packet or a fault stays so, whatever follows.
-use Rattle.std.proofs.Common.{ℕ, ◌+◌, ◌*◌, ◌≡◌, ◌≢◌, ◌≤◌, ◌<◌, Bool, cond, List, ◌++◌, length, take, drop, Option, Some, None, Result, Ok, Err, refl, sym, ◌∙◌, ap, arith, inl, inr}
+use Rattle.std.proofs.Common.{ℕ, ◌+◌, ◌*◌, ◌≡◌, ◌≢◌, ◌≤◌, ◌<◌, Bool, cond, List, ◌++◌, length, take, drop, Option, Some, None, Result, Ok}
+use Rattle.std.proofs.Common.{Err, refl, sym, ◌∙◌, ap, arith, inl, inr}
 use Rattle.std.proofs.lemmas.Bool.{cases_lt, lt-ltb, le-ltb}
 use Rattle.std.proofs.lemmas.List.{length-append, length-drop, length-take, take-append-le, drop-append-le, take-append-drop}
 use Rattle.byteorder.specs.Numbers.{little_from-append}
@@ -13,13 +14,15 @@ use Rattle.adb_wire.specs.declared.format.PacketFault.{PacketFault}
 use Rattle.adb_wire.specs.declared.format.PacketFault.TheVariants.{Broken}
 use Rattle.adb_wire.specs.declared.format.PacketFormat.{PacketFormat}
 use Rattle.adb_wire.specs.Header.{word_at, head_at}
-use Rattle.adb_wire.specs.Format.{payload_at, sum_fault, whole_front, packet_len, front_under, headed_front, front_of, packet_of, format_after}
+use Rattle.adb_wire.specs.Format.{payload_at, sum_fault, whole_front, packet_len, front_under, headed_front, front_of, packet_of}
+use Rattle.adb_wire.specs.Format.{format_after}
 
 -- the words of a header do not depend on what follows
 pub word_same : (place : ℕ) (x y : List ℕ) → 4 * place + 4 ≤ length x → word_at place (x ++ y) ≡ word_at place x
 unfolding word_at
 word_same place x y h =
-    rw (drop-append-le (4 * place) x y (omega arith)) (little_from-append 4 (drop (4 * place) x) y (omega (arith, length-drop (4 * place) x)))
+    rw (drop-append-le (4 * place) x y (omega arith))
+    (little_from-append 4 (drop (4 * place) x) y (omega (arith, length-drop (4 * place) x)))
 
 pub head_same : (x y : List ℕ) → HEADER_LEN ≤ length x → head_at (x ++ y) ≡ head_at x
 head_same x y h =
@@ -41,10 +44,12 @@ payload_same head x y h =
 pub front_short : (format : PacketFormat) (bytes : List ℕ) → length bytes < HEADER_LEN → front_of format bytes ≡ More
 front_short format bytes h = rw (lt-ltb (length bytes) HEADER_LEN h) refl
 
-pub front_headed : (format : PacketFormat) (bytes : List ℕ) (read : Result Head HeadFault) → HEADER_LEN ≤ length bytes → head_at bytes ≡ read
+pub front_headed : (format : PacketFormat) (bytes : List ℕ) (read : Result Head HeadFault) → HEADER_LEN ≤ length bytes
+    → head_at bytes ≡ read
     → front_of format bytes ≡ headed_front format bytes read
 front_headed format bytes read h e =
-    ap (λ (b : Bool). cond b More (headed_front format bytes (head_at bytes))) (le-ltb (length bytes) HEADER_LEN h) ∙ ap (headed_front format bytes) e
+    ap (λ (b : Bool). cond b More (headed_front format bytes (head_at bytes))) (le-ltb (length bytes) HEADER_LEN h)
+    ∙ ap (headed_front format bytes) e
 
 pub front_partial : (format : PacketFormat) (bytes : List ℕ) (head : Head) → HEADER_LEN ≤ length bytes → head_at bytes ≡ Ok head
     → length bytes < packet_len head → front_of format bytes ≡ More
@@ -61,9 +66,12 @@ front_full format bytes head e long =
 -- the cases of a front
 pub data Shows (format : PacketFormat) (bytes : List ℕ) (front : Front PacketFault) : Type 0 where
   short : length bytes < HEADER_LEN → front ≡ More → Shows format bytes front
-  broken : (fault : HeadFault) → HEADER_LEN ≤ length bytes → head_at bytes ≡ Err fault → front ≡ Bad (Broken fault) → Shows format bytes front
-  partial : (head : Head) → HEADER_LEN ≤ length bytes → head_at bytes ≡ Ok head → length bytes < packet_len head → front ≡ More → Shows format bytes front
-  full : (head : Head) → head_at bytes ≡ Ok head → packet_len head ≤ length bytes → front ≡ front_under format bytes head → Shows format bytes front
+  broken : (fault : HeadFault) → HEADER_LEN ≤ length bytes → head_at bytes ≡ Err fault → front ≡ Bad (Broken fault)
+      → Shows format bytes front
+  partial : (head : Head) → HEADER_LEN ≤ length bytes → head_at bytes ≡ Ok head → length bytes < packet_len head
+      → front ≡ More → Shows format bytes front
+  full : (head : Head) → head_at bytes ≡ Ok head → packet_len head ≤ length bytes
+      → front ≡ front_under format bytes head → Shows format bytes front
 
 pub shows : (format : PacketFormat) (bytes : List ℕ) → Shows format bytes (front_of format bytes)
 shows format bytes = elim (cases_lt (length bytes) HEADER_LEN) [
@@ -86,7 +94,8 @@ pub full_same : (format : PacketFormat) (x y : List ℕ) (head : Head) → head_
     → front_of format (x ++ y) ≡ front_of format x
 full_same format x y head e long =
     front_full format (x ++ y) head (head_same x y (omega arith) ∙ e) (omega (arith, length-append x y))
-    ∙ (ap (λ p. whole_front (packet_len head) (sum_fault format head p)) (payload_same head x y long) ∙ sym (front_full format x head e long))
+    ∙ (ap (λ p. whole_front (packet_len head) (sum_fault format head p)) (payload_same head x y long)
+    ∙ sym (front_full format x head e long))
 
 -- what is settled stays
 pub settled : (format : PacketFormat) (x y : List ℕ) → front_of format x ≢ More → front_of format (x ++ y) ≡ front_of format x
@@ -123,7 +132,8 @@ alone format x n whole =
     let w = is_whole format x n whole in
     let len : length (take n x) ≡ n = omega (arith, length-take n x, w.size, w.fits) in
     let parts : take n x ++ drop n x ≡ x = take-append-drop n x in
-    let read : head_at (take n x) ≡ Ok w.head = sym (head_same (take n x) (drop n x) (omega (arith, len, w.size))) ∙ (ap head_at parts ∙ w.read) in
+    let read : head_at (take n x) ≡ Ok w.head = sym (head_same (take n x) (drop n x) (omega (arith, len, w.size)))
+    ∙ (ap head_at parts ∙ w.read) in
     sym (full_same format (take n x) (drop n x) w.head read (omega (arith, len, w.size))) ∙ (ap (front_of format) parts ∙ whole)
 
 fits : (format : PacketFormat) (x : List ℕ) (n : ℕ) → front_of format x ≡ Whole n → (0 < n) × (n ≤ length x)

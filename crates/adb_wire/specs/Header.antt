@@ -1,5 +1,6 @@
 -- Headers: six little-endian words (protocol.txt), and what 24 bytes say.
-use Rattle.std.specs.Prelude.{ℕ, ◌*◌, ◌^◌, ◌%◌, ◌<◌, ◌≤◌, List, [], ◌∷◌, drop, Option, Some, None, Result, Ok, Err, if◌then◌else◌, ◌==◌, not, nat_lt, bit_xor, sum}
+use Rattle.std.specs.Prelude.{ℕ, ◌*◌, ◌^◌, ◌%◌, ◌<◌, ◌≤◌, List, [], ◌∷◌, drop, Option, Some, None, Result, Ok, Err, if◌then◌else◌, ◌==◌}
+use Rattle.std.specs.Prelude.{not, nat_lt, bit_xor, sum}
 use Rattle.std.specs.List.{flat_map, All}
 use Rattle.byteorder.specs.Endian.{little_bytes, little_number}
 use Rattle.adb_wire.specs.declared.command.Command.{Command}

@@ -1,5 +1,6 @@
 -- Cutting a stream into slices by form: each slice is a packet, or a header with a fault. Check words are not looked at.
-use Rattle.std.specs.Prelude.{ℕ, ◌-◌, ◌≡◌, ◌<◌, ◌==◌, ◌⊎◌, if◌then◌else◌, nat_lt, map, List, [], ◌∷◌, ◌++◌, length, take, Some, None, Result, Ok, Err}
+use Rattle.std.specs.Prelude.{ℕ, ◌-◌, ◌≡◌, ◌<◌, ◌==◌, ◌⊎◌, if◌then◌else◌, nat_lt, map, List, [], ◌∷◌, ◌++◌, length, take, Some, None}
+use Rattle.std.specs.Prelude.{Result, Ok, Err}
 use Rattle.std.specs.List.{All, concat}
 use Rattle.adb_outside.specs.declared.framer.Front.{Front}
 use Rattle.adb_outside.specs.declared.framer.Front.TheVariants.{More, Whole}
@@ -61,7 +62,8 @@ pub record AreSlices (bytes : List ℕ) (slices : List (List ℕ)) (rest : List 
   pub spelled : concat slices ++ rest ≡ bytes
   pub short : length rest < slice_len rest
 
--- The slices are the packets of the stream's parts, and then others, which are the slices of the bytes past them: none where the stream has no fault; the
+-- The slices are the packets of the stream's parts, and then others, which are the slices of the bytes past them:
+-- none where the stream has no fault; the
 -- header first that has one; and the packet first whose check word is wrong.
 pub record Follow (slices : List (List ℕ)) (rest : List ℕ) (parts : Parts) : Type 0 where
   pub spelled : List (List ℕ)

@@ -24,21 +24,26 @@ pub record IsOf (l : Layout) (app : App) : Type 0 where
   pub fits : Fits l (built app).top
   pub checks : (rows : List Row) → check_fault (built app).top rows false ≡ []
   pub faults : (words : List Text) → fault_of app words
-      ≡ behind (built app).top (walk_fault (built app).top [] (at_place nothing_held 1) words) (walk (built app).top.rules [] nothing_held words).held
-  pub matches : (words : List Text) → matches_of app words ≡ finished (built app).top.rules (walk (built app).top.rules [] nothing_held words).held
+      ≡ behind (built app).top (walk_fault (built app).top [] (at_place nothing_held 1) words)
+      (walk (built app).top.rules [] nothing_held words).held
+  pub matches : (words : List Text) → matches_of app words ≡ finished (built app).top.rules
+      (walk (built app).top.rules [] nothing_held words).held
   pub simple : is_simple app ≡ true
 
 -- ---- a word that is no part gives nothing
-no_parts : (l : Layout) (words : List Text) → are_parts l.options l.flags words ≡ false → (waiting : Option Text) → given_behind l words waiting ≡ None
+no_parts : (l : Layout) (words : List Text) → are_parts l.options l.flags words ≡ false → (waiting : Option Text)
+    → given_behind l words waiting ≡ None
 no_parts l [] e waiting = absurd (true≢false e)
 no_parts l (word ∷ words) e None = go (no_parts l words) (part_of l.options l.flags word) e
   where
-    operand : (o : Option Text) → given_behind l words None ≡ None → option_and_then (λ name. also name word (given_behind l words None)) o ≡ None
+    operand : (o : Option Text) → given_behind l words None ≡ None
+        → option_and_then (λ name. also name word (given_behind l words None)) o ≡ None
     operand None h = refl
     operand (Some name) h = ap (also name word) h
 
     go : (are_parts l.options l.flags words ≡ false → (waiting : Option Text) → given_behind l words waiting ≡ None)
-        → (part : Part) → (is_right_part part && are_parts l.options l.flags words) ≡ false → given_by l part word (given_behind l words) ≡ None
+        → (part : Part) → (is_right_part part && are_parts l.options l.flags words) ≡ false
+        → given_by l part word (given_behind l words) ≡ None
     go later Operand h = operand l.operand (later h None)
     go later (Setting name text) h = ap (also name text) (later h None)
     go later (Awaiting name) h = later h (Some name)
@@ -47,7 +52,9 @@ no_parts l (word ∷ words) e None = go (no_parts l words) (part_of l.options l.
 no_parts l (word ∷ words) e (Some name) = go (no_parts l words) (is_operand word) e
   where
     go : (are_parts l.options l.flags words ≡ false → (waiting : Option Text) → given_behind l words waiting ≡ None)
-        → (b : Bool) → (is_right_part (if b then Operand else hyphen_part l.options l.flags word) && are_parts l.options l.flags words) ≡ false
+        → (b : Bool) →
+        (is_right_part (if b then Operand else hyphen_part l.options l.flags word)
+        && are_parts l.options l.flags words) ≡ false
         → (if b then also name word (given_behind l words None) else None) ≡ None
     go later true h = ap (also name word) (later h None)
     go later false h = refl
@@ -100,7 +107,8 @@ module _ (l : Layout) (app : App) (of : IsOf l app) where
   given_taken words matches has all none =
       taken words matches (given_in l words) refl (ends l shape of.fits words all (Between false nothing_held) refl) (has of.simple).0 none
 
-  pub given_refused : (words : List Text) → (are_parts l.options l.flags words ≡ false) ⊎ (fault_of app words ≢ []) → given_in l words ≡ None
+  pub given_refused : (words : List Text) → (are_parts l.options l.flags words ≡ false) ⊎ (fault_of app words ≢ [])
+      → given_in l words ≡ None
   given_refused words (inl e) = no_parts l words e None
   given_refused words (inr some) = go (are_parts l.options l.flags words) refl
     where
@@ -127,4 +135,5 @@ module _ {A : Type 0} (l : Layout) (app : App) (of : IsOf l app) (words : List (
   pub layout_refused : (used : App) → used ≡ app → (are_known l.options l.flags words ≡ false) ⊎ (fault_of used (texts words) ≢ [])
       → given_in l (texts words) ≡ None
   layout_refused used is (inl e) = given_refused l app of (texts words) (inl (sym are_same ∙ e))
-  layout_refused used is (inr some) = given_refused l app of (texts words) (inr (λ none. some (ap (λ (a : App). fault_of a (texts words)) is ∙ none)))
+  layout_refused used is (inr some) = given_refused l app of (texts words)
+      (inr (λ none. some (ap (λ (a : App). fault_of a (texts words)) is ∙ none)))

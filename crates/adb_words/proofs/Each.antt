@@ -33,7 +33,8 @@ none_read : {A : Type 0} (o : Option (List A)) → o ≡ option_map (λ more. []
 none_read None = refl
 none_read (Some more) = refl
 
-pub each_begins : {A : Type 0} (read : List ℕ → Option A) (texts : List (Bor (List ℕ))) (items : List A) → items ≡ [] → EachFrom read texts 0 items
+pub each_begins : {A : Type 0} (read : List ℕ → Option A) (texts : List (Bor (List ℕ))) (items : List A) → items ≡ []
+    → EachFrom read texts 0 items
 each_begins read texts items e =
     none_read (each_of read (texts_in texts)) ∙ ap (λ front. option_map (λ more. front ++ more) (each_of read (texts_in texts))) (sym e)
 
@@ -42,8 +43,10 @@ one_more : {A : Type 0} (items : List A) (x : A) (o : Option (List A))
 one_more items x None = refl
 one_more items x (Some more) = ap Some (sym (append_assoc items (x ∷ []) more))
 
-pub each_goes : {A : Type 0} (read : List ℕ → Option A) (texts : List (Bor (List ℕ))) (i : ℕ) (x : A) (items more : List A) → i < length texts
-    → EachFrom read texts i items → read (slice_index_or texts i (record { ref_ptr = (0, 0); now = [] })).now ≡ Some x → more ≡ items ++ x ∷ []
+pub each_goes : {A : Type 0} (read : List ℕ → Option A) (texts : List (Bor (List ℕ))) (i : ℕ) (x : A)
+    (items more : List A) → i < length texts
+    → EachFrom read texts i items → read (slice_index_or texts i (record { ref_ptr = (0, 0); now = [] })).now ≡ Some x
+    → more ≡ items ++ x ∷ []
     → EachFrom read texts (i + 1) more
 each_goes read texts i x items more lt from e added =
     from

@@ -4,12 +4,14 @@ use Rattle.std.proofs.Common.{option_map, option_and_then, refl, sym, ◌∙◌,
 use Rattle.std.specs.Prelude.{if◌then◌else◌}
 use Rattle.std.specs.Option.{option_map_or}
 use Rattle.clap.specs.Lexer.{long_of}
-use Rattle.clap.specs.Walk.{Held, Rule, Row, Text, Step, Walk, Waiting, idle, positional, walked, word_met, after_step, long_or_other, short_or_plain}
+use Rattle.clap.specs.Walk.{Held, Rule, Row, Text, Step, Walk, Waiting, idle, positional, walked, word_met, after_step, long_or_other}
+use Rattle.clap.specs.Walk.{short_or_plain}
 use Rattle.clap.specs.Walk.{long_word, long_met, after_flag, plain_word, option_word, pushed, to_positional, is_pending}
 use Rattle.clap.specs.Walk.{settled, used_by_id, reacted, arg_by_id, arg_by_long, arg_by_index}
 use Rattle.clap.specs.Walk as walk
 use Rattle.clap.specs.Simple.{Shape}
-use Rattle.clap.specs.Faults.{walk_fault, settle_fault, turn_fault, word_fault, step_fault, long_fault, use_fault, stray_fault, positional_fault}
+use Rattle.clap.specs.Faults.{walk_fault, settle_fault, turn_fault, word_fault, step_fault, long_fault, use_fault, stray_fault}
+use Rattle.clap.specs.Faults.{positional_fault}
 use Rattle.clap.specs.Faults.{flag_word_fault, bundle_fault}
 use Rattle.clap.specs.Kinds.{Kinds, or_else}
 use Rattle.clap.specs.declared.error.kind.ErrorKind.{ErrorKind}
@@ -151,13 +153,15 @@ module _ (l : Layout) (s : Shape) (fits : Fits l s) where
   }
 
   -- ---- a word that is no option
-  met_plain : (waiting : Waiting) (word : Text) (h : Held) → IsPlain word → word_met s.rules [] false waiting 1 word h ≡ plain_word s.rules waiting word h
+  met_plain : (waiting : Waiting) (word : Text) (h : Held) → IsPlain word
+      → word_met s.rules [] false waiting 1 word h ≡ plain_word s.rules waiting word h
   met_plain idle word h p =
       ap (λ b. cond b (h, walk.trailing 1) (long_or_other s.rules idle word (long_of word) h)) p.dashes
       ∙ (ap (λ o. long_or_other s.rules idle word o h) p.long ∙ ap (λ o. short_or_plain s.rules idle word o h) p.short)
   met_plain (walk.option id) word h p =
       ap (λ b. cond b (h, walk.trailing 1) (long_or_other s.rules (walk.option id) word (long_of word) h)) p.dashes
-      ∙ (ap (λ o. long_or_other s.rules (walk.option id) word o h) p.long ∙ ap (λ o. short_or_plain s.rules (walk.option id) word o h) p.short)
+      ∙ (ap (λ o. long_or_other s.rules (walk.option id) word o h) p.long
+      ∙ ap (λ o. short_or_plain s.rules (walk.option id) word o h) p.short)
   met_plain positional word h p =
       ap (λ b. cond b (h, walk.trailing 1) (long_or_other s.rules positional word (long_of word) h)) p.dashes
       ∙ (ap (λ o. long_or_other s.rules positional word o h) p.long ∙ ap (λ o. short_or_plain s.rules positional word o h) p.short)
@@ -183,7 +187,8 @@ module _ (l : Layout) (s : Shape) (fits : Fits l s) where
   plain_fails : (waiting : Waiting) (word : Text) (h : Held) (met : Held × Step) → IsPlain word → plain_word s.rules waiting word h ≡ met
       → turn_fault s [] (at h waiting) word ≡ step_fault s 1 met.0 met.1
   plain_fails waiting word h met p is =
-      ap (λ (met : Held × Step). or_else (word_fault s [] false waiting word h) (step_fault s 1 met.0 met.1)) (met_plain waiting word h p ∙ is)
+      ap (λ (met : Held × Step). or_else (word_fault s [] false waiting word h) (step_fault s 1 met.0 met.1))
+      (met_plain waiting word h p ∙ is)
       ∙ ap (λ kinds. or_else kinds (step_fault s 1 met.0 met.1)) (no_fault waiting word h p)
 
   -- the value of an option
@@ -191,11 +196,20 @@ module _ (l : Layout) (s : Shape) (fits : Fits l s) where
   awaited_held name rows skip texts = record { rows = rows; pending = Some (name, texts); skip = skip }
 
   awaited_word : (name word : Text) (rows : List Row) (skip : ℕ) → is_one_of l.options name ≡ true
-      → plain_word s.rules (walk.option name) word (awaited_held name rows skip []) ≡ (awaited_held name rows skip (word ∷ []), walk.next idle)
+      → plain_word s.rules (walk.option name) word (awaited_held name rows skip [])
+      ≡ (awaited_held name rows skip (word ∷ []), walk.next idle)
   awaited_word name word rows skip e =
-      ap (λ o. ((option_word o name word (awaited_held name rows skip [])).0, walk.next (option_word o name word (awaited_held name rows skip [])).1))
+      ap (λ o. (
+        (option_word o name word (awaited_held name rows skip [])).0,
+        walk.next
+            (option_word o name word (awaited_held name rows skip [])).1,
+      ))
       (fits.option_id name e)
-      ∙ ap (λ b. (awaited_held name rows skip (word ∷ []), walk.next (if nat_lt (if b then 1 else 0) 1 then walk.option name else idle))) (is_itself name)
+      ∙ ap (λ b. (
+        awaited_held name rows skip (word ∷ []),
+        walk.next
+            (if nat_lt (if b then 1 else 0) 1 then walk.option name else idle),
+      )) (is_itself name)
 
   value_turn : (name word : Text) (rows : List Row) (skip : ℕ) → is_one_of l.options name ≡ true → IsPlain word
       → Turn (awaited_held name rows skip []) (walk.option name) word (awaited_held name rows skip (word ∷ [])) idle []
@@ -217,15 +231,19 @@ module _ (l : Layout) (s : Shape) (fits : Fits l s) where
   operand_turn b name word h e p = record {
     walks = plain_walks (rest b) word h _ p (rest_word b word h)
         ∙ (ap (λ o. to_positional s.rules o word (at h (rest b)) h) (fits.place ∙ ap (option_map placed) e)
-        ∙ ap (λ t. at (pushed name word (if t then h else settled s.rules h)) positional) (never_both (is_pending (placed name) h.pending)));
+        ∙ ap (λ t. at (pushed name word (if t then h else settled s.rules h)) positional)
+        (never_both (is_pending (placed name) h.pending)));
     fails = plain_fails (rest b) word h _ p (rest_word b word h)
-        ∙ (ap (λ o. option_map_or (λ a. positional_fault s.rules s.args_override_self a h) o (stray_fault s)) (fits.place ∙ ap (option_map placed) e)
+        ∙ (ap (λ o. option_map_or (λ a. positional_fault s.rules s.args_override_self a h) o (stray_fault s))
+        (fits.place ∙ ap (option_map placed) e)
         ∙ ap (λ t. if t then [] else before h) (never_both (is_pending (placed name) h.pending)));
   }
 
-  stray_fails : (b : Bool) (word : Text) (h : Held) → l.operand ≡ None → IsPlain word → turn_fault s [] (at h (rest b)) word ≡ kind.UnknownArgument ∷ []
+  stray_fails : (b : Bool) (word : Text) (h : Held) → l.operand ≡ None → IsPlain word
+      → turn_fault s [] (at h (rest b)) word ≡ kind.UnknownArgument ∷ []
   stray_fails b word h e p = plain_fails (rest b) word h _ p (rest_word b word h)
-      ∙ (ap (λ o. option_map_or (λ a. positional_fault s.rules s.args_override_self a h) o (stray_fault s)) (fits.place ∙ ap (option_map placed) e)
+      ∙ (ap (λ o. option_map_or (λ a. positional_fault s.rules s.args_override_self a h) o (stray_fault s))
+      (fits.place ∙ ap (option_map placed) e)
       ∙ ap (λ t. if t then kind.UnknownArgument ∷ [] else kind.UnknownArgument ∷ kind.InvalidSubcommand ∷ []) fits.leaf)
 
   -- ---- all words
@@ -294,7 +312,8 @@ module _ (l : Layout) (s : Shape) (fits : Fits l s) where
 
   -- a word that is an operand, or begins an option, between two words
   step : (b : Bool) (h : Held) (word : Text) (words : List Text) (part : Part) → before h ≡ [] → IsPart l.options l.flags word part
-      → ((p : Place) → IsClean p → EndsAt words p) → Ends (settled s.rules h).rows h (rest b) (word ∷ words) (given_by l part word (given_behind l words))
+      → ((p : Place) → IsClean p → EndsAt words p) → Ends (settled s.rules h).rows h (rest b) (word ∷ words)
+      (given_by l part word (given_behind l words))
   step b h word words Operand clean is further = go l.operand refl
     where
       go : (o : Option Text) → l.operand ≡ o
@@ -331,11 +350,13 @@ module _ (l : Layout) (s : Shape) (fits : Fits l s) where
   step b h word words Wrong clean is further = absurd is
 
   -- an option that waits for its value fails at an option, and at the end
-  lacking : (name : Text) (rows : List Row) (skip : ℕ) → is_one_of l.options name ≡ true → before (awaited_held name rows skip []) ≡ kind.InvalidValue ∷ []
+  lacking : (name : Text) (rows : List Row) (skip : ℕ) → is_one_of l.options name ≡ true
+      → before (awaited_held name rows skip []) ≡ kind.InvalidValue ∷ []
   lacking name rows skip e = ap (λ o. option_map_or (λ a. use_fault s.args_override_self a [] rows) o []) (fits.option_id name e)
 
   lacks : (name : Text) (rows : List Row) (skip : ℕ) (word : Text) (words : List Text) (part : Part) → is_one_of l.options name ≡ true
-      → is_operand word ≡ false → IsPart l.options l.flags word part → Ends rows (awaited_held name rows skip []) (walk.option name) (word ∷ words) None
+      → is_operand word ≡ false → IsPart l.options l.flags word part
+      → Ends rows (awaited_held name rows skip []) (walk.option name) (word ∷ words) None
   lacks name rows skip word words Operand e dash is = absurd (true≢false (sym is ∙ dash))
   lacks name rows skip word words (Setting other text) e dash is =
       stops rows (awaited_held name rows skip []) (walk.option name) word words kind.InvalidValue []
@@ -355,13 +376,15 @@ module _ (l : Layout) (s : Shape) (fits : Fits l s) where
   takes name rows skip word words e right further = go (is_operand word) refl right
     where
       go : (b : Bool) → is_operand word ≡ b → is_right_part (if b then Operand else hyphen_part l.options l.flags word) ≡ true
-          → Ends rows (awaited_held name rows skip []) (walk.option name) (word ∷ words) (if b then also name word (given_behind l words None) else None)
+          → Ends rows (awaited_held name rows skip []) (walk.option name) (word ∷ words)
+          (if b then also name word (given_behind l words None) else None)
       go true is h =
           let id = fits.option_id name e in
           let h' : Held = awaited_held name rows skip (word ∷ []) in
           let clean' : before h' ≡ [] = ap (λ o. option_map_or (λ a. use_fault s.args_override_self a (word ∷ []) rows) o []) id in
           let rows' : (settled s.rules h').rows ≡ added name word rows = ap (λ o. used_by_id o (word ∷ []) rows) id in
-          turned rows (awaited_held name rows skip []) h' (walk.option name) idle word words _ (value_turn name word rows skip e (plain word is))
+          turned rows (awaited_held name rows skip []) h' (walk.option name) idle word words _
+          (value_turn name word rows skip e (plain word is))
           (also_ends rows name word h' idle words (given_behind l words None)
           (subst (λ rs. Ends rs h' idle words (given_behind l words None)) rows' (further (Between false h') clean')))
       go false is h = lacks name rows skip word words _ e is (hyphen_view l.options l.flags fits.option_named fits.flag_named word h)

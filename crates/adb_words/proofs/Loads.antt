@@ -1,5 +1,6 @@
 -- What the simple command of a load makes of words.
-use Rattle.std.proofs.Common.{ℕ, ◌≡◌, ◌≢◌, ◌^◌, ◌-◌, ◌==◌, ◌&&◌, ◌⊎◌, inl, inr, Bool, true, false, not, nat_lt, nat_le, List, [], ◌∷◌, length, codes}
+use Rattle.std.proofs.Common.{ℕ, ◌≡◌, ◌≢◌, ◌^◌, ◌-◌, ◌==◌, ◌&&◌, ◌⊎◌, inl, inr, Bool, true, false, not, nat_lt, nat_le, List, [], ◌∷◌}
+use Rattle.std.proofs.Common.{length, codes}
 use Rattle.std.proofs.Common.{Option, Some, None, Result, Ok, Err, IfOk, refl, sym, ◌∙◌, ap, ap₂, subst, true≢false, eqb-true}
 use Rattle.std.specs.Prelude.{if◌then◌else◌, option_and_then, IsOkAnd, String}
 use Rattle.std.specs.List.{list_all}
@@ -67,7 +68,9 @@ none_fails = refl
 
 one_fails : (a : Text) → IsPlain a → fault_of gen_app (a ∷ []) ≡ kind.MissingRequiredArgument ∷ []
 unfolding clap_on_literals
-one_fails a p = fault_is gen_app (a ∷ []) refl refl ∙ (ap (λ kinds. behind shape kinds (walk shape.rules [] nothing_held (a ∷ [])).held) (fault_one a [] p)
+one_fails a p =
+    fault_is gen_app (a ∷ []) refl refl
+    ∙ (ap (λ kinds. behind shape kinds (walk shape.rules [] nothing_held (a ∷ [])).held) (fault_one a [] p)
     ∙ ap (λ (w : Walk). behind shape [] w.held) (walk_one a p))
 
 -- two are right
@@ -175,7 +178,8 @@ pub record IsFound (words : List Text) (found : Found) : Type 0 where
   pub seed_found : first_value found (codes "seed") ≡ Some seed
   pub streams_found : first_value found (codes "streams") ≡ Some streams
 
-pub load_found : {A : Type 0} (words : List (String A)) (app : App) (matches : ArgMatches) → app ≡ gen_app → HasMatchesOf app (texts words) matches
+pub load_found : {A : Type 0} (words : List (String A)) (app : App) (matches : ArgMatches) → app ≡ gen_app
+    → HasMatchesOf app (texts words) matches
     → (are_operands words ≡ true) × (fault_of app (texts words) ≡ []) → IsFound (texts words) (found_of matches)
 load_found words app matches is has taken =
     let load = load_taken (texts words) (sym (all_texts words) ∙ taken.0) (ap (λ (a : App). fault_of a (texts words)) (sym is) ∙ taken.1) in
@@ -192,7 +196,8 @@ load_found words app matches is has taken =
 abbrev pub GivesLoad : {E : Type 0} → Text → Text → Result Load E → Type 0
 GivesLoad seed streams r = IsOkAnd r (λ load. (load.seed.now ≡ seed) × (load.streams.now ≡ streams))
 
-pub load_given : {E : Type 0} (words : List Text) (found : Found) (l : IsFound words found) (r : Result Load E) → GivesLoad l.seed l.streams r
+pub load_given : {E : Type 0} (words : List Text) (found : Found) (l : IsFound words found) (r : Result Load E)
+    → GivesLoad l.seed l.streams r
     → IfOk r (λ load. words ≡ load.seed.now ∷ load.streams.now ∷ [])
 load_given words found l (Ok load) h = l.is ∙ ap₂ (λ seed streams. seed ∷ streams ∷ []) (sym h.0) (sym h.1)
 load_given words found l (Err e) h = absurd h

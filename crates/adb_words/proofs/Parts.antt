@@ -1,6 +1,8 @@
 -- What the words of options and operands are to a simple command.
-use Rattle.std.proofs.Common.{ℕ, ◌≡◌, ◌≢◌, ◌+◌, ◌==◌, ◌&&◌, ◌||◌, Bool, true, false, cond, List, [], ◌∷◌, take, drop, length, position, nat_lt}
-use Rattle.std.proofs.Common.{Option, Some, None, String, string_bytes, refl, sym, ◌∙◌, ap, ap₂, bytes_eq, true≢false, zero, suc, not, one-add}
+use Rattle.std.proofs.Common.{ℕ, ◌≡◌, ◌≢◌, ◌+◌, ◌==◌, ◌&&◌, ◌||◌, Bool, true, false, cond, List, [], ◌∷◌, take, drop, length, position}
+use Rattle.std.proofs.Common.{nat_lt}
+use Rattle.std.proofs.Common.{Option, Some, None, String, string_bytes, refl, sym, ◌∙◌, ap, ap₂, bytes_eq, true≢false, zero, suc, not}
+use Rattle.std.proofs.Common.{one-add}
 use Rattle.std.proofs.lemmas.Bool.Decides.{nat_tests}
 use native.Mathlib.Omega.{arith}
 use Rattle.std.specs.Prelude.{if◌then◌else◌, option_and_then}
@@ -21,7 +23,8 @@ are_parts options flags words = list_all (λ word. is_right_part (part_of option
 
 -- ---- as code has it
 module _ (options flags : List Text) where
-  known_at : (text : Text) (equals : Option ℕ) → is_known_at options flags text equals ≡ is_right_part (option_part options flags text equals)
+  known_at : (text : Text) (equals : Option ℕ) → is_known_at options flags text equals
+      ≡ is_right_part (option_part options flags text equals)
   known_at text (Some at) = go (is_one_of options (take at text))
     where
       go : (b : Bool) → b ≡ is_right_part (if b then Setting (take at text) (drop (at + 1) text) else Wrong)
@@ -108,7 +111,8 @@ pub record IsLong (word name : Text) (attached : Option Text) : Type 0 where
   pub long : long_of word ≡ Some (name, attached)
   pub dashes : bytes_eq word (45 ∷ 45 ∷ []) ≡ false
 
-opened : (a b : ℕ) (text : Text) (split : Text × Option Text) → (a == 45) ≡ true → (b == 45) ≡ true → text ≢ [] → name_and_value text ≡ split
+opened : (a b : ℕ) (text : Text) (split : Text × Option Text) → (a == 45) ≡ true → (b == 45) ≡ true → text ≢ []
+    → name_and_value text ≡ split
     → IsLong (a ∷ b ∷ text) split.0 split.1
 opened a b [] split ea eb some is = absurd (some refl)
 opened a b (x ∷ text) split ea eb some is = record {
@@ -144,7 +148,11 @@ module _ (options flags : List Text) (named : is_one_of options [] ≡ false) (f
       go : (known : Bool) → is_one_of options (take at text) ≡ known
           → is_right_part (if known then Setting (take at text) (drop (at + 1) text) else Wrong) ≡ true
           → IsPart options flags (a ∷ b ∷ text) (if known then Setting (take at text) (drop (at + 1) text) else Wrong)
-      go true e h = (e, opened a b text (split_at text (Some at)) ea eb (some_text options at text named e) (sym (split_is text) ∙ ap (split_at text) is))
+      go true e h = (
+        e,
+        opened a b text (split_at text (Some at)) ea eb (some_text options at text named e)
+            (sym (split_is text) ∙ ap (split_at text) is),
+      )
       go false e h = true≢false (sym h)
   option_view a b text None ea eb is right = go (is_one_of options text) (is_one_of flags text) refl refl right
     where
@@ -158,7 +166,8 @@ module _ (options flags : List Text) (named : is_one_of options [] ≡ false) (f
       go false true e f h = (f, long (some_name flags text flagged f))
       go false false e f h = true≢false (sym h)
 
-  pub hyphen_view : (word : Text) → is_right_part (hyphen_part options flags word) ≡ true → IsPart options flags word (hyphen_part options flags word)
+  pub hyphen_view : (word : Text) → is_right_part (hyphen_part options flags word) ≡ true
+      → IsPart options flags word (hyphen_part options flags word)
   hyphen_view [] right = true≢false (sym right)
   hyphen_view (a ∷ []) right = true≢false (sym right)
   hyphen_view (a ∷ b ∷ text) right = go (a == 45) (b == 45) refl refl right

@@ -1,14 +1,17 @@
 -- A word that is no option, in the parse of a simple command.
-use Rattle.std.proofs.Common.{ℕ, ◌≡◌, ◌≢◌, ◌==◌, ◌&&◌, ◌⊎◌, inl, inr, Bool, true, false, not, cond, List, [], ◌∷◌, drop, Option, Some, None, Result}
+use Rattle.std.proofs.Common.{ℕ, ◌≡◌, ◌≢◌, ◌==◌, ◌&&◌, ◌⊎◌, inl, inr, Bool, true, false, not, cond, List, [], ◌∷◌, drop, Option, Some, None}
+use Rattle.std.proofs.Common.{Result}
 use Rattle.std.proofs.Common.{Err, String, refl, sym, ◌∙◌, ap, true≢false}
 use Rattle.std.specs.Prelude.{string_bytes, option_and_then, bytes_eq, ok_or, if◌then◌else◌}
 use Rattle.std.specs.List.{list_all}
 use Rattle.std.specs.Option.{option_map_or}
 use Rattle.clap.specs.Lexer.{long_of, long_of_rest, short_of, short_of_rest, strip_byte}
-use Rattle.clap.specs.Walk.{Held, Rule, Text, Step, Walk, idle, value, trailing, word_met, walked, long_or_other, short_or_plain, to_positional}
+use Rattle.clap.specs.Walk.{Held, Rule, Text, Step, Walk, idle, value, trailing, word_met, walked, long_or_other, short_or_plain}
+use Rattle.clap.specs.Walk.{to_positional}
 use Rattle.clap.specs.Walk.{after_step, arg_by_index, nothing_held, walk, settled, finished}
 use Rattle.clap.specs.Simple.{App, Shape, built, argument_words}
-use Rattle.clap.specs.Faults.{fault_of, level_fault, walk_fault, settle_fault, defaults_fault, check_fault, turn_fault, word_fault, step_fault}
+use Rattle.clap.specs.Faults.{fault_of, level_fault, walk_fault, settle_fault, defaults_fault, check_fault, turn_fault, word_fault}
+use Rattle.clap.specs.Faults.{step_fault}
 use Rattle.clap.specs.Faults.{flag_word_fault, bundle_fault}
 use Rattle.clap.specs.Kinds.{Kinds, or_else}
 use Rattle.clap.specs.declared.error.kind.ErrorKind.{ErrorKind}
@@ -43,7 +46,8 @@ plain (x ∷ xs) e = go (x == 45) refl e
 abbrev pub at_place : Held → ℕ → Walk
 at_place h place = record { held = h; waiting = idle; position = place; is_trailing = false; stopped = None }
 
-pub met_plain : (rules : List Rule) (place : ℕ) (word : Text) (h : Held) → IsPlain word → word_met rules [] false idle place word h ≡ (h, value)
+pub met_plain : (rules : List Rule) (place : ℕ) (word : Text) (h : Held) → IsPlain word
+    → word_met rules [] false idle place word h ≡ (h, value)
 met_plain rules place word h p =
     ap (λ b. cond b (h, trailing place) (long_or_other rules idle word (long_of word) h)) p.dashes
     ∙ (ap (λ o. long_or_other rules idle word o h) p.long ∙ ap (λ o. short_or_plain rules idle word o h) p.short)
@@ -56,9 +60,11 @@ walked_plain rules place word h p =
     ap (λ (met : Held × Step). after_step rules word (at_place h place) met.0 met.1) (met_plain rules place word h p)
 
 -- and fails where there is none, or where the word before it failed
-pub fault_plain : (s : Shape) (place : ℕ) (word : Text) (h : Held) → IsPlain word → turn_fault s [] (at_place h place) word ≡ step_fault s place h value
+pub fault_plain : (s : Shape) (place : ℕ) (word : Text) (h : Held) → IsPlain word
+    → turn_fault s [] (at_place h place) word ≡ step_fault s place h value
 fault_plain s place word h p =
-    ap (λ (met : Held × Step). or_else (word_fault s [] false idle word h) (step_fault s place met.0 met.1)) (met_plain s.rules place word h p)
+    ap (λ (met : Held × Step). or_else (word_fault s [] false idle word h) (step_fault s place met.0 met.1))
+    (met_plain s.rules place word h p)
     ∙ ap (λ (kinds : Kinds). or_else kinds (step_fault s place h value)) passes
   where
     passes : word_fault s [] false idle word h ≡ []
@@ -74,7 +80,8 @@ behind s kinds h = or_else kinds (or_else (settle_fault s.rules s.args_override_
     (or_else (defaults_fault (settled s.rules h).rows s.rules) (check_fault s (finished s.rules h) false)))
 
 pub fault_is : (app : App) (words : List Text) → (built app).subs ≡ [] → app.top.no_binary_name ≡ true → fault_of app words
-    ≡ behind (built app).top (walk_fault (built app).top [] (at_place nothing_held 1) words) (walk (built app).top.rules [] nothing_held words).held
+    ≡ behind (built app).top (walk_fault (built app).top [] (at_place nothing_held 1) words)
+    (walk (built app).top.rules [] nothing_held words).held
 fault_is app words alone given =
     leaf_fault (built app) nothing_held (argument_words app words) alone
     ∙ ap (λ b. level_fault (built app).top [] nothing_held (if b then words else drop 1 words) false []) given

@@ -51,7 +51,8 @@ gathered name rows = unwrap_or (all_of name rows) []
 abbrev one_if : Bool → Text → List Text
 one_if b text = if b then text ∷ [] else []
 
-gathered_added : (name n text : Text) (rows : List Row) → gathered name (added n text rows) ≡ gathered name rows ++ one_if (bytes_eq n name) text
+gathered_added : (name n text : Text) (rows : List Row) → gathered name (added n text rows)
+    ≡ gathered name rows ++ one_if (bytes_eq n name) text
 gathered_added name n text [] = go (bytes_eq n name)
   where
     go : (b : Bool) → unwrap_or (option_map (λ (r : Row). r.values) (cond b (Some (record {
@@ -63,7 +64,8 @@ gathered_added name n text [] = go (bytes_eq n name)
     })) None)) [] ≡ one_if b text
     go true = refl
     go false = refl
-gathered_added name n text (r ∷ rows) = go (gathered_added name n text rows) (bytes_eq r.id n) (bytes_eq r.id name) (bytes_eq n name) refl refl refl
+gathered_added name n text (r ∷ rows) = go (gathered_added name n text rows) (bytes_eq r.id n) (bytes_eq r.id name)
+    (bytes_eq n name) refl refl refl
   where
     go : gathered name (added n text rows) ≡ gathered name rows ++ one_if (bytes_eq n name) text
         → (same is given : Bool) → bytes_eq r.id n ≡ same → bytes_eq r.id name ≡ is → bytes_eq n name ≡ given
@@ -81,7 +83,8 @@ gathered_added name n text (r ∷ rows) = go (gathered_added name n text rows) (
     go later false true false es ei eg = rw (es, ei, eg) (sym (append-nil _))
     go later false false given es ei eg = rw (es, ei) later
 
-pub gathered_with : (name : Text) (given : Given) (rows : List Row) → gathered name (rows_with given rows) ≡ gathered name rows ++ values_of name given
+pub gathered_with : (name : Text) (given : Given) (rows : List Row)
+    → gathered name (rows_with given rows) ≡ gathered name rows ++ values_of name given
 gathered_with name [] rows = sym (append-nil (gathered name rows))
 gathered_with name (g ∷ given) rows =
     gathered_with name given (added g.0 g.1 rows)
@@ -107,7 +110,9 @@ no_default a rows e =
     go false = refl
 
 same_rows : (a : Rule) (rows : List Row) → a.defaults ≡ [] → with_default rows a ≡ rows
-same_rows a rows e = ap (λ defaults. if has_row a.id rows then rows else default_rows a.id (reading_by a) defaults rows) e ∙ go (has_row a.id rows)
+same_rows a rows e =
+    ap (λ defaults. if has_row a.id rows then rows else default_rows a.id (reading_by a) defaults rows) e
+    ∙ go (has_row a.id rows)
   where
     go : (b : Bool) → (if b then rows else rows) ≡ rows
     go true = refl
@@ -117,7 +122,8 @@ pub no_defaults : (rules : List Rule) (rows : List Row) → HasNoDefaults rules 
 unfolding defaults_fault
 no_defaults [] rows h = refl
 no_defaults (a ∷ rules) rows h =
-    ap (λ kinds. or_else kinds (defaults_fault (with_default rows a) rules)) (no_default a rows h.0) ∙ no_defaults rules (with_default rows a) h.1
+    ap (λ kinds. or_else kinds (defaults_fault (with_default rows a) rules)) (no_default a rows h.0)
+    ∙ no_defaults rules (with_default rows a) h.1
 
 pub finished_as : (rules : List Rule) (rows : List Row) → HasNoDefaults rules → fold with_default rows rules ≡ rows
 finished_as [] rows h = refl

@@ -55,7 +55,8 @@ module _ (name : Text) where
       ∙ ap (λ (w : Walk). behind shape [] w.held) (walk_one a p))
 
   -- two or more are too many
-  more_fail : (a b : Text) (words : List Text) → IsPlain a → IsPlain b → fault_of (seed_app name) (a ∷ b ∷ words) ≡ kind.UnknownArgument ∷ []
+  more_fail : (a b : Text) (words : List Text) → IsPlain a → IsPlain b
+      → fault_of (seed_app name) (a ∷ b ∷ words) ≡ kind.UnknownArgument ∷ []
   unfolding clap_on_literals
   more_fail a b words p q = fault_is (seed_app name) (a ∷ b ∷ words) refl refl
       ∙ ap (λ kinds. behind shape kinds (walk shape.rules [] nothing_held (a ∷ b ∷ words)).held)
@@ -86,7 +87,8 @@ module _ (name : Text) where
       let q = split _ _ p.1 in
       absurd (filled kind.UnknownArgument (sym (more_fail a b words (plain a p.0) (plain b q.0)) ∙ none))
 
-  pub seed_refused : (words : List Text) → (list_all is_operand words ≡ false) ⊎ (fault_of (seed_app name) words ≢ []) → seed_of words ≡ None
+  pub seed_refused : (words : List Text) → (list_all is_operand words ≡ false) ⊎ (fault_of (seed_app name) words ≢ [])
+      → seed_of words ≡ None
   seed_refused [] h = refl
   seed_refused (a ∷ []) h = go (is_operand a) refl h
     where
@@ -104,9 +106,11 @@ pub record IsFound (words : List Text) (matches : Found) : Type 0 where
   pub found : first_value matches (codes "seed") ≡ Some seed
 
 pub seed_found : {A : Type 0} (name : Text) (words : List (String A)) (app : App) (matches : ArgMatches) → app ≡ seed_app name
-    → HasMatchesOf app (texts words) matches → (are_operands words ≡ true) × (fault_of app (texts words) ≡ []) → IsFound (texts words) (found_of matches)
+    → HasMatchesOf app (texts words) matches → (are_operands words ≡ true) × (fault_of app (texts words) ≡ [])
+    → IsFound (texts words) (found_of matches)
 seed_found name words app matches is has taken =
-    let seed = seed_taken name (texts words) (sym (all_texts words) ∙ taken.0) (ap (λ (a : App). fault_of a (texts words)) (sym is) ∙ taken.1) in
+    let seed = seed_taken name (texts words) (sym (all_texts words) ∙ taken.0)
+    (ap (λ (a : App). fault_of a (texts words)) (sym is) ∙ taken.1) in
     let rows = subst (λ (a : App). HasMatchesOf a (texts words) matches) is has refl in
     record {
       seed = seed.seed;

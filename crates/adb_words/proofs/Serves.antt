@@ -21,7 +21,8 @@ shape = (built serve_app).top
 serve_fits : Fits serve_layout shape
 unfolding clap_on_literals
 serve_fits = record {
-  option_long = λ name e. each_named (λ n. arg_by_long shape.rules n ≡ Some (valued n)) serve_layout.options name e (refl, (refl, (refl, tt)));
+  option_long = λ name e. each_named (λ n. arg_by_long shape.rules n ≡ Some (valued n)) serve_layout.options name e
+      (refl, (refl, (refl, tt)));
   option_id = λ name e. each_named (λ n. arg_by_id shape.rules n ≡ Some (valued n)) serve_layout.options name e (refl, (refl, (refl, tt)));
   option_named = refl;
   flag_long = λ name e. each_named (λ n. arg_by_long shape.rules n ≡ Some (flagged n)) serve_layout.flags name e (refl, tt);
@@ -52,5 +53,6 @@ serve_found words matches h =
     (λ i. serving_by (h.2 (codes "port") i) (h.2 (codes "record") i) (h.2 (codes "device") i) (h.2 (codes "connect") i))
     ∙ ap (option_and_then served) (sym h.1)
 
-pub served_as : {E : Type 0} {o p : Option Serving} → o ≡ p → (r : Result Serve E) → IfOk r (λ s. o ≡ Some (serving s)) → IfOk r (λ s. p ≡ Some (serving s))
+pub served_as : {E : Type 0} {o p : Option Serving} → o ≡ p → (r : Result Serve E)
+    → IfOk r (λ s. o ≡ Some (serving s)) → IfOk r (λ s. p ≡ Some (serving s))
 served_as is r h = subst (λ (o : Option Serving). IfOk r (λ s. o ≡ Some (serving s))) is h

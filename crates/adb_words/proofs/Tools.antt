@@ -23,8 +23,10 @@ module _ (name : Text) where
   port_fits : Fits port_layout (built (port_app name)).top
   unfolding clap_on_literals
   port_fits = record {
-    option_long = λ id e. each_named (λ n. arg_by_long (built (port_app name)).top.rules n ≡ Some (valued n)) port_layout.options id e (refl, tt);
-    option_id = λ id e. each_named (λ n. arg_by_id (built (port_app name)).top.rules n ≡ Some (valued n)) port_layout.options id e (refl, tt);
+    option_long = λ id e. each_named (λ n. arg_by_long (built (port_app name)).top.rules n ≡ Some (valued n))
+        port_layout.options id e (refl, tt);
+    option_id = λ id e. each_named (λ n. arg_by_id (built (port_app name)).top.rules n ≡ Some (valued n))
+        port_layout.options id e (refl, tt);
     option_named = refl;
     flag_long = λ id e. absurd (true≢false (sym e));
     flag_named = refl;
@@ -47,13 +49,16 @@ module _ (name : Text) where
   serial_fits : Fits serial_layout (built (serial_app name)).top
   unfolding clap_on_literals
   serial_fits = record {
-    option_long = λ id e. each_named (λ n. arg_by_long (built (serial_app name)).top.rules n ≡ Some (valued n)) serial_layout.options id e (refl, (refl, tt));
-    option_id = λ id e. each_named (λ n. arg_by_id (built (serial_app name)).top.rules n ≡ Some (valued n)) serial_layout.options id e (refl, (refl, tt));
+    option_long = λ id e. each_named (λ n. arg_by_long (built (serial_app name)).top.rules n ≡ Some (valued n))
+        serial_layout.options id e (refl, (refl, tt));
+    option_id = λ id e. each_named (λ n. arg_by_id (built (serial_app name)).top.rules n ≡ Some (valued n))
+        serial_layout.options id e (refl, (refl, tt));
     option_named = refl;
     flag_long = λ id e. absurd (true≢false (sym e));
     flag_named = refl;
     place = refl;
-    operand_id = λ id e. subst (λ n. arg_by_id (built (serial_app name)).top.rules n ≡ Some (placed n)) (some_is (codes "operand") id e) refl;
+    operand_id = λ id e. subst (λ n. arg_by_id (built (serial_app name)).top.rules n ≡ Some (placed n))
+        (some_is (codes "operand") id e) refl;
     leaf = refl;
     defaults = (refl, (refl, (refl, tt)));
   }
@@ -71,8 +76,10 @@ module _ (name : Text) where
 push_fits : Fits push_layout (built push_app).top
 unfolding clap_on_literals
 push_fits = record {
-  option_long = λ id e. each_named (λ n. arg_by_long (built push_app).top.rules n ≡ Some (valued n)) push_layout.options id e (refl, (refl, (refl, tt)));
-  option_id = λ id e. each_named (λ n. arg_by_id (built push_app).top.rules n ≡ Some (valued n)) push_layout.options id e (refl, (refl, (refl, tt)));
+  option_long = λ id e. each_named (λ n. arg_by_long (built push_app).top.rules n ≡ Some (valued n))
+      push_layout.options id e (refl, (refl, (refl, tt)));
+  option_id = λ id e. each_named (λ n. arg_by_id (built push_app).top.rules n ≡ Some (valued n)) push_layout.options
+      id e (refl, (refl, (refl, tt)));
   option_named = refl;
   flag_long = λ id e. absurd (true≢false (sym e));
   flag_named = refl;
@@ -96,5 +103,6 @@ of_push = record {
 pub call_found : (name : Text) (words : List Text) (matches : ArgMatches) → Finds (layout_named name) words matches
     → called_by name (λ id. values_found id (found_of matches)) ≡ option_and_then (called name) (given_in (layout_named name) words)
 call_found name words matches h =
-    (λ i. call_of (port_of 1 (h.2 (codes "port") i)) (tool_by name (h.2 (codes "operand") i) (h.2 (codes "serial") i) (h.2 (codes "mtime") i)))
+    (λ i. call_of (port_of 1 (h.2 (codes "port") i))
+    (tool_by name (h.2 (codes "operand") i) (h.2 (codes "serial") i) (h.2 (codes "mtime") i)))
     ∙ ap (option_and_then (called name)) (sym h.1)

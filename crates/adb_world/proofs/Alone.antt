@@ -63,7 +63,8 @@ echoes_begun parts echoes c session is = go (echoes c session is)
     go (inl none) = inl none
     go (inr echo) = inr echo.0
 
-module _ (laws : AloneLaws) (old new : Parts) (ease : IsAtEase old) (goes : GoesOn old new) (rests : Rests new) (begun : AreUnbegun old) where
+module _ (laws : AloneLaws) (old new : Parts) (ease : IsAtEase old) (goes : GoesOn old new) (rests : Rests new)
+    (begun : AreUnbegun old) where
   abbrev pub h : History
   h = ease.runs.history
 
@@ -108,10 +109,12 @@ module _ (laws : AloneLaws) (old new : Parts) (ease : IsAtEase old) (goes : Goes
   pub words_now : (c : ℕ) (session : Session) → at c new.sessions.entries ≡ Some session → left_of session ≡ []
   words_now c session is = rests.written c session (kept_now c session is).0.0 is
 
-  pub unasked : (c : ℕ) (session : Session) → at c old.sessions.entries ≡ Some session → session.written ≡ 0 → is_some (asked c h).next ≡ false
+  pub unasked : (c : ℕ) (session : Session) → at c old.sessions.entries ≡ Some session → session.written ≡ 0
+      → is_some (asked c h).next ≡ false
   unasked = was_unasked laws old ease begun more is_later
 
-  has_asked : (c : ℕ) (session : Session) → at c old.sessions.entries ≡ Some session → left_of session ≡ [] → is_some (asked c h).next ≡ true
+  has_asked : (c : ℕ) (session : Session) → at c old.sessions.entries ≡ Some session → left_of session ≡ []
+      → is_some (asked c h).next ≡ true
   has_asked = had_asked laws old ease begun more is_later
 
   pub not_both : (c : ℕ) → is_some (asked c h).next ≡ false → is_some (asked c h).next ≡ true → ⊥
@@ -197,7 +200,8 @@ module _ (laws : AloneLaws) (old new : Parts) (ease : IsAtEase old) (goes : Goes
     once : count_from is_open a.number sent_since.0 ≤ 1
     once =
         let all = (no_crossing now legal_now).once 1 a.number in
-        let both : count_from is_open a.number (sent 1 now) ≡ count_from is_open a.number (sent 1 h) + count_from is_open a.number sent_since.0 =
+        let both : count_from is_open a.number (sent 1 now) ≡ count_from is_open a.number (sent 1 h)
+        + count_from is_open a.number sent_since.0 =
         ap (count_from is_open a.number) (sym sent_since.1) ∙ count_append is_open a.number (sent 1 h) sent_since.0 in
         omega (arith, all, both)
 
@@ -282,7 +286,9 @@ module _ (laws : AloneLaws) (old new : Parts) (ease : IsAtEase old) (goes : Goes
     none_late : Every (AsksNone (λ (host : ℕ). (state h).drawn < host)) (sent 1 h)
     none_late =
         asks_none h (λ (host : ℕ). (state h).drawn < host)
-        (λ l b was late. (let within = (born_within l h b was).1 in let drawn = (all_births h legal).drawn in omega (arith, within, drawn, late)))
+        (λ l b was late.
+        (let within = (born_within l h b was).1 in let drawn =
+        (all_births h legal).drawn in omega (arith, within, drawn, late)))
         (sent 1 h) ((no_crossing h legal).own 1)
 
     pub echoes_left : files_of new.device ≡ files_of old.device

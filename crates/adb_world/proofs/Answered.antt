@@ -1,5 +1,6 @@
 -- Where no step is possible, each session was answered.
-use Rattle.std.specs.Prelude.{ℕ, ◌+◌, ◌^◌, ◌≡◌, ◌≤◌, ◌<◌, Bool, true, false, if◌then◌else◌, is_some, zero, suc, List, [], ◌++◌, length, take, drop, codes, Some}
+use Rattle.std.specs.Prelude.{ℕ, ◌+◌, ◌^◌, ◌≡◌, ◌≤◌, ◌<◌, Bool, true, false, if◌then◌else◌, is_some, zero, suc, List, [], ◌++◌, length}
+use Rattle.std.specs.Prelude.{take, drop, codes, Some}
 use Rattle.std.proofs.Common.{refl, sym, ◌∙◌, ap, subst, arith, ◌⊎◌, inl, inr}
 use Rattle.std.proofs.lemmas.Bool.{cases_lt}
 use Rattle.std.proofs.lemmas.List.{append-nil, take-append-drop, length-append}
@@ -91,18 +92,21 @@ as_answered : (h : History) (c : ℕ) (session : Session) → IsToldAnswer h c s
 as_answered h c session a =
     record { kind = a.row.kind; asked = a.asked; first = a.row.first; past = a.row.past; came = a.came; got = a.put_as }
 
-module _ (laws : Laws) (h : History) (parts : Parts) (holds : Holds h parts) (greeted : IsGreeted h) (asks : AsksForServices h) (rests : Rests parts)
+module _ (laws : Laws) (h : History) (parts : Parts) (holds : Holds h parts) (greeted : IsGreeted h)
+    (asks : AsksForServices h) (rests : Rests parts)
     (requests : RequestsOpen) (answered : AreAnswered) where
   -- what the client of a session was answered
   pub told_answer : (c : ℕ) (session : Session) → IsKeptAt parts.given h c (Some session) → left_of session ≡ [] → IsToldAnswer h c session
   told_answer c session kept none =
       let told = kept.1 in
       let q : HasOpened session.service (asked c h) = has_opened h c session told none requests (asks.clients c) in
-      let one : answers.IsAnswered (served_by h) h c session.service (drop (asked c h).used (bytes_read c h)) ((asked c h).replies ++ codes "OKAY")
+      let one : answers.IsAnswered (served_by h) h c session.service (drop (asked c h).used (bytes_read c h))
+      ((asked c h).replies ++ codes "OKAY")
       (bytes_put c h) =
       answered model_setting h (omega arith) (omega arith) refl holds.lawful.legal holds.joined
       (one_device laws h parts holds greeted asks rests (asks_as_written requests))
-      (at_rest laws h parts holds greeted asks rests (asks_as_written requests)) holds.here asks.killed (few_births h parts holds asks) c session.service
+      (at_rest laws h parts holds greeted asks rests (asks_as_written requests)) holds.here asks.killed
+      (few_births h parts holds asks) c session.service
       (record { next = q.next; known = told.known.known; here = told.alive }) in
       let text : drop (asked c h).used (bytes_read c h) ≡ text_of session =
       ap (λ (n : ℕ). drop n (bytes_read c h)) q.used ∙ ap (drop (length (requests_for session.service))) (all_read h c session told none) in

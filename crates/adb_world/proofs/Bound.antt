@@ -1,5 +1,6 @@
 -- From a time at which nothing is on its way, the steps to one at which no step is possible are few.
-use Rattle.std.specs.Prelude.{ℕ, ◌+◌, ◌*◌, ◌^◌, ◌≡◌, ◌≤◌, ◌<◌, Bool, true, false, cond, is_some, suc, List, [], ◌∷◌, ◌++◌, length, Option, Some, None}
+use Rattle.std.specs.Prelude.{ℕ, ◌+◌, ◌*◌, ◌^◌, ◌≡◌, ◌≤◌, ◌<◌, Bool, true, false, cond, is_some, suc, List, [], ◌∷◌, ◌++◌, length, Option}
+use Rattle.std.specs.Prelude.{Some, None}
 use Rattle.std.proofs.Common.{refl, sym, ◌∙◌, ap, subst, arith, ◌⊎◌, inl, inr}
 use Rattle.std.proofs.lemmas.List.{append-nil, length-append}
 use Rattle.adb_outside.specs.Tables.{at}
@@ -199,7 +200,9 @@ module _ (laws : StepLaws) (old new : Parts) (ease : IsAtEase old) (goes : GoesO
       omega (arith, same, within, drawn)
 
   fresh : (l : ℕ) (b : Birth) → born l now ≡ Some b → (state h).drawn < l → has_ended b.client h ≡ false
-  fresh l b is past = go (there h old holds b.client by.some (let le = by.came in let same = came in let all = holds.came in omega (arith, le, same, all)))
+  fresh l b is past =
+      go (there h old holds b.client by.some
+      (let le = by.came in let same = came in let all = holds.came in omega (arith, le, same, all)))
     where
       by : HasAskedForIt now b
       by = asked_of_birth now legal_now holds_now.asks asks_now l b is
@@ -254,7 +257,8 @@ module _ (laws : StepLaws) (old new : Parts) (ease : IsAtEase old) (goes : GoesO
   known : (state h).devices ≡ model_devices
   known = (all_books h legal).devices ∙ devices_of old ease.runs (laws.sound old ease.runs) (laws.asks h legal holds.asks) h holds
 
-  taken : (g : History) (parts : Parts) → Holds g parts → owed parts.device ≡ [] → bytes_received 1 g ≡ bytes_owed model_setting (bytes_sent 1 g)
+  taken : (g : History) (parts : Parts) → Holds g parts → owed parts.device ≡ []
+      → bytes_received 1 g ≡ bytes_owed model_setting (bytes_sent 1 g)
   taken g parts held none =
       sym (append-nil (bytes_received 1 g))
       ∙ (ap (λ (due : List ℕ). bytes_received 1 g ++ due) (sym none)
@@ -320,7 +324,8 @@ module _ (laws : StepLaws) (old new : Parts) (ease : IsAtEase old) (goes : GoesO
       let count = (goes.grows ease.runs.history ease.runs.holds).counted in
       omega (arith, all, count)
 
-pub makes_few_steps : StepLaws → (old new : Parts) → IsAtEase old → (n : ℕ) → HasMade n old new → Rests new → n ≤ most_steps new.sessions.entries
+pub makes_few_steps : StepLaws → (old new : Parts) → IsAtEase old → (n : ℕ) → HasMade n old new → Rests new
+    → n ≤ most_steps new.sessions.entries
 makes_few_steps laws old new ease n made rests =
     let few = few_steps laws old new ease made.goes rests in
     let count = made.counted in

@@ -1,5 +1,6 @@
 -- As many clients and streams were drawn as sessions were given.
-use Rattle.std.specs.Prelude.{ℕ, ◌+◌, ◌≡◌, ◌≤◌, ◌<◌, Bool, true, false, if◌then◌else◌, is_some, zero, suc, List, [], ◌++◌, length, take, Option, Some, None}
+use Rattle.std.specs.Prelude.{ℕ, ◌+◌, ◌≡◌, ◌≤◌, ◌<◌, Bool, true, false, if◌then◌else◌, is_some, zero, suc, List, [], ◌++◌, length, take}
+use Rattle.std.specs.Prelude.{Option, Some, None}
 use Rattle.std.proofs.Common.{refl, sym, ◌∙◌, ap, arith, ◌⊎◌, inl, inr}
 use Rattle.std.proofs.lemmas.List.{append-nil, take-append-drop, length-append}
 use Rattle.adb_outside.specs.Bytes.{IsPrefixOf}
@@ -62,7 +63,8 @@ asks_as_written opens h legal c session asks told none = go (asked c h).next ref
         let whole : asks.front ≡ words_of session.service (text_of session) = asks.all is ∙ all in
         let long : length asks.front ≡ length (requests_for session.service) + length (text_of session) =
         ap length whole ∙ length-append (requests_for session.service) (text_of session) in
-        let done = (opens session.service (text_of session) asks.front told.known ([], append-nil asks.front ∙ whole)).opened (omega (arith, long)) in
+        let done = (opens session.service (text_of session) asks.front told.known
+        ([], append-nil asks.front ∙ whole)).opened (omega (arith, long)) in
         let clash : None ≡ Some (Open 1 session.service) = sym is ∙ (ap (λ (q : Asked). q.next) asks.asked ∙ done.next) in cc
 
 -- The session of a number is kept.

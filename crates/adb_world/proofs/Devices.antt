@@ -12,7 +12,8 @@ use Rattle.adb_world.specs.Parts.{Holds, IsRunning}
 use Rattle.adb_world.specs.declared.parts.Parts.{Parts}
 use Rattle.adb_world.proofs.Greeted.{known_devices}
 
-pub devices_of : (parts : Parts) (runs : IsRunning parts) → BringsSound runs.history → AsksForServices runs.history → (h : History) → Holds h parts
+pub devices_of : (parts : Parts) (runs : IsRunning parts) → BringsSound runs.history → AsksForServices runs.history
+    → (h : History) → Holds h parts
     → devices h ≡ model_devices
 devices_of parts runs sound asks h holds =
     sym (all_books h holds.lawful.legal).devices

@@ -1,5 +1,6 @@
 -- The client of a session ends where nothing is on its way: it is gone at once.
-use Rattle.std.specs.Prelude.{ℕ, ◌≡◌, ◌≢◌, ◌≤◌, ◌||◌, Bool, true, false, is_some, zero, suc, nat_eq, List, [], ◌∷◌, drop, Option, Some, None}
+use Rattle.std.specs.Prelude.{ℕ, ◌≡◌, ◌≢◌, ◌≤◌, ◌||◌, Bool, true, false, is_some, zero, suc, nat_eq, List, [], ◌∷◌, drop, Option, Some}
+use Rattle.std.specs.Prelude.{None}
 use Rattle.std.proofs.Common.{refl, sym, ◌∙◌, ap, subst, ◌⊎◌, inl, inr}
 use Rattle.std.proofs.lemmas.Bool.{cases_eq, eq-eqb, ne_eqb}
 use Rattle.adb_outside.specs.Tables.{at, Puts}
@@ -65,7 +66,8 @@ none_sent flow m held nothing none idle =
     ap (λ (ps : List (List ℕ)). is_over true (drop (total ps) held) (flow_after ps flow)) nothing
     ∙ (ap (λ (x : List ℕ). is_over true x flow) none ∙ idle)
 
-module _ (h : History) (legal : IsLegal h) (c : ℕ) (nothing : SendsNothingBy (state h)) (alone : GoesUpAlone (state h)) (idle : IsIdleState (state h)) where
+module _ (h : History) (legal : IsLegal h) (c : ℕ) (nothing : SendsNothingBy (state h))
+    (alone : GoesUpAlone (state h)) (idle : IsIdleState (state h)) where
   -- ---- a client without an open stream
   closes_now : (client : Client) → (state h).clients c ≡ Some client → (closes c (state h)).clients c ≡ None
   closes_now client is =
@@ -105,7 +107,8 @@ module _ (h : History) (legal : IsLegal h) (c : ℕ) (nothing : SendsNothingBy (
     same_stream : (x : Sending l (to_client c input_ended (state h))) → has.stream ≡ x.stream
     same_stream x = let both : Some has.stream ≡ Some x.stream = sym has.is ∙ x.there in cc
 
-    same_row : (x : Sending l (to_client c input_ended (state h))) → record client { about = record client.about { ended = true } } ≡ x.client
+    same_row : (x : Sending l (to_client c input_ended (state h)))
+        → record client { about = record client.about { ended = true } } ≡ x.client
     same_row x =
         let to : c ≡ x.stream.client = sym has.client ∙ ap (λ (y : Stream). y.client) (same_stream x) in
         let both : Some (record client { about = record client.about { ended = true } }) ≡ Some x.client =
@@ -121,7 +124,8 @@ module _ (h : History) (legal : IsLegal h) (c : ℕ) (nothing : SendsNothingBy (
         let same : over_of has.stream (record client { about = record client.about { ended = true } }) ≡ over_of x.stream x.client =
         λ i. over_of (same_stream x i) (same_row x i) in
         sym same
-        ∙ none_sent has.stream.part.flow (maxdata_of has.stream.link (state h).devices) client.held quiet.nothing (idle.clients c client is).held
+        ∙ none_sent has.stream.part.flow (maxdata_of has.stream.link (state h).devices) client.held quiet.nothing
+        (idle.clients c client is).held
         (idle.streams l has.stream has.is).idle
 
     ended : (x : Sending l (to_client c input_ended (state h)))
@@ -131,11 +135,14 @@ module _ (h : History) (legal : IsLegal h) (c : ℕ) (nothing : SendsNothingBy (
         let kept : (left l (to_client c input_ended (state h)) x).clients x.stream.client ≡ Some (record x.client { held = held }) =
         changed_here x.stream.client (with_held held) (to_client c input_ended (state h)).clients x.client x.here in
         let none : x.client.due ≡ [] = sym (ap (λ (k : Client). k.due) (same_row x)) ∙ (idle.clients c client is).due in
-        let gone : (closes x.stream.client (to_stream l none_kept (left l (to_client c input_ended (state h)) x))).clients x.stream.client ≡ None =
+        let gone : (closes x.stream.client
+        (to_stream l none_kept (left l (to_client c input_ended (state h)) x))).clients x.stream.client ≡ None =
         changed_here x.stream.client closing (left l (to_client c input_ended (state h)) x).clients (record x.client { held = held }) kept
         ∙ closed_none x.client (record x.client { held = held }) none in
         let to : x.stream.client ≡ c = sym (ap (λ (y : Stream). y.client) (same_stream x)) ∙ has.client in
-        subst (λ (k : ℕ). (closes x.stream.client (to_stream l none_kept (left l (to_client c input_ended (state h)) x))).clients k ≡ None) to gone
+        subst (λ (k : ℕ).
+        (closes x.stream.client (to_stream l none_kept (left l (to_client c input_ended (state h)) x))).clients
+        k ≡ None) to gone
 
     up_none : (up l (to_client c input_ended (state h))).state.clients c ≡ None
     up_none = up_to (λ (s : State). s.clients c ≡ None) l (to_client c input_ended (state h)) (record {
@@ -150,7 +157,8 @@ module _ (h : History) (legal : IsLegal h) (c : ℕ) (nothing : SendsNothingBy (
         ∙ (ap (λ (s : State). (up l s).state.clients c) (rule_on client (Streaming l) is in_phase) ∙ up_none)
 
   -- ---- every client
-  asked_gone : (l : ℕ) → HasStream (state h) c l → (client : Client) → (state h).clients c ≡ Some client → client.about.phase ≡ Opening l → ⊥
+  asked_gone : (l : ℕ) → HasStream (state h) c l → (client : Client) → (state h).clients c ≡ Some client
+      → client.about.phase ≡ Opening l → ⊥
   asked_gone l has client is in_phase = (idle.streams l has.stream has.is).opened remote
     where
       owner : HasClient (state h) l has.stream
@@ -169,7 +177,8 @@ module _ (h : History) (legal : IsLegal h) (c : ℕ) (nothing : SendsNothingBy (
       by_rule (shut client phase is in_phase e)
       (ap (λ (s : State). s.clients c) (rule_on client phase is in_phase ∙ closed) ∙ closes_now client is)
 
-  by_phase : (client : Client) → (state h).clients c ≡ Some client → (phase : Phase) → client.about.phase ≡ phase → IsResting phase (state h) c client
+  by_phase : (client : Client) → (state h).clients c ≡ Some client → (phase : Phase) → client.about.phase ≡ phase
+      → IsResting phase (state h) c client
       → (state (End c Eof ∷ h)).clients c ≡ None
   by_phase client is Asking in_phase rests = shuts client is Asking in_phase refl refl
   by_phase client is Binding in_phase rests = shuts client is Binding in_phase refl refl
@@ -189,14 +198,18 @@ module _ (h : History) (legal : IsLegal h) (c : ℕ) (nothing : SendsNothingBy (
           by_phase client is client.about.phase refl ((orderly h legal).client c client is).rests
 
 -- what is calm is idle
-pub idle_state : (h : History) (hub : Kept) (owes : List ℕ) (ends : List (ℕ × FarEnd)) → IsLawful hub h → IsCalm hub owes ends → IsIdleState (state h)
+pub idle_state : (h : History) (hub : Kept) (owes : List ℕ) (ends : List (ℕ × FarEnd)) → IsLawful hub h
+    → IsCalm hub owes ends → IsIdleState (state h)
 idle_state h hub owes ends lawful calm = record {
   clients = λ c client is. (
       let shown = clients_show h hub lawful c ∙ is in record { due = calm.clients c client shown; held = calm.up c client shown });
-  streams = λ l x is. (let rests = calm.streams l x (streams_show h hub lawful l ∙ is) in record { opened = rests.opened; idle = rests.answered });
+  streams = λ l x is.
+      (let rests = calm.streams l x (streams_show h hub lawful l ∙ is)
+      in record { opened = rests.opened; idle = rests.answered });
 }
 
-pub kept_session : (h : History) (parts : Parts) → Holds h parts → (c : ℕ) → is_some (at c parts.sessions.entries) ≡ true → IsThere h parts c
+pub kept_session : (h : History) (parts : Parts) → Holds h parts → (c : ℕ)
+    → is_some (at c parts.sessions.entries) ≡ true → IsThere h parts c
 kept_session h parts holds c some = go (at c parts.sessions.entries) refl some (holds.sessions c)
   where
     go : (o : Option Session) → at c parts.sessions.entries ≡ o → is_some o ≡ true → IsKeptAt parts.given h c o → IsThere h parts c
@@ -206,7 +219,8 @@ kept_session h parts holds c some = go (at c parts.sessions.entries) refl some (
 -- ---- what an end leaves
 module _ (h : History) (parts : Parts) (holds : Holds h parts) (c : ℕ) (session : Session) (is : at c parts.sessions.entries ≡ Some session)
     (gone : (state (End c Eof ∷ h)).clients c ≡ None) where
-  over_now : (new : List (ℕ × Session)) → Puts c None parts.sessions.entries new → (d : ℕ) → IsKeptAt parts.given (End c Eof ∷ h) d (at d new)
+  over_now : (new : List (ℕ × Session)) → Puts c None parts.sessions.entries new → (d : ℕ)
+      → IsKeptAt parts.given (End c Eof ∷ h) d (at d new)
   over_now new puts d = go (cases_eq d c)
     where
       drawn : IsKeptAt parts.given h c (Some session)
@@ -218,7 +232,8 @@ module _ (h : History) (parts : Parts) (holds : Holds h parts) (c : ℕ) (sessio
 
       other_at : c ≢ d → (o : Option Session) → IsKeptAt parts.given h d o → IsKeptAt parts.given (End c Eof ∷ h) d o
       other_at other None k =
-          none_stays parts.given d (End c Eof) h (λ e. ap (λ (b : Bool). nat_eq c d || b) e ∙ or_true (nat_eq c d)) (λ none. gone_end h d none c Eof) k
+          none_stays parts.given d (End c Eof) h (λ e. ap (λ (b : Bool). nat_eq c d || b) e ∙ or_true (nat_eq c d))
+          (λ none. gone_end h d none c Eof) k
       other_at other (Some s) (number, told) = (
         number,
         record {
@@ -241,7 +256,8 @@ module _ (h : History) (parts : Parts) (holds : Holds h parts) (c : ℕ) (sessio
           (other_at (λ same. other (sym same)) (at d parts.sessions.entries) (holds.sessions d))
 
   pub ended_by : (hub : Kept) (new : Parts) → is_some (asked c h).next ≡ true → IsLawful hub (End c Eof ∷ h) → new.hub ≡ hub
-      → new.device ≡ parts.device → new.given ≡ parts.given → Puts c None parts.sessions.entries new.sessions.entries → Holds (End c Eof ∷ h) new
+      → new.device ≡ parts.device → new.given ≡ parts.given → Puts c None parts.sessions.entries new.sessions.entries
+      → Holds (End c Eof ∷ h) new
   ended_by hub new done lawful hub_is device_is given_is puts = record {
     lawful = subst (λ (k : Kept). IsLawful k (End c Eof ∷ h)) (sym hub_is) lawful;
     done = subst (HasDone model_setting (bytes_sent 1 h) (bytes_received 1 h)) (sym device_is) holds.done;
@@ -253,5 +269,6 @@ module _ (h : History) (parts : Parts) (holds : Holds h parts) (c : ℕ) (sessio
     came = holds.came ∙ sym given_is;
     few = subst (λ (g : ℕ). g ≤ most_sessions) (sym given_is) holds.few;
     sessions =
-        subst (λ (g : ℕ). (k : ℕ) → IsKeptAt g (End c Eof ∷ h) k (at k new.sessions.entries)) (sym given_is) (over_now new.sessions.entries puts);
+        subst (λ (g : ℕ). (k : ℕ) → IsKeptAt g (End c Eof ∷ h) k (at k new.sessions.entries)) (sym given_is)
+        (over_now new.sessions.entries puts);
   }

@@ -90,7 +90,8 @@ module _ (laws : StopLaws) (n : ℕ) (old mid new : Parts) (done : IsDone old) (
   known =
       (all_books done.ease.runs.history done.ease.runs.holds.lawful.legal).devices
       ∙ devices_of old done.ease.runs (laws.sound old done.ease.runs)
-      (laws.asks done.ease.runs.history done.ease.runs.holds.lawful.legal done.ease.runs.holds.asks) done.ease.runs.history done.ease.runs.holds
+      (laws.asks done.ease.runs.history done.ease.runs.holds.lawful.legal done.ease.runs.holds.asks)
+      done.ease.runs.history done.ease.runs.holds
 
   -- a client that lives is that of a session
   drawn : (d : ℕ) (client : Client) → (state done.ease.runs.history).clients d ≡ Some client → (0 < d) × (d ≤ old.given)
@@ -104,7 +105,8 @@ module _ (laws : StopLaws) (n : ℕ) (old mid new : Parts) (done : IsDone old) (
           by : ((state done.ease.runs.history).joined < suc k) ⊎ (suc k ≤ (state done.ease.runs.history).joined) → suc k ≤ old.given
           by (inl past) = absurd (let clash : None ≡ Some client = sym (only.above (suc k) past) ∙ e in cc)
           by (inr le) =
-              let counts = (counted done.ease.runs.history).joined in let given = done.ease.runs.holds.came in omega (arith, le, counts, given)
+              let counts = (counted done.ease.runs.history).joined in let given =
+              done.ease.runs.holds.came in omega (arith, le, counts, given)
 
   whole : (grown.more ++ End n Eof ∷ []) ++ done.ease.runs.history ≡ grown.more ++ End n Eof ∷ done.ease.runs.history
   whole = append_assoc grown.more (End n Eof ∷ []) done.ease.runs.history
@@ -117,7 +119,8 @@ module _ (laws : StopLaws) (n : ℕ) (old mid new : Parts) (done : IsDone old) (
       but : AreSameBut n old.sessions.entries ended.stopped.mid.sessions.entries
       but = same_but n old mid ended.stopped.mid ended.dropped ended.stopped.goes.same
 
-      later : (session : Session) → IsTold done.ease.runs.history d session → left_of session ≡ [] → (o : Option Session) → IsSame (Some session) o
+      later : (session : Session) → IsTold done.ease.runs.history d session → left_of session ≡ []
+          → (o : Option Session) → IsSame (Some session) o
           → IsKeptAt ended.stopped.mid.given (grown.more ++ End n Eof ∷ done.ease.runs.history) d o
           → bytes_read d (grown.more ++ End n Eof ∷ done.ease.runs.history) ≡ bytes_read d done.ease.runs.history
       later session told none None same kept = absurd same
@@ -133,7 +136,8 @@ module _ (laws : StopLaws) (n : ℕ) (old mid new : Parts) (done : IsDone old) (
       go (inr over) = absurd (let clash : None ≡ Some client = sym over.gone ∙ is in cc)
       go (inl t) =
           later t.session t.told (done.words d t.session t.is) (at d ended.stopped.mid.sessions.entries)
-          (subst (λ (o : Option Session). IsSame o (at d ended.stopped.mid.sessions.entries)) t.is (but.others d other)) (grown.holds.sessions d)
+          (subst (λ (o : Option Session). IsSame o (at d ended.stopped.mid.sessions.entries)) t.is
+          (but.others d other)) (grown.holds.sessions d)
 
   -- no more streams are drawn, since each session has asked for its service
   same_drawn : (more : History) → IsLegal (more ++ End n Eof ∷ done.ease.runs.history)
@@ -214,7 +218,8 @@ module _ (laws : StopLaws) (n : ℕ) (old mid new : Parts) (done : IsDone old) (
           fed : IsCutAt (grown.more ++ End n Eof ∷ done.ease.runs.history) (files_of new.device) → files_of new.device ≡ files_of old.device
           fed k =
               quiet_at (Send 1 k.piece ∷ grown.more) k.lawful.legal
-              (laws.asks (Send 1 k.piece ∷ grown.more ++ End n Eof ∷ done.ease.runs.history) k.lawful.legal grown.holds.asks) given same_read
+              (laws.asks (Send 1 k.piece ∷ grown.more ++ End n Eof ∷ done.ease.runs.history) k.lawful.legal
+              grown.holds.asks) given same_read
               (files_of new.device)
               (cut_before model_setting (files_of new.device) (sent 1 done.ease.runs.history) before.0
               (sent 1 (grown.more ++ End n Eof ∷ done.ease.runs.history))

@@ -25,7 +25,8 @@ use Rattle.adb_world.proofs.Stays.{kept_put, kept_read}
 
 -- ---- the device
 -- what was taken, and what it owes, are the bytes of all that became due
-pub all_owed : (fed taken : List ℕ) (device : Daemon) → HasDone model_setting fed taken device → taken ++ owed device ≡ bytes_owed model_setting fed
+pub all_owed : (fed taken : List ℕ) (device : Daemon) → HasDone model_setting fed taken device
+    → taken ++ owed device ≡ bytes_owed model_setting fed
 all_owed fed taken device done = done.stands.holds.due
 
 module _ (h : History) (parts : Parts) (holds : Holds h parts) where
@@ -65,7 +66,8 @@ module _ (h : History) (parts : Parts) (holds : Holds h parts) where
   pub received_more : (piece : List ℕ) → bytes_received 1 (Recv 1 piece ∷ h) ≡ bytes_received 1 h ++ piece
   received_more piece = ap (λ (b : Bool). cond (nat_eq 1 1 && not b) (bytes_received 1 h ++ piece) (bytes_received 1 h)) holds.here
 
-  pub came_up : (hub : Kept) (device : Daemon) (n : ℕ) (piece : List ℕ) → piece ≡ take n (owed parts.device) → IsLawful hub (Recv 1 piece ∷ h)
+  pub came_up : (hub : Kept) (device : Daemon) (n : ℕ) (piece : List ℕ) → piece ≡ take n (owed parts.device)
+      → IsLawful hub (Recv 1 piece ∷ h)
       → HasDone model_setting (bytes_sent 1 h) (bytes_received 1 h ++ take n (owed parts.device)) device
       → Holds (Recv 1 piece ∷ h) (record parts { hub = hub; device = device })
   came_up hub device n piece is lawful done = record {
@@ -97,7 +99,8 @@ module _ (h : History) (parts : Parts) (holds : Holds h parts) where
               (k.0, record { known = k.1.known; words = k.1.words; within = k.1.within; read = k.1.read; put = k.1.put; alive = k.1.alive })
 
   -- ---- handed to a session
-  pub put_to : (hub : Kept) (c : ℕ) (piece : List ℕ) (new : Parts) → IsLawful hub (Put c piece ∷ h) → new.hub ≡ hub → new.device ≡ parts.device
+  pub put_to : (hub : Kept) (c : ℕ) (piece : List ℕ) (new : Parts) → IsLawful hub (Put c piece ∷ h) → new.hub ≡ hub
+      → new.device ≡ parts.device
       → new.given ≡ parts.given → Changes c (handed piece) parts.sessions.entries new.sessions.entries → Holds (Put c piece ∷ h) new
   put_to hub c piece new lawful hub_is device_is given_is puts = record {
     lawful = subst (λ (k : Kept). IsLawful k (Put c piece ∷ h)) (sym hub_is) lawful;

@@ -86,12 +86,14 @@ module _ (laws : EndLaws) (n : ℕ) (old mid new : Parts) (done : IsDone old) (e
 
   grown : (more : History) × Holds (more ++ End n Eof ∷ done.ease.runs.history) new
   grown =
-      let g = ended.goes.grows (End n Eof ∷ done.ease.runs.history) (ended.ends done.ease.runs.history done.ease.runs.holds) in (g.more, g.holds)
+      let g = ended.goes.grows (End n Eof ∷ done.ease.runs.history)
+      (ended.ends done.ease.runs.history done.ease.runs.holds) in (g.more, g.holds)
 
   known : (state done.ease.runs.history).devices ≡ model_devices
   known =
       (all_books done.ease.runs.history done.ease.runs.holds.lawful.legal).devices
-      ∙ devices_of old done.ease.runs (laws.sound old done.ease.runs) (laws.asks old done.ease.runs) done.ease.runs.history done.ease.runs.holds
+      ∙ devices_of old done.ease.runs (laws.sound old done.ease.runs) (laws.asks old done.ease.runs)
+      done.ease.runs.history done.ease.runs.holds
 
   -- a client that lives is that of a session
   drawn : (d : ℕ) (client : Client) → (state done.ease.runs.history).clients d ≡ Some client → (0 < d) × (d ≤ old.given)
@@ -105,7 +107,8 @@ module _ (laws : EndLaws) (n : ℕ) (old mid new : Parts) (done : IsDone old) (e
           by : ((state done.ease.runs.history).joined < suc k) ⊎ (suc k ≤ (state done.ease.runs.history).joined) → suc k ≤ old.given
           by (inl past) = absurd (let clash : None ≡ Some client = sym (only.above (suc k) past) ∙ e in cc)
           by (inr le) =
-              let counts = (counted done.ease.runs.history).joined in let given = done.ease.runs.holds.came in omega (arith, le, counts, given)
+              let counts = (counted done.ease.runs.history).joined in let given =
+              done.ease.runs.holds.came in omega (arith, le, counts, given)
 
   same_read : (d : ℕ) (client : Client) → d ≢ n → (state done.ease.runs.history).clients d ≡ Some client
       → bytes_read d (grown.0 ++ End n Eof ∷ done.ease.runs.history) ≡ bytes_read d done.ease.runs.history
@@ -142,7 +145,8 @@ module _ (laws : EndLaws) (n : ℕ) (old mid new : Parts) (done : IsDone old) (e
   same_files =
       files_behind (grown.0 ++ End n Eof ∷ done.ease.runs.history) new.device grown.1.done
       ∙ (ap (λ (ps : List Packet). (device_behind model_setting ps).serving.files) (sym more.1)
-      ∙ (ap (λ (d : Device). d.serving.files) (fold_more (step model_setting) (first_device model_setting) (sent 1 done.ease.runs.history) more.0)
+      ∙ (ap (λ (d : Device). d.serving.files)
+      (fold_more (step model_setting) (first_device model_setting) (sent 1 done.ease.runs.history) more.0)
       ∙ (quiet_files model_setting (device_behind model_setting (sent 1 done.ease.runs.history)) more.0 quiet
       ∙ sym (files_behind done.ease.runs.history old.device done.ease.runs.holds.done))))
     where

@@ -56,7 +56,8 @@ sound_with true parts ease whole = tt
 sound_with false parts ease whole = (ease, whole)
 
 -- and so it is with one more
-pub whole_with : (number : ℕ) (service text : List ℕ) (old new : Parts) → AreWhole old.sessions.entries → Adds number (new_session service text) old new
+pub whole_with : (number : ℕ) (service text : List ℕ) (old new : Parts) → AreWhole old.sessions.entries
+    → Adds number (new_session service text) old new
     → AreWhole new.sessions.entries
 whole_with number service text old new whole adds c session is = go (cases_eq c number)
   where
@@ -81,7 +82,8 @@ done_of false true parts off on sound = sound
 
 -- ---- one end
 -- what a world holds behind the end of a client
-pub ends_running : AllStay → (n : ℕ) (old new : Parts) (runs : IsRunning old) → ((h : History) → Holds h old → Holds (End n Eof ∷ h) new) → IsRunning new
+pub ends_running : AllStay → (n : ℕ) (old new : Parts) (runs : IsRunning old)
+    → ((h : History) → Holds h old → Holds (End n Eof ∷ h) new) → IsRunning new
 ends_running stays n old new runs ends = record {
   history = End n Eof ∷ runs.history;
   holds = ends runs.history runs.holds;
@@ -91,7 +93,8 @@ ends_running stays n old new runs ends = record {
 pub same_but : (n : ℕ) (old mid new : Parts) → Drops n old mid → AreSame mid.sessions.entries new.sessions.entries
     → AreSameBut n old.sessions.entries new.sessions.entries
 same_but n old mid new drops same = record {
-  here = same_none (at n new.sessions.entries) (subst (λ (o : Option Session). IsSame o (at n new.sessions.entries)) drops.sessions.here (same n));
+  here = same_none (at n new.sessions.entries)
+      (subst (λ (o : Option Session). IsSame o (at n new.sessions.entries)) drops.sessions.here (same n));
   others = λ c other. subst (λ (o : Option Session). IsSame o (at c new.sessions.entries)) (drops.sessions.others c other) (same c);
 }
 
@@ -141,7 +144,8 @@ module _ (after : ℕ) (old now : Parts) (finishing : Finishing after old now) w
           go (inl is) = ap (λ (k : ℕ). at k new.sessions.entries) is ∙ but.here
           go (inr other) =
               same_none (at c new.sessions.entries)
-              (subst (λ (o : Option Session). IsSame o (at c new.sessions.entries)) (before c other within (cases_lt after c)) (but.others c other))
+              (subst (λ (o : Option Session). IsSame o (at c new.sessions.entries))
+              (before c other within (cases_lt after c)) (but.others c other))
 
   -- all have ended
   pub finished : Between after (2 ^ 32) now → now.sessions.entries ≡ []

@@ -1,5 +1,6 @@
 -- A client that did not come was put nothing; and a session that joins.
-use Rattle.std.specs.Prelude.{ℕ, ◌+◌, ◌≡◌, ◌≢◌, ◌≤◌, ◌<◌, ◌||◌, Bool, false, cond, List, [], ◌∷◌, ◌++◌, length, take, drop, Option, Some, None}
+use Rattle.std.specs.Prelude.{ℕ, ◌+◌, ◌≡◌, ◌≢◌, ◌≤◌, ◌<◌, ◌||◌, Bool, false, cond, List, [], ◌∷◌, ◌++◌, length, take, drop, Option, Some}
+use Rattle.std.specs.Prelude.{None}
 use Rattle.std.proofs.Common.{refl, sym, ◌∙◌, ap, subst, arith, ◌⊎◌, inl, inr}
 use Rattle.std.proofs.lemmas.Bool.{cases_eq, ne_eqb}
 use Rattle.std.proofs.Math.Seq.{drop-append_seam}
@@ -118,4 +119,5 @@ module _ (h : History) (parts : Parts) (holds : Holds h parts) (asks : AsksForSe
               subst (λ (k : ℕ). IsKeptAt number (Join number ∷ h) k (at k new.sessions.entries)) (sym is)
               (subst (IsKeptAt number (Join number ∷ h) number) (sym puts.here) ((omega arith, omega arith), told_new))
           go (inr other) =
-              subst (IsKeptAt number (Join number ∷ h) c) (sym (puts.others c other)) (old_at c other (at c parts.sessions.entries) (holds.sessions c))
+              subst (IsKeptAt number (Join number ∷ h) c) (sym (puts.others c other))
+              (old_at c other (at c parts.sessions.entries) (holds.sessions c))

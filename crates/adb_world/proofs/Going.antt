@@ -1,5 +1,6 @@
 -- Steps of a world that runs, one after the other.
-use Rattle.std.specs.Prelude.{ℕ, ◌+◌, ◌^◌, ◌≡◌, ◌≢◌, ◌≤◌, ◌<◌, Bool, true, false, is_some, List, [], ◌∷◌, ◌++◌, Option, Some, None, option_map}
+use Rattle.std.specs.Prelude.{ℕ, ◌+◌, ◌^◌, ◌≡◌, ◌≢◌, ◌≤◌, ◌<◌, Bool, true, false, is_some, List, [], ◌∷◌, ◌++◌, Option, Some, None}
+use Rattle.std.specs.Prelude.{option_map}
 use Rattle.std.proofs.Common.{refl, sym, ◌∙◌, ap, subst, arith, ◌⊎◌, inl, inr, append_assoc}
 use Rattle.std.proofs.lemmas.Bool.{cases_lt}
 use Rattle.std.proofs.lemmas.List.{length-append}
@@ -57,7 +58,8 @@ runs_on stays e max all old new runs steps moves = record {
 }
 
 -- A step of one kind.
-pub goes_by : AllStay → (e : List ℕ → Entry) (max : ℕ) (all : History → Option (List ℕ)) (Nothing : Parts → Type 0) (moved : Bool) (old new : Parts)
+pub goes_by : AllStay → (e : List ℕ → Entry) (max : ℕ) (all : History → Option (List ℕ)) (Nothing : Parts → Type 0)
+    (moved : Bool) (old new : Parts)
     → (runs : IsRunning old) → MakesSteps e old → ((h : History) → Holds h old → Moves e max (all h) moved h old new)
     → (((h : History) → Holds h old → HasNone (all h)) → Nothing old) → Goes Nothing moved old new
 goes_by stays e max all Nothing true old new runs steps moves none = runs_on stays e max all old new runs steps moves
@@ -77,7 +79,8 @@ any_goes A true old new goes = goes
 any_goes A false old new goes = (goes.0, tt)
 
 -- where each kind was tried, no step is possible
-pub all_rest : (old p q r s new : Parts) (moved : Bool) → p ≡ old → Goes NoneDown false p q → Goes NoneUp false q r → Goes (NoneHanded 0) false r s
+pub all_rest : (old p q r s new : Parts) (moved : Bool) → p ≡ old → Goes NoneDown false p q → Goes NoneUp false q r
+    → Goes (NoneHanded 0) false r s
     → Goes (NoneWritten 0) moved s new → Goes Rests moved old new
 all_rest old p q r s new true first down up hand goes = behind_none old s new (hand.0 ∙ (up.0 ∙ (down.0 ∙ first))) goes
 all_rest old p q r s new false first down up hand goes =
@@ -187,7 +190,8 @@ module _ (what : Content) (from after : ℕ) (old now : Parts) (tried : Tried wh
           subst (λ (p : Parts). HasNone (what p h number)) tried.same
           (moves h (subst (Holds h) (sym tried.same) holds)).1
 
-      go : (h : History) → Holds h old → (c : ℕ) (session : Session) → from < c → at c old.sessions.entries ≡ Some session → (after < c) ⊎ (c ≤ after)
+      go : (h : History) → Holds h old → (c : ℕ) (session : Session) → from < c
+          → at c old.sessions.entries ≡ Some session → (after < c) ⊎ (c ≤ after)
           → (c < number) ⊎ (number ≤ c) → c ≤ number → HasNone (what old h c)
       go h holds c session past is (inr tried_before) order within = tried.none h holds c session past tried_before is
       go h holds c session past is (inl behind) (inl below) within =
@@ -213,7 +217,8 @@ module _ (what : Content) (from after : ℕ) (old now : Parts) (tried : Tried wh
           sym (between c behind drawn) ∙ (ap (λ (p : Parts). at c p.sessions.entries) tried.same ∙ is) in cc)
 
 -- a step for one of them is a step
-pub tried_moves : AllStay → (what : Content) (from after : ℕ) (old now new : Parts) → Tried what from after old now → (e : ℕ → List ℕ → Entry)
+pub tried_moves : AllStay → (what : Content) (from after : ℕ) (old now new : Parts) → Tried what from after old now
+    → (e : ℕ → List ℕ → Entry)
     (max number : ℕ) → (runs : IsRunning now) → MakesSteps (e number) now
     → ((h : History) → Holds h now → Moves (e number) max (what now h number) true h now new) → HasMade 1 old new
 tried_moves stays what from after old now new tried e max number runs steps moves =
@@ -233,17 +238,20 @@ none_written from parts runs none c session past is =
 
 -- ---- what is moved of a session
 -- the input of its client has not ended
-session_open : (number : ℕ) (parts : Parts) → is_some (at number parts.sessions.entries) ≡ true → (h : History) → Holds h parts → has_ended number h ≡ false
+session_open : (number : ℕ) (parts : Parts) → is_some (at number parts.sessions.entries) ≡ true → (h : History)
+    → Holds h parts → has_ended number h ≡ false
 session_open number parts there h holds = go (at number parts.sessions.entries) there (holds.sessions number)
   where
     go : (o : Option Session) → is_some o ≡ true → IsKeptAt parts.given h number o → has_ended number h ≡ false
     go None e kept = absurd (let clash : false ≡ true = e in cc)
     go (Some session) e kept = kept.1.alive
 
-pub reads_step : (number : ℕ) (parts : Parts) → is_some (at number parts.sessions.entries) ≡ true → MakesSteps (λ (x : List ℕ). Read number x) parts
+pub reads_step : (number : ℕ) (parts : Parts) → is_some (at number parts.sessions.entries) ≡ true
+    → MakesSteps (λ (x : List ℕ). Read number x) parts
 reads_step number parts there h bytes holds some = (tt, some, session_open number parts there h holds)
 
-pub puts_step : (number : ℕ) (parts : Parts) → is_some (at number parts.sessions.entries) ≡ true → MakesSteps (λ (x : List ℕ). Put number x) parts
+pub puts_step : (number : ℕ) (parts : Parts) → is_some (at number parts.sessions.entries) ≡ true
+    → MakesSteps (λ (x : List ℕ). Put number x) parts
 puts_step number parts there h bytes holds some = (tt, some, session_open number parts there h holds)
 
 pub sends_step : (parts : Parts) → MakesSteps (Send 1) parts

@@ -17,7 +17,8 @@ use Rattle.adb_history.proofs.PlainMoves.{Plain, plain_moves}
 use Rattle.adb_history.proofs.RuleMoves.{Begins, step_kept}
 use Rattle.adb_world.specs.Parts.{IsKeptAt}
 
-gone_change : {A : Type 0} (rows : Rows (Option A)) (n c : ℕ) (f : A → Option A) → rows n ≡ None → change_row c (option_and_then f) rows n ≡ None
+gone_change : {A : Type 0} (rows : Rows (Option A)) (n c : ℕ) (f : A → Option A) → rows n ≡ None
+    → change_row c (option_and_then f) rows n ≡ None
 gone_change rows n c f none = go (nat_eq c n)
   where
     go : (b : Bool) → cond b (option_and_then f (rows n)) (rows n) ≡ None
@@ -72,7 +73,9 @@ module _ (h : History) (n : ℕ) (gone : (state h).clients n ≡ None) where
       )
 
   pub gone_join : (c : ℕ) → c ≢ n → (state (Join c ∷ h)).clients n ≡ None
-  gone_join c other = behind (Join c) (ap (λ (b : Bool). cond b (Some (new_client false c)) ((state h).clients n)) (ne_eqb c n other) ∙ gone)
+  gone_join c other =
+      behind (Join c)
+      (ap (λ (b : Bool). cond b (Some (new_client false c)) ((state h).clients n)) (ne_eqb c n other) ∙ gone)
 
 -- A number under which no session is kept, behind an entry.
 pub none_stays : (given c : ℕ) (e : Entry) (h : History) → (has_ended c h ≡ true → has_ended c (e ∷ h) ≡ true)

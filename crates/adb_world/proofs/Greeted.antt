@@ -13,7 +13,8 @@ use Rattle.adb_registry.specs.Registry.{DeviceTable}
 use Rattle.adb_wire.specs.Format.{is_cnxn}
 use Rattle.adb_wire.specs.declared.packets.Packet.{Packet}
 use Rattle.adb_capture.specs.declared.entry.Entry.{Entry}
-use Rattle.adb_history.specs.Book.{plugged, plugged_count, is_refused, is_broken, last_cnxn, row_by, device_of, devices, devices_if, is_killed}
+use Rattle.adb_history.specs.Book.{plugged, plugged_count, is_refused, is_broken, last_cnxn, row_by, device_of, devices, devices_if}
+use Rattle.adb_history.specs.Book.{is_killed}
 use Rattle.adb_history.specs.Bytes.{is_lost, brought}
 use Rattle.adb_history.specs.Machine.{History}
 use Rattle.adb_history.specs.Packets.{least_version, least_maxdata}
@@ -37,7 +38,8 @@ find_behind q (p ∷ ps) more none = go (q p) refl none (find_behind q ps more)
     go true is e later = absurd (let clash : Some p ≡ None = e in cc)
     go false is e later = ap (λ (b : Bool). cond b (Some p) (find q (ps ++ more))) is ∙ later e
 
-head_none : (p : Packet) (ps : List Packet) → how_many is_cnxn_packet (p ∷ ps) ≡ 0 → (is_cnxn p.command ≡ false) × (how_many is_cnxn_packet ps ≡ 0)
+head_none : (p : Packet) (ps : List Packet) → how_many is_cnxn_packet (p ∷ ps) ≡ 0
+    → (is_cnxn p.command ≡ false) × (how_many is_cnxn_packet ps ≡ 0)
 head_none p ps none = go (is_cnxn p.command) refl none
   where
     go : (b : Bool) → is_cnxn p.command ≡ b → cond b (1 + how_many is_cnxn_packet ps) (how_many is_cnxn_packet ps) ≡ 0
@@ -57,7 +59,9 @@ none_refused : (ps : List Packet) → how_many is_cnxn_packet ps ≡ 0 → list_
 none_refused [] none = refl
 none_refused (p ∷ ps) none =
     let both = head_none p ps none in
-    (λ i. (both.0 i && (nat_lt p.arg0 least_version || nat_lt p.arg1 least_maxdata || is_none (identity_of p.payload))) || none_refused ps both.1 i)
+    (λ i. (both.0 i
+    && (nat_lt p.arg0 least_version || nat_lt p.arg1 least_maxdata || is_none (identity_of p.payload)))
+    || none_refused ps both.1 i)
 
 -- ---- the CNXN of the model device
 abbrev cnxn : Packet
@@ -73,7 +77,8 @@ module _ (h : History) (sound : BringsSound h) (here : is_lost 1 h ≡ false) (a
   rest_none : how_many is_cnxn_packet greeted.rest ≡ 0
   rest_none =
       let once = sound.once in
-      let all : how_many is_cnxn_packet (brought 1 h) ≡ 1 + how_many is_cnxn_packet greeted.rest = ap (how_many is_cnxn_packet) greeted.is in
+      let all : how_many is_cnxn_packet (brought 1 h) ≡ 1 + how_many is_cnxn_packet greeted.rest =
+      ap (how_many is_cnxn_packet) greeted.is in
       omega (arith, once, all)
 
   unbroken : is_broken 1 h ≡ false
@@ -102,7 +107,8 @@ module _ (h : History) (sound : BringsSound h) (here : is_lost 1 h ≡ false) (a
       ap (λ (b : Bool). devices_if b h) alive ∙ (table ∙ rows)
 
 -- what came first comes first later
-pub stays_greeted : (e : Entry) (older : History) → ComeFirst (brought 1 older) (brought 1 (e ∷ older)) → IsGreeted older → IsGreeted (e ∷ older)
+pub stays_greeted : (e : Entry) (older : History) → ComeFirst (brought 1 older) (brought 1 (e ∷ older))
+    → IsGreeted older → IsGreeted (e ∷ older)
 stays_greeted e older first greeted = record {
   rest = greeted.rest ++ first.0;
   is = sym first.1 ∙ ap (λ (ps : List Packet). ps ++ first.0) greeted.is;

@@ -1,5 +1,6 @@
 -- Sessions that begin where nothing is on its way: what they asked for by the time at which a step failed.
-use Rattle.std.specs.Prelude.{ℕ, ◌+◌, ◌≡◌, ◌==◌, ◌≤◌, ◌<◌, ◌&&◌, Bool, true, false, cond, is_some, suc, List, [], ◌∷◌, ◌++◌, length, drop, Some}
+use Rattle.std.specs.Prelude.{ℕ, ◌+◌, ◌≡◌, ◌==◌, ◌≤◌, ◌<◌, ◌&&◌, Bool, true, false, cond, is_some, suc, List, [], ◌∷◌, ◌++◌, length, drop}
+use Rattle.std.specs.Prelude.{Some}
 use Rattle.std.specs.List.{AllByRecursion}
 use Rattle.std.proofs.Common.{refl, sym, ◌∙◌, ap, subst, arith, ◌⊎◌, inl, inr, append_assoc}
 use Rattle.std.proofs.lemmas.Bool.{cases_eq, cases_lt, eq-eqb, ne_eqb, true≢false}
@@ -68,12 +69,14 @@ turns_front : (l n o : ℕ) (xs ys : List Packet) → AreInTurn l n o (xs ++ ys)
 turns_front l n o [] ys turns = tt
 turns_front l n o (x ∷ xs) ys turns = (turns.0, turns_front l n (o + count_from is_open l (x ∷ [])) xs ys turns.1)
 
-turn_at : (l n o : ℕ) (xs : List Packet) (p : Packet) (ys : List Packet) → AreInTurn l n o (xs ++ p ∷ ys) → is_wrte p.command ≡ true → p.arg0 ≡ l → p.arg1 ≡ n
+turn_at : (l n o : ℕ) (xs : List Packet) (p : Packet) (ys : List Packet) → AreInTurn l n o (xs ++ p ∷ ys)
+    → is_wrte p.command ≡ true → p.arg0 ≡ l → p.arg1 ≡ n
 turn_at l n o [] p ys turns writes of = (turns.0.wrte writes of).1
 turn_at l n o (x ∷ xs) p ys turns writes of = turn_at l n (o + count_from is_open l (x ∷ [])) xs p ys turns.1 writes of
 
 -- a device that refuses a CNXN refuses it still
-front_unrefused : (xs ys : List Packet) → (device_behind model_setting (xs ++ ys)).refused ≡ false → (device_behind model_setting xs).refused ≡ false
+front_unrefused : (xs ys : List Packet) → (device_behind model_setting (xs ++ ys)).refused ≡ false
+    → (device_behind model_setting xs).refused ≡ false
 front_unrefused xs ys none = go (device_behind model_setting xs).refused refl
   where
     go : (b : Bool) → (device_behind model_setting xs).refused ≡ b → (device_behind model_setting xs).refused ≡ false
@@ -105,7 +108,8 @@ record IsOfSession (b : Birth) (session : Session) : Type 0 where
   head : b.head ≡ length (requests_for session.service)
   link : b.link ≡ 1
 
-module _ (laws : AloneLaws) (in_part : RunInPart model_setting) (old : Parts) (ease : IsAtEase old) (begun : AreUnbegun old) (more : History)
+module _ (laws : AloneLaws) (in_part : RunInPart model_setting) (old : Parts) (ease : IsAtEase old)
+    (begun : AreUnbegun old) (more : History)
     (later : IsLater old ease.runs.history more) (files : List File)
     (cut : CutsOff model_setting (sent 1 ease.runs.history) (sent 1 (more ++ ease.runs.history)) files) where
   abbrev h : History
@@ -122,7 +126,8 @@ module _ (laws : AloneLaws) (in_part : RunInPart model_setting) (old : Parts) (e
 
   since_is : (sent_since laws old ease begun more later).0 ≡ cut.more ++ cut.rest
   since_is =
-      cut_is model_setting files (sent 1 h) (sent_since laws old ease begun more later).0 (sent 1 now) (sent_since laws old ease begun more later).1 cut
+      cut_is model_setting files (sent 1 h) (sent_since laws old ease begun more later).0 (sent 1 now)
+      (sent_since laws old ease begun more later).1 cut
 
   past : Every (IsPast (more ++ ease.runs.history) (state ease.runs.history).drawn) (cut.more ++ cut.rest)
   past = subst (Every (IsPast now d)) since_is (all_sent_past laws old ease begun more later)
@@ -160,7 +165,8 @@ module _ (laws : AloneLaws) (in_part : RunInPart model_setting) (old : Parts) (e
       ap (count_from is_open l) (sym all_is) ∙ count_append is_open l (sent 1 h) ps in
       omega (arith, all, both)
 
-  ran : RanInPart (rows_after model_setting (sent 1 ease.runs.history)) (state ease.runs.history).drawn (stood laws old ease begun more later)
+  ran : RanInPart (rows_after model_setting (sent 1 ease.runs.history)) (state ease.runs.history).drawn
+      (stood laws old ease begun more later)
       (cut.more ++ cut.rest) files
   ran = in_part d (sent 1 h) cut.more cut.rest files none_late of_later once cut.files
 
@@ -168,7 +174,8 @@ module _ (laws : AloneLaws) (in_part : RunInPart model_setting) (old : Parts) (e
   calls = renamed (client_of (more ++ ease.runs.history)) ran.calls
 
   -- ---- each call is one of a session that had written nothing
-  call_born : (call : Call) → IsAskedIn (state ease.runs.history).drawn (cut.more ++ cut.rest) call → IsBorn (more ++ ease.runs.history) call.caller
+  call_born : (call : Call) → IsAskedIn (state ease.runs.history).drawn (cut.more ++ cut.rest) call
+      → IsBorn (more ++ ease.runs.history) call.caller
   call_born call asked = found_open now d call.caller ps past asked.1
 
   fresh_of : (l : ℕ) (b : IsBorn (more ++ ease.runs.history) l) → (state ease.runs.history).drawn < l
@@ -193,7 +200,8 @@ module _ (laws : AloneLaws) (in_part : RunInPart model_setting) (old : Parts) (e
       omega (arith, born, done, came, given)
 
   -- the stream of a session was asked for with its service, behind its requests
-  of_session : (n : ℕ) (session : Session) → at n old.sessions.entries ≡ Some session → (l : ℕ) (b : Birth) → born l (more ++ ease.runs.history) ≡ Some b
+  of_session : (n : ℕ) (session : Session) → at n old.sessions.entries ≡ Some session → (l : ℕ) (b : Birth)
+      → born l (more ++ ease.runs.history) ≡ Some b
       → b.client ≡ n → IsOfSession b session
   of_session n session is l b was client = by (cases_lt (length q.front) (length (requests_for session.service)))
     where
@@ -210,7 +218,8 @@ module _ (laws : AloneLaws) (in_part : RunInPart model_setting) (old : Parts) (e
       front =
           prefix_of_prefix q.front (bytes_read n now) (words_of session.service (text_of kept.now)) q.first (
             drop kept.now.written kept.now.words,
-            ap (λ (x : List ℕ). x ++ drop kept.now.written kept.now.words) kept.told.read ∙ (take-append-drop kept.now.written kept.now.words ∙ words),
+            ap (λ (x : List ℕ). x ++ drop kept.now.written kept.now.words) kept.told.read
+                ∙ (take-append-drop kept.now.written kept.now.words ∙ words),
           )
 
       opens : Opens session.service q.front (asks_with model_devices [] q.front nothing_asked)
@@ -240,7 +249,8 @@ module _ (laws : AloneLaws) (in_part : RunInPart model_setting) (old : Parts) (e
           same : b ≡ x.birth
           same = let both : Some b ≡ Some x.birth = sym was ∙ (ap (λ (k : ℕ). born k now) number ∙ place) in cc
 
-      by : (length q.front < length (requests_for session.service)) ⊎ (length (requests_for session.service) ≤ length q.front) → IsOfSession b session
+      by : (length q.front < length (requests_for session.service))
+          ⊎ (length (requests_for session.service) ≤ length q.front) → IsOfSession b session
       by (inl less) =
           absurd (true≢false (sym asked_it ∙ ap is_some (ap (λ (a : Asked). a.next) q.asked ∙ opens.asks less)))
       by (inr le) = made (subst (HasOpened session.service) (sym q.asked) (opens.opened le))
@@ -264,7 +274,8 @@ module _ (laws : AloneLaws) (in_part : RunInPart model_setting) (old : Parts) (e
             ++ asks_of n (renamed (client_of (more ++ ease.runs.history)) cs) ≡ []) ⊎ ((l : ℕ) × Mine l)
         go (inl same) rest = inr (call.caller, record { born_as = call_born call all.0; late = all.0.0; named = same })
         go (inr other) (inl none) =
-            inl (ap (λ (t : Bool). cond t (call.ask ∷ []) [] ++ asks_of n (renamed (client_of now) cs)) (ne_eqb (client_of now call.caller) n other) ∙ none)
+            inl (ap (λ (t : Bool). cond t (call.ask ∷ []) [] ++ asks_of n (renamed (client_of now) cs))
+            (ne_eqb (client_of now call.caller) n other) ∙ none)
         go (inr other) (inr mine) = inr mine
 
     module _ (l : ℕ) (mine : Mine l) where
@@ -286,7 +297,8 @@ module _ (laws : AloneLaws) (in_part : RunInPart model_setting) (old : Parts) (e
       named_in [] all = tt
       named_in (call ∷ cs) all = (one (call_born call all.0), named_in cs all.1)
         where
-          one : IsBorn (more ++ ease.runs.history) call.caller → (client_of (more ++ ease.runs.history) call.caller == n) ≡ (call.caller == l)
+          one : IsBorn (more ++ ease.runs.history) call.caller
+              → (client_of (more ++ ease.runs.history) call.caller == n) ≡ (call.caller == l)
           one x =
               same_tests (client_of now call.caller) n call.caller l
               (λ same. one_stream_each now later.legal call.caller l x.birth b x.is was
@@ -304,7 +316,8 @@ module _ (laws : AloneLaws) (in_part : RunInPart model_setting) (old : Parts) (e
               ap (λ (x : List ℕ). service_of (name_of x)) (ap (λ (q : Packet). q.payload) own.packet)
               ∙ (ap service_of (named_service own.birth.service ∙ (ap (λ (x : Birth). x.service) one ∙ its.service)) ∙ known)
 
-          follows : (p : Packet) (command : Command) → IsPast (more ++ ease.runs.history) (state ease.runs.history).drawn command p → AsksKind l kind command p
+          follows : (p : Packet) (command : Command) → IsPast (more ++ ease.runs.history)
+              (state ease.runs.history).drawn command p → AsksKind l kind command p
           follows p Open x = opens p x.1
           follows p Wrte x = tt
           follows p Okay x = tt
@@ -330,17 +343,22 @@ module _ (laws : AloneLaws) (in_part : RunInPart model_setting) (old : Parts) (e
                 ∙ (take-append-drop kept.now.written kept.now.words ∙ kept.same.1),
           )
 
-          read : IsPrefixOf (drop mine.born_as.birth.head (bytes_read mine.born_as.birth.client (more ++ ease.runs.history))) (text_of u.session)
+          read : IsPrefixOf
+              (drop mine.born_as.birth.head (bytes_read mine.born_as.birth.client (more ++ ease.runs.history)))
+              (text_of u.session)
           read =
               subst (λ (k : ℕ). IsPrefixOf (drop k (bytes_read b.client now)) (text_of u.session)) (sym its.head)
-              (subst (λ (c : ℕ). IsPrefixOf (drop (length (requests_for u.session.service)) (bytes_read c now)) (text_of u.session)) (sym client)
+              (subst (λ (c : ℕ). IsPrefixOf (drop (length (requests_for u.session.service)) (bytes_read c now))
+              (text_of u.session)) (sym client)
               (drop_front (length (requests_for u.session.service)) (bytes_read n now) u.session.words bytes))
 
       -- and so is what came for it
-      came_text : (came : List ℕ) → (came ≡ []) ⊎ WasWritten (rows_after model_setting (sent 1 ease.runs.history)) l (cut.more ++ cut.rest) came
+      came_text : (came : List ℕ) → (came ≡ []) ⊎ WasWritten (rows_after model_setting (sent 1 ease.runs.history)) l
+          (cut.more ++ cut.rest) came
           → IsPrefixOf came (text_of u.session)
       came_text came (inl none) = (text_of u.session, ap (λ (x : List ℕ). x ++ text_of u.session) none)
-      came_text came (inr w) = prefix_of_prefix came (carried_in l (sent 1 now)) (text_of u.session) (carried_in l w.rest, whole) carried_text
+      came_text came (inr w) = prefix_of_prefix came (carried_in l (sent 1 now)) (text_of u.session)
+          (carried_in l w.rest, whole) carried_text
         where
           split : sent 1 (more ++ ease.runs.history) ≡ (sent 1 ease.runs.history ++ w.front) ++ w.packet ∷ w.rest
           split =
@@ -362,7 +380,8 @@ module _ (laws : AloneLaws) (in_part : RunInPart model_setting) (old : Parts) (e
           sound : (device_behind model_setting (sent 1 ease.runs.history ++ w.front)).refused ≡ false
           sound =
               front_unrefused (sent 1 h ++ w.front) (w.packet ∷ w.rest)
-              (subst (λ (qs : List Packet). (device_behind model_setting qs).refused ≡ false) split (never_refused model_setting 1 now later.legal))
+              (subst (λ (qs : List Packet). (device_behind model_setting qs).refused ≡ false) split
+              (never_refused model_setting 1 now later.legal))
 
           took : bytes_in w.row.past ≡ carried_in l (sent 1 ease.runs.history ++ w.front)
           took =
@@ -393,7 +412,8 @@ module _ (laws : AloneLaws) (in_part : RunInPart model_setting) (old : Parts) (e
           by (inl none) = (asks_in kind (text_of u.session), ap (λ (asks : List Ask). asks ++ asks_in kind (text_of u.session)) none)
           by (inr x) =
               first_of_first (asks_of l ran.calls) (asks_in kind x.came) (asks_in kind (text_of u.session))
-              (subst (λ (k : Kind). AreFirst (asks_of l ran.calls) (asks_in k x.came)) (kind_is l kind x.kind ps x.opened asks_kind) x.first)
+              (subst (λ (k : Kind). AreFirst (asks_of l ran.calls) (asks_in k x.came))
+              (kind_is l kind x.kind ps x.opened asks_kind) x.first)
               (asks_first kind x.came (text_of u.session) (came_text x.came x.from))
 
     session_first : AreFirst (asks_of n calls) (asks_in kind (text_of u.session))
@@ -425,7 +445,8 @@ stopped_in_part laws in_part old new ease begun stopped = by stopped.fails
 
     since : (ps : List Packet) × (sent 1 ease.runs.history ++ ps
         ≡ sent 1 ((stopped.goes.grows ease.runs.history ease.runs.holds).more ++ ease.runs.history))
-    since = sent_since laws old ease begun (stopped.goes.grows ease.runs.history ease.runs.holds).more (later_of old stopped.mid ease stopped.goes)
+    since = sent_since laws old ease begun (stopped.goes.grows ease.runs.history ease.runs.holds).more
+        (later_of old stopped.mid ease stopped.goes)
 
     by : Fails stopped.mid new → AreAskedInPart (files_of old.device) (files_of new.device) old.sessions.entries
     by (inl same) =
@@ -433,14 +454,16 @@ stopped_in_part laws in_part old new ease begun stopped = by stopped.fails
         (cut_before model_setting (files_of new.device) (sent 1 ease.runs.history) since.0
         (sent 1 ((stopped.goes.grows ease.runs.history ease.runs.holds).more ++ ease.runs.history))
         (sent 1 ((stopped.goes.grows ease.runs.history ease.runs.holds).more ++ ease.runs.history)) since.1
-        (cut_held ((stopped.goes.grows ease.runs.history ease.runs.holds).more ++ ease.runs.history) stopped.mid (files_of new.device) holds same))
+        (cut_held ((stopped.goes.grows ease.runs.history ease.runs.holds).more ++ ease.runs.history) stopped.mid
+        (files_of new.device) holds same))
     by (inr cut) = fed (cut ((stopped.goes.grows ease.runs.history ease.runs.holds).more ++ ease.runs.history) holds)
       where
         fed : IsCutAt ((stopped.goes.grows ease.runs.history ease.runs.holds).more ++ ease.runs.history) (files_of new.device)
             → AreAskedInPart (files_of old.device) (files_of new.device) old.sessions.entries
         fed k =
             asked_in_part laws in_part old ease begun (Send 1 k.piece ∷ (stopped.goes.grows ease.runs.history ease.runs.holds).more)
-            (later_sent old ease.runs.history (stopped.goes.grows ease.runs.history ease.runs.holds).more stopped.mid k.piece holds k.lawful.legal later)
+            (later_sent old ease.runs.history (stopped.goes.grows ease.runs.history ease.runs.holds).more stopped.mid
+            k.piece holds k.lawful.legal later)
             (files_of new.device)
             (cut_before model_setting (files_of new.device) (sent 1 ease.runs.history) since.0
             (sent 1 ((stopped.goes.grows ease.runs.history ease.runs.holds).more ++ ease.runs.history))

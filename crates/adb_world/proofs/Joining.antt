@@ -12,7 +12,8 @@ use Rattle.adb_world.specs.Settled.{Each, IsCalm}
 use Rattle.adb_world.specs.World.{End}
 use Rattle.adb_world.proofs.Shows.{links_show, clients_show, streams_show}
 
-module _ (h : History) (n : ℕ) (old new : Kept) (owes : List ℕ) (ends : List (ℕ × End)) (was : IsLawful old h) (now : IsLawful new (Join n ∷ h))
+module _ (h : History) (n : ℕ) (old new : Kept) (owes : List ℕ) (ends : List (ℕ × End)) (was : IsLawful old h)
+    (now : IsLawful new (Join n ∷ h))
     (nothing : SendsNothingBy (state h)) (calm : IsCalm old owes ends) where
   by_rule : (state (Join n ∷ h)) ≡ (rule (Join n) (state h)).state
   by_rule = nothing.join n

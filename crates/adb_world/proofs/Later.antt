@@ -1,5 +1,6 @@
 -- A history that goes on where nothing was on its way: what is sent then.
-use Rattle.std.specs.Prelude.{ℕ, ◌+◌, ◌≡◌, ◌≤◌, ◌<◌, Bool, true, false, is_some, suc, List, [], ◌∷◌, ◌++◌, length, take, drop, Option, Some, None}
+use Rattle.std.specs.Prelude.{ℕ, ◌+◌, ◌≡◌, ◌≤◌, ◌<◌, Bool, true, false, is_some, suc, List, [], ◌∷◌, ◌++◌, length, take, drop, Option, Some}
+use Rattle.std.specs.Prelude.{None}
 use Rattle.std.proofs.Common.{refl, sym, ◌∙◌, ap, subst, arith, ◌⊎◌, inl, inr}
 use Rattle.std.proofs.lemmas.List.{length-append, length-drop}
 use Rattle.adb_outside.specs.Tables.{at}
@@ -109,7 +110,8 @@ module _ (laws : AloneLaws) (old : Parts) (ease : IsAtEase old) (begun : AreUnbe
   told_of c session is = (subst (IsKeptAt old.given h c) is (holds.sessions c)).1
 
   -- a session that has written nothing asked for nothing, and one that has written all asked for its service
-  pub unasked : (c : ℕ) (session : Session) → at c old.sessions.entries ≡ Some session → session.written ≡ 0 → is_some (asked c h).next ≡ false
+  pub unasked : (c : ℕ) (session : Session) → at c old.sessions.entries ≡ Some session → session.written ≡ 0
+      → is_some (asked c h).next ≡ false
   unasked c session is zeroth =
       ap is_some (ap (λ (q : Asked). q.next) (asks.clients c).asked ∙ opens.asks (omega (arith, none, long)))
     where
@@ -134,7 +136,8 @@ module _ (laws : AloneLaws) (old : Parts) (ease : IsAtEase old) (begun : AreUnbe
       long : length (requests_for session.service) ≡ 26 + length (hex_digits (length session.service) ++ session.service)
       long = length-append selects (hex_digits (length session.service) ++ session.service)
 
-  pub has_asked : (c : ℕ) (session : Session) → at c old.sessions.entries ≡ Some session → left_of session ≡ [] → is_some (asked c h).next ≡ true
+  pub has_asked : (c : ℕ) (session : Session) → at c old.sessions.entries ≡ Some session → left_of session ≡ []
+      → is_some (asked c h).next ≡ true
   has_asked c session is none = asks_as_written laws.requests h legal c session (asks.clients c) (told_of c session is) none
 
   pub not_both : (c : ℕ) → is_some (asked c h).next ≡ false → is_some (asked c h).next ≡ true → ⊥
@@ -147,7 +150,8 @@ module _ (laws : AloneLaws) (old : Parts) (ease : IsAtEase old) (begun : AreUnbe
       let x = asked_born laws.requests h asks b.client done in
       let was = born_as h x.1.place x.1.birth x.1.is (few_births h old holds asks) in
       let same : l ≡ suc x.1.place =
-      one_stream_each now later.legal l (suc x.1.place) b x.1.birth is (born_behind (suc x.1.place) x.1.birth more h was) (sym x.1.client) in
+      one_stream_each now later.legal l (suc x.1.place) b x.1.birth is
+      (born_behind (suc x.1.place) x.1.birth more h was) (sym x.1.client) in
       let within = (born_within (suc x.1.place) h x.1.birth was).1 in
       let drawn = (all_births h legal).drawn in
       omega (arith, same, within, drawn)
@@ -180,7 +184,8 @@ module _ (laws : AloneLaws) (old : Parts) (ease : IsAtEase old) (begun : AreUnbe
   pub idle : IsIdleState (state h)
   idle = idle_state h old.hub _ _ ease.runs.holds.lawful ease.calm
 
-  pub same_read : (c : ℕ) (session : Session) → at c old.sessions.entries ≡ Some session → left_of session ≡ [] → bytes_read c now ≡ bytes_read c h
+  pub same_read : (c : ℕ) (session : Session) → at c old.sessions.entries ≡ Some session → left_of session ≡ []
+      → bytes_read c now ≡ bytes_read c h
   same_read c session is none =
       let x = later.told c session is in
       let all : left_of x.now ≡ [] = still_all c session x.now h more (told_of c session is) x.told x.same.1 none in
@@ -216,11 +221,13 @@ module _ (laws : AloneLaws) (old : Parts) (ease : IsAtEase old) (begun : AreUnbe
           sym over.gone ∙ (ap (state h).clients (sym of_client) ∙ owner.1) in cc)
       go (inl t) = by_words (begun b.client t.session t.is)
         where
-          by_words : (left_of t.session ≡ []) ⊎ (t.session.written ≡ 0) → length (rest_of l b now) ≤ length (drop b.head (bytes_read b.client h))
+          by_words : (left_of t.session ≡ []) ⊎ (t.session.written ≡ 0)
+              → length (rest_of l b now) ≤ length (drop b.head (bytes_read b.client h))
           by_words (inr zeroth) = absurd (not_both b.client (unasked b.client t.session t.is zeroth) by.asked_it)
           by_words (inl none) =
               let lives = lived_read l b.client now in
-              let same : length (bytes_read b.client now) ≡ length (bytes_read b.client h) = ap length (same_read b.client t.session t.is none) in
+              let same : length (bytes_read b.client now) ≡ length (bytes_read b.client h) =
+              ap length (same_read b.client t.session t.is none) in
               let long = length-drop b.head (bytes_read b.client (lived l now)) in
               let before = length-drop b.head (bytes_read b.client h) in
               omega (arith, lives, same, long, before)
@@ -262,7 +269,9 @@ later_of old new ease goes = record {
 
     told : (c : ℕ) (session : Session) → at c old.sessions.entries ≡ Some session
         → IsSameLater ((goes.grows ease.runs.history ease.runs.holds).more ++ ease.runs.history) c session
-    told c session is = go (at c new.sessions.entries) refl (subst (λ (o : Option Session). IsSame o (at c new.sessions.entries)) is (goes.same c))
+    told c session is =
+        go (at c new.sessions.entries) refl
+        (subst (λ (o : Option Session). IsSame o (at c new.sessions.entries)) is (goes.same c))
       where
         go : (o : Option Session) → at c new.sessions.entries ≡ o → IsSame (Some session) o
             → IsSameLater ((goes.grows ease.runs.history ease.runs.holds).more ++ ease.runs.history) c session

@@ -63,7 +63,8 @@ module _ (h : History) (parts : Parts) (holds : Holds h parts) (max : ℕ) where
     down_cut files cut = record { piece = piece; hub = hub; lawful = out.2; cut = cut }
 
   -- ---- up
-  pub up_moved : (hub : Kept) (device : Daemon) (n : ℕ) (piece : List ℕ) → piece ≡ take n (owed parts.device) → n ≡ min max (length (owed parts.device))
+  pub up_moved : (hub : Kept) (device : Daemon) (n : ℕ) (piece : List ℕ) → piece ≡ take n (owed parts.device)
+      → n ≡ min max (length (owed parts.device))
       → n ≢ 0 → IsLawful hub (Recv 1 piece ∷ h)
       → HasDone model_setting (bytes_sent 1 h) (bytes_received 1 h ++ take n (owed parts.device)) device
       → Moved (Recv 1) max (Some (owed parts.device)) h parts (record parts { hub = hub; device = device })
@@ -108,7 +109,8 @@ module _ (h : History) (parts : Parts) (holds : Holds h parts) (max : ℕ) where
     given = given_is;
   }
 
-  pub none_to_write : (c : ℕ) (session : Session) → at c parts.sessions.entries ≡ Some session → (piece : List ℕ) → piece ≡ take max (left_of session)
+  pub none_to_write : (c : ℕ) (session : Session) → at c parts.sessions.entries ≡ Some session → (piece : List ℕ)
+      → piece ≡ take max (left_of session)
       → length piece ≡ 0 → 0 < max → HasNone (option_map left_of (at c parts.sessions.entries))
   none_to_write c session is piece first zeroth some =
       let short = length-take max (left_of session) in

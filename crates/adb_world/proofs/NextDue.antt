@@ -1,5 +1,6 @@
 -- The session to which something is handed next, where nothing is due on the link.
-use Rattle.std.specs.Prelude.{ℕ, ◌+◌, ◌≡◌, ◌≢◌, ◌≤◌, ◌<◌, Bool, is_some, true, false, zero, suc, List, [], ◌∷◌, take, Option, Some, None, option_and_then}
+use Rattle.std.specs.Prelude.{ℕ, ◌+◌, ◌≡◌, ◌≢◌, ◌≤◌, ◌<◌, Bool, is_some, true, false, zero, suc, List, [], ◌∷◌, take, Option, Some, None}
+use Rattle.std.specs.Prelude.{option_and_then}
 use Rattle.std.specs.Option.{option_or}
 use Rattle.std.proofs.Common.{refl, sym, ◌∙◌, ap, subst, arith, ◌⊎◌, inl, inr}
 use Rattle.std.proofs.lemmas.Bool.{cases_eq, cases_lt}
@@ -51,7 +52,8 @@ none_put devices clients (suc k) c n none low high =
     go (put_to devices c (clients c)) refl none (cases_eq c n)
     (λ later other. none_put devices clients k (suc c) n later (omega (arith, low, other)) (omega (arith, high)))
   where
-    go : (o : Option Entry) → put_to devices c (clients c) ≡ o → option_or o (first_put devices clients (suc c) k) ≡ None → (c ≡ n) ⊎ (c ≢ n)
+    go : (o : Option Entry) → put_to devices c (clients c) ≡ o
+        → option_or o (first_put devices clients (suc c) k) ≡ None → (c ≡ n) ⊎ (c ≢ n)
         → (first_put devices clients (suc c) k ≡ None → c ≢ n → put_to devices n (clients n) ≡ None) → put_to devices n (clients n) ≡ None
     go (Some e) is none which rest = absurd (let clash : Some e ≡ None = none in cc)
     go None is none (inl same) rest = subst (λ (m : ℕ). put_to devices m (clients m) ≡ None) same is
@@ -63,12 +65,15 @@ put_owner : (devices : DeviceTable) (clients : Rows (Option Client)) (k c t : �
 put_owner devices clients zero c t e = let clash : None ≡ Some (owner.Link t) = e in cc
 put_owner devices clients (suc k) c t e = by_row (clients c) e (put_owner devices clients k (suc c) t)
   where
-    by_due : (due : List ℕ) → option_and_then owner_of (option_or (put_of c due) (first_put devices clients (suc c) k)) ≡ Some (owner.Link t)
+    by_due : (due : List ℕ)
+        → option_and_then owner_of (option_or (put_of c due) (first_put devices clients (suc c) k))
+        ≡ Some (owner.Link t)
         → (option_and_then owner_of (first_put devices clients (suc c) k) ≡ Some (owner.Link t) → ⊥) → ⊥
     by_due [] found later = later found
     by_due (b ∷ due) found later = let clash : Some (owner.Client c) ≡ Some (owner.Link t) = found in cc
 
-    by_row : (row : Option Client) → option_and_then owner_of (option_or (put_to devices c row) (first_put devices clients (suc c) k)) ≡ Some (owner.Link t)
+    by_row : (row : Option Client) → option_and_then owner_of
+        (option_or (put_to devices c row) (first_put devices clients (suc c) k)) ≡ Some (owner.Link t)
         → (option_and_then owner_of (first_put devices clients (suc c) k) ≡ Some (owner.Link t) → ⊥) → ⊥
     by_row None found later = later found
     by_row (Some client) found later = by_due (offered devices client) found later
@@ -96,7 +101,8 @@ module _ (parts : Parts) (runs : IsRunning parts) (down : NoneDown parts) where
       let drawn = joined h holds in
       let within = kept.1 in
       none_offered (state h).devices c ((state h).clients c)
-      (none_put (state h).devices (state h).clients (state h).joined 1 c (sym (next_put h holds) ∙ none) (omega (arith, past)) (omega (arith, within, drawn)))
+      (none_put (state h).devices (state h).clients (state h).joined 1 c (sym (next_put h holds) ∙ none)
+      (omega (arith, past)) (omega (arith, within, drawn)))
 
   pub none_owed : ((h : History) → IsLawful parts.hub h → next_out (state h) ≡ entry_of None (state h)) → NoneHanded 0 parts
   none_owed entry h holds c session past is = all_none h holds (entry h holds.lawful) c session past is
@@ -124,7 +130,8 @@ module _ (parts : Parts) (runs : IsRunning parts) (down : NoneDown parts) where
 
         drawn : (client : Client) → (state h).clients n ≡ Some client → (m : ℕ) → m ≡ n → (0 < m) × (m ≤ parts.given)
         drawn client is zero same =
-            absurd (let clash : None ≡ Some client = sym (orderly h runs.holds.lawful.legal).clients.zero ∙ (ap (state h).clients same ∙ is) in cc)
+            absurd (let clash : None ≡ Some client = sym (orderly h runs.holds.lawful.legal).clients.zero
+            ∙ (ap (state h).clients same ∙ is) in cc)
         drawn client is (suc m) same = (omega arith, by (cases_lt (state h).joined (suc m)))
           where
             by : ((state h).joined < suc m) ⊎ (suc m ≤ (state h).joined) → suc m ≤ parts.given
@@ -147,7 +154,8 @@ module _ (parts : Parts) (runs : IsRunning parts) (down : NoneDown parts) where
 -- ---- what is due to that session is handed to it
 pub hands_next : AllStay → (old mid new : Parts) (runs : IsRunning old) (max n : ℕ) (moved : Bool) → mid ≡ old
     → is_some (at n old.sessions.entries) ≡ true → IsOwed n old
-    → ((h : History) → Holds h mid → Moves (λ (x : List ℕ). Put n x) max (to_hand_out mid h n) moved h mid new) → Goes (NoneHanded 0) moved old new
+    → ((h : History) → Holds h mid → Moves (λ (x : List ℕ). Put n x) max (to_hand_out mid h n) moved h mid new)
+    → Goes (NoneHanded 0) moved old new
 hands_next stays old mid new runs max n true same there owed moves =
     behind_none old mid new same
     (runs_on stays (λ (x : List ℕ). Put n x) max (λ (h : History). to_hand_out mid h n) mid new (runs_still old mid same runs)

@@ -94,7 +94,8 @@ module _ (carried : (h : History) → IsLegal h → CarriesRest h) (stays : AllS
     (legal_end : IsLegal (End n Eof ∷ h)) (legal_now : IsLegal (more ++ End n Eof ∷ h)) (idle : IsIdleState (state h))
     (sent_all : sent 1 h ≡ packets_of 1 h) (gone : (state (End n Eof ∷ h)).clients n ≡ None)
     (same_drawn : (state (more ++ End n Eof ∷ h)).drawn ≡ (state h).drawn)
-    (same_read : (d : ℕ) (client : Client) → d ≢ n → (state h).clients d ≡ Some client → bytes_read d (more ++ End n Eof ∷ h) ≡ bytes_read d h) where
+    (same_read : (d : ℕ) (client : Client) → d ≢ n → (state h).clients d ≡ Some client
+    → bytes_read d (more ++ End n Eof ∷ h) ≡ bytes_read d h) where
   -- a stream that lives
   module _ (l : ℕ) (x : Stream) (live : (state h).streams l ≡ Some x) where
     kept : IsKeptAs h l x
@@ -174,7 +175,8 @@ module _ (carried : (h : History) → IsLegal h → CarriesRest h) (stays : AllS
         go : (x.client ≡ n) ⊎ (x.client ≢ n)
             → length (rest_of l kept.birth (more ++ End n Eof ∷ h)) ≤ length (drop kept.birth.head (bytes_read kept.birth.client h))
         go (inl is) =
-            let same : length (rest_of l kept.birth (more ++ End n Eof ∷ h)) ≡ length (drop kept.birth.head (bytes_read kept.birth.client h)) =
+            let same : length (rest_of l kept.birth (more ++ End n Eof ∷ h))
+            ≡ length (drop kept.birth.head (bytes_read kept.birth.client h)) =
             ap (λ (g : History). length (drop kept.birth.head (bytes_read kept.birth.client g))) (lived_before is) in
             omega (arith, same)
         go (inr other) =
@@ -191,7 +193,8 @@ module _ (carried : (h : History) → IsLegal h → CarriesRest h) (stays : AllS
   read l b x live is =
       let both : Some (kept l x live).birth ≡ Some b = sym (kept l x live).is ∙ is in
       let same : (kept l x live).birth ≡ b = cc in
-      subst (λ (a : Birth). length (rest_of l a (more ++ End n Eof ∷ h)) ≤ length (drop a.head (bytes_read a.client h))) same (rest_within l x live)
+      subst (λ (a : Birth). length (rest_of l a (more ++ End n Eof ∷ h))
+      ≤ length (drop a.head (bytes_read a.client h))) same (rest_within l x live)
 
   -- the same history, as more behind the old one
   abbrev es : History
@@ -216,7 +219,8 @@ module _ (carried : (h : History) → IsLegal h → CarriesRest h) (stays : AllS
   none_more : (l : ℕ) (b : Birth) → born l (more ++ End n Eof ∷ h) ≡ Some b → b.link ≡ 1
       → (count_from is_open l behind.0 ≡ 0) × (carried_in l behind.0 ≡ [])
   none_more l b is link =
-      quiet_since carried stays h es legal legal_es idle sent_all read_es l b (subst (λ (g : History). born l g ≡ Some b) (sym whole) is) link
+      quiet_since carried stays h es legal legal_es idle sent_all read_es l b
+      (subst (λ (g : History). born l g ≡ Some b) (sym whole) is) link
       (let within = (born_within l (more ++ End n Eof ∷ h) b is).1 in
       let counts = (all_births (more ++ End n Eof ∷ h) legal_now).drawn in
       let drawn = same_drawn in

@@ -93,7 +93,8 @@ pub record HasAskedForIt (h : History) (b : Birth) : Type 0 where
   pub came : b.client ≤ came_count h
   pub asked_it : is_some (asked b.client h).next ≡ true
 
-pub asked_of_birth : (h : History) → IsLegal h → IsOfSessions h → AsksForServices h → (l : ℕ) (b : Birth) → born l h ≡ Some b → HasAskedForIt h b
+pub asked_of_birth : (h : History) → IsLegal h → IsOfSessions h → AsksForServices h → (l : ℕ) (b : Birth)
+    → born l h ≡ Some b → HasAskedForIt h b
 asked_of_birth h legal sessions asks l b is = record { some = some; came = of.came; asked_it = go b.forwarded of.client }
   where
     some : 0 < b.client
@@ -104,7 +105,9 @@ asked_of_birth h legal sessions asks l b is = record { some = some; came = of.ca
 
     go : (forwarded : Bool) → ByClient forwarded b.client h → is_some (asked b.client h).next ≡ true
     go false by = by.1
-    go true by = absurd (let clash : false ≡ true = sym by ∙ asks.joined b.client (numbered h legal sessions l b is) (births_of h legal l b is).came in cc)
+    go true by = absurd
+        (let clash : false ≡ true = sym by ∙ asks.joined b.client (numbered h legal sessions l b is)
+        (births_of h legal l b is).came in cc)
 
 -- the stream that a client asked for was born
 pub asked_born : RequestsOpen → (h : History) → AsksForServices h → (c : ℕ) → is_some (asked c h).next ≡ true
@@ -123,7 +126,8 @@ asked_born requests h asks c done =
         )
 
     go : (length (asks.clients c).front < length (requests_for (asks.clients c).session.service))
-        ⊎ (length (requests_for (asks.clients c).session.service) ≤ length (asks.clients c).front) → (service : List ℕ) × IsBornFor h c 1 service
+        ⊎ (length (requests_for (asks.clients c).session.service) ≤ length (asks.clients c).front)
+        → (service : List ℕ) × IsBornFor h c 1 service
     go (inl less) =
         absurd (let clash : false ≡ true =
         sym (ap is_some (ap (λ (q : Asked). q.next) (asks.clients c).asked ∙ opens.asks less)) ∙ done in cc)
@@ -152,7 +156,8 @@ is_whole laws kind first opened past text turn came = go (service_answer kind fi
     one : AreOne kind first opened past
     one = laws.one kind first opened past turn
 
-    go : (ended : Bool) → (service_answer kind first past).ended ≡ ended → CameOf ended (bytes_in past) text → IsWhole kind first opened past text
+    go : (ended : Bool) → (service_answer kind first past).ended ≡ ended → CameOf ended (bytes_in past) text
+        → IsWhole kind first opened past text
     go false e all = record {
       answer = one.answer ∙ ap (λ (x : List ℕ). service_answer kind first (came_over x opened ∷ [])) all;
       files = one.files ∙ ap (λ (x : List ℕ). files_fed kind [] (came_over x opened)) all;
@@ -176,7 +181,8 @@ IsPast now d _ p = Unit {0}
 abbrev AreQuiet : History → ℕ → List Packet → Type 0
 AreQuiet now d ps = (l : ℕ) (b : Birth) → born l now ≡ Some b → b.link ≡ 1 → l ≤ d → (count_from is_open l ps ≡ 0) × (carried_in l ps ≡ [])
 
-pub all_past : (now : History) (d : ℕ) (ps : List Packet) → All (λ p. IsOwn now 1 p.command p) ps → AreQuiet now d ps → Every (IsPast now d) ps
+pub all_past : (now : History) (d : ℕ) (ps : List Packet) → All (λ p. IsOwn now 1 p.command p) ps → AreQuiet now d ps
+    → Every (IsPast now d) ps
 all_past now d [] own quiet = tt
 all_past now d (p ∷ ps) own quiet = (
   one p.command refl (All-head (λ q. IsOwn now 1 q.command q) p ps own),
@@ -238,7 +244,8 @@ all_past now d (p ∷ ps) own quiet = (
 
 -- what holds of each such packet, where it follows for OPENs and writes
 pub every_past : (now : History) (d : ℕ) (Holds : Command → Packet → Type 0)
-    → ((p : Packet) (command : Command) → IsPast now d command p → Holds command p) → (ps : List Packet) → Every (IsPast now d) ps → Every Holds ps
+    → ((p : Packet) (command : Command) → IsPast now d command p → Holds command p) → (ps : List Packet)
+    → Every (IsPast now d) ps → Every Holds ps
 every_past now d Holds follows [] every = tt
 every_past now d Holds follows (p ∷ ps) every = (follows p p.command every.0, every_past now d Holds follows ps every.1)
 

@@ -19,7 +19,8 @@ use Rattle.adb_world.specs.declared.parts.Parts.{Parts}
 use Rattle.adb_world.specs.declared.session.Session.{Session}
 
 -- what is handed out, as it is told
-pub taken : (e : List ℕ → Entry) (max : ℕ) (all : Option (List ℕ)) (given : Handed) (h : History) (old new : Kept) → HandsOut e max all given h old new
+pub taken : (e : List ℕ → Entry) (max : ℕ) (all : Option (List ℕ)) (given : Handed) (h : History) (old new : Kept)
+    → HandsOut e max all given h old new
     → HasTaken e max all (bytes_of given) h old new
 taken e max (Some all) (handed.Bytes bytes) h old new out = out
 taken e max (Some all) handed.Nothing h old new out = out

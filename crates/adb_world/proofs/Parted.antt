@@ -36,7 +36,8 @@ drop_both (x ∷ xs) ys (suc n) (suc k) is =
     drop_both xs ys n k (omega (arith, is)) ∙ ap (λ (i : ℕ). drop k xs ++ drop i ys) (sym less)
 
 -- the first bytes behind some: those of the first part, and then those of the second
-pub first_behind : (requests text : List ℕ) (n max gone : ℕ) (left start rest : List ℕ) → gone ≡ min n (length requests) → left ≡ drop gone requests
+pub first_behind : (requests text : List ℕ) (n max gone : ℕ) (left start rest : List ℕ)
+    → gone ≡ min n (length requests) → left ≡ drop gone requests
     → start ≡ take max left → rest ≡ take (max - length start) (drop (n - gone) text) → start ++ rest ≡ take max (drop n (requests ++ text))
 first_behind requests text n max gone left start rest gone_is left_is start_is rest_is =
     let cut : drop n (requests ++ text) ≡ left ++ drop (n - gone) text =

@@ -85,7 +85,8 @@ none_due table client none = go client.due refl
         let clash : b ∷ due ≡ [] = sym some ∙ none in cc
 
 -- a table of what rows show has what its row shows
-at_map : {A B : Type 0} (f : A → B) (n : ℕ) (table : List (ℕ × A)) → at n (map (λ (e : ℕ × A). (e.0, f e.1)) table) ≡ option_map f (at n table)
+at_map : {A B : Type 0} (f : A → B) (n : ℕ) (table : List (ℕ × A))
+    → at n (map (λ (e : ℕ × A). (e.0, f e.1)) table) ≡ option_map f (at n table)
 at_map f n [] = refl
 at_map {A} {B} f n (e ∷ table) = go (is_eq (nat_cmp n e.0)) (at_map f n table)
   where
@@ -106,18 +107,24 @@ model_there = refl
 
 -- what holds of a server and its model device
 pub record Laws : Type 0 where
-  pub settled : (setting : Setting) (history : History) → setting.most < 2 ^ 32 → 0 < setting.most → setting.credit ≡ false → IsLegal history
+  pub settled : (setting : Setting) (history : History) → setting.most < 2 ^ 32 → 0 < setting.most
+      → setting.credit ≡ false → IsLegal history
       → IsJoined setting history → HasOneDevice history → AllHaveSettled setting history
-  pub nothing : (setting : Setting) (history : History) → setting.most < 2 ^ 32 → 0 < setting.most → setting.credit ≡ false → IsLegal history
+  pub nothing : (setting : Setting) (history : History) → setting.most < 2 ^ 32 → 0 < setting.most
+      → setting.credit ≡ false → IsLegal history
       → IsJoined setting history → HasOneDevice history → HoldsNothing setting history
-  pub opens : (setting : Setting) (history : History) → setting.most < 2 ^ 32 → IsLegal history → IsJoined setting history → AllAreOpen setting history
-  pub plain : (setting : Setting) (history : History) → setting.most < 2 ^ 32 → setting.credit ≡ false → IsLegal history → IsJoined setting history
+  pub opens : (setting : Setting) (history : History) → setting.most < 2 ^ 32 → IsLegal history
+      → IsJoined setting history → AllAreOpen setting history
+  pub plain : (setting : Setting) (history : History) → setting.most < 2 ^ 32 → setting.credit ≡ false
+      → IsLegal history → IsJoined setting history
       → HasOneDevice history → AllPlain history
   pub first : (history : History) → IsLegal history → HasOneDevice history → LiveOnFirst history
-  pub sound : (setting : Setting) (history : History) → setting.most < 2 ^ 32 → IsLegal history → IsJoined setting history → BringsSound history
+  pub sound : (setting : Setting) (history : History) → setting.most < 2 ^ 32 → IsLegal history
+      → IsJoined setting history → BringsSound history
   pub unclosed : (history : History) → IsLegal history → HeardNoClose history
 
-module _ (laws : Laws) (h : History) (parts : Parts) (holds : Holds h parts) (greeted : IsGreeted h) (asks : AsksForServices h) (rests : Rests parts)
+module _ (laws : Laws) (h : History) (parts : Parts) (holds : Holds h parts) (greeted : IsGreeted h)
+    (asks : AsksForServices h) (rests : Rests parts)
     (written : AsksAsWritten) where
   legal : IsLegal h
   legal = holds.lawful.legal
@@ -214,7 +221,8 @@ module _ (laws : Laws) (h : History) (parts : Parts) (holds : Holds h parts) (gr
 
   -- ---- the clients
   client_held : (c : ℕ) (client : Client) → (state h).clients c ≡ Some client → client.held ≡ []
-  client_held c client is = laws.nothing model_setting h short some_payload refl legal holds.joined one_device at_rest c client is asks_no_more
+  client_held c client is = laws.nothing model_setting h short some_payload refl legal holds.joined one_device at_rest
+      c client is asks_no_more
     where
       asks_no_more : client.about.phase ≡ Asking → ⊥
       asks_no_more phase =
@@ -266,13 +274,15 @@ module _ (laws : Laws) (h : History) (parts : Parts) (holds : Holds h parts) (gr
       far : (end : DeviceStream)
           × ((at (remote_of l k.birth h) parts.device.machine.services.table.rows.entries ≡ Some end) × StandsFor k.settled.there.row end)
       far = go (at (remote_of l k.birth h) parts.device.machine.services.table.rows.entries) refl
-          (subst (λ (o : Option Row). StandsAt o (at (remote_of l k.birth h) parts.device.machine.services.table.rows.entries)) k.settled.there.is
+          (subst (λ (o : Option Row). StandsAt o
+          (at (remote_of l k.birth h) parts.device.machine.services.table.rows.entries)) k.settled.there.is
           (holds.done.stands.holds.table.stands (remote_of l k.birth h)))
         where
           go : (o : Option DeviceStream) → at (remote_of l k.birth h) parts.device.machine.services.table.rows.entries ≡ o
               → StandsAt (Some k.settled.there.row) o
               → (end : DeviceStream)
-              × ((at (remote_of l k.birth h) parts.device.machine.services.table.rows.entries ≡ Some end) × StandsFor k.settled.there.row end)
+              × ((at (remote_of l k.birth h) parts.device.machine.services.table.rows.entries ≡ Some end)
+              × StandsFor k.settled.there.row end)
           go None is stands = absurd stands
           go (Some end) is stands = (end, (is, stands))
 

@@ -40,7 +40,8 @@ abbrev pub ReadNoMore : (h now : History) → Type 0
 ReadNoMore h now = (l : ℕ) (b : Birth) (x : Stream) → (state h).streams l ≡ Some x → born l h ≡ Some b
     → length (rest_of l b now) ≤ length (drop b.head (bytes_read b.client h))
 
-module _ (carried : (h : History) → IsLegal h → CarriesRest h) (stays : AllStay) (h more : History) (legal : IsLegal h) (legal_now : IsLegal (more ++ h))
+module _ (carried : (h : History) → IsLegal h → CarriesRest h) (stays : AllStay) (h more : History)
+    (legal : IsLegal h) (legal_now : IsLegal (more ++ h))
     (idle : IsIdleState (state h)) (sent_all : sent 1 h ≡ packets_of 1 h) (read : ReadNoMore h (more ++ h)) where
   -- what was sent since
   pub since : (ps : List Packet) × (sent 1 h ++ ps ≡ sent 1 (more ++ h))
@@ -127,7 +128,8 @@ module _ (carried : (h : History) → IsLegal h → CarriesRest h) (stays : AllS
         unasked : count_from is_open l since.0 ≡ 0
         unasked =
             let before : 1 ≤ count_from is_open l (packets_of 1 h) =
-            subst (λ (t : ℕ). 1 ≤ count_from is_open l (packets_of t h)) on_link (was_asked h (asks_at_once h legal) l kept.birth kept.is) in
+            subst (λ (t : ℕ). 1 ≤ count_from is_open l (packets_of t h)) on_link
+            (was_asked h (asks_at_once h legal) l kept.birth kept.is) in
             let all : count_from is_open l (sent 1 h) ≡ count_from is_open l (packets_of 1 h) = ap (count_from is_open l) sent_all in
             let once = (no_crossing (more ++ h) legal_now).once 1 l in
             let whole : count_from is_open l (sent 1 (more ++ h)) ≡ count_from is_open l (sent 1 h) + count_from is_open l since.0 =
@@ -144,10 +146,12 @@ module _ (carried : (h : History) → IsLegal h → CarriesRest h) (stays : AllS
             let long : length (carried_in l (sent kept.birth.link (more ++ h))) + length front.0
             ≡ length (rest_of l kept.birth (more ++ h)) =
             sym (length-append (carried_in l (sent kept.birth.link (more ++ h))) front.0) ∙ ap length front.1 in
-            let whole_long : length (carried_in l (sent kept.birth.link (more ++ h))) ≡ length (carried_in l (sent 1 h) ++ carried_in l since.0) =
+            let whole_long : length (carried_in l (sent kept.birth.link (more ++ h)))
+            ≡ length (carried_in l (sent 1 h) ++ carried_in l since.0) =
             ap length whole in
             let within = read l kept.birth x live kept.is in
-            let old : length (carried_in l (sent 1 h)) ≡ length (drop kept.birth.head (bytes_read kept.birth.client h)) = ap length (carried_all on_link) in
+            let old : length (carried_in l (sent 1 h)) ≡ length
+            (drop kept.birth.head (bytes_read kept.birth.client h)) = ap length (carried_all on_link) in
             no_longer (carried_in l (sent 1 h)) (carried_in l since.0) (omega (arith, long, whole_long, within, old))
 
   -- nothing is asked for, and nothing written, of a stream that was drawn

@@ -44,7 +44,8 @@ free = refl
 some_reason : (why : HubError) → refusal (Attach 1 Local serial) (state []) ≡ Some why → ⊥
 some_reason why some = let clash : None ≡ Some why = sym free ∙ some in cc
 
-pub hub_starves : (Tells : ℕ → Type 0) (why : HubError) (new : Kept) → Answers (Attach 1 Local serial) Tells (Err why) [] new → why ≡ hub.OutOfMemory
+pub hub_starves : (Tells : ℕ → Type 0) (why : HubError) (new : Kept)
+    → Answers (Attach 1 Local serial) Tells (Err why) [] new → why ≡ hub.OutOfMemory
 hub_starves Tells hub.OutOfMemory new answers = refl
 hub_starves Tells hub.Stopped new answers = absurd (some_reason hub.Stopped answers)
 hub_starves Tells (hub.NoClient c) new answers = absurd (some_reason (hub.NoClient c) answers)

@@ -31,7 +31,8 @@ changed_session : (change : Session → Session) → IsChange change → (o : Op
 changed_session change is None = tt
 changed_session change is (Some session) = (is.service session, is.words session)
 
-pub changed_same : (number : ℕ) (change : Session → Session) → IsChange change → (old new : List (ℕ × Session)) → Changes number change old new
+pub changed_same : (number : ℕ) (change : Session → Session) → IsChange change → (old new : List (ℕ × Session))
+    → Changes number change old new
     → AreSame old new
 changed_same number change is old new puts c = go (cases_eq c number)
   where
@@ -59,7 +60,8 @@ pub then_same : (a b c : List (ℕ × Session)) → AreSame a b → AreSame b c 
 then_same a b c f g n = then_same_session (at n a) (at n b) (at n c) (f n) (g n)
 
 -- ---- one session is told more
-put_told : (h : History) (c : ℕ) (piece : List ℕ) (session : Session) → IsTold h c session → IsTold (Put c piece ∷ h) c (handed piece session)
+put_told : (h : History) (c : ℕ) (piece : List ℕ) (session : Session) → IsTold h c session
+    → IsTold (Put c piece ∷ h) c (handed piece session)
 put_told h c piece session told = record {
   known = told.known;
   words = told.words;

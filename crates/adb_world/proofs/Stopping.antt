@@ -41,7 +41,8 @@ module _ (setting : Setting) (files : List File) where
       same = ap (λ (ps : List Packet). ps ++ c.more) (sym is) ∙ append_assoc before q c.more
 
   -- more packets came behind those that were cut off
-  pub cut_more : (before all others whole : List Packet) → all ++ others ≡ whole → CutsOff setting before all files → CutsOff setting before whole files
+  pub cut_more : (before all others whole : List Packet) → all ++ others ≡ whole → CutsOff setting before all files
+      → CutsOff setting before whole files
   cut_more before all others whole is c = record {
     more = c.more;
     rest = c.rest ++ others;
@@ -87,7 +88,8 @@ module _ (fed start rest out : List ℕ) (is : start ++ rest ≡ out) (files : L
       → CutsOff model_setting (parts_of fed).packets (parts_of (fed ++ out)).packets files
   fed_last cut =
       let first = framed_front fed start in
-      cut_before model_setting files (parts_of fed).packets first.0 (parts_of (fed ++ start)).packets (parts_of (fed ++ out)).packets first.1
+      cut_before model_setting files (parts_of fed).packets first.0 (parts_of (fed ++ start)).packets
+      (parts_of (fed ++ out)).packets first.1
       (subst (λ (bytes : List ℕ). CutsOff model_setting (parts_of (fed ++ start)).packets (parts_of bytes).packets files) all cut)
 
 -- parts that hold a history treated all of it
@@ -100,7 +102,8 @@ pub told_sent : (g : History) (piece : List ℕ) (c : ℕ) (session : Session) �
 told_sent g piece c session told =
     record { known = told.known; words = told.words; within = told.within; read = told.read; put = told.put; alive = told.alive }
 
-pub later_sent : (old : Parts) (h more : History) (mid : Parts) (piece : List ℕ) → Holds (more ++ h) mid → IsLegal (Send 1 piece ∷ more ++ h)
+pub later_sent : (old : Parts) (h more : History) (mid : Parts) (piece : List ℕ) → Holds (more ++ h) mid
+    → IsLegal (Send 1 piece ∷ more ++ h)
     → IsLater old h more → IsLater old h (Send 1 piece ∷ more)
 later_sent old h more mid piece holds legal later = record {
   legal = legal;

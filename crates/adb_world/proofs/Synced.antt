@@ -1,5 +1,6 @@
 -- A session of the file service that runs alone and is dropped then: what it is answered, and what it leaves.
-use Rattle.std.specs.Prelude.{ℕ, ◌+◌, ◌≡◌, ◌≢◌, true, is_some, List, [], ◌∷◌, ◌++◌, length, drop, take, Option, Some, None, codes, option_map}
+use Rattle.std.specs.Prelude.{ℕ, ◌+◌, ◌≡◌, ◌≢◌, true, is_some, List, [], ◌∷◌, ◌++◌, length, drop, take, Option, Some, None, codes}
+use Rattle.std.specs.Prelude.{option_map}
 use Rattle.std.specs.List.{AllByRecursion}
 use Rattle.std.proofs.Common.{refl, sym, ◌∙◌, ap, subst, arith, ◌⊎◌, inl, inr}
 use Rattle.std.proofs.lemmas.Bool.{cases_eq}
@@ -64,7 +65,8 @@ module _ (number : ℕ) (ask : List ℕ) (old mid after : Parts) (adds : Adds nu
   others c apart = ap (at c) adds.sessions ∙ (puts_put_at number started old.sessions.entries).others c apart
 
   found : IsFound number ask after.sessions.entries
-  found = go (at number after.sessions.entries) refl (subst (λ (o : Option Session). IsSame o (at number after.sessions.entries)) here (same number))
+  found = go (at number after.sessions.entries) refl
+      (subst (λ (o : Option Session). IsSame o (at number after.sessions.entries)) here (same number))
     where
       go : (o : Option Session) → at number after.sessions.entries ≡ o → IsSame (Some started) o → IsFound number ask after.sessions.entries
       go None is kept = absurd kept
@@ -100,13 +102,15 @@ module _ (number : ℕ) (ask : List ℕ) (old mid after : Parts) (adds : Adds nu
     made : made_of answered.kind files (text_of found.session) ≡ by_sync (served files ask)
     made = (λ i. made_of (kind i) files (text i)) ∙ sync_made files ask
 
-    pub is_answer : (answer : List ℕ) → Some answer ≡ option_map answer_of (at number after.sessions.entries) → answer ≡ (served files ask).answer
+    pub is_answer : (answer : List ℕ) → Some answer ≡ option_map answer_of (at number after.sessions.entries)
+        → answer ≡ (served files ask).answer
     is_answer answer is =
         let both : Some answer ≡ Some (answer_of found.session) = is ∙ ap (option_map answer_of) found.is in
         let one : answer ≡ answer_of found.session = cc in
         one
         ∙ (ap (drop 8) answered.got
-        ∙ (drop-append_seam (codes "OKAYOKAY") (service_answer answered.kind files (text_over answered.kind (text_of found.session) files ∷ [])).bytes
+        ∙ (drop-append_seam (codes "OKAYOKAY")
+        (service_answer answered.kind files (text_over answered.kind (text_of found.session) files ∷ [])).bytes
         ∙ ap (λ (m : Made). m.answer) made))
 
     pub is_left : left ≡ (served files ask).files
@@ -174,10 +178,13 @@ module _ (number : ℕ) (ask : List ℕ) (old mid after : Parts) (adds : Adds nu
 
       asked : AreFirst (asks_of number part.calls) (asks_for (requests_in ask))
       asked =
-          subst (λ (text : List ℕ). AreFirst (asks_of number part.calls) (asks_for (requests_in text))) (drop-append_seam (requests_for (codes "sync:")) ask)
+          subst (λ (text : List ℕ). AreFirst (asks_of number part.calls) (asks_for (requests_in text)))
+          (drop-append_seam (requests_for (codes "sync:")) ask)
           (part.asked number unwritten Syncs refl)
 
-      first : (k : ℕ) × (files_after files (calls_of number (asks_of number part.calls)) ≡ (serve_all files (take k (requests_in ask))).files)
+      first : (k : ℕ)
+          × (files_after files (calls_of number (asks_of number part.calls))
+          ≡ (serve_all files (take k (requests_in ask))).files)
       first = served_first number files (requests_in ask) (asks_of number part.calls) asked
 
 -- all requests are a prefix of them

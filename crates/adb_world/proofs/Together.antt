@@ -1,5 +1,6 @@
 -- Sessions that begin where nothing is on its way: through which calls they were answered.
-use Rattle.std.specs.Prelude.{ℕ, ◌+◌, ◌≡◌, ◌==◌, ◌≤◌, ◌<◌, ◌&&◌, Bool, true, false, cond, nat_eq, nat_lt, is_some, slice_get, unwrap_or, option_map, zero, suc}
+use Rattle.std.specs.Prelude.{ℕ, ◌+◌, ◌≡◌, ◌==◌, ◌≤◌, ◌<◌, ◌&&◌, Bool, true, false, cond, nat_eq, nat_lt, is_some, slice_get, unwrap_or}
+use Rattle.std.specs.Prelude.{option_map, zero, suc}
 use Rattle.std.specs.Prelude.{List, [], ◌∷◌, ◌++◌, length, Option, Some, None, codes}
 use Rattle.std.specs.List.{AllByRecursion}
 use Rattle.std.proofs.Common.{refl, sym, ◌∙◌, ap, subst, arith, ◌⊎◌, inl, inr}
@@ -27,7 +28,8 @@ use Rattle.adb_daemon.specs.Device.{device_behind}
 use Rattle.adb_laws_alone.specs.Alone.{AsksNone, Every}
 use Rattle.adb_laws_alone.specs.Calls.{Call, answer_in, asks_in, asks_of}
 use Rattle.adb_laws_alone.specs.Together.{IsAskedIn, IsOfLater, RanTogether, RowRan, RunTogether}
-use Rattle.adb_laws_alone.proofs.Through.{IsNamed, answer_enough, answer_renamed, answer_through, asks_enough, asks_renamed, files_renamed, renamed}
+use Rattle.adb_laws_alone.proofs.Through.{IsNamed, answer_enough, answer_renamed, answer_through, asks_enough, asks_renamed, files_renamed}
+use Rattle.adb_laws_alone.proofs.Through.{renamed}
 use Rattle.adb_laws_answers.specs.Answers.{CameOf, HasEndedAs}
 use Rattle.adb_laws_answers.specs.Model.{model_setting}
 use Rattle.adb_world.specs.Session.{text_of}
@@ -129,7 +131,8 @@ same_tests a b c d there back = go (cases_eq a b)
     go (inl same) = eq-eqb a b same ∙ sym (eq-eqb c d (there same))
     go (inr other) = ne_eqb a b other ∙ sym (ne_eqb c d (λ same. other (back same)))
 
-module _ (laws : AloneLaws) (together : RunTogether model_setting) (old new : Parts) (ease : IsAtEase old) (goes : GoesOn old new) (rests : Rests new)
+module _ (laws : AloneLaws) (together : RunTogether model_setting) (old new : Parts) (ease : IsAtEase old)
+    (goes : GoesOn old new) (rests : Rests new)
     (begun : AreUnbegun old) where
   abbrev first_history : History
   first_history = h laws old new ease goes rests begun
@@ -188,13 +191,15 @@ module _ (laws : AloneLaws) (together : RunTogether model_setting) (old new : Pa
   calls = renamed (client_of last_history) ran.calls
 
   -- ---- each call is one of a session that had written nothing
-  fresh_of : (l : ℕ) (b : IsBorn last_history l) → (state first_history).drawn < l → IsUnwritten (client_of last_history l) old.sessions.entries
+  fresh_of : (l : ℕ) (b : IsBorn last_history l) → (state first_history).drawn < l
+      → IsUnwritten (client_of last_history l) old.sessions.entries
   fresh_of l b late =
       let f = fresh laws old new ease goes rests begun l b.birth b.is late in
       subst (λ (n : ℕ). IsUnwritten n old.sessions.entries) (sym (client_is last_history l b.birth b.is))
       (record { session = f.session; is = f.is; unwritten = f.unwritten })
 
-  call_born : (call : Call) → IsAskedIn (state first_history).drawn (sent_since laws old new ease goes rests begun).0 call → IsBorn last_history call.caller
+  call_born : (call : Call) → IsAskedIn (state first_history).drawn (sent_since laws old new ease goes rests begun).0
+      call → IsBorn last_history call.caller
   call_born call asked = found_open last_history (state first_history).drawn call.caller ps past asked.1
 
   only_in : (cs : List Call) → AllByRecursion (IsAskedIn (state first_history).drawn (sent_since laws old new ease goes rests begun).0) cs
@@ -203,22 +208,27 @@ module _ (laws : AloneLaws) (together : RunTogether model_setting) (old new : Pa
   only_in (call ∷ cs) all = (fresh_of call.caller (call_born call all.0) all.0.0, only_in cs all.1)
 
   -- ---- each such session
-  module _ (n : ℕ) (session : Session) (unwritten : IsUnwritten n old.sessions.entries) (is : at n new.sessions.entries ≡ Some session) where
+  module _ (n : ℕ) (session : Session) (unwritten : IsUnwritten n old.sessions.entries)
+      (is : at n new.sessions.entries ≡ Some session) where
     a : IsToldAnswer (now laws old new ease goes rests begun) n session
     a =
-        told_answer laws.rest last_history new (holds_now laws old new ease goes rests begun) (greeted_now laws old new ease goes rests begun)
-        (asks_now laws old new ease goes rests begun) rests laws.requests laws.answered n session (kept_now laws old new ease goes rests begun n session is)
+        told_answer laws.rest last_history new (holds_now laws old new ease goes rests begun)
+        (greeted_now laws old new ease goes rests begun)
+        (asks_now laws old new ease goes rests begun) rests laws.requests laws.answered n session
+        (kept_now laws old new ease goes rests begun n session is)
         (words_now laws old new ease goes rests begun n session is)
 
     unborn : (b : Birth) → born a.number first_history ≡ Some b → ⊥
     unborn b was =
-        let both : Some b ≡ Some a.birth = sym (born_behind a.number b (more laws old new ease goes rests begun) first_history was) ∙ a.is in
+        let both : Some b ≡ Some a.birth =
+        sym (born_behind a.number b (more laws old new ease goes rests begun) first_history was) ∙ a.is in
         let same : b ≡ a.birth = cc in
         let client : b.client ≡ n = ap (λ (x : Birth). x.client) same ∙ a.client in
         not_both laws old new ease goes rests begun n
         (unasked laws old new ease goes rests begun n unwritten.session unwritten.is unwritten.unwritten)
         (subst (λ (c : ℕ). is_some (asked c first_history).next ≡ true) client
-        (asked_of_birth first_history (legal laws old new ease goes rests begun) ease.runs.holds.asks (asks laws old new ease goes rests begun) a.number b
+        (asked_of_birth first_history (legal laws old new ease goes rests begun) ease.runs.holds.asks
+        (asks laws old new ease goes rests begun) a.number b
         was).asked_it)
 
     late : (state first_history).drawn < a.number
@@ -245,7 +255,8 @@ module _ (laws : AloneLaws) (together : RunTogether model_setting) (old new : Pa
             (ran.over a.served.own e.over e.is
             (subst (λ (k : ℕ). (state first_history).drawn < k) (sym (ap (λ (row : Row). row.host) e.row_is)) host_late))
 
-    named_in : (cs : List Call) → AllByRecursion (IsAskedIn (state first_history).drawn (sent_since laws old new ease goes rests begun).0) cs
+    named_in : (cs : List Call)
+        → AllByRecursion (IsAskedIn (state first_history).drawn (sent_since laws old new ease goes rests begun).0) cs
         → AllByRecursion (IsNamed (client_of last_history) n a.row.host) cs
     named_in [] all = tt
     named_in (call ∷ cs) all = (one (call_born call all.0), named_in cs all.1)
@@ -253,13 +264,15 @@ module _ (laws : AloneLaws) (together : RunTogether model_setting) (old new : Pa
         one : IsBorn last_history call.caller → (client_of last_history call.caller == n) ≡ (call.caller == a.row.host)
         one b =
             same_tests (client_of last_history call.caller) n call.caller a.row.host
-            (λ same. one_stream_each last_history (legal_now laws old new ease goes rests begun) call.caller a.number b.birth a.birth b.is a.is
+            (λ same. one_stream_each last_history (legal_now laws old new ease goes rests begun) call.caller a.number
+            b.birth a.birth b.is a.is
             (sym (client_is last_history call.caller b.birth b.is) ∙ (same ∙ sym a.client)) ∙ sym a.served.host)
             (λ same.
             let number : call.caller ≡ a.number = same ∙ a.served.host in
             client_is last_history call.caller a.birth (ap (λ (k : ℕ). born k last_history) number ∙ a.is) ∙ a.client)
 
-    whole : IsWholeThrough files_then ran.calls a.row.host a.row.kind (service_answer a.row.kind a.row.first a.row.past).bytes (text_of session)
+    whole : IsWholeThrough files_then ran.calls a.row.host a.row.kind
+        (service_answer a.row.kind a.row.first a.row.past).bytes (text_of session)
     whole = whole_through files_then ran.calls a.row (text_of session) row_ran a.came
 
     through : IsAnsweredThrough files_then calls n session
@@ -269,7 +282,8 @@ module _ (laws : AloneLaws) (together : RunTogether model_setting) (old new : Pa
       asks = asks_renamed (client_of last_history) n a.row.host ran.calls (named_in ran.calls ran.asked) ∙ whole.asks;
       got = a.put_as
           ∙ ap (λ (x : List ℕ). codes "OKAYOKAY" ++ x) (whole.answer
-          ∙ sym (answer_renamed (client_of last_history) n a.row.host a.row.kind (text_of session) files_then ran.calls (named_in ran.calls ran.asked)));
+          ∙ sym (answer_renamed (client_of last_history) n a.row.host a.row.kind (text_of session) files_then
+          ran.calls (named_in ran.calls ran.asked)));
     }
 
   pub answered_together : AreAnsweredTogether (files_of old.device) (files_of new.device) old.sessions.entries new.sessions.entries
@@ -277,7 +291,8 @@ module _ (laws : AloneLaws) (together : RunTogether model_setting) (old new : Pa
       subst (λ (files : List File). AreAnsweredTogether files (files_of new.device) old.sessions.entries new.sessions.entries)
       (sym (files_old laws old new ease goes rests begun)) (record {
         calls = calls;
-        left_files = files_now laws old new ease goes rests begun ∙ (ran.left ∙ sym (files_renamed (client_of last_history) files_then ran.calls));
+        left_files = files_now laws old new ease goes rests begun
+            ∙ (ran.left ∙ sym (files_renamed (client_of last_history) files_then ran.calls));
         answered = λ n session unwritten is. through n session unwritten is;
         only = only_in ran.calls ran.asked;
       })

@@ -21,7 +21,8 @@ more_read c [] h = omega arith
 more_read c (e ∷ more) h = let one = read_more c e (more ++ h) in let rest = more_read c more h in omega (arith, one, rest)
 
 -- a session that wrote all its words has written them since
-pub still_all : (c : ℕ) (old new : Session) (h more : History) → IsTold h c old → IsTold (more ++ h) c new → new.words ≡ old.words → left_of old ≡ []
+pub still_all : (c : ℕ) (old new : Session) (h more : History) → IsTold h c old → IsTold (more ++ h) c new
+    → new.words ≡ old.words → left_of old ≡ []
     → left_of new ≡ []
 still_all c old new h more before after same none =
     drop_all new.written new.words (omega (
@@ -67,7 +68,8 @@ pub tries_on : (wrote : ℕ) (old : Parts) → HaveWritten wrote old → Tried t
 tries_on wrote old written = record {
   same = refl;
   order = omega arith;
-  none = λ h holds c session past within is. subst (λ (o : Option Session). HasNone (to_write_of o)) (sym is) (written c session past within is);
+  none = λ h holds c session past within is. subst (λ (o : Option Session). HasNone (to_write_of o)) (sym is)
+      (written c session past within is);
 }
   where
     to_write_of : Option Session → Option (List ℕ)
@@ -85,11 +87,13 @@ tried_written wrote old now runs tried =
     to_write_of (Some session) = Some (left_of session)
 
 -- ---- where all have written
-pub all_have : (wrote : ℕ) (parts : Parts) → Each parts.sessions.entries (λ (session : Session). left_of session ≡ []) → HaveWritten wrote parts
+pub all_have : (wrote : ℕ) (parts : Parts) → Each parts.sessions.entries (λ (session : Session). left_of session ≡ [])
+    → HaveWritten wrote parts
 all_have wrote parts words c session past within is = words c session is
 
 -- one was dropped
-pub dropped_have : (wrote n : ℕ) (old new : Parts) → Each old.sessions.entries (λ (session : Session). left_of session ≡ []) → Drops n old new
+pub dropped_have : (wrote n : ℕ) (old new : Parts) → Each old.sessions.entries
+    (λ (session : Session). left_of session ≡ []) → Drops n old new
     → HaveWritten wrote new
 dropped_have wrote n old new words drops c session past within is = go (cases_eq c n)
   where
@@ -103,5 +107,7 @@ dropped_have wrote n old new words drops c session past within is = go (cases_eq
 pub added_have : (text service : List ℕ) (old new : Parts) → Each old.sessions.entries (λ (session : Session). left_of session ≡ [])
     → Adds (old.given + 1) (new_session service text) old new → HaveWritten old.given new
 added_have text service old new words adds c session past within is =
-    words c session (sym ((puts_put_at (old.given + 1) (new_session service text) old.sessions.entries).others c (λ same. omega (arith, same, within)))
+    words c session
+    (sym ((puts_put_at (old.given + 1) (new_session service text) old.sessions.entries).others c
+    (λ same. omega (arith, same, within)))
     ∙ (ap (λ (es : List (ℕ × Session)). at c es) (sym adds.sessions) ∙ is))

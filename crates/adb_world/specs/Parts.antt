@@ -37,7 +37,8 @@ IsKeptAt given h c (Some session) = IsDrawn given c × IsTold h c session
 abbrev pub most_sessions : ℕ
 most_sessions = 2 ^ 31
 
--- The hub holds what the history leaves; the device was fed what was sent to the first link, and what came on it was taken from the device; no other was
+-- The hub holds what the history leaves; the device was fed what was sent to the first link, and what came on it was
+-- taken from the device; no other was
 -- plugged in; and each client is that of a session, or is over.
 pub record Holds (h : History) (parts : Parts) : Type 0 where
   pub lawful : IsLawful parts.hub h

@@ -28,7 +28,8 @@ wrote n session = record session { written = session.written + n }
 abbrev pub Changes : ℕ → (Session → Session) → List (ℕ × Session) → List (ℕ × Session) → Type 0
 Changes number change old new = Puts number (option_map change (at number old)) old new
 
--- A session of a client wrote a front of its words, which are those of its service and its text, and keeps what was put to that client, which did not end.
+-- A session of a client wrote a front of its words, which are those of its service and its text, and keeps what was
+-- put to that client, which did not end.
 pub record IsTold (h : History) (c : ℕ) (session : Session) : Type 0 where
   pub known : IsKnown session.service
   pub words : session.words ≡ words_of session.service (text_of session)

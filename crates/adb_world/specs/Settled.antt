@@ -22,7 +22,8 @@ use Rattle.adb_world.specs.declared.parts.Parts.{Parts}
 abbrev pub Each : {X : Type 0} → List (ℕ × X) → (X → Type 0) → Type 0
 Each {X} table P = (n : ℕ) (row : X) → at n table ≡ Some row → P row
 
--- a live stream of the hub is open and has its end at the device; at both ends no write is outstanding, nothing accepted is still to be handed to the client,
+-- a live stream of the hub is open and has its end at the device; at both ends no write is outstanding, nothing
+-- accepted is still to be handed to the client,
 -- and nothing that the service answered is still to be written
 pub record IsAtRest (ends : List (ℕ × End)) (stream : Stream) : Type 0 where
   pub opened : stream.part.remote ≢ 0
@@ -34,7 +35,8 @@ pub record IsAtRest (ends : List (ℕ × End)) (stream : Stream) : Type 0 where
   pub spoken : far.idle ≡ true
   pub written : far.left ≡ []
 
--- Nothing is due on the link or to a client, and the device owes nothing; each live stream is at rest at both ends; and nothing is held of a client, to be
+-- Nothing is due on the link or to a client, and the device owes nothing; each live stream is at rest at both ends;
+-- and nothing is held of a client, to be
 -- sent up.
 pub record IsCalm (hub : Kept) (owes : List ℕ) (ends : List (ℕ × End)) : Type 0 where
   pub link : Each hub.links (λ (link : Link). link.due ≡ [])
@@ -85,7 +87,8 @@ NoneUp parts = owed parts.device ≡ []
 
 -- nothing is due to the sessions behind a number
 abbrev pub NoneHanded : ℕ → Parts → Type 0
-NoneHanded after parts = (h : History) → Holds h parts → (c : ℕ) (session : Session) → after < c → at c parts.sessions.entries ≡ Some session
+NoneHanded after parts = (h : History) → Holds h parts → (c : ℕ) (session : Session) → after < c
+    → at c parts.sessions.entries ≡ Some session
     → HasNone (offered_to (state h).devices ((state h).clients c))
 
 -- something is due to the session of a number
@@ -98,7 +101,8 @@ NoneWritten after parts = (c : ℕ) (session : Session) → after < c → at c p
 
 -- the sessions up to a number have written all their words
 abbrev pub HaveWritten : ℕ → Parts → Type 0
-HaveWritten wrote parts = (c : ℕ) (session : Session) → 0 < c → c ≤ wrote → at c parts.sessions.entries ≡ Some session → left_of session ≡ []
+HaveWritten wrote parts = (c : ℕ) (session : Session) → 0 < c → c ≤ wrote → at c parts.sessions.entries ≡ Some session
+    → left_of session ≡ []
 
 -- no step is possible
 pub record Rests (parts : Parts) : Type 0 where

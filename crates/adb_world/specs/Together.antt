@@ -14,7 +14,8 @@ pub record IsUnwritten (n : ℕ) (sessions : List (ℕ × Session)) : Type 0 whe
   pub is : at n sessions ≡ Some session
   pub unwritten : session.written ≡ 0
 
--- A session was answered through calls over some files: it asked for what its service asks for of its whole text, and was handed the replies to its
+-- A session was answered through calls over some files: it asked for what its service asks for of its whole text, and
+-- was handed the replies to its
 -- requests and the answer of its service.
 pub record IsAnsweredThrough (files : List Entry) (calls : List Call) (n : ℕ) (session : Session) : Type 0 where
   pub kind : Kind
@@ -22,7 +23,8 @@ pub record IsAnsweredThrough (files : List Entry) (calls : List Call) (n : ℕ) 
   pub asks : asks_of n calls ≡ asks_in kind (text_of session)
   pub got : session.got ≡ codes "OKAYOKAY" ++ answer_in n kind (text_of session) files calls
 
--- All calls of the sessions that had written nothing, in one order, lead from some files to those that are left, and each of these sessions was answered
+-- All calls of the sessions that had written nothing, in one order, lead from some files to those that are left, and
+-- each of these sessions was answered
 -- through them. The calls are named by the numbers of the sessions.
 pub record AreAnsweredTogether (files left : List Entry) (old new : List (ℕ × Session)) : Type 0 where
   pub calls : List Call
@@ -36,7 +38,8 @@ abbrev pub IsAskedInPart : List Call → ℕ → Session → Type 0
 IsAskedInPart calls n session =
     (kind : Kind) → service_of session.service ≡ Some kind → AreFirst (asks_of n calls) (asks_in kind (text_of session))
 
--- Whole calls of the sessions that had written nothing, in one order, lead from some files to those that are left, and each of these sessions asked for a
+-- Whole calls of the sessions that had written nothing, in one order, lead from some files to those that are left,
+-- and each of these sessions asked for a
 -- prefix of what it asks for. The calls are named by the numbers of the sessions.
 pub record AreAskedInPart (files left : List Entry) (old : List (ℕ × Session)) : Type 0 where
   pub calls : List Call

@@ -23,7 +23,8 @@ end_of stream = record { host = stream.host; idle = is_idle stream.flow; left = 
 abbrev pub ends_of : Daemon → List (ℕ × End)
 ends_of device = map (λ (entry : ℕ × Stream). (entry.0, end_of entry.1)) device.machine.services.table.rows.entries
 
--- what the hub holds; what the device owes, its files, and its ends of the live streams, by its ids; the sessions by the numbers of their clients, and how
+-- what the hub holds; what the device owes, its files, and its ends of the live streams, by its ids; the sessions by
+-- the numbers of their clients, and how
 -- many were given; whether memory ran out; and whether all that was started has settled
 pub record View : Type 0 where
   pub hub : Kept

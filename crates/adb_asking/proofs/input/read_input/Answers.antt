@@ -7,7 +7,9 @@ use Rattle.adb_asking.proofs.input.read_input.Goals as goal
 pub returns-in_err-read_piece-clause-told : goal.returns-in_err-read_piece-clause-told
 returns-in_err-read_piece-clause-told g c =
     let passed = err_from_is_err_and c.from_residual.result c.from_residual.ensures.1 in
-    rw (passed.1, passed.2) (read_stopped _ _ _ c.loop-text.text c.read_piece.new.text c.loop-text.invariant.so _ c.in_err-read_piece.ensures.told)
+    rw (passed.1, passed.2)
+    (read_stopped _ _ _ c.loop-text.text c.read_piece.new.text c.loop-text.invariant.so _
+    c.in_err-read_piece.ensures.told)
 
 pub loop-text-preserved : goal.loop-text-preserved
 loop-text-preserved g c =
@@ -15,7 +17,8 @@ loop-text-preserved g c =
     record {
       size = c.read_piece.ensures.size;
       so = read_on _ _ _ c.loop-text.text c.read_piece.new.text c.loop-text.invariant.so piece.told;
-      counts = counts_then g.S.Source.steady g.S.Source.faults c.args.source.now c.loop-text.source c.read_piece.new.source false c.loop-text.invariant.counts
+      counts = counts_then g.S.Source.steady g.S.Source.faults c.args.source.now c.loop-text.source
+          c.read_piece.new.source false c.loop-text.invariant.counts
           c.in_ok-read_piece.ensures.counts;
     }
 

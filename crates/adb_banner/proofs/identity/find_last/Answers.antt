@@ -25,7 +25,8 @@ pub returns-clause-last : goal.returns-clause-last
 returns-clause-last c =
     let all = YieldsList-from_slice_split _ is_semicolon c.args.banner.now (cc) (cc) (cc) (λ x b q k. search (rules, tests)) in
     c.loop-part.invariant
-    ∙ ap (last_value c.args.key.now) (YieldsList-end all c.loop-part.yielded _ c.loop-part.yielded_by _ _ c.in-None.is c.next.ensures.steps).0
+    ∙ ap (last_value c.args.key.now)
+    (YieldsList-end all c.loop-part.yielded _ c.loop-part.yielded_by _ _ c.in-None.is c.next.ensures.steps).0
 
 pub returns-clause-short : goal.returns-clause-short
 returns-clause-short c =

@@ -47,10 +47,12 @@ returns-in-Ok-Illegal-clause-judges g c all was =
     let j = c.loop-judge.invariant.judging in
     let says = c.in-Ok-Illegal.ensures.judged j.given j.judges in
     judging_broken turn c.loop-judge.entries c.loop-judge.judge c.in-Ok-Illegal.rule j
-    (subst (λ (v : Verdict). Says v (c.in-Some.entry ∷ j.given)) c.in-Ok-Illegal.field-0-is says.0) all was (g.S.Source.left c.next.new.source)
+    (subst (λ (v : Verdict). Says v (c.in-Some.entry ∷ j.given)) c.in-Ok-Illegal.field-0-is says.0) all was
+    (g.S.Source.left c.next.new.source)
 
 pub returns-clause-judges : goal.returns-clause-judges
 returns-clause-judges g c all was =
     judging_over c.next.new.self (g.S.Source.left c.next.new.source) (subst (λ (o : Option (ℕ × Entry)). Gives c.loop-judge.reader
-    (g.S.Source.left c.loop-judge.source) (Ok o) c.next.new.self (g.S.Source.left c.next.new.source)) c.in_default-2.is c.in_ok-entry.ensures.answers)
+    (g.S.Source.left c.loop-judge.source) (Ok o) c.next.new.self (g.S.Source.left c.next.new.source))
+    c.in_default-2.is c.in_ok-entry.ensures.answers)
     c.in_ok-entry.ensures.ok.2 c.loop-judge.invariant.judging all was

@@ -12,7 +12,9 @@ use Rattle.adb_check.proofs.taking.send.Goals as goal
 pub returns-clause-taken : goal.returns-clause-taken
 returns-clause-taken c h lawful =
     let asked : c.max.result ≡ asked_for c.args.bytes.now = c.max.ensures ∙ ap (λ (n : ℕ). max n 1) c.len.ensures in
-    let hands = subst (λ (n : ℕ). Hands (Send c.args.link) n (λ (s : State). due_on (s.links c.args.link)) c.send.result h c.args.hub.now c.send.new.self)
+    let hands = subst
+    (λ (n : ℕ). Hands (Send c.args.link) n (λ (s : State). due_on (s.links c.args.link)) c.send.result h
+    c.args.hub.now c.send.new.self)
     asked (c.send.ensures.sent h lawful) in
     subst (λ (r : Result (Option Rule) AllocError). IfOk r (λ broken. Takes broken (Send c.args.link c.args.bytes.now) h c.send.new.self))
     (sym c.broken_by.ensures) (sent_taken h c.args.hub.now c.send.new.self c.args.link c.args.bytes.now c.send.result hands)

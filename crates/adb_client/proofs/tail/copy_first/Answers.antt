@@ -10,6 +10,7 @@ loop-i-preserved c =
     let piece : List ℕ = c.index.result.now in
     let here : c.loop-i.i < length pieces = search rules in
     let most : c.min-some.result ≡ min c.loop-i.left (length piece) = search rules in
-    let more = copied_more pieces before c.args.n c.loop-i.i now c.loop-i.left c.loop-i.invariant piece c.min-some.result here c.index.ensures most in
+    let more = copied_more pieces before c.args.n c.loop-i.i now c.loop-i.left c.loop-i.invariant piece
+    c.min-some.result here c.index.ensures most in
     let copied : c.extend_from_slice.new.self.items ≡ now ++ take c.min-some.result piece = search rules in
     subst (λ (l : List ℕ). IsCopied pieces before c.args.n (c.loop-i.i + 1) l (c.loop-i.left - c.min-some.result)) (sym copied) more

@@ -13,4 +13,5 @@ returns-then-len-n-clause-goes c =
     let now : concat c.push_front_reserved.new.self.items ≡ drop c.args.n piece ++ rest =
     ap concat c.push_front_reserved.ensures.items ∙ ap (λ (l : List ℕ). l ++ rest) cut
     in
-    goes_in_part old piece rest c.args.n is (concat c.push_front_reserved.new.self.items) (omega (arith, c.len.ensures.value, c.if-len-n.true)) now
+    goes_in_part old piece rest c.args.n is (concat c.push_front_reserved.new.self.items)
+    (omega (arith, c.len.ensures.value, c.if-len-n.true)) now

@@ -32,4 +32,6 @@ returns-clause-kept c =
     let old = concat c.args.pieces.now.items in
     let front = concat c.pop_back.new.self.items in
     let is : old ≡ front ++ c.in-Some.piece = ap concat c.in-Some.ensures.items ∙ concat_last c.pop_back.new.self.items c.in-Some.piece in
-    rw c.len.ensures.value (goes_whole old front c.in-Some.piece c.args.n c.args.len is c.requires.counted (omega (arith, c.len.ensures.value)))
+    rw c.len.ensures.value
+    (goes_whole old front c.in-Some.piece c.args.n c.args.len is c.requires.counted
+    (omega (arith, c.len.ensures.value)))

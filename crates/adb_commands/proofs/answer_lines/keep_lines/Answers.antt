@@ -15,7 +15,8 @@ returns-in_err-keep_bytes-clause-kept g c =
     let next = line_next c.args.lines.now c.loop-line.line-index c.line-item.result c.as_slice.result.now
     c.loop-line-test.true c.line-item.is c.as_slice.ensures in
     rw (passed.1, passed.2)
-    (λ had k. says_lost (texts_of c.args.lines.now) (texts_of (drop c.loop-line.line-index c.args.lines.now)) before now c.loop-line.invariant.saying
+    (λ had k. says_lost (texts_of c.args.lines.now) (texts_of (drop c.loop-line.line-index c.args.lines.now)) before
+    now c.loop-line.invariant.saying
     c.as_slice.result.now (texts_of (drop (c.loop-line.line-index + 1) c.args.lines.now)) next new
     c.in_err-keep_bytes.field-0.0 c.in_err-keep_bytes.ensures.loss c.in_err-keep_bytes.ensures.kept had k)
 
@@ -27,7 +28,8 @@ loop-line-preserved g c =
     let next = line_next c.args.lines.now c.loop-line.line-index c.line-item.result c.as_slice.result.now
     c.loop-line-test.true c.line-item.is c.as_slice.ensures in
     record {
-      saying = says_more (texts_of c.args.lines.now) (texts_of (drop c.loop-line.line-index c.args.lines.now)) before now c.loop-line.invariant.saying
+      saying = says_more (texts_of c.args.lines.now) (texts_of (drop c.loop-line.line-index c.args.lines.now)) before
+          now c.loop-line.invariant.saying
           c.as_slice.result.now (texts_of (drop (c.loop-line.line-index + 1) c.args.lines.now)) next new c.in_ok-keep_bytes.ensures.kept;
       counts = counts_then g.K.Sink.steady g.K.Sink.faults c.args.sink.now c.loop-line.sink c.keep_bytes.new.sink {g = false}
           c.loop-line.invariant.counts c.in_ok-keep_bytes.ensures.counts;

@@ -6,5 +6,6 @@ use Rattle.adb_commands.proofs.answer_lines.keep_lines.Given as goal
 
 abbrev pub invariant-loop-line : goal.invariant-loop-line
 invariant-loop-line g l =
-    Giving (texts_of l.lines) (texts_of (drop l.line-index l.lines)) (g.K.Sink.written l.fn.sink, l.fn.output) (g.K.Sink.written l.sink, l.output)
+    Giving (texts_of l.lines) (texts_of (drop l.line-index l.lines)) (g.K.Sink.written l.fn.sink, l.fn.output)
+    (g.K.Sink.written l.sink, l.output)
     (Counts g.K.Sink.steady g.K.Sink.faults l.fn.sink l.sink false)

@@ -17,7 +17,8 @@ returns-in_err-write_out-clause-out g c =
     let mid : Out = (g.K.Sink.written c.keep_answers-ended.new.sink, c.keep_answers-ended.new.output) in
     rw (passed.1)
     (λ had has.
-    text_lost had (concat (answers_from c.args.run.now.number [] c.args.run.now.lines)) mid (g.K.Sink.written c.write_out.new.sink) c.keep_answers-ended.result
+    text_lost had (concat (answers_from c.args.run.now.number [] c.args.run.now.lines)) mid
+    (g.K.Sink.written c.write_out.new.sink) c.keep_answers-ended.result
     (kept_over c.keep_answers-ended.result had c.args.run.now c.args.world.now mid c.requires.files
     (c.keep_answers-ended.ensures.kept had (keeps_none had c.in_ok-output.output _ has c.in_ok-output.ensures)))
     c.in_err-write_out.ensures.out (λ none. ap g.K.Sink.written (c.write_out.ensures.nothing none)))
@@ -26,7 +27,8 @@ pub returns-clause-out : goal.returns-clause-out
 returns-clause-out g c =
     let mid : Out = (g.K.Sink.written c.keep_answers-ended.new.sink, c.keep_answers-ended.new.output) in
     λ had has.
-    text_out had (concat (answers_from c.args.run.now.number [] c.args.run.now.lines)) mid (g.K.Sink.written c.write_out.new.sink) c.keep_answers-ended.result
+    text_out had (concat (answers_from c.args.run.now.number [] c.args.run.now.lines)) mid
+    (g.K.Sink.written c.write_out.new.sink) c.keep_answers-ended.result
     (kept_over c.keep_answers-ended.result had c.args.run.now c.args.world.now mid c.requires.files
     (c.keep_answers-ended.ensures.kept had (keeps_none had c.in_ok-output.output _ has c.in_ok-output.ensures)))
     c.in_ok-write_out.ensures.out (λ none. ap g.K.Sink.written (c.write_out.ensures.nothing none))

@@ -22,7 +22,8 @@ returns-in-Ok-clause-whole g c = λ is coming was.
 
 pub returns-in-Ok-clause-reads : goal.returns-in-Ok-clause-reads
 returns-in-Ok-clause-reads g c =
-    subst (λ (failed : Bool). Counts g.S.Source.steady g.S.Source.faults c.args.source.now c.read_script.new.source failed) (sym c.answer_text.ensures.reads)
+    subst (λ (failed : Bool). Counts g.S.Source.steady g.S.Source.faults c.args.source.now c.read_script.new.source
+    failed) (sym c.answer_text.ensures.reads)
     c.in-Ok.ensures.counts
 
 pub returns-in-Err-clause-refuses : goal.returns-in-Err-clause-refuses

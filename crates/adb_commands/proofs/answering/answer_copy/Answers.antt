@@ -13,6 +13,7 @@ returns-in-Ok-write_lines-clause-writes g c = λ had has. record {
 
 pub returns-clause-writes : goal.returns-clause-writes
 returns-clause-writes g c = λ had has.
-    lost_out kinds.Copy c.in-Err-write_lines.why c.lost_by.result c.args.script.now (concat (texts_of c.as_slice.result.now)) had _ c.lost_by.ensures
+    lost_out kinds.Copy c.in-Err-write_lines.why c.lost_by.result c.args.script.now
+    (concat (texts_of c.as_slice.result.now)) had _ c.lost_by.ensures
     (copies_are c.args.script.now c.in-Ok.lines.items c.as_slice.result.now c.in-Ok.ensures.lines c.as_slice.ensures.value)
     (c.in-Err-write_lines.ensures.out had has)

@@ -5,7 +5,8 @@ use Rattle.adb_commands.proofs.script_input.read_script.Goals as goal
 
 pub returns-in_err-read_piece-clause-within : goal.returns-in_err-read_piece-clause-within
 returns-in_err-read_piece-clause-within g c =
-    read_within _ _ _ c.loop-script.script c.read_piece.new.script c.loop-script.invariant.so c.read_piece.result c.loop-script.invariant.size
+    read_within _ _ _ c.loop-script.script c.read_piece.new.script c.loop-script.invariant.so c.read_piece.result
+    c.loop-script.invariant.size
     c.read_piece.ensures.piece
 
 pub loop-script-preserved : goal.loop-script-preserved
@@ -14,7 +15,8 @@ loop-script-preserved g c =
     record {
       size = omega (arith, piece.grows.1, c.loop-script.invariant.size);
       so = read_on _ _ _ c.loop-script.script c.read_piece.new.script c.loop-script.invariant.so piece;
-      counts = counts_then g.S.Source.steady g.S.Source.faults c.args.source.now c.loop-script.source c.read_piece.new.source c.loop-script.invariant.counts
+      counts = counts_then g.S.Source.steady g.S.Source.faults c.args.source.now c.loop-script.source
+          c.read_piece.new.source c.loop-script.invariant.counts
           c.in_ok-read_piece.ensures.counts;
     }
 

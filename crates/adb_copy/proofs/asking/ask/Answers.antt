@@ -29,7 +29,8 @@ returns-in_err-answer-clause-kept g c =
     let text = c.in_ok-text.ensures ∙ (c.out.ensures ∙ c.in_ok-ask.ensures.left) in
     let part = c.in_err-answer.ensures.in_part in
     at_err _ c.from_residual-in_err-answer.result (part.1
-    ∙ (ap (λ (bytes : List ℕ). (serve_all c.args.world.now.files (take part.0 (requests_in bytes))).files) text ∙ c.requires.in_part part.0))
+    ∙ (ap (λ (bytes : List ℕ). (serve_all c.args.world.now.files (take part.0 (requests_in bytes))).files) text
+    ∙ c.requires.in_part part.0))
 
 pub returns-in_err-step-clause-kept : goal.returns-in_err-step-clause-kept
 returns-in_err-step-clause-kept g c =

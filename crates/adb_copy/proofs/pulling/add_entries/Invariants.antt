@@ -5,4 +5,5 @@ use Rattle.adb_copy.proofs.pulling.add_entries.Given as goal
 
 abbrev pub invariant-loop-entry : goal.invariant-loop-entry
 invariant-loop-entry l =
-    l.pending.items ++ map (found_in l.directory) (drop l.entry-index l.entries) ≡ l.initial.pending.items ++ map (found_in l.directory) l.entries
+    l.pending.items ++ map (found_in l.directory) (drop l.entry-index l.entries)
+    ≡ l.initial.pending.items ++ map (found_in l.directory) l.entries

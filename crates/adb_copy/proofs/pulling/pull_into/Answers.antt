@@ -9,7 +9,8 @@ use Rattle.adb_copy.proofs.pulling.pull_into.Goals as goal
 pub loop-found-init : goal.loop-found-init
 loop-found-init g c =
     let root_alone = c.in_ok-push.ensures.items
-    ∙ (ap (λ (fs : List Found). fs ++ c.in_ok-root.root ∷ []) c.new-pending.ensures.items ∙ ap (λ (f : Found). f ∷ []) c.in_ok-root.ensures) in
+    ∙ (ap (λ (fs : List Found). fs ++ c.in_ok-root.root ∷ []) c.new-pending.ensures.items
+    ∙ ap (λ (f : Found). f ∷ []) c.in_ok-root.ensures) in
     record {
       collected = [];
       holds = c.requires.none;
@@ -20,7 +21,8 @@ pub visit-requires-clause-map : goal.visit-requires-clause-map
 visit-requires-clause-map g c = subst IsFileMap (sym c.loop-found.invariant.pulling.pulls.files) c.look_at_files.ensures
 
 pub visit-requires-clause-files : goal.visit-requires-clause-files
-visit-requires-clause-files g c = subst (λ (es : List Entry). AreCopied es) (sym c.loop-found.invariant.pulling.pulls.files) c.requires.files
+visit-requires-clause-files g c = subst (λ (es : List Entry). AreCopied es)
+    (sym c.loop-found.invariant.pulling.pulls.files) c.requires.files
 
 pub visit-requires-clause-walks : goal.visit-requires-clause-walks
 visit-requires-clause-walks g c =
@@ -28,14 +30,16 @@ visit-requires-clause-walks g c =
     record {
       collected = into.collected;
       holds = into.holds;
-      walks = next_walks c.args.world.now c.loop-found.world c.loop-found.pending.items c.pop.new.self.items c.in-Some.found into.collected into.pulling
+      walks = next_walks c.args.world.now c.loop-found.world c.loop-found.pending.items c.pop.new.self.items
+          c.in-Some.found into.collected into.pulling
           c.in-Some.ensures.items;
     }
 
 pub visit-requires-clause-room : goal.visit-requires-clause-room
 visit-requires-clause-room g c =
     let into = c.loop-found.invariant in
-    next_room c.args.world.now c.loop-found.world c.loop-found.pending.items c.pop.new.self.items c.in-Some.found into.collected into.pulling
+    next_room c.args.world.now c.loop-found.world c.loop-found.pending.items c.pop.new.self.items c.in-Some.found
+    into.collected into.pulling
     c.in-Some.ensures.items c.requires.room
 
 pub loop-found-preserved : goal.loop-found-preserved
@@ -45,7 +49,8 @@ loop-found-preserved g c =
     record {
       collected = done.walks.collected;
       holds = done.walks.holds;
-      pulling = next_pulling c.args.world.now c.loop-found.world c.visit.new.world c.loop-found.pending.items c.pop.new.self.items c.visit.new.pending.items
+      pulling = next_pulling c.args.world.now c.loop-found.world c.visit.new.world c.loop-found.pending.items
+          c.pop.new.self.items c.visit.new.pending.items
           c.in-Some.found into.collected done.walks.collected into.pulling c.in-Some.ensures.items done.pulls done.walks.walks done.owed
           (λ spent. let clash = (done.stays spent).0 in cc);
     }
@@ -53,13 +58,15 @@ loop-found-preserved g c =
 pub returns-in_err-visit-clause-left : goal.returns-in_err-visit-clause-left
 returns-in_err-visit-clause-left g c whole =
     let into = c.loop-found.invariant in
-    stopped c.args.world.now c.loop-found.world c.visit.new.world c.loop-found.pending.items c.pop.new.self.items c.in-Some.found into.collected
+    stopped c.args.world.now c.loop-found.world c.visit.new.world c.loop-found.pending.items c.pop.new.self.items
+    c.in-Some.found into.collected
     c.look_at_files.ensures into.pulling c.in-Some.ensures.items (c.in_err-visit.ensures.left whole)
 
 pub returns-clause-tree : goal.returns-clause-tree
 returns-clause-tree g c =
     let into = c.loop-found.invariant in
-    let none = none_left c.loop-found.pending.items c.pop.new.self.items c.loop-found.pending.len c.in_default.ensures.items c.in_default.ensures.rest
+    let none = none_left c.loop-found.pending.items c.pop.new.self.items c.loop-found.pending.len
+    c.in_default.ensures.items c.in_default.ensures.rest
     c.in_default.ensures.cases.0 in
     subst (λ (es : List Entry). g.T.PulledTree.Holds c.loop-found.tree es)
     (pulled c.args.world.now c.loop-found.world c.loop-found.pending.items into.collected into.pulling none).1 into.holds
@@ -67,7 +74,8 @@ returns-clause-tree g c =
 pub returns-clause-syncs : goal.returns-clause-syncs
 returns-clause-syncs g c =
     let into = c.loop-found.invariant in
-    let none = none_left c.loop-found.pending.items c.pop.new.self.items c.loop-found.pending.len c.in_default.ensures.items c.in_default.ensures.rest
+    let none = none_left c.loop-found.pending.items c.pop.new.self.items c.loop-found.pending.len
+    c.in_default.ensures.items c.in_default.ensures.rest
     c.in_default.ensures.cases.0 in
     (pulled c.args.world.now c.loop-found.world c.loop-found.pending.items into.collected into.pulling none).0.syncs
 

@@ -23,9 +23,11 @@ read_answer-requires-clause-whole g c =
     let entry = entry_of c.args.path.now found.file in
     let copied = found_copied tree c.args.path.now found.file c.requires.tree found.is in
     let timed = found_timed tree c.args.path.now found.file c.requires.map found.is in
-    let heard = heard_is c.args.world.now c.args.world.now entry copied timed c.in_ok-ask.ask c.in_ok-ask.ask c.in_ok-answer.answer c.as_slice.result.now
+    let heard = heard_is c.args.world.now c.args.world.now entry copied timed c.in_ok-ask.ask c.in_ok-ask.ask
+    c.in_ok-answer.answer c.as_slice.result.now
     (c.in_ok-ask.ensures found.file found.is) refl c.in_ok-answer.ensures.answer c.as_slice.ensures in
-    subst (λ (bytes : List ℕ). HasAnswered (push_value bytes)) (sym heard) (is_answered c.args.world.now c.args.world.now entry copied timed)
+    subst (λ (bytes : List ℕ). HasAnswered (push_value bytes)) (sym heard)
+    (is_answered c.args.world.now c.args.world.now entry copied timed)
 
 pub returns-in_err-answer : goal.returns-in_err-answer
 returns-in_err-answer g c file is =
@@ -35,7 +37,8 @@ returns-in_err-answer g c file is =
     let timed = found_timed tree c.args.path.now file c.requires.map is in
     let passed = err_from_is_err_and c.from_residual-in_err-answer.result c.from_residual-in_err-answer.ensures.1 in
     let stopped = c.in_err-answer.ensures in
-    let part = subst (λ (text : List ℕ). IsServedInPart c.args.world.now.files c.sync_text.new.self.files text) (c.in_ok-ask.ensures file is)
+    let part = subst (λ (text : List ℕ). IsServedInPart c.args.world.now.files c.sync_text.new.self.files text)
+    (c.in_ok-ask.ensures file is)
     stopped.in_part in
     rw (passed.1, passed.2)
     (pushes_spent (entry ∷ []) c.args.world.now c.sync_text.new.self stopped.spent (λ spent. (stopped.stays spent).1)

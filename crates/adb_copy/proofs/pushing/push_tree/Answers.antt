@@ -13,4 +13,5 @@ returns-clause-empty g c =
     c.push_files.result c.push_files.ensures
 
 pub returns-clause-told : goal.returns-clause-told
-returns-clause-told g c = is_told (g.T.PushedTree.files c.args.tree.now) c.args.world.now c.push_files.new.world c.push_files.result c.push_files.ensures
+returns-clause-told g c = is_told (g.T.PushedTree.files c.args.tree.now) c.args.world.now c.push_files.new.world
+    c.push_files.result c.push_files.ensures

@@ -8,7 +8,8 @@ pull_into-requires-clause-files c = left_copied c.push.new.world.files c.args.tr
 
 pub pull_into-requires-clause-room : goal.pull_into-requires-clause-room
 pull_into-requires-clause-room c =
-    pull_room c.push.new.world.given c.push.new.world.files c.args.tree c.in_ok-push.ensures.given c.in_ok-push.ensures.files c.requires.tree
+    pull_room c.push.new.world.given c.push.new.world.files c.args.tree c.in_ok-push.ensures.given
+    c.in_ok-push.ensures.files c.requires.tree
     (c.directories_are_few.ensures c.args.tree c.are_a_map.ensures (are_copied c.args.tree c.requires.tree))
 
 pub returns-clause-lines : goal.returns-clause-lines

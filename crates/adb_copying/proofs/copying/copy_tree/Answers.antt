@@ -7,8 +7,10 @@ returns-in_err-tree-clause-in_part c tree is = none_pushed tree c.args.world.now
 
 pub returns-in-Ok-clause-in_part : goal.returns-in-Ok-clause-in_part
 returns-in-Ok-clause-in_part c tree is =
-    pushed_of (tree_of c.args.script.now) c.in_ok-tree.tree tree c.copy_files.new.world.files c.in_ok-tree.ensures.tree is c.copy_files.ensures.in_part
+    pushed_of (tree_of c.args.script.now) c.in_ok-tree.tree tree c.copy_files.new.world.files
+    c.in_ok-tree.ensures.tree is c.copy_files.ensures.in_part
 
 pub returns-in-Err-clause-in_part : goal.returns-in-Err-clause-in_part
 returns-in-Err-clause-in_part c tree is =
-    pushed_of (tree_of c.args.script.now) c.in_ok-tree.tree tree c.copy_files.new.world.files c.in_ok-tree.ensures.tree is c.copy_files.ensures.in_part
+    pushed_of (tree_of c.args.script.now) c.in_ok-tree.tree tree c.copy_files.new.world.files
+    c.in_ok-tree.ensures.tree is c.copy_files.ensures.in_part

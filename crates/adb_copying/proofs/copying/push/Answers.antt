@@ -9,7 +9,8 @@ push_tree-requires-clause-room c = push_room c.args.world.now.given c.args.tree 
 
 pub memory_of-requires : goal.memory_of-requires
 memory_of-requires c =
-    only_memory c.in-Err.error c.push_tree.result c.push_tree.new.world.files c.args.tree (c.push_tree.ensures.empty c.requires.empty) c.in-Err.is
+    only_memory c.in-Err.error c.push_tree.result c.push_tree.new.world.files c.args.tree
+    (c.push_tree.ensures.empty c.requires.empty) c.in-Err.is
 
 pub returns-in-Ok-clause-files : goal.returns-in-Ok-clause-files
 returns-in-Ok-clause-files c =

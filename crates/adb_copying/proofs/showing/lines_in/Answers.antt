@@ -25,4 +25,5 @@ loop-path-preserved c =
 
 pub returns : goal.returns
 returns c =
-    shows_all c.args.files.now c.loop-path.after.now (texts_of c.loop-path.lines.items) c.loop-path.invariant (sym c.in_default.ensures.path)
+    shows_all c.args.files.now c.loop-path.after.now (texts_of c.loop-path.lines.items) c.loop-path.invariant
+    (sym c.in_default.ensures.path)

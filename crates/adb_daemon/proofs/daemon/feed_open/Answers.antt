@@ -11,7 +11,8 @@ returns-then-machine-clause-whole c = λ some. λ setting fed taken done.
 
 pub returns-in_err-fault-clause-front : goal.returns-in_err-fault-clause-front
 returns-in_err-fault-clause-front c = λ memory. λ setting fed taken done.
-    read_none setting fed taken c.args.piece.now c.args.deframer.now c.args.machine.now done c.read_piece.ensures.bytes c.read_piece.new.deframer
+    read_none setting fed taken c.args.piece.now c.args.deframer.now c.args.machine.now done
+    c.read_piece.ensures.bytes c.read_piece.new.deframer
 
 pub returns-in_err-treat_all-clause-front : goal.returns-in_err-treat_all-clause-front
 returns-in_err-treat_all-clause-front c = λ memory. λ setting fed taken done.
@@ -30,5 +31,6 @@ returns-in_err-treat_all-clause-cut c = λ memory. λ setting fed taken done.
 pub returns-clause-whole : goal.returns-clause-whole
 returns-clause-whole c = λ some. λ setting fed taken done.
     treat_whole setting fed taken c.args.piece.now c.args.deframer.now c.args.machine.now done c.read_piece.ensures.bytes c.if-machine.false
-    c.read_piece.new.deframer c.in_ok-fault.ensures.taken c.treat_all.new.deframer c.treat_all.new.machine c.in_ok-treat_all.ensures.ok c.verdict.result
+    c.read_piece.new.deframer c.in_ok-fault.ensures.taken c.treat_all.new.deframer c.treat_all.new.machine
+    c.in_ok-treat_all.ensures.ok c.verdict.result
     (λ fault same. c.verdict.ensures.answer fault (c.in_ok-fault.ensures.fault ∙ same))

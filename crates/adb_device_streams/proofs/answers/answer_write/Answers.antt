@@ -15,10 +15,12 @@ returns-clause-settles c = λ row stands.
     let due = c.in_ok-push_ack.ensures.ok
     ∙ (ap (λ (host : ℕ). c.args.due.now.bytes ++ ack_bytes sums own host c.args.stream.now.flow n) stands.host
     ∙ ap (λ (flow : Flow). c.args.due.now.bytes ++ ack_bytes sums own row.host flow n) stands.flow) in
-    subst (λ (before : List ℕ). Settles sums own c.args.outgoing.most took c.settle.new.stream before c.settle.new.due.bytes c.in_ok-done.done) due
+    subst (λ (before : List ℕ). Settles sums own c.args.outgoing.most took c.settle.new.stream before
+    c.settle.new.due.bytes c.in_ok-done.done) due
     (c.in_ok-done.ensures.settles took (c.in_ok-take_write.ensures.ok row stands).stands)
 
 pub returns-in_err-done-clause-front : goal.returns-in_err-done-clause-front
 returns-in_err-done-clause-front c =
     at_err _ c.from_residual-in_err-done.result (λ row stands.
-    whole_front row.kind row.past (came_over c.args.payload.now c.args.files.now) c.take_write.new.files (c.in_ok-take_write.ensures.ok row stands).files)
+    whole_front row.kind row.past (came_over c.args.payload.now c.args.files.now) c.take_write.new.files
+    (c.in_ok-take_write.ensures.ok row stands).files)

@@ -9,7 +9,8 @@ loop-payload-preserved c = record {
   writes = λ row stands.
       let all = c.loop-payload.invariant.writes row stands in
       writing_step c.args.outgoing row c.in-Some.payload all
-      (subst (MakesWrite c.args.outgoing.most all.row c.next_write.new.self) c.in-Some.is (c.in_ok-payload.ensures.write all.row all.stands))
+      (subst (MakesWrite c.args.outgoing.most all.row c.next_write.new.self) c.in-Some.is
+      (c.in_ok-payload.ensures.write all.row all.stands))
       c.in_ok-push_write.ensures.ok;
   grows = grows_on _ _ _ c.loop-payload.invariant.grows c.push_write.ensures.grows;
 }
@@ -18,4 +19,5 @@ pub returns-clause-writes : goal.returns-clause-writes
 returns-clause-writes c = λ row stands.
     let all = c.loop-payload.invariant.writes row stands in
     writing_done c.args.outgoing row c.next_write.new.self all
-    (subst (MakesWrite c.args.outgoing.most all.row c.next_write.new.self) c.in_default.is (c.in_ok-payload.ensures.write all.row all.stands))
+    (subst (MakesWrite c.args.outgoing.most all.row c.next_write.new.self) c.in_default.is
+    (c.in_ok-payload.ensures.write all.row all.stands))

@@ -26,7 +26,8 @@ returns-in-Bound-clause-reports c = λ h lawful.
     let ends = c.args.ends.now in
     let e = Bound c.in-Bound.client c.in-Bound.port in
     subst (λ (l : Lent). OnOk c.lived-in-Bound.result (ReportsApplied (entry_lent l) h ends ends)) (sym c.in-Bound.is)
-    (on_ok c.lived-in-Bound.result (ReportsApplied e h ends ends) (none_applied e h ends (c.others_end_no_stream.ensures e h lawful.legal refl)))
+    (on_ok c.lived-in-Bound.result (ReportsApplied e h ends ends)
+    (none_applied e h ends (c.others_end_no_stream.ensures e h lawful.legal refl)))
 
 pub returns-in-Attach-clause-reports : goal.returns-in-Attach-clause-reports
 returns-in-Attach-clause-reports c = λ h lawful.
@@ -42,15 +43,19 @@ returns-in-Read-clause-reports c = λ h lawful.
 
 pub returns-in-End-clause-reports : goal.returns-in-End-clause-reports
 returns-in-End-clause-reports c = λ h lawful.
-    subst (λ (l : Lent). OnOk c.lived-in-End.result (ReportsApplied (entry_lent l) h c.args.ends.now c.end_reporting.new.ends)) (sym c.in-End.is)
+    subst (λ (l : Lent). OnOk c.lived-in-End.result
+    (ReportsApplied (entry_lent l) h c.args.ends.now c.end_reporting.new.ends)) (sym c.in-End.is)
     (on_applied c.end_reporting.result c.lived-in-End.result _ c.lived-in-End.ensures (c.end_reporting.ensures.reports h lawful))
 
 pub returns-in-Recv-clause-reports : goal.returns-in-Recv-clause-reports
 returns-in-Recv-clause-reports c = λ h lawful.
-    subst (λ (l : Lent). OnOk c.lived-in-Recv.result (ReportsApplied (entry_lent l) h c.args.ends.now c.recv_reporting.new.ends)) (sym c.in-Recv.is)
+    subst (λ (l : Lent). OnOk c.lived-in-Recv.result
+    (ReportsApplied (entry_lent l) h c.args.ends.now c.recv_reporting.new.ends)) (sym c.in-Recv.is)
     (on_applied c.recv_reporting.result c.lived-in-Recv.result _ c.lived-in-Recv.ensures (c.recv_reporting.ensures.reports h lawful))
 
 pub returns-in-Detach-clause-reports : goal.returns-in-Detach-clause-reports
 returns-in-Detach-clause-reports c = λ h lawful.
-    subst (λ (l : Lent). OnOk c.lived-in-Detach.result (ReportsApplied (entry_lent l) h c.args.ends.now c.detach_reporting.new.ends)) (sym c.in-Detach.is)
-    (on_applied c.detach_reporting.result c.lived-in-Detach.result _ c.lived-in-Detach.ensures (c.detach_reporting.ensures.reports h lawful))
+    subst (λ (l : Lent). OnOk c.lived-in-Detach.result
+    (ReportsApplied (entry_lent l) h c.args.ends.now c.detach_reporting.new.ends)) (sym c.in-Detach.is)
+    (on_applied c.detach_reporting.result c.lived-in-Detach.result _ c.lived-in-Detach.ensures
+    (c.detach_reporting.ensures.reports h lawful))

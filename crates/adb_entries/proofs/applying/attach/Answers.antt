@@ -17,5 +17,6 @@ returns-clause-applied c h lawful =
     let made = attach_applies h c.args.kind c.args.serial.now c.attach.new.self going c.attach.result (c.attach.ensures.attached h lawful)
     (err_lawful h c.args.hub.now c.attach.new.self c.attach.result c.attach.ensures.err lawful) in
     subst (λ (n : ℕ). Applies h (Attach n c.args.kind c.args.serial.now) c.came.result c.attach.new.self) (sym is)
-    (subst (λ (r : Result (Unit {0}) Refused). Applies h (Attach ((state h).devices.drawn + 1) c.args.kind c.args.serial.now) r c.attach.new.self)
+    (subst (λ (r : Result (Unit {0}) Refused). Applies h
+    (Attach ((state h).devices.drawn + 1) c.args.kind c.args.serial.now) r c.attach.new.self)
     (sym c.came.ensures) made)

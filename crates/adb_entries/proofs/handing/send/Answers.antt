@@ -12,4 +12,5 @@ returns-in-Ok-clause-sent c h lawful =
     let row = (state h).links c.args.link in
     let given = (c.in-Ok.ensures.sent h lawful).1 in
     let made = sends h c.args.hub.now c.send.new.self lawful c.args.link row c.in-Ok.handed given in
-    subst (λ (out : Option Entry). (out ≡ send_on c.args.link row) × IsLawful c.send.new.self (after_out out h)) (sym c.send_of.ensures) made
+    subst (λ (out : Option Entry). (out ≡ send_on c.args.link row) × IsLawful c.send.new.self (after_out out h))
+    (sym c.send_of.ensures) made

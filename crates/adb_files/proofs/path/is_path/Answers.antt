@@ -16,5 +16,6 @@ returns-then-starts_with c =
     all_from_yields_List is_name _ _ c.all.result c.all.ensures.ran
     (YieldsList-from_slice_split _ (λ byte. byte == 47) (drop 1 path) (c.split.ensures.rest ∙ take_rest path 1) (cc) (cc)
     (λ x b q k. search (rules, tests))) (λ x b q k. search (rules, tests))
-    ∙ past_tests (bytes_eq path (codes "/")) (starts_with nat_eq path (codes "/")) (list_all is_name (parts_of path)) (sym c.eq.ensures ∙ c.if-eq.false)
+    ∙ past_tests (bytes_eq path (codes "/")) (starts_with nat_eq path (codes "/")) (list_all is_name (parts_of path))
+    (sym c.eq.ensures ∙ c.if-eq.false)
     (sym c.starts_with.ensures.value ∙ c.if-starts_with.true)

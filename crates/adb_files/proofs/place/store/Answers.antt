@@ -15,7 +15,8 @@ fits : (c : goal.In_ok-insert-in-Err) → FitsAt c.args.path.now c.args.slots.no
 fits c = subst (λ (xs : List Entry). FitsAt c.args.path.now xs c.in-Err.i) c.as_slice.ensures.value c.in-Err.ensures
 
 -- the slot of the path, with the new file
-written : (c : goal.After-slots-1) → set c.args.slots.now.items c.in-Ok.i c.replace.new.self ≡ with_file c.args.path.now c.args.file c.args.slots.now.items
+written : (c : goal.After-slots-1) → set c.args.slots.now.items c.in-Ok.i c.replace.new.self
+    ≡ with_file c.args.path.now c.args.file c.args.slots.now.items
 written c =
     let entry : Entry = c.index_mut.result.now in
     let new : c.replace.new.self ≡ entry_of entry.path c.args.file = c.replace.ensures ∙ ap (entry_of entry.path) c.in_ok-file.ensures.ok in

@@ -24,4 +24,5 @@ returns-in_err-take-clause-err c =
 pub returns-clause-ok : goal.returns-clause-ok
 returns-clause-ok c = λ send keeps.
     given_ended send (run c.args.reader.now c.args.session.now c.args.files.now)
-    (run c.loop-session.reader c.loop-session.session c.loop-session.files) c.loop-session-test.false (c.loop-session.invariant.served send keeps)
+    (run c.loop-session.reader c.loop-session.session c.loop-session.files) c.loop-session-test.false
+    (c.loop-session.invariant.served send keeps)

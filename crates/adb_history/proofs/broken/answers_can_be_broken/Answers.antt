@@ -1,5 +1,7 @@
-use Rattle.adb_history.proofs.RefutedAnswers.{replies_refuted, bound_reply_refuted, stream_reply_refuted, stream_whole_refuted, stream_at_end_refuted}
-use Rattle.adb_history.proofs.RefutedAnswers.{tracked_lists_refuted, present_list_refuted, nothing_more_refuted, stream_alone_refuted, alone_whole_refuted}
+use Rattle.adb_history.proofs.RefutedAnswers.{replies_refuted, bound_reply_refuted, stream_reply_refuted, stream_whole_refuted}
+use Rattle.adb_history.proofs.RefutedAnswers.{stream_at_end_refuted}
+use Rattle.adb_history.proofs.RefutedAnswers.{tracked_lists_refuted, present_list_refuted, nothing_more_refuted, stream_alone_refuted}
+use Rattle.adb_history.proofs.RefutedAnswers.{alone_whole_refuted}
 use Rattle.adb_history.proofs.broken.answers_can_be_broken.Goals as goal
 
 pub returns-clause-replies : goal.returns-clause-replies

@@ -1,4 +1,5 @@
-use Rattle.adb_history.proofs.RefutedCauses.{by_client_refuted, by_peer_refuted, out_of_turn_refuted, lost_refuted, broken_refuted, failed_refuted, stopped_refuted, no_other_refuted}
+use Rattle.adb_history.proofs.RefutedCauses.{by_client_refuted, by_peer_refuted, out_of_turn_refuted, lost_refuted, broken_refuted}
+use Rattle.adb_history.proofs.RefutedCauses.{failed_refuted, stopped_refuted, no_other_refuted}
 use Rattle.adb_history.proofs.broken.causes_can_be_broken.Goals as goal
 
 pub returns-clause-by_client : goal.returns-clause-by_client

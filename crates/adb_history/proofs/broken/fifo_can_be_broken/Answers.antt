@@ -1,4 +1,5 @@
-use Rattle.adb_history.proofs.Refuted.{packets_refuted, birth_refuted, up_refuted, up_whole_refuted, down_refuted, down_whole_refuted, up_window_refuted, down_window_refuted, no_crossing_refuted}
+use Rattle.adb_history.proofs.Refuted.{packets_refuted, birth_refuted, up_refuted, up_whole_refuted, down_refuted, down_whole_refuted}
+use Rattle.adb_history.proofs.Refuted.{up_window_refuted, down_window_refuted, no_crossing_refuted}
 use Rattle.adb_history.proofs.Refuted.{asked_at_once_refuted, close_sent_refuted}
 use Rattle.adb_history.proofs.broken.fifo_can_be_broken.Goals as goal
 

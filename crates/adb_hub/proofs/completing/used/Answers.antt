@@ -10,5 +10,6 @@ returns-then-is_request-clause-used c =
 pub returns-clause-used : goal.returns-clause-used
 returns-clause-used c =
     let t = c.args.tables.now in
-    planned t.devices t.forwards _ _ c.in_ok-plan.plan c.args.bytes.now c.args.selected c.in_ok-client.ensures.held c.in_ok-client.ensures.selected
+    planned t.devices t.forwards _ _ c.in_ok-plan.plan c.args.bytes.now c.args.selected c.in_ok-client.ensures.held
+    c.in_ok-client.ensures.selected
     c.in_ok-plan.ensures.asked

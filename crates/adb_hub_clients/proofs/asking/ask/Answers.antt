@@ -48,4 +48,6 @@ returns-in-Some-clause-told c =
     let piece = c.args.piece.now in
     let plan = c.in-Some.plan in
     let planned_here = plans t (at c.args.client t.clients.entries) piece _ plan c.in-Some.is c.in_ok-plan.ensures in
-    on_ok_weaker c.make.result (λ told row here. records_as (whole_tells plan c.args.client piece t planned_here row here) told) c.make.ensures.told
+    on_ok_weaker c.make.result
+    (λ told row here. records_as (whole_tells plan c.args.client piece t planned_here row here) told)
+    c.make.ensures.told

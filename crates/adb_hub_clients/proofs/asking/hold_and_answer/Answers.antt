@@ -13,7 +13,8 @@ use Rattle.adb_hub_clients.proofs.asking.hold_and_answer.Goals as goal
 
 pub take_back-requires-clause-holds : goal.take_back-requires-clause-holds
 take_back-requires-clause-holds c =
-    holds_same (length c.args.piece.now) c.args.client c.take_in.new.tables c.answer.new.tables c.in-Err.ensures.kept.state c.in_ok-take_in.ensures.holds
+    holds_same (length c.args.piece.now) c.args.client c.take_in.new.tables c.answer.new.tables
+    c.in-Err.ensures.kept.state c.in_ok-take_in.ensures.holds
 
 pub returns-in-Ok-clause-made : goal.returns-in-Ok-clause-made
 returns-in-Ok-clause-made c = λ row here.
@@ -46,4 +47,5 @@ returns-in-Ok-clause-told c = λ row here.
 
 pub returns-in-Err-clause-kept : goal.returns-in-Err-clause-kept
 returns-in-Err-clause-kept c =
-    c.take_back.ensures c.args.piece.now (state_of c.args.tables.now) refl (c.in-Err.ensures.kept.state ∙ c.in_ok-take_in.ensures.made.state)
+    c.take_back.ensures c.args.piece.now (state_of c.args.tables.now) refl
+    (c.in-Err.ensures.kept.state ∙ c.in_ok-take_in.ensures.made.state)

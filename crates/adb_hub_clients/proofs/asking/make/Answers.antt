@@ -22,9 +22,12 @@ follow-requires-clause-follows c =
 pub returns-then-is_stop-clause-made : goal.returns-then-is_stop-clause-made
 returns-then-is_stop-clause-made c =
     let state = c.end.ensures.state
-    ∙ ap (λ (s : State). (goes_on (Some Stop) c.args.client (hears c.args.heard.now c.args.client s)).state) c.in_ok-reserve_replies.ensures.made.state in
+    ∙ ap (λ (s : State). (goes_on (Some Stop) c.args.client (hears c.args.heard.now c.args.client s)).state)
+    c.in_ok-reserve_replies.ensures.made.state in
     record {
-      state = state ∙ ap (λ (next : Option Next). (goes_on next c.args.client (hears c.args.heard.now c.args.client (state_of c.args.tables.now))).state)
+      state = state
+          ∙ ap (λ (next : Option Next).
+          (goes_on next c.args.client (hears c.args.heard.now c.args.client (state_of c.args.tables.now))).state)
           (sym (stop_is c.args.next (sym c.is_stop.ensures ∙ c.if-is_stop.true)));
       fit = c.end.ensures.fit;
     }
@@ -44,7 +47,8 @@ pub returns-clause-made : goal.returns-clause-made
 returns-clause-made c =
     on_ok_weaker c.follow.result (λ leaves. record {
       state = leaves.state
-          ∙ ap (λ (s : State). (goes_on c.args.next c.args.client (hears c.args.heard.now c.args.client s)).state) c.in_ok-reserve_replies.ensures.made.state;
+          ∙ ap (λ (s : State). (goes_on c.args.next c.args.client (hears c.args.heard.now c.args.client s)).state)
+          c.in_ok-reserve_replies.ensures.made.state;
       fit = leaves.fit;
     }) c.follow.ensures.made
 
@@ -53,4 +57,5 @@ returns-clause-told c =
     let old = c.args.tables.now in
     on_ok c.follow.result _
     (records_none c.args.ends.now old
-    (goes_on_none c.args.next c.args.client (hears c.args.heard.now c.args.client (state_of old)) (sym c.is_stop.ensures ∙ c.if-is_stop.false)))
+    (goes_on_none c.args.next c.args.client (hears c.args.heard.now c.args.client (state_of old))
+    (sym c.is_stop.ensures ∙ c.if-is_stop.false)))

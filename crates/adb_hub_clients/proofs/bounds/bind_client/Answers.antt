@@ -46,9 +46,11 @@ returns-clause-made c =
     let kept = widened old mid c.requires.fit
     (record { clients = c.reserve_slices.ensures.widens; links = λ k. same_port (at k old.links.entries); others = refl }) in
     let there : waits ((state_of old).clients client) ≡ true = search rules in
-    let uses : (t : ℕ) → Uses t 0 client 1 c.bind.new.tables new = λ t. uses_then (c.owe_client.ensures.uses t) (c.close_client.ensures.uses t client) in
+    let uses : (t : ℕ) → Uses t 0 client 1 c.bind.new.tables new =
+    λ t. uses_then (c.owe_client.ensures.uses t) (c.close_client.ensures.uses t client) in
     kept_then (Bound client c.args.port) old mid new kept
-    (heard mid c.bind.new.tables new kept.fit (still_reached old mid kept c.requires.reached) client c.args.port c.in_ok-reply.reply (record {
+    (heard mid c.bind.new.tables new kept.fit (still_reached old mid kept c.requires.reached) client c.args.port
+    c.in_ok-reply.reply (record {
       there = subst (λ (s : State). waits (s.clients client) ≡ true) (sym kept.state) there;
       bound = c.in_ok-reply.ensures.bound;
       others = c.bind.ensures.others;

@@ -19,5 +19,6 @@ returns-in_default c = record {
   told =
       let s = state_of c.args.tables.now in
       let closed = no_open (s.clients c.args.client) (λ l is. c.in_default.not-Streaming l (c.phase_of.ensures ∙ is)) in
-      records_as (rule_tells (End c.args.client Eof) s ((sends_nothing s c.requires.reached).ended c.args.client Eof closed)) c.end_client.ensures.records;
+      records_as (rule_tells (End c.args.client Eof) s
+      ((sends_nothing s c.requires.reached).ended c.args.client Eof closed)) c.end_client.ensures.records;
 }

@@ -8,7 +8,8 @@ pub returns-in-Ok-clause-made : goal.returns-in-Ok-clause-made
 returns-in-Ok-clause-made c = λ service is.
     let opened = c.in-Ok.ensures.made service is in
     record {
-      state = opened.state ∙ ap (λ (s : State). (opens true c.args.client c.args.way.link service s).state) c.in_ok-add_client.ensures.made.state;
+      state = opened.state ∙ ap (λ (s : State). (opens true c.args.client c.args.way.link service s).state)
+          c.in_ok-add_client.ensures.made.state;
       fit = opened.fit;
     }
 

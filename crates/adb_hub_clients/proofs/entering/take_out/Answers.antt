@@ -11,6 +11,7 @@ returns c = λ s fresh next came.
     let client = c.args.client in
     let gone = c.drop_client.new.self in
     record {
-      state = ap (λ (then : State). record then { joined = client - 1 }) c.drop_client.ensures.state ∙ comes_back client s (state_of old) fresh next came;
+      state = ap (λ (then : State). record then { joined = client - 1 }) c.drop_client.ensures.state
+          ∙ comes_back client s (state_of old) fresh next came;
       fit = joined_fit gone (client - 1) (spares_fit old gone c.drop_client.ensures.uses c.drop_client.ensures.links c.requires.fit);
     }

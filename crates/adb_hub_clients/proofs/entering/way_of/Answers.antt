@@ -11,7 +11,8 @@ returns c =
     let row = c.in-Some.row.now in
     let here : at c.args.port tables.forwards ≡ Some row = sym c.find.ensures.row ∙ cc in
     let payload = c.in_ok-open_payload.field-0 in
-    let spelled : payload ≡ row.remote ++ 0 ∷ [] = c.in_ok-open_payload.ensures ∙ ap (λ (bytes : List ℕ). bytes ++ 0 ∷ []) c.as_slice.ensures in
+    let spelled : payload ≡ row.remote ++ 0 ∷ [] = c.in_ok-open_payload.ensures
+    ∙ ap (λ (bytes : List ℕ). bytes ++ 0 ∷ []) c.as_slice.ensures in
     subst (λ (found : Option ForwardRow). Leads (Some (record { link = row.transport; payload = payload })) found tables.devices) (sym here)
     (record {
       connected = cc;

@@ -10,4 +10,5 @@ returns-clause-made c =
 pub returns-clause-held : goal.returns-clause-held
 returns-clause-held c = λ n.
     let client = c.args.client in
-    still_holds n (at client c.args.tables.now.clients.entries) (at client c.reserve_in.new.clients.entries) (c.reserve_in.ensures.widens client)
+    still_holds n (at client c.args.tables.now.clients.entries) (at client c.reserve_in.new.clients.entries)
+    (c.reserve_in.ensures.widens client)

@@ -11,6 +11,7 @@ returns-clause-made c = λ service is.
     let drawn = c.in_ok-id.ensures in
     record {
       state = asked.state
-          ∙ (ap (asked_for c.in_ok-id.id asker service) drawn.made.state ∙ opened c.in_ok-id.id asker service (state_of c.args.tables.now) drawn.next);
+          ∙ (ap (asked_for c.in_ok-id.id asker service) drawn.made.state
+          ∙ opened c.in_ok-id.id asker service (state_of c.args.tables.now) drawn.next);
       fit = asked.fit;
     }

@@ -15,7 +15,9 @@ returns-clause-made c = λ service is.
     let id = c.in_ok-id.id in
     record {
       state = asked.state
-          ∙ (ap (asked_for id asker service) (c.hear.ensures.made.state ∙ (ap (hears heard asker.client) drawn.made.state ∙ drawn_behind id asker heard s))
+          ∙ (ap (asked_for id asker service)
+          (c.hear.ensures.made.state
+          ∙ (ap (hears heard asker.client) drawn.made.state ∙ drawn_behind id asker heard s))
           ∙ opened id asker service (hears heard asker.client s) (next_heard id asker.client heard s drawn.next));
       fit = asked.fit;
     }

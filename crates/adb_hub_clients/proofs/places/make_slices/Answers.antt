@@ -16,4 +16,5 @@ returns-clause-room c =
 pub returns-clause-ready : goal.returns-clause-ready
 returns-clause-ready c = λ heard.
     let client = c.args.client in
-    still_hears heard (at client c.args.tables.now.clients.entries) (at client c.reserve_slices.new.clients.entries) (c.reserve_slices.ensures.widens client)
+    still_hears heard (at client c.args.tables.now.clients.entries) (at client c.reserve_slices.new.clients.entries)
+    (c.reserve_slices.ensures.widens client)

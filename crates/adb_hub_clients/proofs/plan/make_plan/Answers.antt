@@ -31,4 +31,5 @@ returns-clause-asked c =
     let client = c.args.client.now in
     let over : length client.held ≤ c.loop-reading.reading.used = omega (arith, c.loop-reading-test.false, c.held-held.ensures) in
     rw c.planned-2.ensures
-    (nothing_left c.args.devices.now c.args.forwards.now client.held client.about.selected c.loop-reading.reading c.loop-reading.invariant over)
+    (nothing_left c.args.devices.now c.args.forwards.now client.held client.about.selected c.loop-reading.reading
+    c.loop-reading.invariant over)

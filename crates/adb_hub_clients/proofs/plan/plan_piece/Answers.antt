@@ -21,9 +21,11 @@ returns-in-Again c =
     let piece = c.args.piece.now in
     let selected = c.args.client.now.about.selected in
     let new = c.answer.new.self in
-    let first : c.new-reading.result ≡ first_reading selected = c.new-reading.ensures ∙ ap (λ (about : About). first_reading about.selected) c.about.ensures in
+    let first : c.new-reading.result ≡ first_reading selected =
+    c.new-reading.ensures ∙ ap (λ (about : About). first_reading about.selected) c.about.ensures in
     let is_behind = behind piece _ c.in-Some.request c.in-Some.is c.in_ok-request.ensures in
-    let reads = reads_whole devices forwards c.new-reading.result new selected _ c.in-Some.request piece first is_behind c.in_ok-answer.ensures.reads in
+    let reads = reads_whole devices forwards c.new-reading.result new selected _ c.in-Some.request piece first
+    is_behind c.in_ok-answer.ensures.reads in
     let used : new.used ≡ length piece = omega (arith, c.in_ok-answer.ensures.used, ap (λ (r : _). r.used) first) in
     rw c.planned.ensures (record {
       asked = whole_again devices forwards piece selected new
@@ -38,9 +40,11 @@ returns-in-End c =
     let piece = c.args.piece.now in
     let selected = c.args.client.now.about.selected in
     let new = c.answer.new.self in
-    let first : c.new-reading.result ≡ first_reading selected = c.new-reading.ensures ∙ ap (λ (about : About). first_reading about.selected) c.about.ensures in
+    let first : c.new-reading.result ≡ first_reading selected =
+    c.new-reading.ensures ∙ ap (λ (about : About). first_reading about.selected) c.about.ensures in
     let is_behind = behind piece _ c.in-Some.request c.in-Some.is c.in_ok-request.ensures in
-    let reads = reads_whole devices forwards c.new-reading.result new selected _ c.in-Some.request piece first is_behind c.in_ok-answer.ensures.reads in
+    let reads = reads_whole devices forwards c.new-reading.result new selected _ c.in-Some.request piece first
+    is_behind c.in_ok-answer.ensures.reads in
     let used : new.used ≡ length piece = omega (arith, c.in_ok-answer.ensures.used, ap (λ (r : _). r.used) first) in
     rw c.planned-in-End.ensures (record {
       asked = whole_end devices forwards piece selected new c.in-End.next (some_asked piece c.in-Some.request (length piece) is_behind.is)

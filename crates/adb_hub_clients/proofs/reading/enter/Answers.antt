@@ -12,7 +12,8 @@ pub returns-clause-made : goal.returns-clause-made
 returns-clause-made c =
     let old = c.args.tables.now in
     on_ok_weaker c.come.result
-    (makes (Enter c.args.client c.args.port) old c.come.new.tables _ (sym ((sends_nothing (state_of old) c.requires.reached).enter c.args.client c.args.port)))
+    (makes (Enter c.args.client c.args.port) old c.come.new.tables _
+    (sym ((sends_nothing (state_of old) c.requires.reached).enter c.args.client c.args.port)))
     c.come.ensures.made
 
 pub returns-clause-kept : goal.returns-clause-kept

@@ -4,7 +4,8 @@ use Rattle.adb_capture.specs.declared.entry.Entry.TheVariants.{Read}
 use Rattle.adb_hub_tables.specs.Tables.{state_of}
 use Rattle.adb_hub_tables.proofs.Reporting.{records_as}
 use Rattle.adb_hub_rules.proofs.Telling.{records_none}
-use Rattle.adb_hub_clients.proofs.Stepping.{all_sized, no_forward_at_zero, makes, asking_row, asking_step, opening_step, streaming_step, deaf_step, deaf_of, asking_tells, opening_tells, streaming_tells, deaf_tells, on_ok}
+use Rattle.adb_hub_clients.proofs.Stepping.{all_sized, no_forward_at_zero, makes, asking_row, asking_step, opening_step, streaming_step}
+use Rattle.adb_hub_clients.proofs.Stepping.{deaf_step, deaf_of, asking_tells, opening_tells, streaming_tells, deaf_tells, on_ok}
 use Rattle.adb_hub_clients.proofs.reading.read.Goals as goal
 
 pub ask-requires-clause-sized : goal.ask-requires-clause-sized
@@ -44,7 +45,8 @@ returns-in-Streaming-clause-made c =
     let bytes = c.args.piece.now in
     let phase = sym c.phase_of.ensures ∙ c.in-Streaming.is in
     on_ok_weaker c.send.result
-    (makes (Read c.args.client bytes) old c.send.new.tables _ (streaming_step (state_of old) c.args.client bytes c.requires.reached c.in-Streaming.id phase))
+    (makes (Read c.args.client bytes) old c.send.new.tables _
+    (streaming_step (state_of old) c.args.client bytes c.requires.reached c.in-Streaming.id phase))
     c.send.ensures.made
 
 pub returns-in-Asking-clause-told : goal.returns-in-Asking-clause-told
@@ -61,7 +63,8 @@ returns-in-Opening-clause-told c =
     let old = c.args.tables.now in
     let phase = sym c.phase_of.ensures ∙ c.in-Opening.is in
     on_ok c.take_in.result _
-    (records_none c.args.ends.now old (opening_tells (state_of old) c.args.client c.args.piece.now c.requires.reached c.in-Opening.field-0 phase))
+    (records_none c.args.ends.now old
+    (opening_tells (state_of old) c.args.client c.args.piece.now c.requires.reached c.in-Opening.field-0 phase))
 
 pub returns-in-Streaming-clause-told : goal.returns-in-Streaming-clause-told
 returns-in-Streaming-clause-told c =
@@ -78,9 +81,11 @@ returns-in-Binding c =
     let phase = c.phase_of.result in
     let is = sym c.phase_of.ensures in
     record {
-      made = makes (Read c.args.client bytes) old old s (deaf_step s c.args.client bytes c.requires.reached phase is (deaf_of phase c.in-Binding.is))
+      made = makes (Read c.args.client bytes) old old s
+          (deaf_step s c.args.client bytes c.requires.reached phase is (deaf_of phase c.in-Binding.is))
           (record { state = refl; fit = c.requires.fit });
-      told = records_none c.args.ends.now old (deaf_tells s c.args.client bytes c.requires.reached phase is (deaf_of phase c.in-Binding.is));
+      told = records_none c.args.ends.now old
+          (deaf_tells s c.args.client bytes c.requires.reached phase is (deaf_of phase c.in-Binding.is));
       kept = tt;
       quiet = tt;
     }

@@ -13,4 +13,5 @@ returns-clause-made c = record {
 
 pub returns-clause-told : goal.returns-clause-told
 returns-clause-told c =
-    records_from {old = c.args.tables.now} (up c.args.id) (state_of c.args.tables.now) c.in_ok-make_up_ready.ensures.made.state refl c.go_up.ensures.told
+    records_from {old = c.args.tables.now} (up c.args.id) (state_of c.args.tables.now)
+    c.in_ok-make_up_ready.ensures.made.state refl c.go_up.ensures.told

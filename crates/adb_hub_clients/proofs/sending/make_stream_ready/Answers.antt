@@ -21,11 +21,13 @@ returns-clause-ready c =
     let writes = c.in_ok-writes.writes in
     let streams = ap (λ (t : Tables). at c.args.id t.streams.streams) c.make_packets.ensures.others
     ∙ (ap (λ (t : Tables). at c.args.id t.streams.streams) c.in_ok-writes.ensures.others ∙ c.requires.here) in
-    let devices = ap (λ (t : Tables). t.devices) c.make_packets.ensures.others ∙ ap (λ (t : Tables). t.devices) c.in_ok-writes.ensures.others in
+    let devices = ap (λ (t : Tables). t.devices) c.make_packets.ensures.others
+    ∙ ap (λ (t : Tables). t.devices) c.in_ok-writes.ensures.others in
     let clients = ap (λ (t : Tables). t.clients) c.make_packets.ensures.others in
     let prepared = subst (λ (m : ℕ). IsPreparedAt writes stream.part.flow m (at stream.client middle.clients.entries))
     (c.maxdata_of-maxdata.ensures ∙ ap (maxdata_of stream.link) (sym devices)) c.in_ok-writes.ensures.ready in
     on_ok_weaker c.make_packets.result
     (ready_up c.args.id writes new stream streams
-    (subst (λ (table : _). IsPreparedAt writes stream.part.flow (maxdata_of stream.link new.devices) (at stream.client table.entries)) (sym clients) prepared))
+    (subst (λ (table : _). IsPreparedAt writes stream.part.flow (maxdata_of stream.link new.devices)
+    (at stream.client table.entries)) (sym clients) prepared))
     c.make_packets.ensures.room

@@ -23,4 +23,5 @@ returns-in-Ok-clause-told c =
 
 pub returns-in-Err-clause-kept : goal.returns-in-Err-clause-kept
 returns-in-Err-clause-kept c =
-    c.take_back.ensures c.args.piece.now (state_of c.args.tables.now) refl (c.in-Err.ensures.kept.state ∙ c.in_ok-take_in.ensures.made.state)
+    c.take_back.ensures c.args.piece.now (state_of c.args.tables.now) refl
+    (c.in-Err.ensures.kept.state ∙ c.in_ok-take_in.ensures.made.state)

@@ -39,7 +39,9 @@ loop-left-preserved c =
     let number : suc id ≡ id + 1 = omega arith in
     let stepped = subst (λ (n : ℕ). Stopping streams before n (one_left (at n streams.streams) c.loop-left.left)
     (recorded_at n (at n streams.streams) c.loop-left.ends)) number next in
-    let counted = subst (λ (n : ℕ). Stopping streams before (id + 1) n (recorded_at (id + 1) (at (id + 1) streams.streams) c.loop-left.ends))
+    let counted =
+    subst (λ (n : ℕ). Stopping streams before (id + 1) n
+    (recorded_at (id + 1) (at (id + 1) streams.streams) c.loop-left.ends))
     (sym c.record_at-left.ensures.left) stepped in
     subst (λ (log : Log). Stopping streams before (id + 1) c.record_at-left.result log) (sym c.record_at-left.ensures.log) counted
 

@@ -19,6 +19,8 @@ forget_others-requires-clause-listed c =
 
 pub returns : goal.returns
 returns c = record {
-  state = c.forget_others.ensures.state ∙ (ap (alone c.args.client) c.close_client.ensures.state ∙ alone_closes c.args.client (state_of c.args.tables.now));
+  state = c.forget_others.ensures.state
+      ∙ (ap (alone c.args.client) c.close_client.ensures.state
+      ∙ alone_closes c.args.client (state_of c.args.tables.now));
   fit = c.forget_others.ensures.fit;
 }

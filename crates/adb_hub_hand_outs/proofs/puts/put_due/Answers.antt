@@ -24,7 +24,8 @@ returns-clause-made c =
     let kept = widened old mid c.requires.fit c.keep_answer.ensures.widens in
     let front : bytes ≡ take c.args.max (due_to ((state_of old).clients c.args.client)) = search rules in
     let filled : bytes ≢ [] = search rules in
-    let some : due_to ((state_of old).clients c.args.client) ≢ [] = λ none. filled (front ∙ (ap (take c.args.max) none ∙ take-nil c.args.max)) in
+    let some : due_to ((state_of old).clients c.args.client) ≢ [] =
+    λ none. filled (front ∙ (ap (take c.args.max) none ∙ take-nil c.args.max)) in
     kept_then (Put c.args.client bytes) old mid c.hand_client.new.tables kept
     (put_of_due mid c.hand_client.new.tables kept.fit (still_reached old mid kept c.requires.reached) c.args.client bytes
     (open_stream (at c.args.client mid.clients.entries) mid) (record {

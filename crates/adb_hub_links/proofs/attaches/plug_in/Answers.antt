@@ -25,8 +25,10 @@ returns-in-Ok-clause-made c =
     let old = c.args.tables.now in
     let id = c.next_id-id.result in
     let mid = record old { links = c.put_port.new.links; devices = c.attach.new.self } in
-    let row = subst (λ (port : Port). Puts id (Some port) old.links.entries mid.links.entries) c.in_ok-port.ensures c.in_ok-put_port.ensures.put in
-    let plugs : Plugs old c.requires.reached c.next_id-id.ensures.rises id c.next_id-id.ensures.id c.requires.fit c.args.kind c.args.serial.now mid = record {
+    let row = subst (λ (port : Port). Puts id (Some port) old.links.entries mid.links.entries) c.in_ok-port.ensures
+    c.in_ok-put_port.ensures.put in
+    let plugs : Plugs old c.requires.reached c.next_id-id.ensures.rises id c.next_id-id.ensures.id c.requires.fit
+    c.args.kind c.args.serial.now mid = record {
       link = row;
       others = ap (λ (devices : DeviceTable). record old { links = mid.links; devices = devices }) c.in-Ok.ensures.devices;
     } in
@@ -42,8 +44,10 @@ returns-in-Err-clause-kept c =
     let old = c.args.tables.now in
     let id = c.next_id-id.result in
     let new = record old { links = c.take_port.new.links; devices = c.attach.new.self } in
-    let row = subst (λ (port : Port). Puts id (Some port) old.links.entries c.put_port.new.links.entries) c.in_ok-port.ensures c.in_ok-put_port.ensures.put in
-    let same = taken_out old c.requires.reached c.next_id-id.ensures.rises id c.next_id-id.ensures.id c.put_port.new.links.entries new.links.entries row
+    let row = subst (λ (port : Port). Puts id (Some port) old.links.entries c.put_port.new.links.entries)
+    c.in_ok-port.ensures c.in_ok-put_port.ensures.put in
+    let same = taken_out old c.requires.reached c.next_id-id.ensures.rises id c.next_id-id.ensures.id
+    c.put_port.new.links.entries new.links.entries row
     c.take_port.ensures in
     widened old new c.requires.fit (record {
       clients = λ k. same_client (at k old.clients.entries);

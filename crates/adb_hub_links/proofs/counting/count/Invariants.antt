@@ -7,5 +7,6 @@ use Rattle.adb_hub_links.proofs.counting.count.Given as goal
 
 -- what was counted, and what is left
 abbrev pub invariant-loop-came : goal.invariant-loop-came
-invariant-loop-came l = (c : ℕ) → count_at (at c l.counts.entries) + slices_in (packets_of (deque_iter_rest l.came-iterator)) l.streams.streams c
+invariant-loop-came l = (c : ℕ) → count_at (at c l.counts.entries)
+    + slices_in (packets_of (deque_iter_rest l.came-iterator)) l.streams.streams c
     ≡ slices_in (packets_of l.packets.items) l.streams.streams c

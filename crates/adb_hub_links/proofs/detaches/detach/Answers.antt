@@ -29,7 +29,8 @@ returns-then-has_link c =
     let link = c.args.link in
     let there = sym c.has_link.ensures ∙ c.if-has_link.true in
     record {
-      made = unplugged old c.end_link.new.tables c.requires.fit c.requires.reached c.end_link.ensures.uses link there c.end_link.ensures.state;
+      made = unplugged old c.end_link.new.tables c.requires.fit c.requires.reached c.end_link.ensures.uses link there
+          c.end_link.ensures.state;
       told = λ cause.
           records_as (rule_tells (Detach link cause) s ((sends_nothing s c.requires.reached).detach link cause))
           (subst (λ (m : Made). Records m.told c.args.ends.now old c.end_link.new.ends) (ends_there link s (s.links link) there)

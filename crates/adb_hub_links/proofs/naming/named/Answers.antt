@@ -10,5 +10,6 @@ loop-came-preserved c =
     let streams = c.args.streams.now.streams in
     let all = packets_of c.args.packets.now.items in
     let ids = c.loop-came.ids.keys in
-    let before = subst (λ (rest : List Came). AreNamedBefore c.args.link all (packets_of rest) streams ids) c.in-Some.ensures.steps c.loop-came.invariant in
+    let before = subst (λ (rest : List Came). AreNamedBefore c.args.link all (packets_of rest) streams ids)
+    c.in-Some.ensures.steps c.loop-came.invariant in
     names_more c.args.link streams before c.in_ok-name_also.ensures

@@ -12,4 +12,6 @@ returns-in-Some-clause-room c =
     let old = c.args.clients.now.entries in
     let new = c.reserve_slices.new.clients.entries in
     subst (λ (client : Option ℕ). OnOk c.reserve_slices.result ((q : ℕ) → ClientRoom (fed_slices client q) (at q new))) (sym c.in-Some.is)
-    (on_ok_weaker c.reserve_slices.result (served_fed c.in-Some.client old new c.requires c.reserve_slices.ensures.widens) c.reserve_slices.ensures.room)
+    (on_ok_weaker c.reserve_slices.result
+    (served_fed c.in-Some.client old new c.requires c.reserve_slices.ensures.widens)
+    c.reserve_slices.ensures.room)

@@ -28,5 +28,6 @@ returns-clause-reserved c =
       cut = c.in_ok-writes.ensures.cut;
       writes = c.in_ok-writes.writes;
       written = c.in_ok-writes.ensures.writes;
-      room = subst (λ (n : ℕ). LinkRoom n (at c.args.link c.reserve_packets.new.links.entries)) c.in_ok-places.ensures c.in_ok-reserve_packets.ensures.room;
+      room = subst (λ (n : ℕ). LinkRoom n (at c.args.link c.reserve_packets.new.links.entries)) c.in_ok-places.ensures
+          c.in_ok-reserve_packets.ensures.room;
     })

@@ -21,11 +21,14 @@ pub up_named-requires-clause-sized : goal.up_named-requires-clause-sized
 up_named-requires-clause-sized c = sized_behind (settling_one c.requires.can c.requires.fresh c.treat.ensures.takes c.treat.ensures.state)
 
 pub up_named-requires-clause-counted : goal.up_named-requires-clause-counted
-up_named-requires-clause-counted c = (provided_behind (settling_one c.requires.can c.requires.fresh c.treat.ensures.takes c.treat.ensures.state)).counted
+up_named-requires-clause-counted c =
+    (provided_behind
+    (settling_one c.requires.can c.requires.fresh c.treat.ensures.takes c.treat.ensures.state)).counted
 
 pub returns-clause-settled : goal.returns-clause-settled
 returns-clause-settled c =
-    settled (settling_one c.requires.can c.requires.fresh c.treat.ensures.takes c.treat.ensures.state) c.up_named.new.tables c.up_named.ensures.uses
+    settled (settling_one c.requires.can c.requires.fresh c.treat.ensures.takes c.treat.ensures.state)
+    c.up_named.new.tables c.up_named.ensures.uses
     c.up_named.ensures.all
 
 pub returns-clause-told : goal.returns-clause-told

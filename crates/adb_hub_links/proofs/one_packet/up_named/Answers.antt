@@ -38,7 +38,8 @@ pub returns-in-Some-clause-reports : goal.returns-in-Some-clause-reports
 returns-in-Some-clause-reports c = λ k covers.
     let old = state_of c.args.tables.now in
     let here = subst (λ (id : Option ℕ). CoversUp (option_to_list id) k old) c.in-Some.is covers in
-    subst (λ (m : Made). Reports m.told c.args.ends.now c.args.tables.now c.up.new.ends c.up.new.tables) (sym (up_is_all c.in-Some.id k old here))
+    subst (λ (m : Made). Reports m.told c.args.ends.now c.args.tables.now c.up.new.ends c.up.new.tables)
+    (sym (up_is_all c.in-Some.id k old here))
     c.up.ensures.reports
 
 pub returns-in_default-clause-all : goal.returns-in_default-clause-all

@@ -11,11 +11,13 @@ use Rattle.adb_hub_links.proofs.receiving.recv_piece.Goals as goal
 
 pub returns-in_default-clause-made : goal.returns-in_default-clause-made
 returns-in_default-clause-made c =
-    gone_made c.args.link c.args.piece.now c.args.tables.now c.requires.fit c.requires.reached (sym c.get.ensures.value ∙ ap option_copied c.in_default.is)
+    gone_made c.args.link c.args.piece.now c.args.tables.now c.requires.fit c.requires.reached
+    (sym c.get.ensures.value ∙ ap option_copied c.in_default.is)
 
 pub returns-in_default-clause-told : goal.returns-in_default-clause-told
 returns-in_default-clause-told c =
-    gone_told c.args.link c.args.piece.now c.args.tables.now c.args.ends.now c.requires.reached (sym c.get.ensures.value ∙ ap option_copied c.in_default.is)
+    gone_told c.args.link c.args.piece.now c.args.tables.now c.args.ends.now c.requires.reached
+    (sym c.get.ensures.value ∙ ap option_copied c.in_default.is)
 
 pub returns-then-piece-missing-clause-told : goal.returns-then-piece-missing-clause-told
 returns-then-piece-missing-clause-told c =

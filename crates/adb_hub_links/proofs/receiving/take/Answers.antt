@@ -19,11 +19,14 @@ settle-requires-clause-can c =
     record {
       provided = widened_provided old new c.reserve.ensures.widens c.requires.fit.provided;
       reserved = c.in_ok-ids.ensures.reserved;
-      leaves = subst (LeavesNamed c.args.link (cut_in c.args.cutting)) (sym (widened_state old new c.reserve.ensures.widens)) c.requires.leaves;
+      leaves = subst (LeavesNamed c.args.link (cut_in c.args.cutting))
+          (sym (widened_state old new c.reserve.ensures.widens)) c.requires.leaves;
     }
 
 pub returns-clause-settled : goal.returns-clause-settled
-returns-clause-settled c = settled_reserved c.args.tables.now c.reserve.new.tables c.settle.new.tables c.reserve.ensures.widens c.settle.ensures.settled
+returns-clause-settled c = settled_reserved c.args.tables.now c.reserve.new.tables c.settle.new.tables
+    c.reserve.ensures.widens c.settle.ensures.settled
 
 pub returns-clause-told : goal.returns-clause-told
-returns-clause-told c = settled_told c.args.link (cut_in c.args.cutting) c.args.tables.now c.reserve.new.tables c.reserve.ensures.widens c.settle.ensures.told
+returns-clause-told c = settled_told c.args.link (cut_in c.args.cutting) c.args.tables.now c.reserve.new.tables
+    c.reserve.ensures.widens c.settle.ensures.told

@@ -34,7 +34,8 @@ pub settle_one-requires-clause-can : goal.settle_one-requires-clause-can
 settle_one-requires-clause-can c =
     let old = c.args.tables.now in
     let new = c.reserve_one.new.tables in
-    let leaves = subst (LeavesNamed c.args.link (alone c.args.packet)) (sym (widened_state old new c.reserve_one.ensures.widens)) c.requires.leaves in
+    let leaves = subst (LeavesNamed c.args.link (alone c.args.packet))
+    (sym (widened_state old new c.reserve_one.ensures.widens)) c.requires.leaves in
     record {
       provided = widened_provided old new c.reserve_one.ensures.widens c.requires.fit.provided;
       reserved = c.in_ok-id.ensures.reserved;
@@ -44,13 +45,16 @@ settle_one-requires-clause-can c =
 pub returns-clause-settled : goal.returns-clause-settled
 returns-clause-settled c =
     let old = c.args.tables.now in
-    let settled = settled_reserved old c.reserve_one.new.tables c.settle_one.new.tables c.reserve_one.ensures.widens c.settle_one.ensures.settled in
+    let settled = settled_reserved old c.reserve_one.new.tables c.settle_one.new.tables c.reserve_one.ensures.widens
+    c.settle_one.ensures.settled in
     subst (λ (p : Packet). HasSettled c.args.link (alone p) no_bytes old c.settle_one.new.tables) c.in_ok-came.ensures.packet settled
 
 pub returns-clause-told : goal.returns-clause-told
 returns-clause-told c =
     let old = c.args.tables.now in
     let middle = c.reserve_one.new.tables in
-    let told = subst (λ (p : Packet). Records (settles c.args.link (alone p) (state_of middle)).told c.args.ends.now middle c.settle_one.new.ends)
+    let told = subst
+    (λ (p : Packet). Records (settles c.args.link (alone p) (state_of middle)).told c.args.ends.now middle
+    c.settle_one.new.ends)
     c.in_ok-came.ensures.packet c.settle_one.ensures.told in
     settled_told c.args.link (alone c.args.packet) old middle c.reserve_one.ensures.widens told

@@ -36,7 +36,8 @@ up_each-requires-clause-ready c =
     let middle : Tables = record old { links = c.put_incoming.new.links } in
     let puts : PutsIncoming c.args.link c.args.cutting.incoming old middle =
     record { others = refl; here = c.put_incoming.ensures.here; apart = c.put_incoming.ensures.apart } in
-    let settling : Settling c.args.link c.args.cutting.packets.items c.args.cutting.incoming c.args.ids.now.keys old middle c.treat.new.tables = record {
+    let settling : Settling c.args.link c.args.cutting.packets.items c.args.cutting.incoming c.args.ids.now.keys old
+    middle c.treat.new.tables = record {
       can = c.requires.can;
       puts = puts;
       takes = c.treat.ensures.takes;
@@ -50,7 +51,8 @@ up_each-requires-clause-sized c =
     let middle : Tables = record old { links = c.put_incoming.new.links } in
     let puts : PutsIncoming c.args.link c.args.cutting.incoming old middle =
     record { others = refl; here = c.put_incoming.ensures.here; apart = c.put_incoming.ensures.apart } in
-    let settling : Settling c.args.link c.args.cutting.packets.items c.args.cutting.incoming c.args.ids.now.keys old middle c.treat.new.tables = record {
+    let settling : Settling c.args.link c.args.cutting.packets.items c.args.cutting.incoming c.args.ids.now.keys old
+    middle c.treat.new.tables = record {
       can = c.requires.can;
       puts = puts;
       takes = c.treat.ensures.takes;
@@ -64,7 +66,8 @@ up_each-requires-clause-counted c =
     let middle : Tables = record old { links = c.put_incoming.new.links } in
     let puts : PutsIncoming c.args.link c.args.cutting.incoming old middle =
     record { others = refl; here = c.put_incoming.ensures.here; apart = c.put_incoming.ensures.apart } in
-    let settling : Settling c.args.link c.args.cutting.packets.items c.args.cutting.incoming c.args.ids.now.keys old middle c.treat.new.tables = record {
+    let settling : Settling c.args.link c.args.cutting.packets.items c.args.cutting.incoming c.args.ids.now.keys old
+    middle c.treat.new.tables = record {
       can = c.requires.can;
       puts = puts;
       takes = c.treat.ensures.takes;
@@ -78,7 +81,8 @@ returns-clause-settled c =
     let middle : Tables = record old { links = c.put_incoming.new.links } in
     let puts : PutsIncoming c.args.link c.args.cutting.incoming old middle =
     record { others = refl; here = c.put_incoming.ensures.here; apart = c.put_incoming.ensures.apart } in
-    let settling : Settling c.args.link c.args.cutting.packets.items c.args.cutting.incoming c.args.ids.now.keys old middle c.treat.new.tables = record {
+    let settling : Settling c.args.link c.args.cutting.packets.items c.args.cutting.incoming c.args.ids.now.keys old
+    middle c.treat.new.tables = record {
       can = c.requires.can;
       puts = puts;
       takes = c.treat.ensures.takes;
@@ -92,11 +96,13 @@ returns-clause-told c =
     let middle : Tables = record old { links = c.put_incoming.new.links } in
     let puts : PutsIncoming c.args.link c.args.cutting.incoming old middle =
     record { others = refl; here = c.put_incoming.ensures.here; apart = c.put_incoming.ensures.apart } in
-    let settling : Settling c.args.link c.args.cutting.packets.items c.args.cutting.incoming c.args.ids.now.keys old middle c.treat.new.tables = record {
+    let settling : Settling c.args.link c.args.cutting.packets.items c.args.cutting.incoming c.args.ids.now.keys old
+    middle c.treat.new.tables = record {
       can = c.requires.can;
       puts = puts;
       takes = c.treat.ensures.takes;
       state = c.treat.ensures.state (cut_in c.args.cutting) refl c.requires.cut.broken;
     } in
-    settled_told settling c.up_each.new.tables c.up_each.ensures.uses (c.treat.ensures.reports (cut_in c.args.cutting) refl c.requires.cut.broken)
+    settled_told settling c.up_each.new.tables c.up_each.ensures.uses
+    (c.treat.ensures.reports (cut_in c.args.cutting) refl c.requires.cut.broken)
     c.up_each.ensures.reports

@@ -59,7 +59,9 @@ returns-else-broken-clause-reports c = λ d given broken.
     let packets = packets_of c.args.packets.items in
     let treated = treat_all link packets (state_of old) in
     let none = no_fault_here d.fault (sym broken ∙ c.if-broken.false) in
-    subst (λ (ps : List Packet). Reports (then_also (treat_all link ps (state_of old)) (faulty link d.fault)).told c.args.ends.now old log middle) (sym given)
+    subst (λ (ps : List Packet). Reports (then_also (treat_all link ps (state_of old)) (faulty link d.fault)).told
+    c.args.ends.now old log middle) (sym given)
     (subst (λ (f : Option PacketFault). Reports (then_also treated (faulty link f)).told c.args.ends.now old log middle) (sym none)
     (reports_then c.treat_all.ensures.reports
-    (reports_as (no_fault_told (treated.state.links link) link treated.state) (reports_none log middle middle (λ l. stays (at l middle.streams.streams))))))
+    (reports_as (no_fault_told (treated.state.links link) link treated.state)
+    (reports_none log middle middle (λ l. stays (at l middle.streams.streams))))))

@@ -10,5 +10,6 @@ returns-in_ok-payload-in-Some c =
     let head = c.in-Some.head in
     let piece = c.args.piece.now in
     let payload : c.in_ok-payload-in-Some.payload ≡ drop HEADER_LEN piece =
-    c.in_ok-payload-in-Some.ensures ∙ take_all (length piece - HEADER_LEN) (drop HEADER_LEN piece) (omega (arith, length-drop HEADER_LEN piece)) in
+    c.in_ok-payload-in-Some.ensures ∙ take_all (length piece - HEADER_LEN) (drop HEADER_LEN piece)
+    (omega (arith, length-drop HEADER_LEN piece)) in
     piece_alone head piece _ c.are_bytes.ensures c.in-Some.ensures (ap (packet_under head) payload)

@@ -20,7 +20,9 @@ loop-id-preserved c =
 
 pub returns-clause-state : goal.returns-clause-state
 returns-clause-state c =
-    ap (λ (m : Made). m.state) (sym (none_ends c.args.link c.args.ending (state_of c.loop-id.tables) c.in_default.ensures.first)) ∙ c.loop-id.invariant.0
+    ap (λ (m : Made). m.state)
+    (sym (none_ends c.args.link c.args.ending (state_of c.loop-id.tables) c.in_default.ensures.first))
+    ∙ c.loop-id.invariant.0
 
 pub returns-clause-reports : goal.returns-clause-reports
 returns-clause-reports c =

@@ -36,13 +36,16 @@ first_made c =
 
 pub returns-in-Some-clause-state : goal.returns-in-Some-clause-state
 returns-in-Some-clause-state c =
-    ap (λ (then : State). (all_end c.args.link c.args.ending then).state) c.end_row.ensures.state ∙ ap (λ (m : Made). m.state) (first_made c)
+    ap (λ (then : State). (all_end c.args.link c.args.ending then).state) c.end_row.ensures.state
+    ∙ ap (λ (m : Made). m.state) (first_made c)
 
 pub returns-in-Some-clause-reports : goal.returns-in-Some-clause-reports
 returns-in-Some-clause-reports c = λ log t rest.
     let old = c.args.tables.now in
     let now = c.end_row.new.tables in
-    let after = subst (λ (then : State). Reports (all_end c.args.link c.args.ending then).told c.end_row.new.ends now log t) c.end_row.ensures.state rest in
+    let after = subst
+    (λ (then : State). Reports (all_end c.args.link c.args.ending then).told c.end_row.new.ends now log t)
+    c.end_row.ensures.state rest in
     subst (λ (told : List Event). Reports told c.args.ends.now old log t) (ap (λ (m : Made). m.told) (first_made c))
     (reports_then c.end_row.ensures.reports after)
 

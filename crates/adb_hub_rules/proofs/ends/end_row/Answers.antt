@@ -21,7 +21,12 @@ returns-clause-reports c =
     ap (λ (table : StreamTable). at id table.streams) c.client_loses.ensures.streams
     ∙ (ap (λ (s : State). s.streams id) c.drop_stream.ensures.state ∙ row_gone id stream s c.requires.here) in
     let goes : Goes id stream old new =
-    record { here = c.requires.here; gone = gone; owned = (uses_then (c.drop_stream.ensures.uses 0 0) (c.client_loses.ensures.uses 0 0)).owned } in
+    record {
+      here = c.requires.here;
+      gone = gone;
+      owned =
+          (uses_then (c.drop_stream.ensures.uses 0 0) (c.client_loses.ensures.uses 0 0)).owned;
+    } in
     let told = (tells_end stream.part.orphan id c.args.ending (to_stream id none_kept s)).told in
     reports_as (row_tells id c.args.ending stream s)
     (subst (λ (log : Log). Reports told c.args.ends.now old log new) (sym c.record_end.ensures)

@@ -14,8 +14,10 @@ here c = search rules
 pub returns-then-left-to_hand-clause-state : goal.returns-then-left-to_hand-clause-state
 returns-then-left-to_hand-clause-state c =
     let stream = c.in-Some.stream in
-    let left : c.min-left.result ≡ min (to_hand stream.part.flow) c.args.due = c.min-left.ensures ∙ ap (λ (n : ℕ). min n c.args.due) c.to_hand.ensures in
-    let fewer : c.min-left.result < to_hand stream.part.flow = subst (λ (n : ℕ). c.min-left.result < n) c.to_hand-2.ensures c.if-left-to_hand.true in
+    let left : c.min-left.result ≡ min (to_hand stream.part.flow) c.args.due =
+    c.min-left.ensures ∙ ap (λ (n : ℕ). min n c.args.due) c.to_hand.ensures in
+    let fewer : c.min-left.result < to_hand stream.part.flow =
+    subst (λ (n : ℕ). c.min-left.result < n) c.to_hand-2.ensures c.if-left-to_hand.true in
     c.leave.ensures.state
     ∙ (less_left c.args.due c.args.id stream (state_of c.args.tables.now) c.min-left.result left fewer
     ∙ ap (λ (row : Option Stream). (stream_left c.args.due c.args.id row (state_of c.args.tables.now)).state) (sym (here c)))

@@ -17,5 +17,6 @@ returns-clause-uses c = λ k.
     let old = c.args.tables.now in
     let middle = c.hand_row-left.new.tables in
     spared_then old middle c.hand_stream.new.tables (at c.args.id old.streams.streams) 1 k c.hand_row-left.ensures.uses
-    (subst (λ (table : StreamTable). UsesOf (at c.args.id table.streams) 1 k 0 middle c.hand_stream.new.tables) c.hand_row-left.ensures.streams
+    (subst (λ (table : StreamTable). UsesOf (at c.args.id table.streams) 1 k 0 middle c.hand_stream.new.tables)
+    c.hand_row-left.ensures.streams
     (c.hand_stream.ensures.uses k))

@@ -27,4 +27,5 @@ returns-clause-reports c =
     reports_then forgotten (reports_then ended marked)
 
 pub returns-clause-uses : goal.returns-clause-uses
-returns-clause-uses c = λ t k. uses_then (uses_then (c.forget_link.ensures.uses t k) (c.end_all.ensures.uses t k)) (c.mark_all.ensures.uses t k)
+returns-clause-uses c = λ t k. uses_then (uses_then (c.forget_link.ensures.uses t k) (c.end_all.ensures.uses t k))
+    (c.mark_all.ensures.uses t k)

@@ -21,7 +21,8 @@ returns-clause-records c =
     let failed = subst (λ (s : State). Records (stream_fails c.phase_of-phase.result c.args.cause
     (stream_of c.phase_of-phase.result s.streams) s).told before dropped after)
     c.drop_client.ensures.state c.fail_stream.ensures.records in
-    subst (λ (phase : Phase). Records (fails_in phase c.args.client c.args.cause (state_of old)).told before old after) c.phase_of-phase.ensures
+    subst (λ (phase : Phase). Records (fails_in phase c.args.client c.args.cause (state_of old)).told before old
+    after) c.phase_of-phase.ensures
     (records_then none failed)
 
 pub returns-clause-uses : goal.returns-clause-uses

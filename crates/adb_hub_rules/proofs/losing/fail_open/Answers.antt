@@ -32,7 +32,8 @@ returns-in-Some-clause-records c =
     let s = state_of old in
     let here : at id old.streams.streams ≡ Some stream = sym c.get.ensures.found ∙ cc in
     let told = (stream_fails (Streaming id) c.args.cause (Some stream) s).told in
-    subst (λ (row : Option Stream). Records (stream_fails (Streaming id) c.args.cause row s).told c.args.ends.now old c.record_failure.new.ends) (sym here)
+    subst (λ (row : Option Stream). Records (stream_fails (Streaming id) c.args.cause row s).told c.args.ends.now old
+    c.record_failure.new.ends) (sym here)
     (subst (λ (log : Log). Records told c.args.ends.now old log) (sym c.record_failure.ensures)
     (records_as (λ rows log. refl) (records_end id (ClientFailed c.args.cause) stream c.args.ends.now old here)))
 

@@ -17,7 +17,8 @@ returns-clause-state c =
     c.open_client.ensures.state
     ∙ (ap (to_client stream.client (in_phase (Streaming c.args.id))) c.set_part.ensures.state
     ∙ (ap (λ part. opening part (state_of c.hear_okay.new.tables)) c.opened_part-part.ensures
-    ∙ ap (opening (with_remote c.args.remote (with_flow (first_credit c.args.word stream.part.flow) stream.part))) c.hear_okay.ensures.state))
+    ∙ ap (opening (with_remote c.args.remote (with_flow (first_credit c.args.word stream.part.flow) stream.part)))
+    c.hear_okay.ensures.state))
 
 pub returns-clause-uses : goal.returns-clause-uses
 returns-clause-uses c = λ t.

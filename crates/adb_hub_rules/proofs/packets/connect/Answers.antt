@@ -16,7 +16,8 @@ returns-clause-state c =
 pub returns-clause-reports : goal.returns-clause-reports
 returns-clause-reports c =
     let ended = c.end_first_streams.new in
-    reports_then c.end_first_streams.ensures.reports (reports_none ended.ends ended.tables c.go_online.new.tables (c.go_online.ensures.uses 0 0).owned)
+    reports_then c.end_first_streams.ensures.reports
+    (reports_none ended.ends ended.tables c.go_online.new.tables (c.go_online.ensures.uses 0 0).owned)
 
 pub returns-clause-uses : goal.returns-clause-uses
 returns-clause-uses c = λ t k. uses_then (c.end_first_streams.ensures.uses t k) (c.go_online.ensures.uses t k)

@@ -12,4 +12,5 @@ returns-clause-state c =
     ∙ ap mark_all (c.name_device.ensures.state ∙ ap (named c.args.link head.arg0 head.arg1 c.args.identity) c.set_version.ensures.state)
 
 pub returns-clause-uses : goal.returns-clause-uses
-returns-clause-uses c = λ t k. uses_then (uses_then (c.set_version.ensures.uses t k) (c.name_device.ensures.uses t k)) (c.mark_all.ensures.uses t k)
+returns-clause-uses c = λ t k. uses_then (uses_then (c.set_version.ensures.uses t k) (c.name_device.ensures.uses t k))
+    (c.mark_all.ensures.uses t k)

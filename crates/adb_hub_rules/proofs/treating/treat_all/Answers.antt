@@ -21,7 +21,8 @@ pub treat-requires-clause-link : goal.treat-requires-clause-link
 treat-requires-clause-link c =
     let all = c.args.packets.items in
     let old = c.args.tables.now in
-    let h : Left c.args.link (length all) (slices_in (packets_of all) old.streams.streams) c.loop-came.packets.items old c.loop-came.tables c.in-Some.came
+    let h : Left c.args.link (length all) (slices_in (packets_of all) old.streams.streams) c.loop-came.packets.items
+    old c.loop-came.tables c.in-Some.came
     c.next_of.new.packets.items = record { takes = c.loop-came.invariant.3; is = c.in-Some.ensures } in
     next_room h c.requires.link
 
@@ -29,7 +30,8 @@ pub treat-requires-clause-clients : goal.treat-requires-clause-clients
 treat-requires-clause-clients c =
     let all = c.args.packets.items in
     let old = c.args.tables.now in
-    let h : Left c.args.link (length all) (slices_in (packets_of all) old.streams.streams) c.loop-came.packets.items old c.loop-came.tables c.in-Some.came
+    let h : Left c.args.link (length all) (slices_in (packets_of all) old.streams.streams) c.loop-came.packets.items
+    old c.loop-came.tables c.in-Some.came
     c.next_of.new.packets.items = record { takes = c.loop-came.invariant.3; is = c.in-Some.ensures } in
     next_places h c.requires.clients
 
@@ -47,7 +49,8 @@ loop-came-preserved c =
       ap (λ (s : State). (treat_all link (packets_of rest) s).state) c.treat.ensures.state
           ∙ (ap (λ (all : List Came). (treat_all link (packets_of all) (state_of now)).state) (sym h.is) ∙ inv.0),
       All-tail IsCame c.in-Some.came rest (subst (All IsCame) h.is inv.1),
-      provided_after link 1 slices now c.treat.new.tables c.treat.ensures.takes inv.2 (next_room h c.requires.link, next_places h c.requires.clients),
+      provided_after link 1 slices now c.treat.new.tables c.treat.ensures.takes inv.2
+          (next_room h c.requires.link, next_places h c.requires.clients),
       takes_more h c.treat.new.tables c.treat.ensures.takes,
       λ log t then.
           let after = subst (λ (s : State). Reports (treat_all link (packets_of rest) s).told c.treat.new.ends c.treat.new.tables log t)
@@ -72,5 +75,6 @@ returns-clause-takes c =
     let first = slices_in (packets_of c.args.packets.items) old.streams.streams in
     let total = length c.args.packets.items in
     takes_over c.args.link total first old now
-    (subst (λ (items : List Came). TakesAll c.args.link total (length items) first (slices_in (packets_of items) now.streams.streams) old now)
+    (subst (λ (items : List Came). TakesAll c.args.link total (length items) first
+    (slices_in (packets_of items) now.streams.streams) old now)
     c.in_default.ensures c.loop-came.invariant.3)

@@ -18,7 +18,8 @@ invariant-loop-came l =
     (slices_in (packets_of l.initial.packets.items) l.initial.tables.streams.streams)
     (slices_in (packets_of l.packets.items) l.tables.streams.streams) l.initial.tables l.tables
     × ((log : Log) (t : Tables) → Reports (treat_all l.link (packets_of l.packets.items) (state_of l.tables)).told l.ends l.tables log t
-    → Reports (treat_all l.link (packets_of l.initial.packets.items) (state_of l.initial.tables)).told l.initial.ends l.initial.tables log t)
+    → Reports (treat_all l.link (packets_of l.initial.packets.items) (state_of l.initial.tables)).told l.initial.ends
+    l.initial.tables log t)
 
 abbrev pub decreases-loop-came : goal.decreases-loop-came
 decreases-loop-came l = length l.packets.items

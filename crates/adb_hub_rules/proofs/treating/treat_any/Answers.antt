@@ -16,11 +16,13 @@ use Rattle.adb_hub_rules.proofs.treating.treat_any.Goals as goal
 
 pub returns-in-Cnxn-clause-takes : goal.returns-in-Cnxn-clause-takes
 returns-in-Cnxn-clause-takes c =
-    takes_from (c.take_cnxn.ensures.uses c.args.link 0) (slices_for (packet_of c.args.came) c.args.tables.now.streams.streams) (omega arith) (omega arith)
+    takes_from (c.take_cnxn.ensures.uses c.args.link 0)
+    (slices_for (packet_of c.args.came) c.args.tables.now.streams.streams) (omega arith) (omega arith)
 
 pub returns-in-Auth-clause-takes : goal.returns-in-Auth-clause-takes
 returns-in-Auth-clause-takes c =
-    takes_from (c.take_login.ensures.uses c.args.link 0) (slices_for (packet_of c.args.came) c.args.tables.now.streams.streams) (omega arith) (omega arith)
+    takes_from (c.take_login.ensures.uses c.args.link 0)
+    (slices_for (packet_of c.args.came) c.args.tables.now.streams.streams) (omega arith) (omega arith)
 
 -- a packet by which a device asks for what is not answered
 login_is : (t : ℕ) (command : Command) (p : Packet) (s : State) → ◌⊎◌ (command ≡ Auth) (command ≡ Stls)
@@ -35,8 +37,10 @@ returns-in-Auth-clause-reports c =
     let ends = c.args.ends.now in
     let p = packet_of c.args.came in
     let s = state_of old in
-    let none = reports_as (login_none c.args.link (at c.args.link s.devices.rows) s) (reports_none ends old new (c.take_login.ensures.uses 0 0).owned) in
+    let none = reports_as (login_none c.args.link (at c.args.link s.devices.rows) s)
+    (reports_none ends old new (c.take_login.ensures.uses 0 0).owned) in
     subst (λ (m : Made). Reports m.told ends old ends new) (login_is c.args.link p.command p s c.in-Auth.is) none
 
 pub returns-in_default-2-clause-takes : goal.returns-in_default-2-clause-takes
-returns-in_default-2-clause-takes c = takes_nothing c.args.link (slices_for (packet_of c.args.came) c.args.tables.now.streams.streams) c.args.tables.now
+returns-in_default-2-clause-takes c = takes_nothing c.args.link
+    (slices_for (packet_of c.args.came) c.args.tables.now.streams.streams) c.args.tables.now

@@ -21,13 +21,15 @@ returns-in-Open-clause-takes c =
 pub returns-in-Okay-clause-takes : goal.returns-in-Okay-clause-takes
 returns-in-Okay-clause-takes c =
     let row = at c.args.head.now.arg1 c.args.tables.now.streams.streams in
-    subst (λ (command : Command). Takes c.args.link 1 (slices_of (takes_slice command) row) c.args.tables.now c.treat_okay.new.tables) (sym c.in-Okay.is)
+    subst (λ (command : Command). Takes c.args.link 1 (slices_of (takes_slice command) row) c.args.tables.now
+    c.treat_okay.new.tables) (sym c.in-Okay.is)
     c.treat_okay.ensures.takes
 
 pub returns-in-Wrte-clause-takes : goal.returns-in-Wrte-clause-takes
 returns-in-Wrte-clause-takes c =
     let row = at c.args.head.now.arg1 c.args.tables.now.streams.streams in
-    subst (λ (command : Command). Takes c.args.link 1 (slices_of (takes_slice command) row) c.args.tables.now c.treat_write.new.tables) (sym c.in-Wrte.is)
+    subst (λ (command : Command). Takes c.args.link 1 (slices_of (takes_slice command) row) c.args.tables.now
+    c.treat_write.new.tables) (sym c.in-Wrte.is)
     c.treat_write.ensures.takes
 
 pub returns-in-Open-clause-reports : goal.returns-in-Open-clause-reports
@@ -50,6 +52,7 @@ returns-in-Okay-clause-reports c =
     let p = packet_under head c.args.payload in
     let s = state_of old in
     let okay = takes_okay head.arg1 head.arg0 (credit_word c.args.payload) in
-    let quiet = at_none c.args.link (s.streams head.arg1) okay s (λ stream. okay_none head.arg1 head.arg0 (credit_word c.args.payload) stream s) in
+    let quiet = at_none c.args.link (s.streams head.arg1) okay s
+    (λ stream. okay_none head.arg1 head.arg0 (credit_word c.args.payload) stream s) in
     let none = reports_as quiet (reports_none ends old new c.treat_okay.ensures.takes.owned) in
     subst (λ (command : Command). Reports (treat_open c.args.link command p s).told ends old ends new) (sym c.in-Okay.is) none

@@ -9,7 +9,8 @@ use Rattle.adb_hub_rules.proofs.Taking.{IsFoundOn, found_on, at_found, takes_fro
 use Rattle.adb_hub_rules.proofs.treating.treat_write.Goals as goal
 
 found : (c : goal.After-take_write) → IsFoundOn c.args.link (at c.args.head.now.arg1 c.args.tables.now.streams.streams) c.in-Some.stream
-found c = found_on c.args.link (at c.args.head.now.arg1 c.args.tables.now.streams.streams) c.in-Some.stream (sym c.stream_on.ensures ∙ c.in-Some.is)
+found c = found_on c.args.link (at c.args.head.now.arg1 c.args.tables.now.streams.streams) c.in-Some.stream
+    (sym c.stream_on.ensures ∙ c.in-Some.is)
 
 pub returns-in-Some-clause-state : goal.returns-in-Some-clause-state
 returns-in-Some-clause-state c =
@@ -23,5 +24,6 @@ pub returns-in-Some-clause-takes : goal.returns-in-Some-clause-takes
 returns-in-Some-clause-takes c =
     let row = at c.args.head.now.arg1 c.args.tables.now.streams.streams in
     let stream = c.in-Some.stream in
-    let uses = subst (λ (t : ℕ). Uses t 1 stream.client 1 c.args.tables.now c.take_write.new.tables) (found c).on c.take_write.ensures.uses in
+    let uses = subst (λ (t : ℕ). Uses t 1 stream.client 1 c.args.tables.now c.take_write.new.tables) (found c).on
+    c.take_write.ensures.uses in
     takes_from uses (slices_of true row) (omega arith) (one_slice stream row (found c).is)

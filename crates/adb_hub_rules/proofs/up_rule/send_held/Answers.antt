@@ -22,20 +22,24 @@ returns-clause-state c =
     let sends = c.write_up-flow.ensures.sends in
     let all = c.write_up-flow.ensures.all in
     let sent : state_of middle ≡ all_sent c.args.id stream (maxdata_of stream.link old.devices) first =
-    subst (λ (m : ℕ). state_of middle ≡ all_sent c.args.id stream m first) c.maxdata_of-maxdata.ensures (sent_all c.args.id stream m first then sends all) in
+    subst (λ (m : ℕ). state_of middle ≡ all_sent c.args.id stream m first) c.maxdata_of-maxdata.ensures
+    (sent_all c.args.id stream m first then sends all) in
     let flow : c.write_up-flow.result ≡ flow_after (all_unsent stream old) stream.part.flow =
     subst (λ (m : ℕ). c.write_up-flow.result ≡ flow_after (unsent stream m first) stream.part.flow) c.maxdata_of-maxdata.ensures
     (flow_all c.args.id stream m first then sends all) in
     c.set_flow.ensures.state
     ∙ (ap (to_stream c.args.id (with_stream_part (with_flow c.write_up-flow.result stream.part))) sent
-    ∙ noted_is c.args.id stream (all_unsent stream old) (held_at (at stream.client old.clients.entries)) (state_of old) c.write_up-flow.result flow)
+    ∙ noted_is c.args.id stream (all_unsent stream old) (held_at (at stream.client old.clients.entries))
+    (state_of old) c.write_up-flow.result flow)
 
 pub returns-clause-uses : goal.returns-clause-uses
 returns-clause-uses c = λ k.
     let old = c.args.tables.now in
     let stream = c.args.stream.now in
     let first : Flow × Tables = (stream.part.flow, old) in
-    let sent = subst (λ (m : ℕ). Uses stream.link (length (unsent stream m first)) k 0 old c.write_up-flow.new.tables) c.maxdata_of-maxdata.ensures
-    (uses_all c.args.id stream c.maxdata_of-maxdata.result first (c.write_up-flow.result, c.write_up-flow.new.tables) c.write_up-flow.ensures.sends
+    let sent = subst (λ (m : ℕ). Uses stream.link (length (unsent stream m first)) k 0 old c.write_up-flow.new.tables)
+    c.maxdata_of-maxdata.ensures
+    (uses_all c.args.id stream c.maxdata_of-maxdata.result first (c.write_up-flow.result, c.write_up-flow.new.tables)
+    c.write_up-flow.ensures.sends
     c.write_up-flow.ensures.all k) in
     then_spared sent (c.set_flow.ensures.uses stream.link k)

@@ -14,7 +14,8 @@ use Rattle.adb_hub_rules.proofs.up_rule.send_up.Goals as goal
 pub close_over-requires-clause-here : goal.close_over-requires-clause-here
 close_over-requires-clause-here c =
     let sent = c.send_held-flow in
-    middle_stream c.args.id c.args.stream.now c.args.tables.now sent.new.tables sent.ensures.state sent.result sent.ensures.flow c.requires.here
+    middle_stream c.args.id c.args.stream.now c.args.tables.now sent.new.tables sent.ensures.state sent.result
+    sent.ensures.flow c.requires.here
 
 pub close_over-requires-clause-open : goal.close_over-requires-clause-open
 close_over-requires-clause-open c =
@@ -26,7 +27,8 @@ close_over-requires-clause-room c =
     let stream = c.args.stream.now in
     let old = c.args.tables.now in
     let writes = length (all_unsent stream old) in
-    (c.send_held-flow.ensures.uses 0).on_link 0 (more_room writes (0 + writes) (at stream.link old.links.entries) (omega arith) c.requires.ready.room)
+    (c.send_held-flow.ensures.uses 0).on_link 0
+    (more_room writes (0 + writes) (at stream.link old.links.entries) (omega arith) c.requires.ready.room)
 
 pub close_over-requires-clause-counted : goal.close_over-requires-clause-counted
 close_over-requires-clause-counted c = (c.send_held-flow.ensures.uses 0).counted c.requires.counted

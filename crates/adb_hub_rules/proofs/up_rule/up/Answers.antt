@@ -50,7 +50,8 @@ returns-then-has_open-clause-others c = λ l other.
     let stream = c.in-Some.stream in
     let here : at c.args.id old.streams.streams ≡ Some stream = search rules in
     let row = opens c.args.id (at stream.client old.clients.entries) (sym c.has_open.ensures ∙ c.if-has_open.true) in
-    leaves_be c.args.id stream old new here row c.send_up.ensures.others (all_unsent stream old) (c.send_up.ensures.state row.seen row.is) l other
+    leaves_be c.args.id stream old new here row c.send_up.ensures.others (all_unsent stream old)
+    (c.send_up.ensures.state row.seen row.is) l other
 
 pub returns-then-has_open-clause-devices : goal.returns-then-has_open-clause-devices
 returns-then-has_open-clause-devices c =
@@ -59,4 +60,5 @@ returns-then-has_open-clause-devices c =
     let stream = c.in-Some.stream in
     let here : at c.args.id old.streams.streams ≡ Some stream = search rules in
     let row = opens c.args.id (at stream.client old.clients.entries) (sym c.has_open.ensures ∙ c.if-has_open.true) in
-    same_devices c.args.id stream old new here row c.send_up.ensures.others (all_unsent stream old) (c.send_up.ensures.state row.seen row.is)
+    same_devices c.args.id stream old new here row c.send_up.ensures.others (all_unsent stream old)
+    (c.send_up.ensures.state row.seen row.is)

@@ -21,7 +21,8 @@ pub write_one-requires-clause-room : goal.write_one-requires-clause-room
 write_one-requires-clause-room c =
     more_room (length (unsent c.args.stream.now c.args.maxdata (c.args.flow.now, c.args.tables.now))) 1
     (at c.args.stream.now.link c.args.tables.now.links.entries)
-    (some_unsent c.args.flow.now c.args.maxdata c.next_len-n.result (held_at (at c.args.stream.now.client c.args.tables.now.clients.entries))
+    (some_unsent c.args.flow.now c.args.maxdata c.next_len-n.result
+    (held_at (at c.args.stream.now.client c.args.tables.now.clients.entries))
     c.next_len-n.ensures (omega (arith, c.if-n-eq0.false))) c.requires.room
 
 pub returns-clause-sends : goal.returns-clause-sends

@@ -11,7 +11,8 @@ write_next-requires-clause-room c =
     let all = length (unsent stream c.args.maxdata (stream.part.flow, c.args.tables.now)) in
     let left = length (unsent stream c.args.maxdata (c.loop.flow, c.loop.tables)) in
     (c.loop.invariant.uses 0).on_link left
-    (more_room all (left + (all - left)) (at stream.link c.args.tables.now.links.entries) (omega (arith, c.loop.invariant.fewer)) c.requires.room)
+    (more_room all (left + (all - left)) (at stream.link c.args.tables.now.links.entries)
+    (omega (arith, c.loop.invariant.fewer)) c.requires.room)
 
 pub loop-preserved : goal.loop-preserved
 loop-preserved c = sends_then c.args.id c.args.stream.now c.args.maxdata c.loop.invariant c.write_next.ensures.sends

@@ -15,7 +15,8 @@ returns-then-accept-clause-reports c =
     let ends = c.args.ends.now in
     let stream = c.args.stream.now in
     let s = state_of old in
-    let none = reports_as (accepts_no_end c.args.id c.args.payload stream s) (reports_none ends old new c.accept_write.ensures.uses.owned) in
+    let none = reports_as (accepts_no_end c.args.id c.args.payload stream s)
+    (reports_none ends old new c.accept_write.ensures.uses.owned) in
     let same : accepts c.args.id c.args.payload stream s ≡ takes_write c.args.id c.args.remote c.args.payload stream s = search rules in
     subst (λ (m : Made). Reports m.told ends old ends new) same none
 

@@ -6,7 +6,8 @@ pub returns-in_default-clause-grouped : goal.returns-in_default-clause-grouped
 returns-in_default-clause-grouped c = mark_unknown c.args.number c.ranges.number.fits c.requires c.in_default.ensures.unknown
 
 pub returns-then-lacked-clause-grouped : goal.returns-then-lacked-clause-grouped
-returns-then-lacked-clause-grouped c = mark_grouped c.args.number c.ranges.number.fits c.requires c.mark.ensures.block c.mark-then-lacked.ensures.block
+returns-then-lacked-clause-grouped c = mark_grouped c.args.number c.ranges.number.fits c.requires c.mark.ensures.block
+    c.mark-then-lacked.ensures.block
 
 pub returns-else-lacked-clause-grouped : goal.returns-else-lacked-clause-grouped
 returns-else-lacked-clause-grouped c =

@@ -19,7 +19,8 @@ look_at_streams-requires-clause-echoed c =
 
 pub returns-clause-runs : goal.returns-clause-runs
 returns-clause-runs c =
-    echo_runs c.args.number c.args.echo.streams c.args.echo.size c.args.world.now c.start_streams.new.world c.settle.new.world c.finish.new.self
+    echo_runs c.args.number c.args.echo.streams c.args.echo.size c.args.world.now c.start_streams.new.world
+    c.settle.new.world c.finish.new.self
     c.in_ok-first.ensures.started c.in_ok-settle.ensures.files c.in_ok-settle.ensures.given
     (record {
       empty = c.in_ok-finish.ensures.empty;
@@ -33,17 +34,20 @@ returns-clause-runs c =
 pub returns-in_err-settle-clause-kept : goal.returns-in_err-settle-clause-kept
 returns-in_err-settle-clause-kept c =
     at_err _ c.from_residual-in_err-settle.result
-    (echoes_stop c.args.echo.streams c.args.echo.size c.args.world.now c.start_streams.new.world c.settle.new.world.files c.in_ok-first.ensures.started
+    (echoes_stop c.args.echo.streams c.args.echo.size c.args.world.now c.start_streams.new.world
+    c.settle.new.world.files c.in_ok-first.ensures.started
     c.in_err-settle.ensures.in_part)
 
 pub returns-in_err-finish-clause-kept : goal.returns-in_err-finish-clause-kept
 returns-in_err-finish-clause-kept c =
     at_err _ c.from_residual-in_err-finish.result (c.in_err-finish.ensures.files
-    ∙ echoes_kept c.args.echo.streams c.args.echo.size c.args.world.now c.start_streams.new.world c.settle.new.world c.in_ok-first.ensures.started
+    ∙ echoes_kept c.args.echo.streams c.args.echo.size c.args.world.now c.start_streams.new.world c.settle.new.world
+    c.in_ok-first.ensures.started
     c.in_ok-settle.ensures.files)
 
 pub returns-in_err-text-clause-kept : goal.returns-in_err-text-clause-kept
 returns-in_err-text-clause-kept c =
     at_err _ c.from_residual-in_err-text.result (c.in_ok-finish.ensures.files
-    ∙ echoes_kept c.args.echo.streams c.args.echo.size c.args.world.now c.start_streams.new.world c.settle.new.world c.in_ok-first.ensures.started
+    ∙ echoes_kept c.args.echo.streams c.args.echo.size c.args.world.now c.start_streams.new.world c.settle.new.world
+    c.in_ok-first.ensures.started
     c.in_ok-settle.ensures.files)

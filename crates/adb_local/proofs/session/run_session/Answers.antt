@@ -40,12 +40,14 @@ returns-clause-runs c =
 pub returns-in_err-session-clause-in_part : goal.returns-in_err-session-clause-in_part
 returns-in_err-session-clause-in_part c =
     at_err _ c.from_residual.result
-    (none_asked c.args.number (asked_of c.args.line.now) c.args.world.now.files c.start_session.new.world.files c.in_err-session.ensures.kept)
+    (none_asked c.args.number (asked_of c.args.line.now) c.args.world.now.files c.start_session.new.world.files
+    c.in_err-session.ensures.kept)
 
 pub returns-in_err-settle-clause-in_part : goal.returns-in_err-settle-clause-in_part
 returns-in_err-settle-clause-in_part c =
     at_err _ c.from_residual-in_err-settle.result
-    (settles_in_part c.args.number (asked_of c.args.line.now) c.args.world.now c.start_session.new.world c.settle.new.world.files c.requires.idle
+    (settles_in_part c.args.number (asked_of c.args.line.now) c.args.world.now c.start_session.new.world
+    c.settle.new.world.files c.requires.idle
     c.in_ok-session.ensures.started c.in_err-settle.ensures.in_part)
 
 pub returns-in_err-text-clause-in_part : goal.returns-in_err-text-clause-in_part
@@ -58,4 +60,5 @@ pub returns-in_err-finish-clause-in_part : goal.returns-in_err-finish-clause-in_
 returns-in_err-finish-clause-in_part c =
     at_err _ c.from_residual-in_err-finish.result
     (left_in_part c.args.number (asked_of c.args.line.now) c.args.world.now c.start_session.new.world c.settle.new.world c.requires.idle
-    c.in_ok-session.ensures.started c.in_ok-settle.ensures.same c.in_ok-settle.ensures.alone c.finish.new.self.files c.in_err-finish.ensures.files)
+    c.in_ok-session.ensures.started c.in_ok-settle.ensures.same c.in_ok-settle.ensures.alone c.finish.new.self.files
+    c.in_err-finish.ensures.files)

@@ -8,7 +8,8 @@ use Rattle.adb_local.proofs.session.start_session.Goals as goal
 
 pub start_text-requires-clause-known : goal.start_text-requires-clause-known
 start_text-requires-clause-known c =
-    subst (λ (x : List ℕ). is_some (service_of x) ≡ true) (sym (c.as_slice.ensures ∙ c.in_ok-service.ensures)) (is_known (asked_of c.args.line.now))
+    subst (λ (x : List ℕ). is_some (service_of x) ≡ true) (sym (c.as_slice.ensures ∙ c.in_ok-service.ensures))
+    (is_known (asked_of c.args.line.now))
 
 pub returns-in_err-service-clause-kept : goal.returns-in_err-service-clause-kept
 returns-in_err-service-clause-kept c = at_err _ c.from_residual.result refl

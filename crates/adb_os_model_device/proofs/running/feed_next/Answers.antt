@@ -12,7 +12,8 @@ returns-in-Ok g c = λ output.
 pub returns-in-Chunk : goal.returns-in-Chunk
 returns-in-Chunk g c = λ output.
     let before = c.args.input.now in
-    feeds_badly c.args.daemon.now before output c.as_slice.result.now c.in-Err.error c.feed.new.self c.take.new.self c.feed.result c.in-Err.is
+    feeds_badly c.args.daemon.now before output c.as_slice.result.now c.in-Err.error c.feed.new.self c.take.new.self
+    c.feed.result c.in-Err.is
     (c.in-Chunk.ensures.1 ∙ ap (λ (b : List ℕ). record before { taken = before.taken ++ b ∷ [] }) (sym c.as_slice.ensures))
     c.feed.ensures.whole c.feed.ensures.front
 

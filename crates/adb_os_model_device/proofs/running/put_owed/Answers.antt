@@ -15,5 +15,6 @@ returns-in-Ok-put-clause-runs g c = λ input.
 
 pub returns-in-Err-clause-runs : goal.returns-in-Err-clause-runs
 returns-in-Err-clause-runs g c = λ input.
-    is_refused c.args.daemon.now input c.args.output.now c.in-Err.chunk c.put.new.self (c.in-Err.ensures.0 ∙ c.in-Ok.ensures ∙ c.out.ensures)
+    is_refused c.args.daemon.now input c.args.output.now c.in-Err.chunk c.put.new.self
+    (c.in-Err.ensures.0 ∙ c.in-Ok.ensures ∙ c.out.ensures)
     c.in-Err.ensures.1

@@ -19,5 +19,6 @@ returns-clause-cut g c =
     let gathered = c.in_ok-behind.ensures.cut ∙ ap (λ b. joined old (cut_here format b)) c.in_ok-all.ensures.all in
     let whole =
     ap (λ k. further g.S.Format.find g.S.Format.item g.S.Format.after k left) gathered
-    ∙ gathered_then g.S.Format.find g.S.Format.item g.S.Format.after g.met.S.Format.framing old format c.args.held.now (take n piece) left piece all in
+    ∙ gathered_then g.S.Format.find g.S.Format.item g.S.Format.after g.met.S.Format.framing old format c.args.held.now
+    (take n piece) left piece all in
     subst (λ k. IfOk c.take.result (λ behind. cut_of c.take.new.ready.items behind ≡ k)) whole c.take.ensures.cut

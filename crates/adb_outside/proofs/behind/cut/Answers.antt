@@ -21,12 +21,19 @@ pub returns : goal.returns
 returns g c =
     let bytes = c.args.bytes.now in
     let at = c.loop-front.at in
-    let over = is_over g.S.Format.find g.S.Format.item g.S.Format.after g.met.S.Format.framing _ c.loop-front.invariant (λ n. c.in_default.not-Whole n) in
+    let over = is_over g.S.Format.find g.S.Format.item g.S.Format.after g.met.S.Format.framing _
+    c.loop-front.invariant (λ n. c.in_default.not-Whole n) in
     let held =
     c.in_ok-push.ensures.ok ∙ (ap (λ h. h ++ take (length bytes - at) (drop at bytes)) c.new-held.ensures ∙ from_place at bytes) in
     record {
       cut = ap (λ b. record { given = c.loop-front.ready.items; reading = c.loop-front.format; rest = b; fault = c.fault.result }) held
-          ∙ (ap (λ f. record { given = c.loop-front.ready.items; reading = c.loop-front.format; rest = drop at bytes; fault = f }) c.fault.ensures
+          ∙ (ap (λ f. record {
+            given = c.loop-front.ready.items;
+            reading = c.loop-front.format;
+            rest =
+                drop at bytes;
+            fault = f;
+          }) c.fault.ensures
           ∙ over);
       ready = c.loop-front.invariant.front_of;
     }

@@ -16,6 +16,7 @@ loop-digit-preserved c =
     let small : c.from.result ≤ 207 = omega (arith, digit, c.type_inv.digits i) in
     record {
       value = ap (λ (v : ℕ). 10 * v + c.from.result) c.loop-digit.invariant.value
-          ∙ (ap (λ (x : ℕ). 10 * digits_value (take i ds) + x) digit ∙ sym (fold_more (λ (value : ℕ) (d : ℕ). 10 * value + (d - 48)) 0 ds i 0 (omega arith)));
+          ∙ (ap (λ (x : ℕ). 10 * digits_value (take i ds) + x) digit
+          ∙ sym (fold_more (λ (value : ℕ) (d : ℕ). 10 * value + (d - 48)) 0 ds i 0 (omega arith)));
       small = bound_more c.loop-digit.value c.from.result (10 ^ i) (10 ^ (i + 1)) c.loop-digit.invariant.small small (pow_more 10 i);
     }

@@ -17,6 +17,7 @@ returns-in-Err g c = part_then _ _ _ _ _ _ c.loop-chunk.invariant.sends _ _ c.in
 pub returns : goal.returns
 returns g c =
     let left = left_from c.loop-chunk.chunk c.args.bytes.now in
-    let none = none_there g.O.PortOut.steady (seen g.O.PortOut.faults g.O.PortOut.written g.O.PortOut.closed) left c.front.result.now c.front.ensures.some
+    let none = none_there g.O.PortOut.steady (seen g.O.PortOut.faults g.O.PortOut.written g.O.PortOut.closed) left
+    c.front.result.now c.front.ensures.some
     (sym c.is_empty.ensures ∙ c.loop-chunk-test.false) in
     part_held _ _ _ _ _ _ c.loop-chunk.invariant.sends c.loop-chunk.held left refl none

@@ -7,7 +7,8 @@ abbrev pub invariant-loop-chunk : goal.invariant-loop-chunk
 invariant-loop-chunk g l = record {
   within : IsWithin l.chunk l.bytes;
   front : HasFront l.chunk l.bytes;
-  sends : SendsPart g.O.PortOut.steady (seen g.O.PortOut.faults g.O.PortOut.written g.O.PortOut.closed) (l.fn.held ++ chunk_bytes l.fn.bytes)
+  sends : SendsPart g.O.PortOut.steady (seen g.O.PortOut.faults g.O.PortOut.written g.O.PortOut.closed)
+      (l.fn.held ++ chunk_bytes l.fn.bytes)
       (l.held ++ left_from l.chunk l.bytes) l.fn.output l.output;
 }
 

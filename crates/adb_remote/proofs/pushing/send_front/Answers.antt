@@ -5,7 +5,8 @@ use Rattle.adb_remote.proofs.pushing.send_front.Goals as goal
 
 pub returns-in-Err-clause-sends : goal.returns-in-Err-clause-sends
 returns-in-Err-clause-sends g c =
-    sends_stopped _ _ c.args.held.now (left_from c.args.chunk.now c.args.bytes.now) c.args.output.now c.send_full.new.output c.in-Err.error c.in-Err.ensures
+    sends_stopped _ _ c.args.held.now (left_from c.args.chunk.now c.args.bytes.now) c.args.output.now
+    c.send_full.new.output c.in-Err.error c.in-Err.ensures
 
 pub returns-in_err-gather-clause-sends : goal.returns-in_err-gather-clause-sends
 returns-in_err-gather-clause-sends g c =

@@ -3,8 +3,10 @@ use Rattle.adb_remote.proofs.turning.turn.Goals as goal
 
 pub returns-in-Bytes : goal.returns-in-Bytes
 returns-in-Bytes g c =
-    turn_bytes g.I.PortIn.steady g.I.PortIn.faults g.I.PortIn.left g.O.PortOut.steady _ _ _ c.args.input.now c.read.new.self c.args.reading.now
-    c.in-Bytes.n c.read.new.into c.args.output.now c.take_piece.new.output c.take_piece.new.reading c.take_piece.result c.in-Bytes.ensures.told
+    turn_bytes g.I.PortIn.steady g.I.PortIn.faults g.I.PortIn.left g.O.PortOut.steady _ _ _ c.args.input.now
+    c.read.new.self c.args.reading.now
+    c.in-Bytes.n c.read.new.into c.args.output.now c.take_piece.new.output c.take_piece.new.reading
+    c.take_piece.result c.in-Bytes.ensures.told
     c.in-Bytes.ensures.counts c.take_piece.ensures
 
 pub returns-in-End : goal.returns-in-End

@@ -19,7 +19,9 @@ returns-in_err-entry-clause-drains g c =
     let passed = err_from_is_err_and c.from_residual.result c.from_residual.ensures.1 in
     let before : Out = (g.K.Sink.written c.args.sink.now, c.args.output.now) in
     let now : Out = (g.K.Sink.written c.loop-entry.sink, c.loop-entry.output) in
-    rw (passed.1, passed.2) (λ h lawful. draining_stopped {before = before} {now = now} c.hand_next.new.hub (c.loop-entry.invariant.draining h lawful))
+    rw (passed.1, passed.2)
+    (λ h lawful. draining_stopped {before = before} {now = now} c.hand_next.new.hub
+    (c.loop-entry.invariant.draining h lawful))
 
 pub returns-in_err-keep-clause-drains : goal.returns-in_err-keep-clause-drains
 returns-in_err-keep-clause-drains g c =
@@ -49,7 +51,8 @@ loop-entry-preserved g c =
     } in
     let hands = subst (λ (out : Option Entry). Hands c.loop-entry.hub out c.hand_next.new.hub) c.in-Some.is c.in_ok-entry.ensures.next in
     record {
-      draining = λ h lawful. draining_on h before out c.draining_ends.ensures hands (c.loop-entry.invariant.draining h lawful) c.in_ok-keep.ensures.kept;
+      draining = λ h lawful. draining_on h before out c.draining_ends.ensures hands
+          (c.loop-entry.invariant.draining h lawful) c.in_ok-keep.ensures.kept;
       counts = counts_then g.K.Sink.steady g.K.Sink.faults c.args.sink.now c.loop-entry.sink c.keep.new.sink {g = false}
           c.loop-entry.invariant.counts c.in_ok-keep.ensures.counts;
     }

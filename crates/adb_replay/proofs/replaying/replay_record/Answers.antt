@@ -17,7 +17,8 @@ returns-then-is_hand_out-clause-replays g c =
 
 pub returns-in-Err-clause-replays : goal.returns-in-Err-clause-replays
 returns-in-Err-clause-replays g c = λ h drained.
-    let applied = subst (λ (e : Entry). Applies h e (Err c.in-Err.why) c.apply.new.hub) c.entry-entry.ensures.is (c.in-Err.ensures.applied h drained.lawful) in
+    let applied = subst (λ (e : Entry). Applies h e (Err c.in-Err.why) c.apply.new.hub) c.entry-entry.ensures.is
+    (c.in-Err.ensures.applied h drained.lawful) in
     rw (c.at.ensures, c.offset.ensures)
     (not_made c.args.read.now.0 c.args.read.now.1 h c.apply.new.hub _ c.in-Err.why drained.lawful.legal applied)
 
@@ -31,7 +32,8 @@ returns-in_err-keep_record-in-Ok-clause-replays g c =
     let after : Out = (g.K.Sink.written c.keep_record.new.sink, c.keep_record.new.self) in
     rw (passed.1, passed.2)
     (λ h drained.
-    let applied = subst (λ (e : Entry). Applies h e (Ok tt) c.apply.new.hub) c.entry-entry.ensures.is (c.in-Ok.ensures.applied h drained.lawful) in
+    let applied = subst (λ (e : Entry). Applies h e (Ok tt) c.apply.new.hub) c.entry-entry.ensures.is
+    (c.in-Ok.ensures.applied h drained.lawful) in
     not_kept c.args.read.now.0 e h c.apply.new.hub before after c.in_err-keep_record-in-Ok.field-0.0
     (made c.args.read.now.0 e h c.apply.new.hub input applied)
     c.in_err-keep_record-in-Ok.ensures.loss c.in_err-keep_record-in-Ok.ensures.kept)
@@ -42,7 +44,8 @@ drain-requires g c =
     let e : Entry = c.args.read.now.1 in
     let input : not (is_input e) ≡ false =
     ap (λ (e : Entry). not (is_input e)) (sym c.entry-entry.ensures.is) ∙ (sym c.is_hand_out.ensures ∙ c.if-is_hand_out.false) in
-    let applied = subst (λ (e : Entry). Applies held.0 e (Ok tt) c.apply.new.hub) c.entry-entry.ensures.is (c.in-Ok.ensures.applied held.0 held.1) in
+    let applied = subst (λ (e : Entry). Applies held.0 e (Ok tt) c.apply.new.hub) c.entry-entry.ensures.is
+    (c.in-Ok.ensures.applied held.0 held.1) in
     record { held = (_, (made c.args.read.now.0 e held.0 c.apply.new.hub input applied).lawful) }
 
 pub returns-in_ok-keep_record-in-Ok-clause-replays : goal.returns-in_ok-keep_record-in-Ok-clause-replays
@@ -52,7 +55,8 @@ returns-in_ok-keep_record-in-Ok-clause-replays g c =
     ap (λ (e : Entry). not (is_input e)) (sym c.entry-entry.ensures.is) ∙ (sym c.is_hand_out.ensures ∙ c.if-is_hand_out.false) in
     let mid : Out = (g.K.Sink.written c.keep_record.new.sink, c.keep_record.new.self) in
     λ h drained.
-    let applied = subst (λ (e : Entry). Applies h e (Ok tt) c.apply.new.hub) c.entry-entry.ensures.is (c.in-Ok.ensures.applied h drained.lawful) in
+    let applied = subst (λ (e : Entry). Applies h e (Ok tt) c.apply.new.hub) c.entry-entry.ensures.is
+    (c.in-Ok.ensures.applied h drained.lawful) in
     let m = made c.args.read.now.0 e h c.apply.new.hub input applied in
     kept_and_drained c.args.read.now.0 e h c.apply.new.hub c.drain.new.hub mid c.drain.result m
     c.in_ok-keep_record-in-Ok.ensures.kept c.drain.ensures.loss (c.drain.ensures.drains _ m.lawful)

@@ -12,4 +12,11 @@ unfolding meaning
 returns-clause-id c = λ digits text id request number is.
     let there = number_there 10 4294967295 digits id number in
     let none = none_in_number colon 10 digits there.0 refl there.1 in
-    rw (cut_behind (λ byte. byte == colon) digits colon text none refl, taken_behind digits colon text, left_behind digits colon text, number, is) refl
+    rw (
+      cut_behind (λ byte. byte == colon) digits colon text none refl,
+      taken_behind digits colon text,
+      left_behind
+          digits colon text,
+      number,
+      is,
+    ) refl

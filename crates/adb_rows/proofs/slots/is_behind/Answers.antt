@@ -9,4 +9,5 @@ returns-in-Some g c = λ behind.
     let slots = c.args.slots.now in
     let slot = c.in-Some.slot.now in
     let within = slice_get_within slots (length slots - 1) slot (sym c.in-Some.ensures.value) in
-    fits_behind 0 c.args.number slots (length slots - 1) slot c.requires (omega (arith, within)) c.in-Some.ensures.value (ltb-true _ _ behind)
+    fits_behind 0 c.args.number slots (length slots - 1) slot c.requires (omega (arith, within))
+    c.in-Some.ensures.value (ltb-true _ _ behind)

@@ -26,4 +26,5 @@ returns-in_err-add c =
     let passed = err_from_is_err_and c.from_residual-in_err-add.result c.from_residual-in_err-add.ensures.1 in
     let hands = subst (λ (out : Option Entry). Hands c.loop-entry.hub out c.hand_next.new.hub) c.in-Some.is c.in_ok-entry.ensures.next in
     rw passed.1
-    (λ h lawful counted. draining_lost c.draining_ends.ensures (c.loop-entry.invariant h lawful counted) c.in-Some.entry c.hand_next.new.hub hands)
+    (λ h lawful counted. draining_lost c.draining_ends.ensures (c.loop-entry.invariant h lawful counted)
+    c.in-Some.entry c.hand_next.new.hub hands)

@@ -24,9 +24,13 @@ returns-in_ok-add-in-Ok c = λ h lawful counted taken.
 
 pub returns-in-Err-OutOfMemory : goal.returns-in-Err-OutOfMemory
 returns-in-Err-OutOfMemory c =
-    let lent = subst (λ (e : Entry). (h : History) → IsLawful c.args.hub.now h → Applies h e (Err c.in-Err-OutOfMemory.field-0) c.apply.new.hub)
+    let lent = subst
+    (λ (e : Entry). (h : History) → IsLawful c.args.hub.now h
+    → Applies h e (Err c.in-Err-OutOfMemory.field-0) c.apply.new.hub)
     c.lend.ensures c.in-Err-OutOfMemory.ensures.applied in
-    let refused = subst (λ (why : Refused). (h : History) → IsLawful c.args.hub.now h → Applies h c.args.entry.now (Err why) c.apply.new.hub)
+    let refused =
+    subst (λ (why : Refused). (h : History) → IsLawful c.args.hub.now h
+    → Applies h c.args.entry.now (Err why) c.apply.new.hub)
     c.in-Err-OutOfMemory.field-0-is lent in
     λ h lawful counted taken.
     then_more h (c.args.entry.now ∷ []) c.apply.new.hub (whole_front h c.apply.new.hub (refused h lawful))

@@ -13,6 +13,7 @@ pub loop-done-preserved : goal.loop-done-preserved
 loop-done-preserved c =
     let whole : List ℕ = c.args.text.now ++ chunk_bytes (pattern 0 c.args.size) in (
       omega (arith, c.min-n.ensures, c.loop-done-test.true),
-      further_pattern c.loop-done.text c.write_answer.new.out c.in_ok-chunk.chunk whole c.loop-done.done c.min-n.result c.args.size c.min-n.ensures
+      further_pattern c.loop-done.text c.write_answer.new.out c.in_ok-chunk.chunk whole c.loop-done.done
+          c.min-n.result c.args.size c.min-n.ensures
           (omega (arith, c.loop-done-test.true)) c.in_ok-chunk.ensures c.in_ok-write_answer.ensures.ok c.loop-done.invariant.1,
     )

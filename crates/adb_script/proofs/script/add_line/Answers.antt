@@ -13,7 +13,9 @@ returns-in-Ok-clause-ok c =
     let old : List Line = map seen items in
     let line : Line = seen c.in-Some.read in
     let is : line_of c.split_line.result.0.now ≡ Some line = sym c.in-Some.ensures in
-    let all : map seen c.push.new.self.items ≡ old ++ line ∷ [] = ap (map seen) c.in-Ok.ensures.items ∙ map-append seen items (c.in-Some.read ∷ []) in
+    let all : map seen c.push.new.self.items ≡ old ++ line ∷ [] =
+    ap (map seen) c.in-Ok.ensures.items ∙ map-append seen items (c.in-Some.read ∷ []) in
     let few : length old + 1 ≤ 1024 = omega (arith, length-map items seen, c.if-line-gt-MAX_LINES.false, c.len.ensures) in
     subst (λ (ls : List Line). Reads script more ls) (sym all)
-    (reads_line script c.args.rest.now c.split_line.result.0.now more old c.split_line.ensures c.requires.reads line is few (search (rules)))
+    (reads_line script c.args.rest.now c.split_line.result.0.now more old c.split_line.ensures c.requires.reads line
+    is few (search (rules)))

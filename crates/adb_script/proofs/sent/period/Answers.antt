@@ -12,4 +12,5 @@ loop-place-preserved c = record {
 
 pub returns : goal.returns
 returns c =
-    fill_by_all (λ (k : ℕ). (k + c.args.shift) % 251) c.loop-place.bytes 251 0 c.loop-place.invariant.size (search (rules, c.loop-place.invariant.front))
+    fill_by_all (λ (k : ℕ). (k + c.args.shift) % 251) c.loop-place.bytes 251 0 c.loop-place.invariant.size
+    (search (rules, c.loop-place.invariant.front))

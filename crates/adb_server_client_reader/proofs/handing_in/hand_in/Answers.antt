@@ -18,5 +18,6 @@ returns-in-Err-clause-told g c before after n a es l rest t told left is fits =
     let piece = c.args.piece.now in
     let number = submit_number c.args.pass.now.pass c.read.new.pass.pass (length piece) c.read.result c.read.ensures.pass in
     let w = where_some _ _ _ a t c.in-Err.ensures.told in
-    handed_refused _ es piece l rest _ _ c.in-Err.error a w.0 _ c.args.pass.now.pass c.read.new.pass.pass w.1 told fits w.2 c.in-Err.ensures.pass refl
+    handed_refused _ es piece l rest _ _ c.in-Err.error a w.0 _ c.args.pass.now.pass c.read.new.pass.pass w.1 told
+    fits w.2 c.in-Err.ensures.pass refl
     (rw number at c.give_up.ensures.told) c.give_up.ensures.starved refl left is refl (omega arith)

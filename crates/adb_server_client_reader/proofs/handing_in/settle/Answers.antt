@@ -6,7 +6,9 @@ use Rattle.adb_server_client_reader.proofs.handing_in.settle.Goals as goal
 
 pub returns-in-None-clause-told : goal.returns-in-None-clause-told
 returns-in-None-clause-told g c before after n a es piece l rest t told says left is =
-    rw c.next_of.ensures (settled_idle _ es piece l rest _ _ c.args.progress a t told says c.in-None.is left is refl (omega arith) refl refl)
+    rw c.next_of.ensures
+    (settled_idle _ es piece l rest _ _ c.args.progress a t told says c.in-None.is left is refl (omega arith) refl
+    refl)
 
 pub returns-in-Ok-clause-told : goal.returns-in-Ok-clause-told
 returns-in-Ok-clause-told g c before after n a es piece l rest t told says left is =
@@ -14,7 +16,8 @@ returns-in-Ok-clause-told g c before after n a es piece l rest t told says left 
     c.bind-port.ensures.count left is refl in
     let b = where_some _ _ _ a t c.in-Ok.ensures.told in
     rw c.next_of-in-Ok.ensures
-    (settled_bound x c.in-Ok.progress b.0 b.1 b.2 (told_memory c.args.pass.now.pass c.bound.new.pass.pass 0 c.in-Ok.progress c.in-Ok.ensures.pass))
+    (settled_bound x c.in-Ok.progress b.0 b.1 b.2
+    (told_memory c.args.pass.now.pass c.bound.new.pass.pass 0 c.in-Ok.progress c.in-Ok.ensures.pass))
 
 pub returns-in-Err-clause-told : goal.returns-in-Err-clause-told
 returns-in-Err-clause-told g c before after n a es piece l rest t told says left is =

@@ -14,7 +14,8 @@ returns-in-Ok-Bytes-clause-told g c a es l t told left knows =
     let number = room_number c.args.pass.now.pass c.room.new.pass.pass c.room.result c.room.ensures.pass in
     let memory = room_memory c.args.pass.now.pass c.room.new.pass.pass _ c.in-Ok-Bytes.ensures.pass in
     (rw (number, memory) at c.feed.ensures.told) a es l (w.1 ∙ ap Some w.2.same) told left
-    (fits_less n _ c.in-Ok-Bytes.n (state (reverse es)) (fits_of n c.in-Ok-Bytes.n (reverse es) told.lawful.legal (room_told _ _ a w.0 es told w.2))
+    (fits_less n _ c.in-Ok-Bytes.n (state (reverse es))
+    (fits_of n c.in-Ok-Bytes.n (reverse es) told.lawful.legal (room_told _ _ a w.0 es told w.2))
     (omega (arith, length-take c.min-most.result c.args.buffer.now)))
 
 pub returns-in-Ok-Later-clause-told : goal.returns-in-Ok-Later-clause-told

@@ -8,7 +8,9 @@ loop-init g c = (tt, tt, refl, λ is. is, omega arith, omega arith, reads_first 
 pub returns-in-Stop-clause-told : goal.returns-in-Stop-clause-told
 returns-in-Stop-clause-told g c =
     let inv = c.loop.invariant in
-    reads_all _ _ _ (reads_done None _ _ _ _ _ inv.6 (rw inv.2 at (rw c.in-Stop.is at c.turn-fed.ensures.told)) c.turn-fed.ensures.bind_count)
+    reads_all _ _ _
+    (reads_done None _ _ _ _ _ inv.6 (rw inv.2 at (rw c.in-Stop.is at c.turn-fed.ensures.told))
+    c.turn-fed.ensures.bind_count)
 
 pub returns-then-fed-clause-told : goal.returns-then-fed-clause-told
 returns-then-fed-clause-told g c =

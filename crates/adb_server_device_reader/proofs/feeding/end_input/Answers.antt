@@ -16,7 +16,8 @@ returns-then-is_empty-clause-told g c start rest faults ended x =
 pub returns-then-goes_on-clause-told : goal.returns-then-goes_on-clause-told
 returns-then-goes_on-clause-told g c start rest faults ended x =
     let filled : (length c.held-held.result.now == 0) ≡ false = sym c.is_empty.ensures ∙ c.if-is_empty.false in
-    done_held c.args.pass.now.pass.number c.hand_in.new.pass.pass.number start c.held-held.result.now c.args.packets.now rest faults c.args.cause
+    done_held c.args.pass.now.pass.number c.hand_in.new.pass.pass.number start c.held-held.result.now
+    c.args.packets.now rest faults c.args.cause
     c.args.pass.now.pass.starved c.hand_in.new.pass.pass.starved c.finish-then-goes_on.new.pass.pass.starved _ _ _ x c.held-held.ensures
     filled c.requires ended c.hand_in.ensures.number
     (handed_as _ true _ _ _ _ _ _ (sym c.goes_on.ensures ∙ c.if-goes_on.true) (c.hand_in.ensures.told _ x.hall))
@@ -25,7 +26,8 @@ returns-then-goes_on-clause-told g c start rest faults ended x =
 pub returns-else-goes_on-clause-told : goal.returns-else-goes_on-clause-told
 returns-else-goes_on-clause-told g c start rest faults ended x =
     let filled : (length c.held-held.result.now == 0) ≡ false = sym c.is_empty.ensures ∙ c.if-is_empty.false in
-    done_stopped c.args.pass.now.pass.number start c.held-held.result.now c.args.packets.now rest faults c.args.cause c.args.pass.now.pass.starved
+    done_stopped c.args.pass.now.pass.number start c.held-held.result.now c.args.packets.now rest faults c.args.cause
+    c.args.pass.now.pass.starved
     c.hand_in.new.pass.pass.starved _ _ x
     c.held-held.ensures filled c.requires ended
     (handed_as _ false _ _ _ _ _ _ (sym c.goes_on.ensures ∙ c.if-goes_on.false) (c.hand_in.ensures.told _ x.hall))

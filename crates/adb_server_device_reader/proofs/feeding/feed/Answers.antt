@@ -11,7 +11,8 @@ returns-then-not-hand_in_whole-clause-told g c start coming x =
     let taken =
     so_far_taken c.args.pass.now.pass.number start c.loop-rest.packets c.take-taken.new.self rest coming n _ _ c.take-taken.ensures.stands
     (inv.3 start coming x) in
-    cut_more _ start (drop n rest) coming _ _ (rw inv.0 at (c.if-not-hand_in_whole.ensures.told start (drop n rest ++ coming) (rw inv.0 taken)))
+    cut_more _ start (drop n rest) coming _ _
+    (rw inv.0 at (c.if-not-hand_in_whole.ensures.told start (drop n rest ++ coming) (rw inv.0 taken)))
 
 pub loop-rest-preserved : goal.loop-rest-preserved
 loop-rest-preserved g c =
@@ -23,7 +24,8 @@ loop-rest-preserved g c =
       c.hand_in_whole.ensures.mark ∙ inv.2,
       λ start coming x.
           let taken =
-          so_far_taken c.args.pass.now.pass.number start c.loop-rest.packets c.take-taken.new.self rest coming n _ _ c.take-taken.ensures.stands
+          so_far_taken c.args.pass.now.pass.number start c.loop-rest.packets c.take-taken.new.self rest coming n _ _
+          c.take-taken.ensures.stands
           (inv.3 start coming x) in
           so_far_as _ start _ (drop n rest) _ coming _ _ (sym (take_rest rest n))
           (rw inv.0 at (c.if-not-hand_in_whole.ensures.told start (drop n rest ++ coming) (rw inv.0 taken))),

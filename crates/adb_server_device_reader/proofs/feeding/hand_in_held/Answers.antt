@@ -10,7 +10,8 @@ returns-in-Some-clause-open g c = rw c.in-Some.ensures.some.empty need_of_nothin
 pub returns-in-Some-clause-told : goal.returns-in-Some-clause-told
 returns-in-Some-clause-told g c start coming x =
     let shares = c.in-Some.ensures.some in
-    fed_piece (goes_on c.hand_in_packet.result) _ start c.in-Some.packet c.args.packets.now c.share.new.self coming c.args.pass.now.pass.starved
+    fed_piece (goes_on c.hand_in_packet.result) _ start c.in-Some.packet c.args.packets.now c.share.new.self coming
+    c.args.pass.now.pass.starved
     c.hand_in_packet.new.pass.pass.starved _ _ x
     shares.given shares.slice shares.stands (c.hand_in_packet.ensures.told _ x.hall)
 

@@ -15,5 +15,6 @@ returns-in-Failed-clause-told g c start r = record {
   rest = r.rest;
   left_now = c.in-Failed.ensures.told r.rest r.left_now;
   done =
-      c.end_input-in-Failed.ensures.told start r.rest _ (faulted start r.rest _ _ r.unfailed (c.in-Failed.ensures.counts.fault refl)) r.so_far;
+      c.end_input-in-Failed.ensures.told start r.rest _
+      (faulted start r.rest _ _ r.unfailed (c.in-Failed.ensures.counts.fault refl)) r.so_far;
 }

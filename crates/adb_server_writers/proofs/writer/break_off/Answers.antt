@@ -9,7 +9,8 @@ pub returns-in-Client-clause-told : goal.returns-in-Client-clause-told
 returns-in-Client-clause-told g c =
     let n = c.args.pass.now.number in
     rw c.in-Client.is
-    (where_ends (side_of Client n) (side_is Client n) c.args.cause _ _ c.submit.result _ _ c.submit.ensures.pass (c.submit.ensures.memory refl)
+    (where_ends (side_of Client n) (side_is Client n) c.args.cause _ _ c.submit.result _ _ c.submit.ensures.pass
+    (c.submit.ensures.memory refl)
     c.submit.ensures.told)
 
 pub returns-in-Link-clause-told : goal.returns-in-Link-clause-told

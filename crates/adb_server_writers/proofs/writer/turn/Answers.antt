@@ -4,7 +4,8 @@ use Rattle.adb_server_hall.specs.Passes.{is_starved}
 use Rattle.adb_server_hall.proofs.Made.{where_some}
 use Rattle.adb_server_writers.specs.Writing.{side_of}
 use Rattle.adb_server_writers.proofs.Sides.{side_is}
-use Rattle.adb_server_writers.proofs.Writings.{idle_turn, done_turn, refused_turn, handed_turn, handed_number, handed_memory, error_hungry, error_memory}
+use Rattle.adb_server_writers.proofs.Writings.{idle_turn, done_turn, refused_turn, handed_turn, handed_number, handed_memory, error_hungry}
+use Rattle.adb_server_writers.proofs.Writings.{error_memory}
 use Rattle.adb_server_writers.proofs.writer.turn.Goals as goal
 
 pub returns-in-Ok-Bytes-clause-told : goal.returns-in-Ok-Bytes-clause-told

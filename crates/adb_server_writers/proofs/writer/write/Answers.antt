@@ -11,7 +11,8 @@ pub returns-in-Idle-clause-told : goal.returns-in-Idle-clause-told
 returns-in-Idle-clause-told g c a es t held =
     let inv = c.loop.invariant in
     let x = inv.5 a es t held in
-    written_after (side_of c.args.half c.args.pass.now.number) es _ _ _ _ _ _ _ _ x (rw inv.2 at (c.in-Idle.ensures.told x.now x.entries x.is x.held))
+    written_after (side_of c.args.half c.args.pass.now.number) es _ _ _ _ _ _ _ _ x
+    (rw inv.2 at (c.in-Idle.ensures.told x.now x.entries x.is x.held))
 
 pub returns-in-Stop-clause-told : goal.returns-in-Stop-clause-told
 returns-in-Stop-clause-told g c a es t held =

@@ -11,9 +11,11 @@ use Rattle.adb_serving.proofs.calling.call_live.Goals as goal
 
 pub returns-in_default-clause-tool : goal.returns-in_default-clause-tool
 returns-in_default-clause-tool g c =
-    tool_starved (seen g.N.Sink.steady g.N.Sink.faults g.N.Sink.written) c.args.note.now c.say_out_of_memory.new.note c.say_out_of_memory.result
+    tool_starved (seen g.N.Sink.steady g.N.Sink.faults g.N.Sink.written) c.args.note.now c.say_out_of_memory.new.note
+    c.say_out_of_memory.result
     c.say_out_of_memory.ensures.status c.say_out_of_memory.ensures.told c.say_out_of_memory.ensures.counts c.args.words.now
-    (seen g.S.Source.steady g.S.Source.faults g.S.Source.left) (seen g.K.Sink.steady g.K.Sink.faults g.K.Sink.written) c.args.source.now c.args.sink.now
+    (seen g.S.Source.steady g.S.Source.faults g.S.Source.left) (seen g.K.Sink.steady g.K.Sink.faults g.K.Sink.written)
+    c.args.source.now c.args.sink.now
 
 pub returns-clause-tool : goal.returns-clause-tool
 returns-clause-tool g c =
@@ -23,7 +25,8 @@ returns-clause-tool g c =
     c.run-ran.new.note c.new-yard.result c.args.words.now c.run-ran.result.status called in
     subst
     (λ (count : ℕ). RunsTool c.args.words.now (seen g.S.Source.steady g.S.Source.faults g.S.Source.left)
-    (seen g.K.Sink.steady g.K.Sink.faults g.K.Sink.written) (seen g.N.Sink.steady g.N.Sink.faults g.N.Sink.written) live_yard c.args.source.now
+    (seen g.K.Sink.steady g.K.Sink.faults g.K.Sink.written) (seen g.N.Sink.steady g.N.Sink.faults g.N.Sink.written)
+    live_yard c.args.source.now
     c.run-ran.new.source c.args.sink.now c.run-ran.new.sink c.args.note.now c.run-ran.new.note count c.run-ran.result.status) none live
 
 pub run-ran-requires-send-Y-Keeper : goal.run-ran-requires-send-Y-Keeper

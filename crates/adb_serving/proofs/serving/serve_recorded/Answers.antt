@@ -22,7 +22,8 @@ run-status-requires-clause-records g c = λ κs lives serves asked is.
 pub returns-clause-serves : goal.returns-clause-serves
 returns-clause-serves g c asked is =
     let served = c.run-status.ensures.serves asked is in
-    serve_ended (seen g.N.Sink.steady g.N.Sink.faults g.N.Sink.written) c.run-status.result.status c.settle_record.result.status c.args.note.now
+    serve_ended (seen g.N.Sink.steady g.N.Sink.faults g.N.Sink.written) c.run-status.result.status
+    c.settle_record.result.status c.args.note.now
     c.run-status.new.note c.settle_record.new.note asked.port (served.end, served.tells) c.settle_record.ensures.ended
 
 pub returns-clause-record : goal.returns-clause-record

@@ -6,4 +6,5 @@ use Rattle.adb_shell_service.proofs.commands.joined.Goals as goal
 pub returns : goal.returns
 returns c =
     joined_words c.args.words.now _ c.loop-word.word-index c.in_ok-text.text c.loop-word.text c.in-len1-up.len_at_least
-    (omega (arith, c.loop-word-test.false, length-take {A = Bor (List ℕ)}, length-drop {A = Bor (List ℕ)})) c.in_ok-text.ensures c.loop-word.invariant
+    (omega (arith, c.loop-word-test.false, length-take {A = Bor (List ℕ)}, length-drop {A = Bor (List ℕ)}))
+    c.in_ok-text.ensures c.loop-word.invariant

@@ -15,14 +15,38 @@ pub returns-in_err-closed-clause-front : goal.returns-in_err-closed-clause-front
 returns-in_err-closed-clause-front c = on_err_always c.from_residual-in_err-closed.result (λ opening fed taken is told.
     let sound = c.in_ok-faulty.ensures.ok.0 in
     piece_front
-    (record { opening = _; fed = _; piece = _; taken = _; out = _; old = _; read = _; is = is; takes = c.feed.ensures.taken sound; told = told })
+    (record {
+      opening = _;
+      fed = _;
+      piece = _;
+      taken = _;
+      out = _;
+      old = _;
+      read = _;
+      is = is;
+      takes =
+          c.feed.ensures.taken sound;
+      told = told;
+    })
     c.in_err-closed.ensures.err)
 
 pub returns-then-closed-clause-whole : goal.returns-then-closed-clause-whole
 returns-then-closed-clause-whole c = λ opening fed taken is told.
     let sound = c.in_ok-faulty.ensures.ok.0 in
     let all = piece_answered
-    (record { opening = _; fed = _; piece = _; taken = _; out = _; old = _; read = _; is = is; takes = c.feed.ensures.taken sound; told = told })
+    (record {
+      opening = _;
+      fed = _;
+      piece = _;
+      taken = _;
+      out = _;
+      old = _;
+      read = _;
+      is = is;
+      takes =
+          c.feed.ensures.taken sound;
+      told = told;
+    })
     c.in_ok-closed.ensures.ok in
     let ends = ap (λ t. t || is_some c.feed.new.self.fault) c.if-closed.true ∙ sym c.if-closed.true in
     subst (Answers opening (fed ++ c.args.piece.now) taken c.answer_given.new.reader c.answer_given.new.out.bytes) ends all
@@ -31,7 +55,19 @@ pub returns-else-closed-clause-whole : goal.returns-else-closed-clause-whole
 returns-else-closed-clause-whole c = λ opening fed taken is told.
     let sound = c.in_ok-faulty.ensures.ok.0 in
     let all = piece_answered
-    (record { opening = _; fed = _; piece = _; taken = _; out = _; old = _; read = _; is = is; takes = c.feed.ensures.taken sound; told = told })
+    (record {
+      opening = _;
+      fed = _;
+      piece = _;
+      taken = _;
+      out = _;
+      old = _;
+      read = _;
+      is = is;
+      takes =
+          c.feed.ensures.taken sound;
+      told = told;
+    })
     c.in_ok-closed.ensures.ok in
     let ends = ap (λ t. t || is_some c.feed.new.self.fault) c.if-closed.false
     ∙ sym (c.in_ok-faulty.ensures.ok.1 c.feed.new.self.fault (c.feed.ensures.answer sound)) in

@@ -9,4 +9,5 @@ returns-in-Ok g c =
 pub returns-in-Err : goal.returns-in-Err
 returns-in-Err g c =
     rw c.failed_input.ensures
-    (called_not _ _ _ _ _ c.args.source.now c.make_job.new.source c.in-Err.error c.args.sink.now c.args.note.now c.args.yard.now c.in-Err.ensures)
+    (called_not _ _ _ _ _ c.args.source.now c.make_job.new.source c.in-Err.error c.args.sink.now c.args.note.now
+    c.args.yard.now c.in-Err.ensures)

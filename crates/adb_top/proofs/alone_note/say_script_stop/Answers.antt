@@ -10,7 +10,8 @@ returns-in-WriteFault g c = rw c.in-WriteFault.is (lost_line_told _ _ _ _ c.say_
 
 pub returns-in-OutOfMemory : goal.returns-in-OutOfMemory
 returns-in-OutOfMemory g c = rw c.in-OutOfMemory.is
-    (fixed_told _ _ _ _ _ _ _ (λ e. cc) c.say_out_of_memory.ensures.status c.say_out_of_memory.ensures.told c.say_out_of_memory.ensures.counts)
+    (fixed_told _ _ _ _ _ _ _ (λ e. cc) c.say_out_of_memory.ensures.status c.say_out_of_memory.ensures.told
+    c.say_out_of_memory.ensures.counts)
 
 pub returns-in-BadLine : goal.returns-in-BadLine
 returns-in-BadLine g c = rw c.in-BadLine.is

@@ -7,4 +7,5 @@ returns-in-Usage g c = rw c.in-Usage.is
 
 pub returns-in-OutOfMemory : goal.returns-in-OutOfMemory
 returns-in-OutOfMemory g c = rw c.in-OutOfMemory.is
-    (fixed_told _ _ _ _ _ _ _ (λ e. cc) c.say_out_of_memory.ensures.status c.say_out_of_memory.ensures.told c.say_out_of_memory.ensures.counts)
+    (fixed_told _ _ _ _ _ _ _ (λ e. cc) c.say_out_of_memory.ensures.status c.say_out_of_memory.ensures.told
+    c.say_out_of_memory.ensures.counts)

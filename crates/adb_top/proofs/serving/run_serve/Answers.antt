@@ -11,7 +11,8 @@ pub returns-in-Ok-clause-serves : goal.returns-in-Ok-clause-serves
 returns-in-Ok-clause-serves g c asked is =
     let both : Some (serving c.in-Ok.asked) ≡ Some asked = sym c.in-Ok.ensures.serve ∙ is in
     let same : serving c.in-Ok.asked ≡ asked = cc in
-    serves_of (seen g.N.Sink.steady g.N.Sink.faults g.N.Sink.written) asked c.in-Ok.asked.port c.serve-ended.result.served c.say_ended.result.status
+    serves_of (seen g.N.Sink.steady g.N.Sink.faults g.N.Sink.written) asked c.in-Ok.asked.port
+    c.serve-ended.result.served c.say_ended.result.status
     (g.Y.Yard.steady c.args.yard) (g.Y.Yard.lasting c.args.yard) c.args.note.now c.serve-ended.new.note c.say_ended.new.note
     (ap (λ (s : Serving). s.port) same) c.serve-ended.ensures.record c.serve-ended.ensures.door c.serve-ended.ensures.lasting
     c.serve-ended.ensures.announced c.serve-ended.ensures.counts c.say_ended.ensures.tells
@@ -27,7 +28,8 @@ serve-ended-requires-clause-records g c = λ κs lives. c.requires.records _ c.i
 
 pub returns-clause-serves : goal.returns-clause-serves
 returns-clause-serves g c asked is =
-    rw c.bare-in-Err-OutOfMemory.ensures.status (serves_of (seen g.N.Sink.steady g.N.Sink.faults g.N.Sink.written) asked asked.port served.OutOfMemory
+    rw c.bare-in-Err-OutOfMemory.ensures.status
+    (serves_of (seen g.N.Sink.steady g.N.Sink.faults g.N.Sink.written) asked asked.port served.OutOfMemory
     c.say_served.result (g.Y.Yard.steady c.args.yard) (g.Y.Yard.lasting c.args.yard) c.args.note.now c.args.note.now
     c.say_served.new.note refl (λ s end. (let clash : served.OutOfMemory ≡ served.RecordFault = end in cc))
     (λ s end. (let clash : served.OutOfMemory ≡ served.DoorFault = end in cc))

@@ -14,5 +14,6 @@ returns-in-Ok-true-clause-ok c =
     let taken =
     subst (λ (b : Bool). Takes b (trees.behind c.args.tree.now (line_of text)) c.args.tree.now c.take.new.self)
     c.in-Ok-true.field-0-test c.in-Ok-true.ensures in
-    reads_line c.args.script.now c.args.rest.now text more c.args.lines c.args.tree.now c.split_line.ensures c.requires.reads c.take.new.self
+    reads_line c.args.script.now c.args.rest.now text more c.args.lines c.args.tree.now c.split_line.ensures
+    c.requires.reads c.take.new.self
     (not_far (c.args.lines + 1) (length c.args.script.now - length more) few (omega (arith, near))) few taken

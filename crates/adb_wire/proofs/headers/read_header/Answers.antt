@@ -11,4 +11,5 @@ returns-clause-spelled c =
     read_spelled c.args.bytes.now c.read_head.result c.told-bytes fits c.read_head.ensures
 
 pub returns-clause-read_back : goal.returns-clause-read_back
-returns-clause-read_back c = λ head fits e. c.read_head.ensures ∙ (ap head_at (e ∙ sym (append-nil (header_bytes head))) ∙ head_again head [] fits)
+returns-clause-read_back c = λ head fits e. c.read_head.ensures
+    ∙ (ap head_at (e ∙ sym (append-nil (header_bytes head))) ∙ head_again head [] fits)

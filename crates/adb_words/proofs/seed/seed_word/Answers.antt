@@ -10,13 +10,15 @@ use Rattle.adb_words.proofs.seed.seed_word.Goals as goal
 pub returns-in-Ok-operands_of-clause-ok : goal.returns-in-Ok-operands_of-clause-ok
 returns-in-Ok-operands_of-clause-ok c =
     let m = c.in-Ok-operands_of.matches in
-    let found = seed_found c.args.name.now c.args.words.now _ m c.in-Ok.ensures c.in-Ok-operands_of.ensures.found c.in-Ok-operands_of.ensures.taken in
+    let found = seed_found c.args.name.now c.args.words.now _ m c.in-Ok.ensures c.in-Ok-operands_of.ensures.found
+    c.in-Ok-operands_of.ensures.taken in
     seed_given (texts c.args.words.now) found.seed c.seed_in.result found.is (c.seed_in.ensures found.seed found.found)
 
 pub returns-in-Ok-operands_of-clause-refused : goal.returns-in-Ok-operands_of-clause-refused
 returns-in-Ok-operands_of-clause-refused c = λ is.
     let m = c.in-Ok-operands_of.matches in
-    let found = seed_found c.args.name.now c.args.words.now _ m c.in-Ok.ensures c.in-Ok-operands_of.ensures.found c.in-Ok-operands_of.ensures.taken in
+    let found = seed_found c.args.name.now c.args.words.now _ m c.in-Ok.ensures c.in-Ok-operands_of.ensures.found
+    c.in-Ok-operands_of.ensures.taken in
     absurd (never_refused found.seed Usage c.seed_in.result (c.seed_in.ensures found.seed found.found) is)
 
 pub returns-in-Err-clause-refused : goal.returns-in-Err-clause-refused

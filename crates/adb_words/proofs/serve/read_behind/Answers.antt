@@ -11,7 +11,8 @@ returns-in-Ok-clause-ok c =
     served_as (serve_found (texts c.args.words.now) c.in-Ok.matches c.in-Ok.ensures.ok) c.serve_in.result c.serve_in.ensures.ok
 
 pub returns-in-Ok-clause-usage : goal.returns-in-Ok-clause-usage
-returns-in-Ok-clause-usage c = λ is. sym (serve_found (texts c.args.words.now) c.in-Ok.matches c.in-Ok.ensures.ok) ∙ c.serve_in.ensures.usage is
+returns-in-Ok-clause-usage c = λ is. sym (serve_found (texts c.args.words.now) c.in-Ok.matches c.in-Ok.ensures.ok)
+    ∙ c.serve_in.ensures.usage is
 
 pub returns-in-Err-clause-usage : goal.returns-in-Err-clause-usage
 returns-in-Err-clause-usage c = λ is.

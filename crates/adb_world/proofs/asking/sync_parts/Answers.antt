@@ -23,7 +23,8 @@ settle_parts-requires-clause-wrote c =
 pub finish_one-requires-clause-there : goal.finish_one-requires-clause-there
 finish_one-requires-clause-there c =
     subst (λ (n : ℕ). is_some (at n c.settle_parts.new.parts.sessions.entries) ≡ true) (sym c.in_ok-number.ensures.number)
-    (there_after (c.args.parts.now.given + 1) c.args.ask c.args.parts.now c.begin.new.parts c.settle_parts.new.parts c.in_ok-number.ensures.added
+    (there_after (c.args.parts.now.given + 1) c.args.ask c.args.parts.now c.begin.new.parts c.settle_parts.new.parts
+    c.in_ok-number.ensures.added
     c.in_ok-settle_parts.ensures.goes.same)
 
 pub returns-clause-answer : goal.returns-clause-answer
@@ -32,7 +33,8 @@ returns-clause-answer c =
     let same = c.in_ok-settle_parts.ensures.goes.same in
     let number : ℕ = c.args.parts.now.given + 1 in
     let fresh = new_alone number c.args.ask c.args.parts.now c.begin.new.parts c.settle_parts.new.parts adds same c.requires.done.words in
-    is_answer number c.args.ask c.args.parts.now c.begin.new.parts c.settle_parts.new.parts adds same (files_of c.settle_parts.new.parts.device)
+    is_answer number c.args.ask c.args.parts.now c.begin.new.parts c.settle_parts.new.parts adds same
+    (files_of c.settle_parts.new.parts.device)
     (files_of c.args.parts.now.device)
     (λ session is.
     subst (λ (d : Daemon). IsAnsweredAlone session (files_of d) (files_of c.settle_parts.new.parts.device)) adds.device
@@ -48,7 +50,8 @@ returns-clause-files c =
     let number : ℕ = c.args.parts.now.given + 1 in
     let fresh = new_alone number c.args.ask c.args.parts.now c.begin.new.parts c.settle_parts.new.parts adds same c.requires.done.words in
     c.in_ok-session.ensures.files
-    ∙ is_left number c.args.ask c.args.parts.now c.begin.new.parts c.settle_parts.new.parts adds same (files_of c.settle_parts.new.parts.device)
+    ∙ is_left number c.args.ask c.args.parts.now c.begin.new.parts c.settle_parts.new.parts adds same
+    (files_of c.settle_parts.new.parts.device)
     (files_of c.args.parts.now.device)
     (λ session is.
     subst (λ (d : Daemon). IsAnsweredAlone session (files_of d) (files_of c.settle_parts.new.parts.device)) adds.device
@@ -56,9 +59,11 @@ returns-clause-files c =
 
 pub returns-clause-same : goal.returns-clause-same
 returns-clause-same c =
-    all_same (c.args.parts.now.given + 1) c.args.ask c.args.parts.now c.begin.new.parts c.settle_parts.new.parts c.in_ok-number.ensures.added
+    all_same (c.args.parts.now.given + 1) c.args.ask c.args.parts.now c.begin.new.parts c.settle_parts.new.parts
+    c.in_ok-number.ensures.added
     c.in_ok-settle_parts.ensures.goes.same c.requires.done.ease refl c.finish_one.new.parts
-    (subst (λ (n : ℕ). AreSameBut n c.settle_parts.new.parts.sessions.entries c.finish_one.new.parts.sessions.entries) c.in_ok-number.ensures.number
+    (subst (λ (n : ℕ). AreSameBut n c.settle_parts.new.parts.sessions.entries c.finish_one.new.parts.sessions.entries)
+    c.in_ok-number.ensures.number
     c.in_ok-session.ensures.same)
 
 pub returns-in_err-number-clause-in_part : goal.returns-in_err-number-clause-in_part
@@ -71,9 +76,11 @@ returns-in_err-settle_parts-clause-in_part c =
     let whole = whole_with number (codes "sync:") c.args.ask c.args.parts.now c.begin.new.parts
     (whole_of false true c.args.parts.now refl c.requires.done) adds in
     at_err _ c.from_residual-in_err-settle_parts.result
-    (in_part number c.args.ask c.args.parts.now c.begin.new.parts c.begin.new.parts adds (same_sessions c.begin.new.parts.sessions.entries) c.requires.done
+    (in_part number c.args.ask c.args.parts.now c.begin.new.parts c.begin.new.parts adds
+    (same_sessions c.begin.new.parts.sessions.entries) c.requires.done
     (files_of c.args.parts.now.device) (files_of c.settle_parts.new.parts.device)
-    (subst (λ (d : Daemon). AreAskedInPart (files_of d) (files_of c.settle_parts.new.parts.device) c.begin.new.parts.sessions.entries) adds.device
+    (subst (λ (d : Daemon). AreAskedInPart (files_of d) (files_of c.settle_parts.new.parts.device)
+    c.begin.new.parts.sessions.entries) adds.device
     (c.in_err-settle_parts.ensures.in_part c.in_ok-number.ensures.ease whole)))
 
 pub returns-in_err-session-clause-in_part : goal.returns-in_err-session-clause-in_part
@@ -82,9 +89,11 @@ returns-in_err-session-clause-in_part c =
     let same = c.in_ok-settle_parts.ensures.goes.same in
     let number : ℕ = c.args.parts.now.given + 1 in
     let fresh = new_alone number c.args.ask c.args.parts.now c.begin.new.parts c.settle_parts.new.parts adds same c.requires.done.words in
-    at_err _ c.from_residual-in_err-session.result (all_served (files_of c.args.parts.now.device) (files_of c.finish_one.new.parts.device) c.args.ask
+    at_err _ c.from_residual-in_err-session.result
+    (all_served (files_of c.args.parts.now.device) (files_of c.finish_one.new.parts.device) c.args.ask
     (c.in_err-session.ensures.files
-    ∙ is_left number c.args.ask c.args.parts.now c.begin.new.parts c.settle_parts.new.parts adds same (files_of c.settle_parts.new.parts.device)
+    ∙ is_left number c.args.ask c.args.parts.now c.begin.new.parts c.settle_parts.new.parts adds same
+    (files_of c.settle_parts.new.parts.device)
     (files_of c.args.parts.now.device)
     (λ session is.
     subst (λ (d : Daemon). IsAnsweredAlone session (files_of d) (files_of c.settle_parts.new.parts.device)) adds.device

@@ -11,7 +11,8 @@ returns c = λ number old mid new done ended.
       nothing = c.most_entries_send_nothing.ensures;
       alone = c.a_client_sends_up_its_own_stream.ensures;
       asks = λ parts runs. c.sessions_ask_for_services.ensures runs.history runs.holds.lawful.legal runs.holds.asks;
-      sound = λ parts runs. c.a_device_breaks_no_link.ensures model_setting runs.history (omega arith) runs.holds.lawful.legal runs.holds.joined;
+      sound = λ parts runs. c.a_device_breaks_no_link.ensures model_setting runs.history (omega arith)
+          runs.holds.lawful.legal runs.holds.joined;
       counts = c.settled_worlds_are_counted.ensures;
     } in
     same_files laws number old mid new done ended

@@ -23,7 +23,8 @@ returns c = λ old new ease stopped begun.
       carried = c.carries_rest.ensures;
       stays = c.what_came_stays.ensures;
       asks = c.sessions_ask_for_services.ensures;
-      sound = λ parts runs. c.a_device_breaks_no_link.ensures model_setting runs.history (omega arith) runs.holds.lawful.legal runs.holds.joined;
+      sound = λ parts runs. c.a_device_breaks_no_link.ensures model_setting runs.history (omega arith)
+          runs.holds.lawful.legal runs.holds.joined;
       requests = c.requests_open_their_service.ensures;
       answered = c.clients_are_answered.ensures;
       payloads = payloads;

@@ -19,7 +19,8 @@ returns c = λ old new ease n made rests.
       rest = rest;
       stays = c.what_came_stays.ensures;
       asks = c.sessions_ask_for_services.ensures;
-      sound = λ parts runs. c.a_device_breaks_no_link.ensures model_setting runs.history (omega arith) runs.holds.lawful.legal runs.holds.joined;
+      sound = λ parts runs. c.a_device_breaks_no_link.ensures model_setting runs.history (omega arith)
+          runs.holds.lawful.legal runs.holds.joined;
       requests = c.requests_open_their_service.ensures;
       put = c.writes_were_put_at_rest.ensures;
       pay = c.clients_pay_for_all_that_moves.ensures;

@@ -24,19 +24,22 @@ pub returns-then-not-branch-clause-alone : goal.returns-then-not-branch-clause-a
 returns-then-not-branch-clause-alone c = λ ease n session alone is.
     let goes = subst (λ (b : Bool). Goes Rests b c.loop-steps.parts c.step.new.parts) c.if-not-branch.true c.in_ok-step.ensures.moves in
     c.sessions_alone_are_answered.ensures c.args.parts.now c.step.new.parts ease
-    (subst (λ (parts : Parts). GoesOn c.args.parts.now parts) (sym goes.0) c.loop-steps.invariant.0.goes) (subst Rests (sym goes.0) goes.1) n session alone is
+    (subst (λ (parts : Parts). GoesOn c.args.parts.now parts) (sym goes.0) c.loop-steps.invariant.0.goes)
+    (subst Rests (sym goes.0) goes.1) n session alone is
 
 pub returns-then-not-branch-clause-files : goal.returns-then-not-branch-clause-files
 returns-then-not-branch-clause-files c = λ ease echoes.
     let goes = subst (λ (b : Bool). Goes Rests b c.loop-steps.parts c.step.new.parts) c.if-not-branch.true c.in_ok-step.ensures.moves in
     c.echoes_change_no_file.ensures c.args.parts.now c.step.new.parts ease
-    (subst (λ (parts : Parts). GoesOn c.args.parts.now parts) (sym goes.0) c.loop-steps.invariant.0.goes) (subst Rests (sym goes.0) goes.1) echoes
+    (subst (λ (parts : Parts). GoesOn c.args.parts.now parts) (sym goes.0) c.loop-steps.invariant.0.goes)
+    (subst Rests (sym goes.0) goes.1) echoes
 
 pub returns-then-not-branch-clause-together : goal.returns-then-not-branch-clause-together
 returns-then-not-branch-clause-together c = λ ease begun.
     let goes = subst (λ (b : Bool). Goes Rests b c.loop-steps.parts c.step.new.parts) c.if-not-branch.true c.in_ok-step.ensures.moves in
     c.sessions_are_answered_together.ensures c.args.parts.now c.step.new.parts ease
-    (subst (λ (parts : Parts). GoesOn c.args.parts.now parts) (sym goes.0) c.loop-steps.invariant.0.goes) (subst Rests (sym goes.0) goes.1) begun
+    (subst (λ (parts : Parts). GoesOn c.args.parts.now parts) (sym goes.0) c.loop-steps.invariant.0.goes)
+    (subst Rests (sym goes.0) goes.1) begun
 
 pub returns-then-not-branch-clause-goes : goal.returns-then-not-branch-clause-goes
 returns-then-not-branch-clause-goes c =
@@ -67,7 +70,9 @@ returns-then-not-branch-clause-made c =
 
 pub returns-in_err-step-clause-stopped : goal.returns-in_err-step-clause-stopped
 returns-in_err-step-clause-stopped c =
-    at_err _ c.from_residual.result (stops c.args.parts.now c.loop-steps.parts c.step.new.parts c.loop-steps.invariant.0.goes c.in_err-step.ensures.fails)
+    at_err _ c.from_residual.result
+    (stops c.args.parts.now c.loop-steps.parts c.step.new.parts c.loop-steps.invariant.0.goes
+    c.in_err-step.ensures.fails)
 
 pub returns-in_err-step-clause-in_part : goal.returns-in_err-step-clause-in_part
 returns-in_err-step-clause-in_part c = λ ease whole.

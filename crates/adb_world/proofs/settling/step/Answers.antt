@@ -43,13 +43,15 @@ returns-clause-moves c =
 
 pub returns-then-branch-clause-wrote : goal.returns-then-branch-clause-wrote
 returns-then-branch-clause-wrote c =
-    moved_written Anything _ c.args.wrote.now c.args.parts.now c.first_step.new.parts c.requires.runs c.in_ok-first_step.ensures.moves c.requires.wrote
+    moved_written Anything _ c.args.wrote.now c.args.parts.now c.first_step.new.parts c.requires.runs
+    c.in_ok-first_step.ensures.moves c.requires.wrote
 
 pub returns-then-branch-2-clause-wrote : goal.returns-then-branch-2-clause-wrote
 returns-then-branch-2-clause-wrote c =
     let p = c.first_step.new.parts in
     let first = subst (λ (b : Bool). Goes Anything b c.args.parts.now p) c.if-branch.false c.in_ok-first_step.ensures.moves in
-    moved_written NoneDown _ c.args.wrote.now p c.down.new.parts (runs_still c.args.parts.now p first.0 c.requires.runs) c.in_ok-down.ensures.moves
+    moved_written NoneDown _ c.args.wrote.now p c.down.new.parts
+    (runs_still c.args.parts.now p first.0 c.requires.runs) c.in_ok-down.ensures.moves
     (subst (HaveWritten c.args.wrote.now) (sym first.0) c.requires.wrote)
 
 pub returns-then-branch-3-clause-wrote : goal.returns-then-branch-3-clause-wrote
@@ -71,7 +73,8 @@ returns-then-branch-4-clause-wrote c =
     let down = subst (λ (b : Bool). Goes NoneDown b p q) c.if-branch-2.false c.in_ok-down.ensures.moves in
     let up = subst (λ (b : Bool). Goes NoneUp b q r) c.if-branch-3.false c.in_ok-up.ensures.moves in
     let same = up.0 ∙ (down.0 ∙ first.0) in
-    moved_written (NoneHanded 0) _ c.args.wrote.now r c.hand_next.new.parts (runs_still c.args.parts.now r same c.requires.runs) c.in_ok-hand_next.ensures.moves
+    moved_written (NoneHanded 0) _ c.args.wrote.now r c.hand_next.new.parts
+    (runs_still c.args.parts.now r same c.requires.runs) c.in_ok-hand_next.ensures.moves
     (subst (HaveWritten c.args.wrote.now) (sym same) c.requires.wrote)
 
 pub returns-in_err-down-clause-fails : goal.returns-in_err-down-clause-fails
@@ -86,7 +89,8 @@ returns-in_err-up-clause-fails c =
     let q = c.down.new.parts in
     let first = subst (λ (b : Bool). Goes Anything b c.args.parts.now p) c.if-branch.false c.in_ok-first_step.ensures.moves in
     let down = subst (λ (b : Bool). Goes NoneDown b p q) c.if-branch-2.false c.in_ok-down.ensures.moves in
-    at_err _ c.from_residual-in_err-up.result (subst (λ (x : Parts). Fails x c.up.new.parts) (down.0 ∙ first.0) (inl c.in_err-up.ensures.kept))
+    at_err _ c.from_residual-in_err-up.result
+    (subst (λ (x : Parts). Fails x c.up.new.parts) (down.0 ∙ first.0) (inl c.in_err-up.ensures.kept))
 
 pub returns-in_err-hand_next-clause-fails : goal.returns-in_err-hand_next-clause-fails
 returns-in_err-hand_next-clause-fails c =

@@ -24,7 +24,8 @@ pub returns-in-Ok-clause-together : goal.returns-in-Ok-clause-together
 returns-in-Ok-clause-together c =
     let ease = ease_of c.world.inside.spent c.world.inside.settled c.world.inside.parts c.if-world.false c.world.invariant in
     let whole = whole_of c.world.inside.spent c.world.inside.settled c.world.inside.parts c.if-world.false c.world.invariant in
-    subst (λ (w : View). AreAnsweredTogether w.files (files_of c.settle_parts.new.parts.device) w.sessions c.settle_parts.new.parts.sessions.entries)
+    subst (λ (w : View). AreAnsweredTogether w.files (files_of c.settle_parts.new.parts.device) w.sessions
+    c.settle_parts.new.parts.sessions.entries)
     c.world.view_is (c.in-Ok.ensures.together ease whole)
 
 pub returns-in-Err-clause-in_part : goal.returns-in-Err-clause-in_part

@@ -10,7 +10,8 @@ returns-in-Bytes-clause-bytes g c = λ coming told.
     let end = start + (c.self.inside.end - c.self.inside.start) in
     let bytes = c.read_behind-got.new.buffer.items in
     let within : end ≤ length bytes = omega (arith, c.in-Bytes.ensures.len, c.in_ok-grow.ensures.room) in
-    let same = ap (drop start) (c.in-Bytes.ensures.same ∙ c.in_ok-grow.ensures.same) ∙ c.make_way-self-inside.ensures.same ∙ c.self.view_is in
+    let same = ap (drop start) (c.in-Bytes.ensures.same ∙ c.in_ok-grow.ensures.same)
+    ∙ c.make_way-self-inside.ensures.same ∙ c.self.view_is in
     let chunk = slice_range bytes end (end + MAX_READ) in
     let is = held_more bytes start end c.in-Bytes.count MAX_READ (omega arith) within c.in-Bytes.ensures.fits.1
     ∙ ap (λ b. b ++ take c.in-Bytes.count chunk) same in
@@ -22,7 +23,8 @@ returns-in-Bytes-clause-more g c =
     let end = start + (c.self.inside.end - c.self.inside.start) in
     let bytes = c.read_behind-got.new.buffer.items in
     let within : end + MAX_READ ≤ length bytes = omega (arith, c.in-Bytes.ensures.len, c.in_ok-grow.ensures.room) in
-    let same = ap (drop start) (c.in-Bytes.ensures.same ∙ c.in_ok-grow.ensures.same) ∙ c.make_way-self-inside.ensures.same ∙ c.self.view_is in
+    let same = ap (drop start) (c.in-Bytes.ensures.same ∙ c.in_ok-grow.ensures.same)
+    ∙ c.make_way-self-inside.ensures.same ∙ c.self.view_is in
     let chunk = slice_range bytes end (end + MAX_READ) in
     let piece = take c.in-Bytes.count chunk in
     let is = held_more bytes start end c.in-Bytes.count MAX_READ (omega arith) (omega (arith, within)) c.in-Bytes.ensures.fits.1
@@ -36,6 +38,8 @@ returns-in-Bytes-clause-more g c =
     ) in (
       c.in-Bytes.ensures.fits.0,
       c.in-Bytes.ensures.fits.1,
-      ap length is ∙ (length-append c.args.self.now piece ∙ ap (λ n. length c.args.self.now + n) (length-take-le c.in-Bytes.count chunk long)),
+      ap length is ∙
+          (length-append c.args.self.now piece ∙ ap (λ n. length c.args.self.now + n)
+          (length-take-le c.in-Bytes.count chunk long)),
       (piece, sym is),
     )

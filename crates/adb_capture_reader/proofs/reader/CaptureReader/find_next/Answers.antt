@@ -18,7 +18,9 @@ returns-clause-records g c = λ coming told.
       failed = c.self.inside.failed;
     } in
     let left = g.S.Source.left c.await_record-found.new.source in
-    let awaits = subst (λ (before : Option (List ℕ)). AwaitsRecord now.offset c.self.inside.held before now.held found) told c.await_record-found.ensures.is in
+    let awaits = subst
+    (λ (before : Option (List ℕ)). AwaitsRecord now.offset c.self.inside.held before now.held found) told
+    c.await_record-found.ensures.is in
     subst (λ (r : Reading). GivesNext r.offset (r.held ++ coming) (given_by found now) (passed_by found now).offset
     (option_map (λ (rest : List ℕ). (passed_by found now).held ++ rest) left))
     c.self.view_is (found_gives now c.self.inside.held coming left found (c.await_record-found.ensures.bytes coming told) awaits)
@@ -30,7 +32,8 @@ returns-clause-whole g c = found_whole c.self.inside.offset c.self.inside.held _
 pub returns-clause-form : goal.returns-clause-form
 returns-clause-form g c =
     let held = c.await_record-found.new.held in
-    found_each (λ size. record_at c.self.inside.offset held ≡ Whole size) (λ size. HasRecord (entry_in c.self.inside.offset (take size held)).1)
+    found_each (λ size. record_at c.self.inside.offset held ≡ Whole size)
+    (λ size. HasRecord (entry_in c.self.inside.offset (take size held)).1)
     (λ size whole. subst (λ (bytes : List ℕ). HasRecord (entry_in c.self.inside.offset (take size bytes)).1) c.as_slice.ensures
     (c.fronts_have_form.ensures c.self.inside.offset size (ap (record_at c.self.inside.offset) c.as_slice.ensures ∙ whole)))
     c.await_record-found.result

@@ -20,4 +20,6 @@ returns-clause-rest c =
     let made : Ahead → Incoming = λ a. record { held = a.bytes ++ i.rest; ready = a.ready; cuts = a.cuts } in
     let after : Incoming → Incoming = λ a. record { held = drop n a.held; ready = a.ready - n; cuts = a.cuts - 1 } in
     let whole : List ℕ → Incoming = λ l. record { held = l; ready = i.fronts.ready - n; cuts = i.fronts.cuts - 1 } in
-    c.give_back.ensures ∙ (ap made c.cut-piece.ensures.rest ∙ (ap whole (sym (drop-append-le n i.fronts.bytes i.rest within)) ∙ ap after c.self.view_is))
+    c.give_back.ensures
+    ∙ (ap made c.cut-piece.ensures.rest
+    ∙ (ap whole (sym (drop-append-le n i.fronts.bytes i.rest within)) ∙ ap after c.self.view_is))

@@ -16,5 +16,6 @@ returns c =
     ap (λ (a : Ahead). made a c.truncate.new.self) c.truncate-2.ensures
     ∙ (ap (λ (l : List ℕ). whole (take left one ++ l)) behind
     ∙ (ap whole (sym (take_both one rest left))
-    ∙ (ap (λ (m : ℕ). whole (take (m - c.args.n) (one ++ rest))) (c.len.ensures.value ∙ sym (ap (λ (a : Incoming). length a.held) c.self.view_is))
+    ∙ (ap (λ (m : ℕ). whole (take (m - c.args.n) (one ++ rest)))
+    (c.len.ensures.value ∙ sym (ap (λ (a : Incoming). length a.held) c.self.view_is))
     ∙ ap after c.self.view_is)))

@@ -13,12 +13,19 @@ invariant_of-self-then-slice-gt0 c =
     let n = c.min-taken.result in
     let few : n ≤ slice.before = omega (arith, c.min-taken.ensures) in
     let was : IsCounted (slice ∷ rest) c.self.inside.before c.self.inside.shared =
-    subst (λ (slices : List Slice). IsCounted slices c.self.inside.before c.self.inside.shared) c.in-Some.ensures.items c.self.invariant.counted
+    subst (λ (slices : List Slice). IsCounted slices c.self.inside.before c.self.inside.shared)
+    c.in-Some.ensures.items c.self.invariant.counted
     in
     let less = count_own n slice rest c.self.inside.before c.self.inside.shared was few in
     record {
       counted = rw c.push_front_reserved.ensures.items less;
-      within = omega (arith, c.self.invariant.within, ap length c.advance-then-slice-gt0.ensures.items, length-drop n c.self.inside.own.items);
+      within = omega (
+        arith,
+        c.self.invariant.within,
+        ap length c.advance-then-slice-gt0.ensures.items,
+        length-drop n
+            c.self.inside.own.items,
+      );
       fits = c.self.invariant.fits;
       spare = omega (arith, c.self.invariant.spare, c.advance-then-slice-gt0.ensures.spare);
       room = omega (
@@ -39,10 +46,12 @@ returns-then-slice-gt0-clause-due c =
     let n = c.min-taken.result in
     let few : n ≤ slice.before = omega (arith, c.min-taken.ensures) in
     let was : IsCounted (slice ∷ rest) c.self.inside.before c.self.inside.shared =
-    subst (λ (slices : List Slice). IsCounted slices c.self.inside.before c.self.inside.shared) c.in-Some.ensures.items c.self.invariant.counted
+    subst (λ (slices : List Slice). IsCounted slices c.self.inside.before c.self.inside.shared)
+    c.in-Some.ensures.items c.self.invariant.counted
     in
     let within : slice.before ≤ length own = omega (arith, was.own, before_more slice rest, c.self.invariant.within) in
-    let due : woven c.push_front_reserved.new.self.items c.advance-then-slice-gt0.new.self.items ≡ drop n (woven c.self.inside.slices.items own) =
+    let due : woven c.push_front_reserved.new.self.items c.advance-then-slice-gt0.new.self.items
+    ≡ drop n (woven c.self.inside.slices.items own) =
     ap (λ (slices : List Slice). woven slices c.advance-then-slice-gt0.new.self.items) c.push_front_reserved.ensures.items
     ∙ (ap (woven (record { before = slice.before - n; bytes = slice.bytes } ∷ rest)) c.advance-then-slice-gt0.ensures.items
     ∙ (cut_own n slice rest own few within ∙ ap (λ (slices : List Slice). drop n (woven slices own)) (sym c.in-Some.ensures.items)))
@@ -64,7 +73,8 @@ invariant_of-self-2 c =
     let left = ap length c.advance-2.ensures ∙ length-drop n slice.bytes in
     let few : n ≤ length slice.bytes = omega (arith, c.min-taken-2.ensures, c.len.ensures.value) in
     let own_same : before - slice.before ≡ before = omega (arith, none) in
-    let shared_same : length c.advance-2.new.self + (shared - length slice.bytes) ≡ shared - n = omega (arith, few, left, was.bytes, shared_more slice rest) in
+    let shared_same : length c.advance-2.new.self + (shared - length slice.bytes) ≡ shared - n =
+    omega (arith, few, left, was.bytes, shared_more slice rest) in
     let now = c.put_back.ensures.count (before - slice.before) (shared - length slice.bytes) (count_rest slice rest before shared was) in
     record {
       counted = subst (λ m. IsCounted c.put_back.new.slices.items m (shared - n)) own_same

@@ -11,7 +11,9 @@ returns-clause-ok c =
     let bytes = c.args.bytes.now in
     let within : own_before slices ≤ length own = omega (arith, c.self.invariant.counted.own, c.self.invariant.within) in
     let due : woven slices c.extend_reserved.new.self.items ≡ woven slices own ++ bytes =
-    ap (woven slices) (c.extend_reserved.ensures.items ∙ ap (λ (l : List ℕ). l ++ bytes) c.in_ok-reserve.ensures.items) ∙ woven_own slices own bytes within
+    ap (woven slices)
+    (c.extend_reserved.ensures.items ∙ ap (λ (l : List ℕ). l ++ bytes) c.in_ok-reserve.ensures.items)
+    ∙ woven_own slices own bytes within
     in
     (λ i. record { due = due i; spare = c.self.inside.spare; places = c.self.inside.places })
     ∙ ap (λ (o : Outgoing). record o { due = o.due ++ bytes }) c.self.view_is

@@ -14,8 +14,10 @@ returns c =
     let held : front ++ gathered ≡ c.args.self.now = c.self.view_is in
     let pieces : c.copy_first.new.to.items ≡ c.args.to.now.items ++ take some front = search rules in
     let rest : c.first.result.now ≡ take (c.args.n - some) gathered = search rules in
-    let copied : OnOk c.extend_from_slice.result (c.extend_from_slice.new.self.items ≡ c.copy_first.new.to.items ++ c.first.result.now) = search rules in
-    let all : (c.args.to.now.items ++ take some front) ++ take (c.args.n - some) gathered ≡ c.args.to.now.items ++ take c.args.n c.args.self.now =
+    let copied : OnOk c.extend_from_slice.result
+    (c.extend_from_slice.new.self.items ≡ c.copy_first.new.to.items ++ c.first.result.now) = search rules in
+    let all : (c.args.to.now.items ++ take some front) ++ take (c.args.n - some) gathered
+    ≡ c.args.to.now.items ++ take c.args.n c.args.self.now =
     append_assoc c.args.to.now.items (take some front) (take (c.args.n - some) gathered)
     ∙ ap (λ (l : List ℕ). c.args.to.now.items ++ l) (take_some front gathered c.args.n some first ∙ ap (take c.args.n) held)
     in

@@ -9,5 +9,6 @@ returns-then-self-clause-ok c = λ files d taken stands.
 
 pub returns-else-is_err-clause-ok : goal.returns-else-is_err-clause-ok
 returns-else-is_err-clause-ok c = where_ok c.treat-result.result c.treat-result.ensures.ok (λ treats. λ files d taken stands.
-    steps (setting_of c.args.self.now.most c.args.self.now.credit files) d c.args.packet.now taken c.args.self.now stands c.treat-result.new.self
+    steps (setting_of c.args.self.now.most c.args.self.now.credit files) d c.args.packet.now taken c.args.self.now
+    stands c.treat-result.new.self
     c.if-self.false (treats files d taken stands))

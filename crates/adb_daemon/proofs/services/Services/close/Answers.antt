@@ -2,7 +2,8 @@ use Rattle.std.proofs.Common.{◌≡◌, ◌⊎◌, inl, inr, rules}
 use Rattle.adb_daemon.specs.Held.{view_of}
 use Rattle.adb_daemon.proofs.Closes.{closes}
 use Rattle.adb_daemon.proofs.services.Services.close.Goals as goal
-use Rattle.adb_daemon.proofs.services.Services.close.Goals.{then-packet-eq0-via-then-packet-eq0, then-packet-eq0-via-else-packet-eq0+then-packet-host}
+use Rattle.adb_daemon.proofs.services.Services.close.Goals.{then-packet-eq0-via-then-packet-eq0}
+use Rattle.adb_daemon.proofs.services.Services.close.Goals.{then-packet-eq0-via-else-packet-eq0+then-packet-host}
 
 pub returns-then-packet-eq0-clause-holds : goal.returns-then-packet-eq0-clause-holds
 returns-then-packet-eq0-clause-holds c = λ s taken held.

@@ -16,11 +16,13 @@ returns-then-done-clause-ok c = λ s taken held unknown.
     let kind = kind_of c.args.asked in
     let row = opened p.arg0 kind v.files in
     let settles = subst (λ (o : Outgoing). Settles o.sums o.own o.most (row (credit_of c.args.link p)) c.in_ok-stream.stream
-    (v.due ++ packet_bytes o.sums (okay o.own p.arg0 (opening_word (credit_of c.args.link p)))) c.answer_open.new.due.bytes c.in_ok-stream.done)
+    (v.due ++ packet_bytes o.sums (okay o.own p.arg0 (opening_word (credit_of c.args.link p))))
+    c.answer_open.new.due.bytes c.in_ok-stream.done)
     c.outgoing.ensures (subst (λ (given : Option ℕ). Settles c.outgoing.result.sums c.outgoing.result.own c.outgoing.result.most (row given)
     c.in_ok-stream.stream (v.due ++ packet_bytes c.outgoing.result.sums (okay c.outgoing.result.own p.arg0 (opening_word given)))
     c.answer_open.new.due.bytes c.in_ok-stream.done) c.credit_of.ensures c.in_ok-stream.ensures.settles) in
-    open_ends c.args.link p s taken v held kind c.in_ok-stream.stream c.answer_open.new.files c.answer_open.new.due.bytes c.in_ok-stream.done c.if-done.true
+    open_ends c.args.link p s taken v held kind c.in_ok-stream.stream c.answer_open.new.files
+    c.answer_open.new.due.bytes c.in_ok-stream.done c.if-done.true
     (record { settles = settles; left = c.in_ok-stream.ensures.files }) (v.drawn + 1) refl
 
 pub returns-clause-ok : goal.returns-clause-ok
@@ -30,11 +32,14 @@ returns-clause-ok c =
     let kind = kind_of c.args.asked in
     let row = opened p.arg0 kind v.files in
     let settles = subst (λ (o : Outgoing). Settles o.sums o.own o.most (row (credit_of c.args.link p)) c.in_ok-stream.stream
-    (v.due ++ packet_bytes o.sums (okay o.own p.arg0 (opening_word (credit_of c.args.link p)))) c.answer_open.new.due.bytes c.in_ok-stream.done)
+    (v.due ++ packet_bytes o.sums (okay o.own p.arg0 (opening_word (credit_of c.args.link p))))
+    c.answer_open.new.due.bytes c.in_ok-stream.done)
     c.outgoing.ensures (subst (λ (given : Option ℕ). Settles c.outgoing.result.sums c.outgoing.result.own c.outgoing.result.most (row given)
     c.in_ok-stream.stream (v.due ++ packet_bytes c.outgoing.result.sums (okay c.outgoing.result.own p.arg0 (opening_word given)))
     c.answer_open.new.due.bytes c.in_ok-stream.done) c.credit_of.ensures c.in_ok-stream.ensures.settles) in
     at_ok c.add.result c.add.ensures.drawn c.add.ensures.row c.add.ensures.host (λ drawn rows hosts. λ s taken held unknown.
-    open_goes c.args.link p s taken v held kind c.in_ok-stream.stream c.answer_open.new.files c.answer_open.new.due.bytes c.in_ok-stream.done c.if-done.false
-    (record { settles = settles; left = c.in_ok-stream.ensures.files }) unknown c.add.new.self.drawn c.add.new.self.rows.entries c.add.new.self.hosts.entries
+    open_goes c.args.link p s taken v held kind c.in_ok-stream.stream c.answer_open.new.files
+    c.answer_open.new.due.bytes c.in_ok-stream.done c.if-done.false
+    (record { settles = settles; left = c.in_ok-stream.ensures.files }) unknown c.add.new.self.drawn
+    c.add.new.self.rows.entries c.add.new.self.hosts.entries
     drawn (rows, hosts))

@@ -5,4 +5,5 @@ use Rattle.adb_desk.proofs.desk.Desk.seat.Goals as goal
 
 pub seat-requires-clause-few : goal.seat-requires-clause-few
 seat-requires-clause-few g c =
-    few_out (record { hub = c.self.inside.hub; log = c.self.inside.log.is }) (sound_of c.self.invariant) (rw (sym c.self.view_is) at c.requires)
+    few_out (record { hub = c.self.inside.hub; log = c.self.inside.log.is }) (sound_of c.self.invariant)
+    (rw (sym c.self.view_is) at c.requires)

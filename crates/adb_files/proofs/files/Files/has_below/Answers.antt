@@ -15,7 +15,8 @@ returns-then-first-slots c =
     let entry = c.index-slots-first.result in
     c.is_below.ensures
     ∙ (ap (is_below path) c.path.ensures
-    ∙ (below_tells path c.slash_behind.result.now files c.first_from-first.result entry c.slash_behind.ensures rising c.first_from-first.ensures
+    ∙ (below_tells path c.slash_behind.result.now files c.first_from-first.result entry c.slash_behind.ensures rising
+    c.first_from-first.ensures
     c.if-first-slots.true c.index-slots-first.is
     ∙ ap (λ (xs : List Entry). list_any (λ (e : Entry). is_below path e.path) xs) (c.as_slice-slots.ensures.value ∙ c.self.view_is)))
 
@@ -25,6 +26,7 @@ returns-else-first-slots c =
     let files = c.as_slice-slots.result.now in
     let rising = subst IsRising (sym c.as_slice-slots.ensures.value) c.self.invariant.0.rising in
     le-ltb _ _ c.if-first-slots.false
-    ∙ (sym (none_left_below path c.slash_behind.result.now files c.first_from-first.result c.slash_behind.ensures rising c.first_from-first.ensures
+    ∙ (sym (none_left_below path c.slash_behind.result.now files c.first_from-first.result c.slash_behind.ensures
+    rising c.first_from-first.ensures
     c.if-first-slots.false)
     ∙ ap (λ (xs : List Entry). list_any (λ (e : Entry). is_below path e.path) xs) (c.as_slice-slots.ensures.value ∙ c.self.view_is))

@@ -11,5 +11,6 @@ returns-in-Ok c = (
 
 pub returns-in-Err : goal.returns-in-Err
 returns-in-Err c =
-    missing c.args.self.now c.args.path.now (sym c.is_path.ensures ∙ c.if-not-is_path.false) (sym c.is_directory.ensures ∙ c.if-is_directory.false)
+    missing c.args.self.now c.args.path.now (sym c.is_path.ensures ∙ c.if-not-is_path.false)
+    (sym c.is_directory.ensures ∙ c.if-is_directory.false)
     (none_where_fits c.in-Err.ensures)

@@ -9,8 +9,10 @@ use Rattle.adb_files.proofs.session.Session.take.Goals as goal
 
 pub returns-in-Stat-clause-ok : goal.returns-in-Stat-clause-ok
 returns-in-Stat-clause-ok c =
-    on_ok_weaker c.answer_stat.result (λ h send keeps. stat_served send c.args.ask c.in-Stat.path c.args.self.now.sending _ _ c.in-Stat.is refl
-    (h ∙ ap (λ p. c.args.self.now.out ++ stat_bytes_of (stat_in c.args.files.now p)) c.as_slice.ensures) c.requires.goes_on keeps) c.answer_stat.ensures.ok
+    on_ok_weaker c.answer_stat.result
+    (λ h send keeps. stat_served send c.args.ask c.in-Stat.path c.args.self.now.sending _ _ c.in-Stat.is refl
+    (h ∙ ap (λ p. c.args.self.now.out ++ stat_bytes_of (stat_in c.args.files.now p)) c.as_slice.ensures)
+    c.requires.goes_on keeps) c.answer_stat.ensures.ok
 
 pub returns-in-Stat-clause-err : goal.returns-in-Stat-clause-err
 returns-in-Stat-clause-err c =
@@ -30,5 +32,6 @@ returns-in-Some-clause-err c = on_err_always c.push.result (λ send keeps. front
 
 pub returns-in-Some-take-clause-err : goal.returns-in-Some-take-clause-err
 returns-in-Some-take-clause-err c =
-    on_err_both c.serve_send.result (λ h same send keeps. finish_front send c.args.ask c.in-Finish.mtime c.in-Some-take.sending _ _ c.in-Finish.is
+    on_err_both c.serve_send.result
+    (λ h same send keeps. finish_front send c.args.ask c.in-Finish.mtime c.in-Some-take.sending _ _ c.in-Finish.is
     (subst (KeepsSend send) (sym c.take.ensures.value ∙ c.in-Some-take.is) keeps) h same) c.serve_send.ensures.err c.serve_send.ensures.same

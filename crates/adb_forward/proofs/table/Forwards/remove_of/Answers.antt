@@ -5,9 +5,11 @@ use Rattle.std.proofs.lemmas.Map.Made.{filter_same_pairs}
 use Rattle.adb_forward.proofs.table.Forwards.remove_of.Goals as goal
 
 -- the closure only tests, so what is kept is a filter
-kept : (c : goal.After-retain) → c.retain.new.self.entries ≡ filter (λ entry. not (entry.1.transport == c.args.transport)) c.self.inside.rows.entries
+kept : (c : goal.After-retain) → c.retain.new.self.entries ≡ filter
+    (λ entry. not (entry.1.transport == c.args.transport)) c.self.inside.rows.entries
 kept c =
-    filter_same_pairs _ (λ entry. not (entry.1.transport == c.args.transport)) _ (λ k v b w f' t. search rules) _ _ c.retain.ensures.filtered
+    filter_same_pairs _ (λ entry. not (entry.1.transport == c.args.transport)) _ (λ k v b w f' t. search rules) _ _
+    c.retain.ensures.filtered
 
 pub returns-clause-after : goal.returns-clause-after
 returns-clause-after c = rw (← c.self.view_is) (kept c)

@@ -19,7 +19,8 @@ called c =
     let range : t.devices.drawn + 1 < 2 ^ 32 = subst (λ (n : ℕ). n < 2 ^ 32) c.in_ok-attach.ensures.id c.in_ok-attach.ensures.fits in
     attach_called c.args.kind c.args.serial.now t c.attach.new.tables c.self.invariant
     (plugged_by c.args.serial.now t c.in_ok-attach.field-0 range are going _ c.in_ok-attach.ensures.refused)
-    (subst (λ (n : ℕ). Makes (Attach n c.args.kind c.args.serial.now) t c.attach.new.tables) c.in_ok-attach.ensures.id c.in_ok-attach.ensures.made)
+    (subst (λ (n : ℕ). Makes (Attach n c.args.kind c.args.serial.now) t c.attach.new.tables) c.in_ok-attach.ensures.id
+    c.in_ok-attach.ensures.made)
 
 pub invariant_of-self-2 : goal.invariant_of-self-2
 invariant_of-self-2 c =
@@ -31,7 +32,8 @@ returns-clause-attached c h lawful =
     let t = c.self.inside.tables in
     let e = Attach (t.devices.drawn + 1) c.args.kind c.args.serial.now in
     let before = subst (λ (k : Kept). IsLawful k h) (sym c.self.view_is) lawful in
-    let is : t.devices.drawn + 1 ≡ (state h).devices.drawn + 1 = ap (λ (s : State). s.devices.drawn + 1) (stands_for t h c.self.invariant before) in (
+    let is : t.devices.drawn + 1 ≡ (state h).devices.drawn + 1 =
+    ap (λ (s : State). s.devices.drawn + 1) (stands_for t h c.self.invariant before) in (
       called_allowed e t c.attach.new.tables (called c) h before,
       subst (λ (k : ℕ). IsLawful (kept (state_of c.attach.new.tables)) (Attach k c.args.kind c.args.serial.now ∷ h)) is
           (called_lawful e t c.attach.new.tables (called c) h before),

@@ -12,5 +12,6 @@ pub returns : goal.returns
 returns c h lawful =
     let t = c.self.inside.tables in
     let is = stands_for t h c.self.invariant (subst (λ (k : Kept). IsLawful k h) (sym c.self.view_is) lawful) in
-    life_if_there client_row (at c.args.client t.clients.entries) c.contains_key.result c.life_if.result c.contains_key.ensures c.life_if.ensures
+    life_if_there client_row (at c.args.client t.clients.entries) c.contains_key.result c.life_if.result
+    c.contains_key.ensures c.life_if.ensures
     ∙ ap (λ (s : State). life_of (s.clients c.args.client)) is

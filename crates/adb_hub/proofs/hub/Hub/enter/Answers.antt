@@ -16,7 +16,8 @@ invariant_of-self-2 c =
     let next = next_of n t.stopped t.joined
     (subst (λ (k : Kept). Ok n ≡ next_client k.stopped k.joined) (sym c.self.view_is) c.in_ok-client.ensures.next) in
     called_sound (Enter n c.args.port) t c.enter.new.tables
-    (enter_called n t c.enter.new.tables c.self.invariant c.in_ok-client.ensures.fits next c.args.port c.ranges.port.fits c.in_ok-enter.ensures.made)
+    (enter_called n t c.enter.new.tables c.self.invariant c.in_ok-client.ensures.fits next c.args.port
+    c.ranges.port.fits c.in_ok-enter.ensures.made)
 
 pub returns-clause-entered : goal.returns-clause-entered
 returns-clause-entered c h lawful =

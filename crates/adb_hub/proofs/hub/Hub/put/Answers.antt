@@ -12,7 +12,8 @@ use Rattle.adb_hub.specs.Refusal.{unless_drawn}
 use Rattle.adb_hub.specs.Answers.{err_if, handed_as, HandsOut}
 use Rattle.adb_hub.specs.Answers as hub
 use Rattle.adb_hub.proofs.Standing.{stands_for, same_kept}
-use Rattle.adb_hub.proofs.Steps.{heard, put_called, may_put, called_sound, called_lawful, called_allowed, bytes_put, nothing_put, short_front}
+use Rattle.adb_hub.proofs.Steps.{heard, put_called, may_put, called_sound, called_lawful, called_allowed, bytes_put, nothing_put}
+use Rattle.adb_hub.proofs.Steps.{short_front}
 use Rattle.adb_hub.proofs.hub.Hub.put.Goals as goal
 
 pub invariant_of-self-in-Some : goal.invariant_of-self-in-Some
@@ -21,9 +22,12 @@ invariant_of-self-in-Some c =
     let n = c.args.client in
     let bytes = c.in-Some.bytes in
     let known = heard n t.joined (NoClient n) c.ranges.client.fits
-    (subst (λ (k : Kept). Ok tt ≡ err_if (unless_drawn (is_drawn k.joined n) (NoClient n))) (sym c.self.view_is) c.in_ok-find_client.ensures) in
+    (subst (λ (k : Kept). Ok tt ≡ err_if (unless_drawn (is_drawn k.joined n) (NoClient n))) (sym c.self.view_is)
+    c.in_ok-find_client.ensures) in
     let given = c.in_ok-bytes.ensures in
-    let front = subst (λ (o : Option (List ℕ)). IsFront c.args.max (answers.offered_to t.devices ((state_of t).clients n)) o) c.in-Some.is given.bytes in
+    let front = subst
+    (λ (o : Option (List ℕ)). IsFront c.args.max (answers.offered_to t.devices ((state_of t).clients n)) o)
+    c.in-Some.is given.bytes in
     let made = subst (λ (o : Option (List ℕ)). answers.HandsOut (Put n) o t c.put.new.tables) c.in-Some.is given.made in
     let called = put_called n bytes t c.put.new.tables c.self.invariant c.has_bytes.ensures known
     (may_put c.args.max (state_of t) ((state_of t).clients n) bytes front) made in
@@ -35,9 +39,12 @@ returns-in-Some-clause-put c h lawful =
     let n = c.args.client in
     let bytes = c.in-Some.bytes in
     let known = heard n t.joined (NoClient n) c.ranges.client.fits
-    (subst (λ (k : Kept). Ok tt ≡ err_if (unless_drawn (is_drawn k.joined n) (NoClient n))) (sym c.self.view_is) c.in_ok-find_client.ensures) in
+    (subst (λ (k : Kept). Ok tt ≡ err_if (unless_drawn (is_drawn k.joined n) (NoClient n))) (sym c.self.view_is)
+    c.in_ok-find_client.ensures) in
     let given = c.in_ok-bytes.ensures in
-    let front = subst (λ (o : Option (List ℕ)). IsFront c.args.max (answers.offered_to t.devices ((state_of t).clients n)) o) c.in-Some.is given.bytes in
+    let front = subst
+    (λ (o : Option (List ℕ)). IsFront c.args.max (answers.offered_to t.devices ((state_of t).clients n)) o)
+    c.in-Some.is given.bytes in
     let made = subst (λ (o : Option (List ℕ)). answers.HandsOut (Put n) o t c.put.new.tables) c.in-Some.is given.made in
     let called = put_called n bytes t c.put.new.tables c.self.invariant c.has_bytes.ensures known
     (may_put c.args.max (state_of t) ((state_of t).clients n) bytes front) made in
@@ -54,9 +61,12 @@ returns-in-None-clause-put c h lawful =
     let t = c.self.inside.tables in
     let n = c.args.client in
     let known = heard n t.joined (NoClient n) c.ranges.client.fits
-    (subst (λ (k : Kept). Ok tt ≡ err_if (unless_drawn (is_drawn k.joined n) (NoClient n))) (sym c.self.view_is) c.in_ok-find_client.ensures) in
+    (subst (λ (k : Kept). Ok tt ≡ err_if (unless_drawn (is_drawn k.joined n) (NoClient n))) (sym c.self.view_is)
+    c.in_ok-find_client.ensures) in
     let given = c.in_ok-bytes.ensures in
-    let front = subst (λ (o : Option (List ℕ)). IsFront c.args.max (answers.offered_to t.devices ((state_of t).clients n)) o) c.in-None.is given.bytes in
+    let front = subst
+    (λ (o : Option (List ℕ)). IsFront c.args.max (answers.offered_to t.devices ((state_of t).clients n)) o)
+    c.in-None.is given.bytes in
     let keeps = subst (λ (o : Option (List ℕ)). answers.HandsOut (Put n) o t c.put.new.tables) c.in-None.is given.made in
     let before = subst (λ (k : Kept). IsLawful k h) (sym c.self.view_is) lawful in
     let is = stands_for t h c.self.invariant before in

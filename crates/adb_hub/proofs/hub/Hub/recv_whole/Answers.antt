@@ -9,14 +9,16 @@ invariant_of-self-2 c =
     let t = c.self.inside.tables in
     let named = open_link t c.args.self.now c.self.view_is c.args.link c.ranges.link.fits c.in_ok-look_for_link.ensures in
     called_sound (Recv c.args.link c.args.packet.now) t c.recv_whole.new.tables
-    (recv_called c.args.link t c.recv_whole.new.tables c.self.invariant c.args.packet.now (rw c.as_slice.ensures at c.are_bytes.ensures) named
+    (recv_called c.args.link t c.recv_whole.new.tables c.self.invariant c.args.packet.now
+    (rw c.as_slice.ensures at c.are_bytes.ensures) named
     c.in_ok-recv_whole.ensures.made)
 
 pub returns-clause-received : goal.returns-clause-received
 returns-clause-received c h lawful =
     let t = c.self.inside.tables in
     let named = open_link t c.args.self.now c.self.view_is c.args.link c.ranges.link.fits c.in_ok-look_for_link.ensures in
-    let called = recv_called c.args.link t c.recv_whole.new.tables c.self.invariant c.args.packet.now (rw c.as_slice.ensures at c.are_bytes.ensures) named
+    let called = recv_called c.args.link t c.recv_whole.new.tables c.self.invariant c.args.packet.now
+    (rw c.as_slice.ensures at c.are_bytes.ensures) named
     c.in_ok-recv_whole.ensures.made in
     let before = subst (λ (k : Kept). IsLawful k h) (sym c.self.view_is) lawful in
     let after = called_lawful (Recv c.args.link c.args.packet.now) t c.recv_whole.new.tables called h before in (

@@ -44,7 +44,8 @@ count-requires-2 c =
 pub count-requires-3 : goal.count-requires-3
 count-requires-3 c =
     let t = c.self.inside.tables in
-    let is : c.len-3.result ≡ length (kept (state_of t)).streams.streams = c.len-3.ensures.count ∙ streams t c.self.invariant c.len-3.ensures.sound.rises in
+    let is : c.len-3.result ≡ length (kept (state_of t)).streams.streams =
+    c.len-3.ensures.count ∙ streams t c.self.invariant c.len-3.ensures.sound.rises in
     omega (arith, is, few (state_of t).streams 1 t.streams.drawn, c.len-3.ensures.sound.drawn)
 
 pub returns : goal.returns

@@ -58,14 +58,17 @@ loop-high-preserved c =
     let nothing = none_found c.args.which c.loop-high.self-inside.blocks.entries c.in-Some.high (sym c.in_default-first_in.ensures) in (
       c.loop-high.invariant.0,
       c.loop-high.invariant.1,
-      λ which. ungrouped c.args.which which c.in-Some.high c.unmark.ensures.fits (c.loop-high.invariant.2 which) c.unmark.ensures.block nothing,
+      λ which. ungrouped c.args.which which c.in-Some.high c.unmark.ensures.fits (c.loop-high.invariant.2 which)
+          c.unmark.ensures.block nothing,
     )
 
 pub invariant_of-self-2 : goal.invariant_of-self-2
 invariant_of-self-2 c =
     let which = c.args.which in
     let rises = subst (λ (m : _). IsRising m.entries) (sym c.loop-high.invariant.0) c.len.ensures.ordered in
-    let all = subst AreBlocks (sym (ap (λ (m : _). m.entries) c.loop-high.invariant.0 ∙ ap (λ (t : _). t.entries) c.self.view_is)) c.requires in (
+    let all = subst AreBlocks
+    (sym (ap (λ (m : _). m.entries) c.loop-high.invariant.0 ∙ ap (λ (t : _). t.entries) c.self.view_is))
+    c.requires in (
       c.loop-high.invariant.2,
       lacks_all which c.loop-high.self-inside.blocks.entries rises all
           (none_of_groups which (c.loop-high.invariant.2 which) c.in_default-first.ensures.rises rises c.in_default-first.ensures.first),

@@ -18,7 +18,9 @@ pub invariant_of-self-in-Err : goal.invariant_of-self-in-Err
 invariant_of-self-in-Err c =
     let high = c.args.number / 64 in
     let fits = high_below c.args.number c.ranges.number.fits in (
-      λ which. dropped high fits (grown high fits (c.self.invariant.0 which) c.in_ok-know.ensures.ok c.self.inside.blocks.entries (λ n apart. refl))
+      λ which. dropped high fits
+          (grown high fits (c.self.invariant.0 which) c.in_ok-know.ensures.ok c.self.inside.blocks.entries
+          (λ n apart. refl))
           c.forget.ensures.block c.know-2.new.marks.entries (λ n apart. ap (at n) c.in-Err.ensures.err)
           (ap (at high) c.in-Err.ensures.err ∙ c.in-Err.ensures.absent),
       subst (Holds c.self.inside.seen) (sym c.in-Err.ensures.err) c.self.invariant.1,

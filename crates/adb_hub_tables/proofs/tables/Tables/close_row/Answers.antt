@@ -6,10 +6,14 @@ use Rattle.adb_hub_tables.proofs.Using.{clients_spares, spares_uses}
 use Rattle.adb_hub_tables.proofs.tables.Tables.close_row.Goals as goal
 
 pub returns-clause-stays : goal.returns-clause-stays
-returns-clause-stays c = λ no. ap (λ (rows : Rows (Option Client)). record (state_of c.args.self.now) { clients = rows }) (c.close_in.ensures.stays no)
+returns-clause-stays c =
+    λ no. ap (λ (rows : Rows (Option Client)). record (state_of c.args.self.now) { clients = rows })
+    (c.close_in.ensures.stays no)
 
 pub returns-clause-goes : goal.returns-clause-goes
-returns-clause-goes c = λ yes. ap (λ (rows : Rows (Option Client)). record (state_of c.args.self.now) { clients = rows }) (c.close_in.ensures.goes yes)
+returns-clause-goes c =
+    λ yes. ap (λ (rows : Rows (Option Client)). record (state_of c.args.self.now) { clients = rows })
+    (c.close_in.ensures.goes yes)
 
 pub returns-clause-uses : goal.returns-clause-uses
 returns-clause-uses c =

@@ -5,4 +5,5 @@ use Rattle.adb_hub_tables.proofs.Owing.{owes_is}
 use Rattle.adb_hub_tables.proofs.tables.Tables.owe_slice.Goals as goal
 
 pub returns-clause-state : goal.returns-clause-state
-returns-clause-state c = c.put_slice.ensures.row ∙ owes_is c.args.link (packet_under c.args.head.now c.args.payload) (state_of c.args.self.now)
+returns-clause-state c = c.put_slice.ensures.row ∙ owes_is c.args.link (packet_under c.args.head.now c.args.payload)
+    (state_of c.args.self.now)

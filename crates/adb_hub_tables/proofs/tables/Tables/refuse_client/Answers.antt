@@ -13,7 +13,8 @@ pub returns-clause-state : goal.returns-clause-state
 returns-clause-state c =
     let old = c.args.self.now in
     ap (λ (rows : Rows (Option Client)). record (state_of old) { clients = rows })
-    (c.refuse_in.ensures.rows ∙ fused c.args.client closing (with_due (failed (codes "closed")).bytes) refused (state_of old).clients (λ row. refl))
+    (c.refuse_in.ensures.rows ∙ fused c.args.client closing (with_due (failed (codes "closed")).bytes) refused
+    (state_of old).clients (λ row. refl))
 
 pub returns-clause-uses : goal.returns-clause-uses
 returns-clause-uses c =

@@ -14,7 +14,8 @@ returns-then-is_owed-clause-first g c =
     let owed = g.V.Owes.owed in
     let least = subst (λ (first : Option ℕ). IsLeast Due blocks first) (sym c.in-Some.ensures.first)
     (first_is_least Due blocks c.in-Some.ensures.rises c.loop-id.invariant.1.blocked) in
-    let same : rows ≡ c.args.self.now.entries = ap (λ (m : _). m.entries) c.loop-id.invariant.0 ∙ ap (λ (t : _). t.entries) c.self.view_is in
+    let same : rows ≡ c.args.self.now.entries = ap (λ (m : _). m.entries) c.loop-id.invariant.0
+    ∙ ap (λ (t : _). t.entries) c.self.view_is in
     let rises = subst (λ (m : _). IsRising m.entries) (sym c.loop-id.invariant.0) c.len.ensures.ordered in
     somebody c.loop-id.invariant.1 rises c.in-Some.id least (sym c.is_owed.ensures ∙ c.if-is_owed.true) ∙ ap (first_number owed) same
 
@@ -42,6 +43,7 @@ returns-clause-first g c =
     let rows = c.loop-id.self-inside.rows.entries in
     let least = subst (λ (first : Option ℕ). IsLeast Due blocks first) (sym c.in_default.ensures.first)
     (first_is_least Due blocks c.in_default.ensures.rises c.loop-id.invariant.1.blocked) in
-    let same : rows ≡ c.args.self.now.entries = ap (λ (m : _). m.entries) c.loop-id.invariant.0 ∙ ap (λ (t : _). t.entries) c.self.view_is in
+    let same : rows ≡ c.args.self.now.entries = ap (λ (m : _). m.entries) c.loop-id.invariant.0
+    ∙ ap (λ (t : _). t.entries) c.self.view_is in
     let rises = subst (λ (m : _). IsRising m.entries) (sym c.loop-id.invariant.0) c.len.ensures.ordered in
     nobody c.loop-id.invariant.1 rises least ∙ ap (first_number g.V.Owes.owed) same

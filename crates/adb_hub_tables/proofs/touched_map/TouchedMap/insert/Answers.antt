@@ -4,7 +4,8 @@ use Rattle.adb_hub_tables.proofs.MarkedRows.{grown, lost}
 use Rattle.adb_hub_tables.proofs.touched_map.TouchedMap.insert.Goals as goal
 
 pub invariant_of-self-in-Ok : goal.invariant_of-self-in-Ok
-invariant_of-self-in-Ok g c = grown c.args.id c.ranges.id.fits c.self.invariant c.in_ok-know.ensures.ok c.put_row.new.rows.entries c.in-Ok.ensures.puts.others
+invariant_of-self-in-Ok g c = grown c.args.id c.ranges.id.fits c.self.invariant c.in_ok-know.ensures.ok
+    c.put_row.new.rows.entries c.in-Ok.ensures.puts.others
 
 pub invariant_of-self-in-Err : goal.invariant_of-self-in-Err
 invariant_of-self-in-Err g c =

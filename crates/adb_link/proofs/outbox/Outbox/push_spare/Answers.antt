@@ -17,4 +17,5 @@ returns c =
     let i = c.self.inside in
     let made : List ℕ → Queue = λ due. record { due = due; spare = i.spare - 1 } in
     ap (λ packets. made (concat packets)) c.push_back_reserved.ensures.items
-    ∙ (ap made (concat_push i.packets.items c.args.packet) ∙ ap (λ (q : Queue). record { due = q.due ++ c.args.packet; spare = q.spare - 1 }) c.self.view_is)
+    ∙ (ap made (concat_push i.packets.items c.args.packet) ∙ ap
+    (λ (q : Queue). record { due = q.due ++ c.args.packet; spare = q.spare - 1 }) c.self.view_is)

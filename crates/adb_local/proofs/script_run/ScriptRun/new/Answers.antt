@@ -9,4 +9,5 @@ invariant_of-result c = (subst AllMayStand (sym c.in_ok-script.ensures.lines) (a
 
 pub returns-clause-few : goal.returns-clause-few
 returns-clause-few c =
-    few_sessions_in c.in_ok-script.script (subst AllMayStand (sym c.in_ok-script.ensures.lines) (all_stand c.args.script.now)) c.are_few.ensures
+    few_sessions_in c.in_ok-script.script
+    (subst AllMayStand (sym c.in_ok-script.ensures.lines) (all_stand c.args.script.now)) c.are_few.ensures

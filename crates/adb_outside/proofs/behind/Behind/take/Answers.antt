@@ -13,12 +13,14 @@ loop-from-preserved g c =
     let part = take ((from + n) - from) (drop from piece) in
     let some : 0 < length part =
     omega (arith, c.part_len-n.ensures, length-take ((from + n) - from) (drop from piece), length-drop from piece) in
-    let taken = further_part g.S.Format.find g.S.Format.item g.S.Format.after g.met.S.Format.framing before part (drop (from + n) piece) some in (
+    let taken = further_part g.S.Format.find g.S.Format.item g.S.Format.after g.met.S.Format.framing before part
+    (drop (from + n) piece) some in (
       omega (arith, c.part_len-n.ensures, c.loop-from.invariant.0),
       ap (λ k. further g.S.Format.find g.S.Format.item g.S.Format.after k (drop (from + n) piece)) c.in_ok-behind.ensures.cut
           ∙ (taken
           ∙ (ap (further g.S.Format.find g.S.Format.item g.S.Format.after before) (part_then from n piece) ∙ c.loop-from.invariant.1)),
-      fronts_then c.args.ready.now.items c.loop-from.ready.items c.take_part.new.ready.items c.loop-from.invariant.2 c.in_ok-behind.ensures.ready,
+      fronts_then c.args.ready.now.items c.loop-from.ready.items c.take_part.new.ready.items c.loop-from.invariant.2
+          c.in_ok-behind.ensures.ready,
     )
 
 pub returns-clause-cut : goal.returns-clause-cut

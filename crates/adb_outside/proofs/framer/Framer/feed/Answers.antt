@@ -16,7 +16,8 @@ returns-in-Ok-true-clause-taken g c = λ apart.
     let piece = c.args.piece.now in
     let none : old.fault ≡ None = ap (λ k. k.fault) (sym c.self.view_is) ∙ c.in_default.is in
     let waits = c.in-Ok-true.ensures.waits (ap Ok c.in-Ok-true.field-0-test) in
-    let stands = stands_behind g.S.Format.find g.S.Format.item g.S.Format.after g.met.S.Format.framing old.given old.reading (old.rest ++ piece) More waits.1
+    let stands = stands_behind g.S.Format.find g.S.Format.item g.S.Format.after g.met.S.Format.framing old.given
+    old.reading (old.rest ++ piece) More waits.1
     (λ n e. cc) in
     takes_piece g.S.Format.find g.S.Format.item g.S.Format.after g.met.S.Format.framing old piece c.wait.new.self none
     (waits.0 ∙ (ap (λ f. record { given = old.given; reading = old.reading; rest = old.rest ++ piece; fault = f }) none ∙ stands))

@@ -15,7 +15,11 @@ returns c = λ fed h.
     grind (arith, nat_tests, c.min-n.ensures, c.saturating_sub-room.ensures, count_is) in
     let counted : c.saturating_add-self-inside.result ≡ c.args.self.now.count + n =
     grind (arith, nat_tests, c.saturating_add-self-inside.ensures, later_is, c.in_ok-step.ensures.count, is, h.count, h.within) in
-    let f = subst (λ (r : HeldAnswer). Follows c.args.job.now (fed ++ take n piece) c.in_ok-step.step r.opening r.body) (sym c.self-2.view_is)
+    let f = subst
+    (λ (r : HeldAnswer). Follows c.args.job.now (fed ++ take n piece) c.in_ok-step.step r.opening r.body)
+    (sym c.self-2.view_is)
     (c.in_ok-step.ensures.read fed h.means) in
-    rw c.limited.ensures (reads_piece c.args.job.now fed piece c.args.self.now n c.in_ok-step.step c.self-2.inside.opening c.self-2.inside.body
+    rw c.limited.ensures
+    (reads_piece c.args.job.now fed piece c.args.self.now n c.in_ok-step.step c.self-2.inside.opening
+    c.self-2.inside.body
     c.saturating_add-self-inside.result h is counted f)

@@ -12,7 +12,8 @@ returns-in_err-write_out-clause-kept g c =
     rw (passed.1, passed.2, write_fault_of c.in_err-write_out.field-0.0 c.in_err-write_out.ensures.fault)
     (λ had text piece k. (
       front_cut had (text ++ piece) gathered end before k (g.K.Sink.written c.write_out.new.sink)
-          (c.in_err-write_out.ensures.out had (front had (text ++ piece) gathered end before k) (front_kept had (text ++ piece) gathered end before k)),
+          (c.in_err-write_out.ensures.out had (front had (text ++ piece) gathered end before k)
+          (front_kept had (text ++ piece) gathered end before k)),
       c.write_out.ensures.empty,
     ))
 
@@ -21,7 +22,10 @@ returns-clause-kept g c = λ had text piece k.
     let before : Option (List ℕ) = g.K.Sink.written c.args.sink.now in
     let gathered : List ℕ = c.args.self.now in
     let end : List ℕ = c.args.end.now in
-    let out = c.in_ok-write_out.ensures.out had (front had (text ++ piece) gathered end before k) (front_kept had (text ++ piece) gathered end before k) in
-    kept_or_cut had text piece (g.K.Sink.written c.write_piece.new.sink, c.write_out.new.self) c.write_piece.result c.write_piece.ensures.fault
-    (c.write_piece.ensures.out had (text ++ piece) (end_kept had (text ++ piece) gathered end before k (g.K.Sink.written c.write_out.new.sink) out))
+    let out = c.in_ok-write_out.ensures.out had (front had (text ++ piece) gathered end before k)
+    (front_kept had (text ++ piece) gathered end before k) in
+    kept_or_cut had text piece (g.K.Sink.written c.write_piece.new.sink, c.write_out.new.self) c.write_piece.result
+    c.write_piece.ensures.fault
+    (c.write_piece.ensures.out had (text ++ piece)
+    (end_kept had (text ++ piece) gathered end before k (g.K.Sink.written c.write_out.new.sink) out))
     c.write_out.ensures.empty

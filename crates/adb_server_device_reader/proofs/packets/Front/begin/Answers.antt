@@ -12,7 +12,8 @@ invariant_of-result c =
     let read : head_at c.args.held.now ≡ Ok c.in_ok-head.head = search rules in
     let none : c.in_ok-bytes.bytes.items ≡ [] = search rules in
     let room : packet_len c.in_ok-head.head ≤ c.in_ok-bytes.bytes.spare = search rules in
-    front_begins c.in_ok-head.head c.args.held.now c.in_ok-bytes.bytes c.extend_reserved.new.self size read none room c.extend_reserved.ensures.items
+    front_begins c.in_ok-head.head c.args.held.now c.in_ok-bytes.bytes c.extend_reserved.new.self size read none room
+    c.extend_reserved.ensures.items
     c.extend_reserved.ensures.spare
 
 pub returns-clause-within : goal.returns-clause-within

@@ -8,5 +8,6 @@ pub new-requires : goal.new-requires
 new-requires c =
     record {
       read = ap head_at c.in-Ok.ensures.ok ∙ c.self.invariant.read;
-      long = ap length c.in-Ok.ensures.ok ∙ front_long c.self.inside.head c.self.inside.bytes c.self.invariant (ap need_of c.self.view_is ∙ c.requires);
+      long = ap length c.in-Ok.ensures.ok ∙ front_long c.self.inside.head c.self.inside.bytes c.self.invariant
+          (ap need_of c.self.view_is ∙ c.requires);
     }

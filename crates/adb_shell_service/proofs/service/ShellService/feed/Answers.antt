@@ -20,5 +20,6 @@ returns-in-Ok-false-clause-whole c = λ opening fed taken has.
     let is = subst (Reads opening fed) (sym (ap (λ (s : Held). s.input) c.self.view_is) ∙ c.in-Some.is) has.reads in
     let told = subst (λ (s : Held). taken ++ s.out ≡ (shell_answer opening fed).bytes) (sym c.self.view_is) has.given_out in
     goes_on_with opening (fed ++ c.args.piece.now) taken c.self.inside.spent
-    (subst (Answers opening (fed ++ c.args.piece.now) taken c.answer_piece.new.reader c.answer_piece.new.out.bytes) c.in-Ok-false.field-0-test
+    (subst (Answers opening (fed ++ c.args.piece.now) taken c.answer_piece.new.reader c.answer_piece.new.out.bytes)
+    c.in-Ok-false.field-0-test
     (c.in-Ok-false.ensures.whole opening fed taken is told))

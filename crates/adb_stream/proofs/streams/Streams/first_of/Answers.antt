@@ -9,7 +9,8 @@ kept c = record { drawn = c.self.inside.drawn; shelf = c.self.inside.shelf; inde
 
 pub returns-clause-first : goal.returns-clause-first
 returns-clause-first c =
-    subst (λ (t : StreamTable). MatchOption c.first_of.result (HasNoneOf c.args.link t.streams) (IsFirstOf c.args.link t.streams)) c.self.view_is
+    subst (λ (t : StreamTable). MatchOption c.first_of.result (HasNoneOf c.args.link t.streams)
+    (IsFirstOf c.args.link t.streams)) c.self.view_is
     (first_found (kept c) c.args.link c.first_of.result c.first_of.ensures.here c.first_of.ensures.least)
 
 pub returns-clause-sound : goal.returns-clause-sound

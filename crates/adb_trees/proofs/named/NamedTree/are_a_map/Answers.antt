@@ -8,4 +8,5 @@ pub returns : goal.returns
 returns c =
     let room = c.self.invariant.room in
     subst IsFileMap c.self.view_is
-    (is_map-kept named_entry (λ e. refl) c.self.inside.kept c.get.ensures.files.modes c.get.ensures.files.times (omega (arith, room)) c.get.ensures.files)
+    (is_map-kept named_entry (λ e. refl) c.self.inside.kept c.get.ensures.files.modes c.get.ensures.files.times
+    (omega (arith, room)) c.get.ensures.files)

@@ -12,11 +12,13 @@ use Rattle.adb_trees.proofs.named.NamedTree.push_text.Goals as goal
 
 pub text_of-requires-clause-path : goal.text_of-requires-clause-path
 text_of-requires-clause-path c =
-    found (λ (e : Entry). length e.path ≤ MAX_WORD) c.args.path.now c.self.inside.kept c.in-Some.file.now c.self.invariant.words (sym c.in-Some.ensures.file)
+    found (λ (e : Entry). length e.path ≤ MAX_WORD) c.args.path.now c.self.inside.kept c.in-Some.file.now
+    c.self.invariant.words (sym c.in-Some.ensures.file)
 
 pub text_of-requires-clause-size : goal.text_of-requires-clause-size
 text_of-requires-clause-size c =
-    found (λ (e : Entry). length e.file.bytes ≡ 4) c.args.path.now c.self.inside.kept c.in-Some.file.now c.self.invariant.sizes (sym c.in-Some.ensures.file)
+    found (λ (e : Entry). length e.file.bytes ≡ 4) c.args.path.now c.self.inside.kept c.in-Some.file.now
+    c.self.invariant.sizes (sym c.in-Some.ensures.file)
 
 pub unreachable-requires : goal.unreachable-requires
 unreachable-requires c =

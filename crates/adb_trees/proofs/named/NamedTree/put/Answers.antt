@@ -12,7 +12,8 @@ pub invariant_of-self : goal.invariant_of-self
 invariant_of-self c =
     let room = subst (λ (files : List Entry). total files + c.args.line.now.size ≤ MAX_TREE) (sym c.self.view_is) c.requires.room in
     let few = subst (λ (files : List Entry). length files < MAX_LINES) (sym c.self.view_is) c.requires.few in
-    still_kept c.args.line.now c.in_ok-bytes.bytes c.self.inside.kept (c.in_ok-bytes.ensures ∙ c.size_bytes.ensures.bytes) c.size_bytes.ensures.size
+    still_kept c.args.line.now c.in_ok-bytes.bytes c.self.inside.kept
+    (c.in_ok-bytes.ensures ∙ c.size_bytes.ensures.bytes) c.size_bytes.ensures.size
     c.self.invariant c.as_slice.ensures.short room few c.put_file.result c.as_slice.result.now c.put_file.new.files c.as_slice.ensures.bytes
     c.put_file.ensures.put c.put_file.ensures.err
 
@@ -22,7 +23,8 @@ returns-clause-put c =
     let few = subst (λ (files : List Entry). length files < MAX_LINES) (sym c.self.view_is) c.requires.few in
     let new : List Entry = named_files c.put_file.new.files in
     subst (λ (old : List Entry). IfOk c.put_file.result (λ put. PutsLine put c.args.line.now old new)) c.self.view_is
-    (named_put c.args.line.now c.in_ok-bytes.bytes c.self.inside.kept (c.in_ok-bytes.ensures ∙ c.size_bytes.ensures.bytes) c.size_bytes.ensures.size
+    (named_put c.args.line.now c.in_ok-bytes.bytes c.self.inside.kept
+    (c.in_ok-bytes.ensures ∙ c.size_bytes.ensures.bytes) c.size_bytes.ensures.size
     c.self.invariant c.as_slice.ensures.short room few c.put_file.result c.as_slice.result.now c.put_file.new.files c.as_slice.ensures.bytes
     c.put_file.ensures.put)
 

@@ -18,7 +18,8 @@ pub returns : goal.returns
 returns c =
     let after : Tree = record { files = c.put.new.self; size = c.self.inside.size + c.args.line.now.size } in
     let free : is_some (file_at c.args.line.now.path c.args.self.now.files) ≡ false =
-    ap (λ (path : List ℕ). is_some (file_at path c.args.self.now.files)) (sym c.as_slice.ensures.bytes) ∙ (sym c.has.ensures ∙ c.if-has.false) in
+    ap (λ (path : List ℕ). is_some (file_at path c.args.self.now.files)) (sym c.as_slice.ensures.bytes)
+    ∙ (sym c.has.ensures ∙ c.if-has.false) in
     let room : nat_lt MAX_TREE (c.args.self.now.size + c.args.line.now.size) ≡ false = sym c.is_too_much.ensures ∙ c.if-is_too_much.false in
     subst (λ (t : Tree). behind t (Some c.args.line.now) ≡ Some after) c.self.view_is
     (line_taken c.self.inside.files c.put.new.self c.self.inside.size c.args.line.now _ c.if-not-branch.false c.in_ok-put.ensures.put
@@ -33,7 +34,8 @@ pub invariant_of-self-2 : goal.invariant_of-self-2
 invariant_of-self-2 c =
     let room : nat_lt MAX_TREE (c.args.self.now.size + c.args.line.now.size) ≡ false = sym c.is_too_much.ensures ∙ c.if-is_too_much.false in
     let inside = subst (λ (t : Tree). nat_lt MAX_TREE (t.size + c.args.line.now.size) ≡ false) (sym c.self.view_is) room in (
-      room_after c.self.inside.files c.put.new.self c.self.inside.size c.args.line.now c.in_ok-put.field-0 c.if-not-branch.false c.in_ok-put.ensures.put
+      room_after c.self.inside.files c.put.new.self c.self.inside.size c.args.line.now c.in_ok-put.field-0
+          c.if-not-branch.false c.in_ok-put.ensures.put
           c.self.invariant.0,
       ltb-false MAX_TREE (c.self.inside.size + c.args.line.now.size) inside,
     )

@@ -15,7 +15,9 @@ invariant_of-self c =
     λ apart. fed_sound c.self.inside.framer c.args.piece.now c.feed.new.self c.self.invariant (c.feed.ensures.taken apart) in
     elim c.match-feed.branch [
       | in-Ok w ↦ opened (λ e. let clash : Ok w.in-Ok.field-0 ≡ Err errors.OutOfMemory = sym w.in-Ok.is ∙ e in cc)
-      | in-Err-OutOfMemory w ↦ subst IsSound (sym (c.feed.ensures.memory (w.in-Err-OutOfMemory.is ∙ ap Err w.in-Err-OutOfMemory.field-0-is))) c.self.invariant
+      | in-Err-OutOfMemory w ↦ subst IsSound
+          (sym (c.feed.ensures.memory (w.in-Err-OutOfMemory.is ∙ ap Err w.in-Err-OutOfMemory.field-0-is)))
+          c.self.invariant
       | in-Err-Fault-Broken w ↦ opened (λ e. cc)
       | in-Err-Fault-BadSum w ↦ opened (λ e. cc)
     ]

@@ -13,5 +13,6 @@ returns-in-None-clause-some c =
 pub returns-in-None-clause-short : goal.returns-in-None-clause-short
 returns-in-None-clause-short c = λ none piece few.
     let held = c.args.self.now in
-    let n : c.need.result ≡ need_of held.rest = c.need.ensures ∙ (ap need_of c.rest.ensures ∙ ap (λ (d : Deframing). need_of d.rest) c.self.view_is) in
+    let n : c.need.result ≡ need_of held.rest = c.need.ensures
+    ∙ (ap need_of c.rest.ensures ∙ ap (λ (d : Deframing). need_of d.rest) c.self.view_is) in
     short_waits held piece (subst IsOpen c.self.view_is c.self.invariant.opened) none (omega (arith, n, few))

@@ -25,7 +25,8 @@ returns-clause-number c =
 pub returns-clause-added : goal.returns-clause-added
 returns-clause-added c =
     let held = c.requires.held in
-    let is : c.in_ok-number.number ≡ c.args.self.now.given + 1 = c.in_ok-number.ensures.number ∙ number held.history c.args.self.now held.holds in
+    let is : c.in_ok-number.number ≡ c.args.self.now.given + 1 =
+    c.in_ok-number.ensures.number ∙ number held.history c.args.self.now held.holds in
     record {
       sessions = c.in_ok-add.ensures.entries ∙ ap (λ (n : ℕ). put_at n c.args.session c.args.self.now.sessions.entries) is;
       given = is;

@@ -11,7 +11,9 @@ use Rattle.adb_world.proofs.parts.Parts.next_owed.Goals as goal
 pub returns-in-Some-Client-clause-next : goal.returns-in-Some-Client-clause-next
 returns-in-Some-Client-clause-next c =
     let parts = c.args.self.now in
-    let named = subst (λ (o : Owner). (h : History) → IsLawful c.args.self.now.hub h → Some o ≡ option_and_then owner_of (next_out (state h)))
+    let named = subst
+    (λ (o : Owner). (h : History) → IsLawful c.args.self.now.hub h
+    → Some o ≡ option_and_then owner_of (next_out (state h)))
     c.in-Some-Client.field-0-is c.in-Some-Client.ensures.owner in
     let entry = subst (λ (o : Owner). (h : History) → IsLawful c.args.self.now.hub h → next_out (state h) ≡ entry_of (Some o) (state h))
     c.in-Some-Client.field-0-is c.in-Some-Client.ensures.entry in (
@@ -21,7 +23,9 @@ returns-in-Some-Client-clause-next c =
 
 pub returns-in-Some-Link-clause-next : goal.returns-in-Some-Link-clause-next
 returns-in-Some-Link-clause-next c =
-    let named = subst (λ (o : Owner). (h : History) → IsLawful c.args.self.now.hub h → Some o ≡ option_and_then owner_of (next_out (state h)))
+    let named = subst
+    (λ (o : Owner). (h : History) → IsLawful c.args.self.now.hub h
+    → Some o ≡ option_and_then owner_of (next_out (state h)))
     c.in-Some-Link.field-0-is c.in-Some-Link.ensures.owner in
     absurd (no_link c.args.self.now c.requires.runs c.requires.down c.in-Some-Link._link named)
 

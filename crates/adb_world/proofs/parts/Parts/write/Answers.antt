@@ -33,7 +33,9 @@ returns-clause-moves c h holds =
     let known = devices_of c.args.self.now runs
     (c.a_device_breaks_no_link.ensures model_setting runs.history (omega arith) runs.holds.lawful.legal runs.holds.joined) asks h holds in
     let piece : List ℕ = take c.args.max (left_of session) in
-    let puts = subst (λ (n : ℕ). Changes c.args.number (wrote n) c.args.self.now.sessions.entries c.advance.new.sessions.entries) c.next_len-n.ensures
+    let puts = subst
+    (λ (n : ℕ). Changes c.args.number (wrote n) c.args.self.now.sessions.entries c.advance.new.sessions.entries)
+    c.next_len-n.ensures
     c.advance.ensures in
     write_moved h c.args.self.now holds c.args.max c.read_next.new.hub c.args.number piece session _ known is
     refl (λ e. omega (arith, e, c.next_len-n.ensures, c.if-n-eq0.false)) (c.in_ok-read_next.ensures h holds.lawful) refl refl refl puts
