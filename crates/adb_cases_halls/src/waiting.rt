@@ -234,13 +234,13 @@ fn reader_wakes<
     W: Threads + Clock + Sync + Drop,
 >(
     rt: W,
-    halls: (&mut H, &mut H),
+    here: &mut H,
+    there: &mut H,
     readers: &mut Readers<E, M, K>,
     writers: &mut Writers<E, M, K>,
     half: Half,
     event: Event,
 ) -> bool {
-    let (here, there) = halls;
     let (answer, ()) = thread::join(
         &rt,
         || room(half, here, readers),
@@ -259,13 +259,13 @@ fn writer_wakes<
     W: Threads + Clock + Sync + Drop,
 >(
     rt: W,
-    halls: (&mut H, &mut H),
+    here: &mut H,
+    there: &mut H,
     readers: &mut Readers<E, M, K>,
     writers: &mut Writers<E, M, K>,
     half: Half,
     event: Event,
 ) -> bool {
-    let (here, there) = halls;
     let (answer, ()) = thread::join(
         &rt,
         || hand_out(half, here, writers),
@@ -360,8 +360,7 @@ impl Row {
         K: Marks + Send + Sync + 'static,
         H: Hall<E, M, K> + Send,
         W: Threads + Clock + Sync + Drop,
-    >(self, rt: W, halls: (&mut H, &mut H), piece: &[u8]) -> bool {
-        let (here, there) = halls;
+    >(self, rt: W, here: &mut H, there: &mut H, piece: &[u8]) -> bool {
         let Some((mut readers, mut writers)) = seats(here) else {
             return false;
         };
@@ -371,13 +370,13 @@ impl Row {
         {
             return false;
         }
-        let halls = (here, there);
+        let (readers, writers) = (&mut readers, &mut writers);
         match self.call {
             Call::Room(half) => {
-                reader_wakes(rt, halls, &mut readers, &mut writers, half, self.event)
+                reader_wakes(rt, here, there, readers, writers, half, self.event)
             }
             Call::Output(half) => {
-                writer_wakes(rt, halls, &mut readers, &mut writers, half, self.event)
+                writer_wakes(rt, here, there, readers, writers, half, self.event)
             }
         }
     }
@@ -414,7 +413,7 @@ fn holds_beside<
 ) -> Result<bool, AllocError> {
     let mut there = here.handle()?;
     let piece = row.call.piece(alloc)?;
-    Ok(row.holds(rt, (here, &mut there), &piece))
+    Ok(row.holds(rt, here, &mut there, &piece))
 }
 
 fn holds<

@@ -1,16 +1,11 @@
 //! A server without devices.
 
-use adb_connections::{MemoryDeviceIn, MemoryDeviceOut};
 use adb_outside::MemorySink;
 use adb_server::{Ended, serve};
-use adb_server_device_reader::Device;
-use adb_server_yard::Yard;
+use adb_server_yard::{Yard, YardDevice};
 use std::alloc::Global;
 use std::sync::Wait;
 use std::thread::Threads;
-
-/// A list of devices.
-pub(crate) type Devices = Vec<Device<MemoryDeviceIn, MemoryDeviceOut>>;
 
 /// The request for the version of the server, and its answer.
 pub(crate) const ASK_VERSION: &[u8] = b"000Chost:version";
@@ -29,6 +24,6 @@ pub(crate) fn serve_clients<
 >(rt: W, alloc: Global, yard: Y, wanted: bool, note: &mut MemorySink) -> Ended<Y::Keeper>
     requires { Y.records yard wanted }
 {
-    let devices: Devices = Vec::new(alloc);
+    let devices: Vec<YardDevice<Y>> = Vec::new(alloc);
     serve(rt, alloc, yard, devices, 5037, wanted, note)
 }

@@ -5,7 +5,10 @@ ghost use Rattle.adb_outside.specs.Outside.{Counts};
 
 use crate::clients::serve_clients;
 use adb_binder::MemoryBinder;
-use adb_connections::{Came, Door, MemoryIn, MemoryOut, OpenGate, PortIn, PortOut, SilentBell};
+use adb_connections::{
+    Came, Door, MemoryDeviceIn, MemoryDeviceOut, MemoryIn, MemoryOut, OpenGate, PortIn, PortOut,
+    SilentBell,
+};
 use adb_outside::{Failing, Got, MemorySink, Wrote};
 use adb_recorder::NullRecorder;
 use adb_server::Served;

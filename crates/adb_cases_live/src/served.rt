@@ -1,14 +1,10 @@
 //! A server over fakes: its end after each failure of its environment.
 
-ghost use Rattle.std.specs.Prelude.{true};
-
 use crate::rows::{CLIENTS, DEVICES, Row};
-use adb_connections::{DeviceIn, DeviceOut, MemoryDeviceIn, Plug};
-use adb_fakes::{FakeYard, Kept, Sent, SharedOut};
+use adb_connections::{Device, MemoryDeviceIn, Plug};
+use adb_fakes::{FakeDevice, FakeYard, Kept, Sent, SharedOut};
 use adb_outside::{Kind, MemorySink, Text};
 use adb_server::{Served, serve};
-use adb_server_device_reader::Device;
-use adb_server_yard::Yard;
 use std::alloc::{AllocError, Global};
 use std::sync::Wait;
 use std::thread::Threads;
@@ -20,18 +16,13 @@ const LINE: &[u8] = b"adbhub: listening on 127.0.0.1:5037\n";
 const SENDS: &[u8] = b"CNXN\x01\0\0\x01\0\x10\0\0\x08\0\0\0\0\0\0\0\xbc\xb1\xa7\xb1device::\
     OKAY\x07\0\0\0\x01\0\0\0\0\0\0\0\0\0\0\0\xb0\xb4\xbe";
 
-/// A device that sends bytes from memory and shares with the test the bytes that it is sent.
-type TestDevice<W> = Device<MemoryDeviceIn, SharedOut<W>>;
-
 /// Returns the end of a server on port 5037, if its note has the line for that port.
-fn served<
-    W: Threads + Wait + Copy + Send + Sync + Drop + 'static,
-    Y: Yard + 'static,
-    X: DeviceIn + Send + 'static,
-    Z: DeviceOut + Send + 'static,
->(rt: W, alloc: Global, yard: Y, devices: Vec<Device<X, Z>>) -> Option<Served>
-    requires { Y.records yard true }
-{
+fn served<W: Threads + Wait + Copy + Send + Sync + Drop + 'static>(
+    rt: W,
+    alloc: Global,
+    yard: FakeYard<W>,
+    devices: Vec<FakeDevice<W>>,
+) -> Option<Served> {
     let mut note = MemorySink::new(alloc, Vec::new(alloc));
     let ended = serve(rt, alloc, yard, devices, 5037, true, &mut note);
     (note.bytes() == LINE).then_some(ended.served)
@@ -48,7 +39,7 @@ fn device<W: Wait + Copy + Send + Sync + Drop + 'static>(
     alloc: Global,
     row: Row,
     sent: &Sent<W>,
-) -> Result<TestDevice<W>, AllocError> {
+) -> Result<FakeDevice<W>, AllocError> {
     let input = input(alloc, row.plug)?;
     let serial = Text::from_slice(alloc, row.serial)?;
     let output = SharedOut::new(sent.handle()?, Vec::new(alloc));
@@ -65,7 +56,7 @@ fn devices<W: Wait + Copy + Send + Sync + Drop + 'static>(
     alloc: Global,
     row: Row,
     sent: &Sent<W>,
-) -> Result<Vec<TestDevice<W>>, AllocError> {
+) -> Result<Vec<FakeDevice<W>>, AllocError> {
     let device = device(alloc, row, sent)?;
     let mut devices = Vec::new(alloc);
     devices.push(device)?;
@@ -108,7 +99,7 @@ fn ends<W: Threads + Wait + Copy + Send + Sync + Drop + 'static>(
     alloc: Global,
     row: Row,
     kept: Kept<W>,
-    devices: Vec<TestDevice<W>>,
+    devices: Vec<FakeDevice<W>>,
 ) -> Result<bool, AllocError> {
     let mut yard = FakeYard::new(rt, alloc, kept)?;
     let client = prepare(alloc, row, &mut yard)?;

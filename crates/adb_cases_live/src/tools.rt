@@ -1,8 +1,8 @@
 //! The client tools over a yard whose server answers what a row says.
 
-use crate::clients::Devices;
 use adb_fakes::{CalmYard, Sent};
 use adb_outside::{MemorySink, MemorySource, Text};
+use adb_server_yard::YardDevice;
 use adb_top::{Status, run};
 use std::alloc::{AllocError, Global};
 use std::sync::Wait;
@@ -96,7 +96,7 @@ fn ends<W: Threads + Wait + Copy + Send + Sync + Drop + 'static>(
     let mut source = MemorySource::new(source, 2, Vec::new(alloc));
     let mut sink = MemorySink::new(alloc, Vec::new(alloc));
     let mut note = MemorySink::new(alloc, Vec::new(alloc));
-    let devices: Devices = Vec::new(alloc);
+    let devices: Vec<YardDevice<CalmYard<W>>> = Vec::new(alloc);
     let ran = run(
         rt,
         alloc,

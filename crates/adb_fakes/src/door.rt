@@ -1,7 +1,7 @@
 //! A door, and its bell.
 
 use crate::sent::SharedOut;
-use adb_connections::{Bell, Came, Device, Door, MemoryDeviceIn, MemoryDeviceOut, MemoryIn};
+use adb_connections::{Bell, Came, Device, Door, MemoryDeviceIn, MemoryIn};
 use adb_outside::Failing;
 use std::alloc::{AllocError, Global};
 use std::collections::VecDeque;
@@ -45,11 +45,14 @@ impl<W: Wait + Copy + Send + Sync + Drop + 'static> Bell for Rings<W> {
     }
 }
 
+/// A device that sends bytes from memory and shares with the test the bytes that it is sent.
+pub type FakeDevice<W: Wait + Copy + Drop> = Device<MemoryDeviceIn, SharedOut<W>>;
+
 /// A client or a device that comes.
 #[derive(Drop)]
 pub(crate) enum Coming<W: Wait + Copy + Drop> {
     Client(MemoryIn, SharedOut<W>),
-    Device(Device<MemoryDeviceIn, MemoryDeviceOut>),
+    Device(FakeDevice<W>),
 }
 
 /// A door that accepts these clients and devices in order. It is closed after the last one, and
@@ -76,7 +79,7 @@ impl<W: Wait + Copy + Send + Sync + Drop + 'static> Door for FakeDoor<W> {
 
     type DeviceIn = MemoryDeviceIn;
 
-    type DeviceOut = MemoryDeviceOut;
+    type DeviceOut = SharedOut<W>;
 
     ghost use Rattle.std.specs.Prelude.{None};
 
@@ -88,7 +91,7 @@ impl<W: Wait + Copy + Send + Sync + Drop + 'static> Door for FakeDoor<W> {
 
     ghost steady = { λ door. ⊥ };
 
-    fn accept(&mut self) -> Came<MemoryIn, SharedOut<W>, MemoryDeviceIn, MemoryDeviceOut> {
+    fn accept(&mut self) -> Came<MemoryIn, SharedOut<W>, MemoryDeviceIn, SharedOut<W>> {
         if self.failing.fails() {
             return Came::Failed;
         }

@@ -15,7 +15,7 @@ mod yard;
 pub use calm_door::{CalmBinder, CalmDoor};
 pub use calm_out::CalmOut;
 pub use calm_yard::CalmYard;
-pub use door::{FakeDoor, Rings};
+pub use door::{FakeDevice, FakeDoor, Rings};
 pub use lines::lines_of;
 pub use recorder::{Kept, SharedRecorder};
 pub use sent::{Sent, SharedOut};

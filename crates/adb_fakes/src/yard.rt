@@ -4,11 +4,11 @@ ghost use Rattle.std.specs.Prelude.{◌≡◌, ◌≢◌, true};
 ghost use Rattle.adb_fakes.specs.Fakes.{listening_port as port_of};
 ghost use Rattle.adb_outside.specs.Outside.{Counts};
 
-use crate::door::{Coming, FakeDoor, Rings};
+use crate::door::{Coming, FakeDevice, FakeDoor, Rings};
 use crate::recorder::{Kept, SharedRecorder};
 use crate::sent::{Sent, SharedOut};
 use adb_binder::MemoryBinder;
-use adb_connections::{Device, MemoryDeviceIn, MemoryDeviceOut, MemoryIn, OpenGate};
+use adb_connections::{MemoryIn, OpenGate};
 use adb_outside::{Failing, Text};
 use adb_server_yard::{Dialled, Listening, PoolKind, Yard};
 use std::alloc::{AllocError, Global};
@@ -95,10 +95,7 @@ impl<W: Wait + Copy + Drop> FakeYard<W> {
     /// Adds a device that comes through the door.
     ///
     /// `Err`: an allocation failed, and the device is not added.
-    pub fn deliver(
-        &mut self,
-        device: Device<MemoryDeviceIn, MemoryDeviceOut>,
-    ) -> Result<(), AllocError> {
+    pub fn deliver(&mut self, device: FakeDevice<W>) -> Result<(), AllocError> {
         self.coming.push_back(Coming::Device(device))?;
         Ok(())
     }

@@ -2,6 +2,7 @@
 //! their own.
 #![tactic(auto)]
 
+mod live_door;
 mod real_yard;
 
 pub use adb_os_door::{
@@ -12,4 +13,5 @@ pub use adb_os_record::{
     Begun, LiveRecorder, Named, PipeSink, RecordState, Settled, Writing, begin_record, end_record,
 };
 pub use adb_os_sockets::{Ending, TcpDeviceIn, TcpDeviceOut, TcpIn, TcpOut};
+pub use live_door::{LiveDevice, LiveDeviceIn, LiveDeviceOut, LiveDoor, ModelDevice, model};
 pub use real_yard::RealYard;

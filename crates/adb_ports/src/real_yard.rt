@@ -3,8 +3,9 @@
 ghost use Rattle.std.specs.Prelude.{◌≡◌, false, IfSome};
 ghost use Rattle.adb_server_yard.specs.Yard.{FitsPort, is_deaf};
 
+use crate::live_door::LiveDoor;
 use adb_connections::OpenGate;
-use adb_os_door::{Deliveries, Entrance, Listeners, TcpBell, TcpBinder, TcpDoor};
+use adb_os_door::{Deliveries, Entrance, Listeners, TcpBell, TcpBinder};
 use adb_os_record::{LiveRecorder, Named, PipeSink};
 use adb_os_sockets::{Ending, TcpIn, TcpOut, halves};
 use adb_server_yard::{Dialled, Listening, PoolKind, Yard};
@@ -95,7 +96,7 @@ fn listen<W: Net<Listener = TcpListener, Stream = TcpStream> + Wait + Copy + Dro
     deliveries: &Option<Arc<Deliveries, Global>>,
     port: u16,
     is_recorded: bool,
-) -> Option<(Listening<TcpDoor<W>, TcpBell>, Arc<Listeners, Global>)>
+) -> Option<(Listening<LiveDoor<W>, TcpBell>, Arc<Listeners, Global>)>
     ensures { IfSome result (λ here. FitsPort port here.0 × (is_deaf here.0 ≡ false)) }
 {
     let (listener, address) = open(&rt, port).ok()?;
@@ -111,7 +112,7 @@ fn listen<W: Net<Listener = TcpListener, Stream = TcpStream> + Wait + Copy + Dro
         bell,
         listeners,
     } = Entrance::new(rt, alloc, listener, ending, deliveries).ok()?;
-    Some((Listening::Here(door, bell, bound), listeners))
+    Some((Listening::Here(LiveDoor::new(door), bell, bound), listeners))
 }
 
 /// Connects to a port of this machine and returns the two halves of the connection.
@@ -135,7 +136,7 @@ impl<
         + 'static,
     B: Named + Send + 'static,
 > Yard for RealYard<W, B> {
-    type Door = TcpDoor<W>;
+    type Door = LiveDoor<W>;
 
     type Bell = TcpBell;
 
@@ -166,7 +167,7 @@ impl<
         × (wanted ≡ false → B.pipe ≡ None) };
 
     /// Listens on the loopback interface only.
-    fn listen(&mut self, port: u16) -> Listening<TcpDoor<W>, TcpBell> {
+    fn listen(&mut self, port: u16) -> Listening<LiveDoor<W>, TcpBell> {
         let is_recorded = self.sink.is_some();
         match listen(
             self.rt,

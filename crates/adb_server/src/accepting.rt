@@ -4,14 +4,14 @@ ghost use Rattle.std.specs.Prelude.{◌≡◌, ◌≢◌, ◌<◌, ◌≤◌, Er
 ghost use Rattle.adb_outside.specs.Outside.{Rises};
 ghost use Rattle.adb_server.specs.Served.{HasClosed};
 
-use crate::arriving::{Arrival, Comer, delivered, given, let_in, link_up};
+use crate::arriving::{Arrival, Comer, let_in, link_up};
 use crate::refusals::{go_on, go_on_without};
 use crate::server::Served;
 use crate::workers::{Jobs, Pair, client_jobs, device_jobs, start, start_all};
-use adb_connections::{Device, DeviceOut, Door};
+use adb_connections::{DeviceOut, Door};
 use adb_server_device_reader::Packets;
 use adb_server_hall::Hall;
-use adb_server_work::{Contexts, HallOf, Parts, Work, make_contexts};
+use adb_server_work::{Contexts, DeviceOf, HallOf, Parts, Work, make_contexts};
 use adb_server_yard::Yard;
 use adb_spawner::WorkerPool;
 use std::alloc::{AllocError, Global};
@@ -42,12 +42,7 @@ struct Provision<W: Wait + Copy + Drop, P: Parts> {
 pub(crate) fn serve_all<
     W: Threads + Wait + Copy + Send + Sync + Drop + 'static,
     P: Parts,
-    D: Door<
-        In = P::ClientIn,
-        Out = P::ClientOut,
-        DeviceIn = P::DoorDeviceIn,
-        DeviceOut = P::DoorDeviceOut,
-    >,
+    D: Door<In = P::ClientIn, Out = P::ClientOut, DeviceIn = P::DeviceIn, DeviceOut = P::DeviceOut>,
     Y: Yard<Ports = P::Binder, Gate = P::Gate>,
     S: Jobs<Work<W, P>>,
 >(
@@ -55,7 +50,7 @@ pub(crate) fn serve_all<
     pool: &mut WorkerPool<W, S::Job>,
     hall: &mut HallOf<W, P>,
     door: &mut D,
-    devices: Vec<Device<P::DeviceIn, P::DeviceOut>>,
+    devices: Vec<DeviceOf<P>>,
 ) -> Served
     ensures record { P.Marks.steady → result ≢ Served.RecordFault }
     ensures door { D.steady door.old → result ≢ Served.DoorFault }
@@ -83,7 +78,7 @@ fn plug_all<
 >(
     supplies: &mut Supplies<W, P::Bell, S, Y>,
     hall: &mut HallOf<W, P>,
-    devices: Vec<Device<P::DeviceIn, P::DeviceOut>>,
+    devices: Vec<DeviceOf<P>>,
     plugged: &mut Vec<Pair<S::Job>>,
 ) -> Result<(), Served>
     ensures record { P.Marks.steady → result ≢ Err Served.RecordFault }
@@ -109,7 +104,7 @@ fn plug<
 >(
     supplies: &mut Supplies<W, P::Bell, S, Y>,
     hall: &mut HallOf<W, P>,
-    device: Device<P::DeviceIn, P::DeviceOut>,
+    device: DeviceOf<P>,
     plugged: &mut Vec<Pair<S::Job>>,
 ) -> Result<(), Served>
     ensures record { P.Marks.steady → result ≢ Err Served.RecordFault }
@@ -121,7 +116,7 @@ fn plug<
         return Err(Served::OutOfMemory);
     };
     let Provision { contexts, packets } = provision;
-    match link_up::<P, HallOf<W, P>>(hall, given::<P>(device), packets) {
+    match link_up::<P, HallOf<W, P>>(hall, device, packets) {
         Ok(Some(linked)) => {
             plugged.push_reserved(device_jobs::<W, P, S>(&supplies.jobs, contexts, linked));
             Ok(())
@@ -164,12 +159,7 @@ fn provide<
 fn take<
     W: Threads + Wait + Copy + Send + Sync + Drop + 'static,
     P: Parts,
-    D: Door<
-        In = P::ClientIn,
-        Out = P::ClientOut,
-        DeviceIn = P::DoorDeviceIn,
-        DeviceOut = P::DoorDeviceOut,
-    >,
+    D: Door<In = P::ClientIn, Out = P::ClientOut, DeviceIn = P::DeviceIn, DeviceOut = P::DeviceOut>,
     Y: Yard<Ports = P::Binder, Gate = P::Gate>,
     S: Jobs<Work<W, P>>,
 >(
@@ -237,7 +227,7 @@ fn serve_device<
     pool: &mut WorkerPool<W, S::Job>,
     hall: &mut HallOf<W, P>,
     contexts: Contexts<W, P>,
-    device: Device<P::DoorDeviceIn, P::DoorDeviceOut>,
+    device: DeviceOf<P>,
 ) -> Result<(), Served>
     ensures record { P.Marks.steady → result ≢ Err Served.RecordFault }
     ensures other { (result ≢ Err Served.DoorFault) × (result ≢ Err Served.Done)
@@ -248,7 +238,7 @@ fn serve_device<
         device.output.unplug();
         return Ok(());
     };
-    match link_up::<P, HallOf<W, P>>(hall, delivered::<P>(device), packets) {
+    match link_up::<P, HallOf<W, P>>(hall, device, packets) {
         Ok(Some(linked)) => {
             let pair = device_jobs::<W, P, S>(&supplies.jobs, contexts, linked);
             start::<W, S::Job, P>(pool, hall, pair);
@@ -264,12 +254,7 @@ fn serve_device<
 fn take_all<
     W: Threads + Wait + Copy + Send + Sync + Drop + 'static,
     P: Parts,
-    D: Door<
-        In = P::ClientIn,
-        Out = P::ClientOut,
-        DeviceIn = P::DoorDeviceIn,
-        DeviceOut = P::DoorDeviceOut,
-    >,
+    D: Door<In = P::ClientIn, Out = P::ClientOut, DeviceIn = P::DeviceIn, DeviceOut = P::DeviceOut>,
     Y: Yard<Ports = P::Binder, Gate = P::Gate>,
     S: Jobs<Work<W, P>>,
 >(

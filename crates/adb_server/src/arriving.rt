@@ -7,12 +7,12 @@ ghost use Rattle.adb_server.specs.Served.{HasClosed};
 
 use crate::refusals::go_on;
 use crate::server::Served;
-use adb_connections::{Device, DeviceOut, Door, EitherIn, EitherOut};
+use adb_connections::{DeviceOut, Door};
 use adb_server_client_reader::{Admitted, admit};
 use adb_server_device_reader::{Packets, Plugged, plug_in};
 use adb_server_hall::Hall;
 use adb_server_log::{ClientIn, ClientOut, DeskError, LinkIn, LinkOut};
-use adb_server_work::{DeviceInOf, DeviceOutOf, Parts};
+use adb_server_work::{DeviceOf, Parts};
 
 /// A client that was admitted: the two halves of its connection and the passes of its reader and
 /// its writer.
@@ -29,14 +29,14 @@ pub(crate) struct Arrival<P: Parts> {
 pub(crate) enum Comer<P: Parts> {
     Client(Arrival<P>),
     /// A device that has no link yet.
-    Device(Device<P::DoorDeviceIn, P::DoorDeviceOut>),
+    Device(DeviceOf<P>),
 }
 
 /// A device that has a link: its two halves, the reader of its packets, and the passes of its
 /// reader and its writer.
 #[derive(Drop)]
 pub(crate) struct Linked<P: Parts> {
-    pub(crate) device: Device<DeviceInOf<P>, DeviceOutOf<P>>,
+    pub(crate) device: DeviceOf<P>,
     pub(crate) packets: Packets,
     pub(crate) reading: LinkIn<P::Entries, P::Moved, P::Marks>,
     pub(crate) writing: LinkOut<P::Entries, P::Moved, P::Marks>,
@@ -60,12 +60,7 @@ struct Passes<P: Parts> {
 pub(crate) fn let_in<
     P: Parts,
     H: Hall<P::Entries, P::Moved, P::Marks>,
-    D: Door<
-        In = P::ClientIn,
-        Out = P::ClientOut,
-        DeviceIn = P::DoorDeviceIn,
-        DeviceOut = P::DoorDeviceOut,
-    >,
+    D: Door<In = P::ClientIn, Out = P::ClientOut, DeviceIn = P::DeviceIn, DeviceOut = P::DeviceOut>,
 >(hall: &mut H, door: &mut D) -> Result<Option<Comer<P>>, Served>
     ensures record { P.Marks.steady → result ≢ Err Served.RecordFault }
     ensures door { D.steady door.old → (D.steady door.new) × (result ≢ Err Served.DoorFault) }
@@ -100,37 +95,13 @@ pub(crate) fn let_in<
     }
 }
 
-/// Returns a device that the server was given, with the types of any device.
-pub(crate) fn given<P: Parts>(
-    device: Device<P::DeviceIn, P::DeviceOut>,
-) -> Device<DeviceInOf<P>, DeviceOutOf<P>> {
-    Device {
-        kind: device.kind,
-        serial: device.serial,
-        input: EitherIn::First(device.input),
-        output: EitherOut::First(device.output),
-    }
-}
-
-/// Returns a device that came through the door, with the types of any device.
-pub(crate) fn delivered<P: Parts>(
-    device: Device<P::DoorDeviceIn, P::DoorDeviceOut>,
-) -> Device<DeviceInOf<P>, DeviceOutOf<P>> {
-    Device {
-        kind: device.kind,
-        serial: device.serial,
-        input: EitherIn::Second(device.input),
-        output: EitherOut::Second(device.output),
-    }
-}
-
 /// Attaches a device. A device that is not plugged in is unplugged and dropped, which is
 /// `Ok(None)`.
 ///
 /// `Err`: the hall refused the device with this error, and the device is unplugged and dropped.
 pub(crate) fn link_up<P: Parts, H: Hall<P::Entries, P::Moved, P::Marks>>(
     hall: &mut H,
-    device: Device<DeviceInOf<P>, DeviceOutOf<P>>,
+    device: DeviceOf<P>,
     packets: Packets,
 ) -> Result<Option<Linked<P>>, DeskError>
     ensures record { P.Marks.steady → result ≢ Err DeskError.RecordFault }
@@ -153,7 +124,7 @@ pub(crate) fn link_up<P: Parts, H: Hall<P::Entries, P::Moved, P::Marks>>(
 /// `Err`: the hall refused the device with this error, and the device is unplugged.
 fn passes_of<P: Parts, H: Hall<P::Entries, P::Moved, P::Marks>>(
     hall: &mut H,
-    device: &mut Device<DeviceInOf<P>, DeviceOutOf<P>>,
+    device: &mut DeviceOf<P>,
 ) -> Result<Option<Passes<P>>, DeskError>
     ensures record { P.Marks.steady → result ≢ Err DeskError.RecordFault }
 {

@@ -18,7 +18,7 @@ use adb_recorder::Recorder;
 use adb_server_locked_hall::LockedHall;
 use adb_server_log::{ALL_PARTS, Marks};
 use adb_server_work::BellHandle;
-use adb_server_yard::{Listening, Yard};
+use adb_server_yard::{Listening, Yard, YardDevice};
 use std::alloc::Global;
 use std::marker::Brand;
 use std::sync::Wait;
@@ -66,17 +66,11 @@ pub struct Ended<R: Drop> {
 /// - `RecordFault`: the recorder failed, and kept the entries before that.
 /// - `DoorFault`: listening on the port failed, or the door failed.
 #[tactic(auto, using(crate::proofs::Announcing::served_there, crate::proofs::Announcing::no_write_fault, crate::proofs::Keeping::keeps_none))]
-pub fn serve<
-    W: Threads + Wait + Copy + Send + Sync + Drop + 'static,
-    Y: Yard + 'static,
-    X: DeviceIn + Send + 'static,
-    Z: DeviceOut + Send + 'static,
-    N: Sink,
->(
+pub fn serve<W: Threads + Wait + Copy + Send + Sync + Drop + 'static, Y: Yard + 'static, N: Sink>(
     rt: W,
     alloc: Global,
     yard: Y,
-    devices: Vec<Device<X, Z>>,
+    devices: Vec<YardDevice<Y>>,
     port: u16,
     wanted: bool,
     note: &mut N,
@@ -110,19 +104,14 @@ pub fn serve<
 }
 
 /// Serves at a door with the bell `bell`, as `serve` does after it has listened.
-pub fn serve_at<
-    W: Threads + Wait + Copy + Send + Sync + Drop + 'static,
-    Y: Yard + 'static,
-    X: DeviceIn + Send + 'static,
-    Z: DeviceOut + Send + 'static,
->(
+pub fn serve_at<W: Threads + Wait + Copy + Send + Sync + Drop + 'static, Y: Yard + 'static>(
     rt: W,
     alloc: Global,
     yard: Y,
     door: &mut Y::Door,
     bell: Y::Bell,
     recorder: Y::Keeper,
-    devices: Vec<Device<X, Z>>,
+    devices: Vec<YardDevice<Y>>,
 ) -> Ended<Y::Keeper>
     requires fresh { (Y.Keeper.faults recorder ≡ 0) × IsFresh (Y.Keeper.told recorder) }
     requires stands { Y.Keeper.stands recorder [] }
@@ -146,8 +135,6 @@ pub fn serve_at<
         Y::Ports,
         Y::Gate,
         Y::Bell,
-        X,
-        Z,
         <Y::Door as Door>::DeviceIn,
         <Y::Door as Door>::DeviceOut,
         Y::Door,
@@ -181,9 +168,7 @@ fn serve_with<
     B: Bell,
     X: DeviceIn + Send + 'static,
     Z: DeviceOut + Send + 'static,
-    U: DeviceIn + Send + 'static,
-    V: DeviceOut + Send + 'static,
-    D: Door<In = I, Out = O, DeviceIn = U, DeviceOut = V>,
+    D: Door<In = I, Out = O, DeviceIn = X, DeviceOut = Z>,
     Y: Yard<Ports = P, Gate = G>,
 >(
     rt: W,
@@ -233,13 +218,13 @@ fn serve_with<
         jobs: Workers {},
         yard,
     };
-    let served = serve_all::<
-        W,
-        Over<R, E, M, K, I, O, P, X, Z, U, V, G, BellHandle<B>>,
-        D,
-        Y,
-        Workers,
-    >(&mut supplies, &mut pool, &mut hall, door, devices);
+    let served = serve_all::<W, Over<R, E, M, K, I, O, P, X, Z, G, BellHandle<B>>, D, Y, Workers>(
+        &mut supplies,
+        &mut pool,
+        &mut hall,
+        door,
+        devices,
+    );
     pool.finish();
     end_of(served, hall.close())
 }

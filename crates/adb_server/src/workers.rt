@@ -19,7 +19,7 @@ use std::thread::Threads;
 /// The parts of a server, with a type parameter for each. A function that starts threads names its
 /// parts by this type, since the bounds of its own type parameters say that jobs are `Send`.
 #[derive(Drop)]
-pub(crate) struct Over<R, E, M, K, I, O, P, X, Z, U, V, G, B> {
+pub(crate) struct Over<R, E, M, K, I, O, P, X, Z, G, B> {
     recorder: PhantomData<R>,
     entries: PhantomData<E>,
     moved: PhantomData<M>,
@@ -29,8 +29,6 @@ pub(crate) struct Over<R, E, M, K, I, O, P, X, Z, U, V, G, B> {
     binder: PhantomData<P>,
     device_in: PhantomData<X>,
     device_out: PhantomData<Z>,
-    door_device_in: PhantomData<U>,
-    door_device_out: PhantomData<V>,
     gate: PhantomData<G>,
     bell: PhantomData<B>,
 }
@@ -43,13 +41,11 @@ impl<
     I: PortIn + Drop + 'static,
     O: PortOut + Drop + 'static,
     P: Binder + Drop + 'static,
-    X: DeviceIn,
-    Z: DeviceOut,
-    U: DeviceIn + 'static,
-    V: DeviceOut + 'static,
+    X: DeviceIn + 'static,
+    Z: DeviceOut + 'static,
     G: Gate + Drop + 'static,
     B: Ringing,
-> Parts for Over<R, E, M, K, I, O, P, X, Z, U, V, G, B> {
+> Parts for Over<R, E, M, K, I, O, P, X, Z, G, B> {
     type Recorder = R;
 
     type Entries = E;
@@ -67,10 +63,6 @@ impl<
     type DeviceIn = X;
 
     type DeviceOut = Z;
-
-    type DoorDeviceIn = U;
-
-    type DoorDeviceOut = V;
 
     type Gate = G;
 
@@ -102,17 +94,15 @@ impl<
     P: Binder + Send + Drop + 'static,
     X: DeviceIn + Send + 'static,
     Z: DeviceOut + Send + 'static,
-    U: DeviceIn + Send + 'static,
-    V: DeviceOut + Send + 'static,
     G: Gate + Send + Drop + 'static,
     B: Bell,
-> Jobs<Work<W, Over<R, E, M, K, I, O, P, X, Z, U, V, G, BellHandle<B>>>> for Workers {
-    type Job = Work<W, Over<R, E, M, K, I, O, P, X, Z, U, V, G, BellHandle<B>>>;
+> Jobs<Work<W, Over<R, E, M, K, I, O, P, X, Z, G, BellHandle<B>>>> for Workers {
+    type Job = Work<W, Over<R, E, M, K, I, O, P, X, Z, G, BellHandle<B>>>;
 
     fn job(
         &self,
-        work: Work<W, Over<R, E, M, K, I, O, P, X, Z, U, V, G, BellHandle<B>>>,
-    ) -> Work<W, Over<R, E, M, K, I, O, P, X, Z, U, V, G, BellHandle<B>>> {
+        work: Work<W, Over<R, E, M, K, I, O, P, X, Z, G, BellHandle<B>>>,
+    ) -> Work<W, Over<R, E, M, K, I, O, P, X, Z, G, BellHandle<B>>> {
         work
     }
 }

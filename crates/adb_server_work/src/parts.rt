@@ -2,7 +2,7 @@
 
 use crate::context::Ringing;
 use adb_binder::Binder;
-use adb_connections::{DeviceIn, DeviceOut, EitherIn, EitherOut, Gate, PortIn, PortOut};
+use adb_connections::{Device, DeviceIn, DeviceOut, Gate, PortIn, PortOut};
 use adb_recorder::Recorder;
 use adb_server_locked_hall::LockedHall;
 use adb_server_log::Marks;
@@ -37,17 +37,11 @@ pub trait Parts {
     /// Binds the ports of a client's forwards.
     type Binder: Binder + Drop + 'static;
 
-    /// The half from which a reader reads, of the link of a device that the server was given.
-    type DeviceIn: DeviceIn;
+    /// The half of a device's link from which its reader reads.
+    type DeviceIn: DeviceIn + 'static;
 
-    /// The half to which a writer writes, of the link of a device that the server was given.
-    type DeviceOut: DeviceOut;
-
-    /// The half from which a reader reads, of the link of a device that came through the door.
-    type DoorDeviceIn: DeviceIn + 'static;
-
-    /// The half to which a writer writes, of the link of a device that came through the door.
-    type DoorDeviceOut: DeviceOut + 'static;
+    /// The half of a device's link to which its writer writes.
+    type DeviceOut: DeviceOut + 'static;
 
     /// Holds a worker before each of its steps.
     type Gate: Gate + Drop + 'static;
@@ -65,8 +59,5 @@ pub type HallOf<W: Wait + Copy + Drop, P: Parts> = LockedHall<
     W,
 >;
 
-/// The half of a device's link from which its reader reads.
-pub type DeviceInOf<P: Parts> = EitherIn<<P as Parts>::DeviceIn, <P as Parts>::DoorDeviceIn>;
-
-/// The half of a device's link to which its writer writes.
-pub type DeviceOutOf<P: Parts> = EitherOut<<P as Parts>::DeviceOut, <P as Parts>::DoorDeviceOut>;
+/// A device of a server.
+pub type DeviceOf<P: Parts> = Device<<P as Parts>::DeviceIn, <P as Parts>::DeviceOut>;

@@ -1,7 +1,7 @@
 //! One job for each worker of a server.
 
 use crate::context::Context;
-use crate::parts::{DeviceInOf, DeviceOutOf, Parts};
+use crate::parts::Parts;
 use adb_server_client_reader::{close_unused, read_client};
 use adb_server_device_reader::{Packets, read_device};
 use adb_server_log::{ClientIn, ClientOut, LinkIn, LinkOut};
@@ -27,8 +27,8 @@ pub enum Work<W: Wait + Copy + Drop, P: Parts> {
         Task<Context<W, P>, ClientIn<P::Entries, P::Moved, P::Marks>, P::ClientIn, P::Binder>,
     ),
     WriteClient(Task<Context<W, P>, ClientOut<P::Entries, P::Moved, P::Marks>, P::ClientOut, ()>),
-    ReadDevice(Task<Context<W, P>, LinkIn<P::Entries, P::Moved, P::Marks>, DeviceInOf<P>, Packets>),
-    WriteDevice(Task<Context<W, P>, LinkOut<P::Entries, P::Moved, P::Marks>, DeviceOutOf<P>, ()>),
+    ReadDevice(Task<Context<W, P>, LinkIn<P::Entries, P::Moved, P::Marks>, P::DeviceIn, Packets>),
+    WriteDevice(Task<Context<W, P>, LinkOut<P::Entries, P::Moved, P::Marks>, P::DeviceOut, ()>),
 }
 
 impl<W: Wait + Copy + Drop, P: Parts> Job for Work<W, P> {
@@ -85,7 +85,7 @@ fn write_one_client<W: Wait + Copy + Drop, P: Parts>(
 }
 
 fn read_one_device<W: Wait + Copy + Drop, P: Parts>(
-    task: Task<Context<W, P>, LinkIn<P::Entries, P::Moved, P::Marks>, DeviceInOf<P>, Packets>,
+    task: Task<Context<W, P>, LinkIn<P::Entries, P::Moved, P::Marks>, P::DeviceIn, Packets>,
 ) {
     let Task {
         context,
@@ -101,7 +101,7 @@ fn read_one_device<W: Wait + Copy + Drop, P: Parts>(
 }
 
 fn write_one_device<W: Wait + Copy + Drop, P: Parts>(
-    task: Task<Context<W, P>, LinkOut<P::Entries, P::Moved, P::Marks>, DeviceOutOf<P>, ()>,
+    task: Task<Context<W, P>, LinkOut<P::Entries, P::Moved, P::Marks>, P::DeviceOut, ()>,
 ) {
     let Task {
         context,

@@ -6,4 +6,4 @@ mod no_yard;
 mod yard;
 
 pub use no_yard::{NoDoor, NoYard};
-pub use yard::{Dialled, Listening, PoolKind, Yard};
+pub use yard::{Dialled, Listening, PoolKind, Yard, YardDevice};

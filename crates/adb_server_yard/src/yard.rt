@@ -1,7 +1,7 @@
 //! The trait of yards, which are the environments of servers.
 
 use adb_binder::Binder;
-use adb_connections::{Bell, Door, Gate, PortIn, PortOut};
+use adb_connections::{Bell, Device, Door, Gate, PortIn, PortOut};
 use adb_recorder::Recorder;
 
 /// The result of `Yard::listen`.
@@ -124,3 +124,10 @@ pub trait Yard: Drop {
         ensures answers { HasDialled (λ input. Self.DialIn.left input ≡ answers self.old)
             (λ output. ⊤) result };
 }
+
+/// A device of a yard: one that comes through its door, or one that a server over the yard is
+/// given.
+pub type YardDevice<Y: Yard> = Device<
+    <<Y as Yard>::Door as Door>::DeviceIn,
+    <<Y as Yard>::Door as Door>::DeviceOut,
+>;

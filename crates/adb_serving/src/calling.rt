@@ -9,9 +9,8 @@ ghost use Rattle.adb_words.specs.Serve.{is_serve};
 ghost use Rattle.adb_words.specs.Tools.{names_tool, tool_of};
 ghost use Rattle.adb_words.specs.Words.{texts};
 
-use crate::devices::LocalDevice;
 use adb_outside::{Sink, Source};
-use adb_ports::{Ending, RealYard};
+use adb_ports::{Ending, LiveDevice, RealYard};
 use adb_top::{Status, run, say_out_of_memory};
 use std::alloc::Global;
 use std::marker::Brand;
@@ -48,7 +47,7 @@ pub(crate) fn call_live<
         return say_out_of_memory(note);
     };
     let yard = RealYard::<W, Brand>::new(rt, alloc, ending, None, None);
-    let nobody = Vec::<LocalDevice<W>>::new(alloc);
+    let nobody = Vec::<LiveDevice<W>>::new(alloc);
     let ran = run(rt, alloc, words, source, sink, note, yard, nobody);
     ran.status
 }

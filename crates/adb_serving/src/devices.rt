@@ -6,7 +6,10 @@ use adb_daemon::Daemon;
 use adb_files::Files;
 use adb_outside::{Kind, Text};
 use adb_pipe::{PipeIn, PipeOut, pipe};
-use adb_ports::{Deliveries, Ending, PipeDeviceIn, PipeDeviceOut, dial, run_device};
+use adb_ports::{
+    Deliveries, Ending, LiveDevice, ModelDevice, PipeDeviceIn, PipeDeviceOut, dial, model,
+    run_device,
+};
 use adb_wire::MAX_PAYLOAD;
 use adb_words::Ports;
 use itoa::Buffer;
@@ -15,9 +18,6 @@ use std::net::{Net, TcpListener, TcpStream};
 use std::sync::{Arc, Wait};
 use std::thread;
 use std::thread::Threads;
-
-/// A model device.
-pub type LocalDevice<W> = Device<PipeDeviceIn<W>, PipeDeviceOut<W>>;
 
 /// The maximum number of chunks, of up to a packet each, in a pipe between a model device and the
 /// server.
@@ -36,7 +36,7 @@ pub struct Devices<
         + 'static,
 > {
     /// The model devices, in the order of the words.
-    pub models: Vec<LocalDevice<W>>,
+    pub models: Vec<LiveDevice<W>>,
     /// The queue of the devices that are dialled.
     pub deliveries: Arc<Deliveries, Global>,
 }
@@ -58,7 +58,7 @@ pub fn devices_of<
 >(rt: W, alloc: Global, ports: &Ports, ending: &Ending) -> Result<Devices<W>, AllocError> {
     let mut models = Vec::new(alloc);
     for serial in &ports.devices {
-        models.push(model_device(rt, alloc, serial)?)?;
+        models.push(model(model_device(rt, alloc, serial)?))?;
     }
     let deliveries = Deliveries::new(alloc, ending.share()?, ports.connects.len())?;
     let deliveries = Arc::new(alloc, deliveries)?;
@@ -100,7 +100,7 @@ fn model_device<
         + Sync
         + Drop
         + 'static,
->(rt: W, alloc: Global, serial: &Text) -> Result<LocalDevice<W>, AllocError> {
+>(rt: W, alloc: Global, serial: &Text) -> Result<ModelDevice<W>, AllocError> {
     let (to_device, from_host) = pipe(rt, alloc, CHUNKS)?;
     let (to_host, from_device) = pipe(rt, alloc, CHUNKS)?;
     let daemon = Daemon::new(alloc, Files::new(alloc), MAX_PAYLOAD)?;

@@ -12,11 +12,10 @@ ghost use Rattle.adb_words.specs.Tools.{names_tool, tool_of};
 ghost use Rattle.adb_words.specs.Words.{texts};
 
 use crate::calling::call_live;
-use crate::devices::LocalDevice;
 use crate::serving::serve_live;
 use crate::started::{HistorySink, Started};
 use adb_outside::{Sink, Source};
-use adb_server_yard::NoYard;
+use adb_server_yard::{NoYard, YardDevice};
 use adb_top::{Status, run};
 use adb_words::{is_serve, names_tool};
 use std::alloc::Global;
@@ -120,7 +119,7 @@ fn run_other<
     if names_tool(words) {
         return call_live(rt, alloc, words, source, sink, note);
     }
-    let (yard, devices) = (NoYard::new(alloc), Vec::<LocalDevice<W>>::new(alloc));
+    let (yard, devices) = (NoYard::new(alloc), Vec::<YardDevice<NoYard>>::new(alloc));
     let ran = run(rt, alloc, words, source, sink, note, yard, devices);
     ran.status
 }

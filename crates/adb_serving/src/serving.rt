@@ -10,12 +10,12 @@ ghost use Rattle.adb_top.specs.Usage.{SaysUsage};
 ghost use Rattle.adb_words.specs.Serve.{Serving, is_serve, serve_of};
 ghost use Rattle.adb_words.specs.Words.{texts};
 
-use crate::devices::{Devices, LocalDevice, devices_of};
+use crate::devices::{Devices, devices_of};
 use crate::started::{HistorySink, Started};
 use adb_outside::{Sink, Source};
 use adb_ports::{
-    Begun, Deliveries, Ending, LiveRecorder, Named, PipeSink, RealYard, Settled, Writing,
-    begin_record, end_record,
+    Begun, Deliveries, Ending, LiveDevice, LiveRecorder, Named, PipeSink, RealYard, Settled,
+    Writing, begin_record, end_record,
 };
 use adb_top::{Ran, Status, run, say_out_of_memory, say_record_fault, wanted};
 use adb_words::{Ports, WordsError, read_serve};
@@ -104,7 +104,7 @@ struct Prepared<
         + 'static,
 > {
     ending: Ending,
-    models: Vec<LocalDevice<W>>,
+    models: Vec<LiveDevice<W>>,
     deliveries: Arc<Deliveries, Global>,
     closing: Arc<Deliveries, Global>,
     records: bool,

@@ -16,10 +16,8 @@ use crate::ran::Ran;
 use crate::serving::run_serve;
 use crate::status::Status;
 use crate::tools::run_call;
-use adb_connections::{DeviceIn, DeviceOut};
 use adb_outside::{Sink, Source};
-use adb_server_device_reader::Device;
-use adb_server_yard::Yard;
+use adb_server_yard::{Yard, YardDevice};
 use adb_words::{is_serve, names_tool};
 use std::alloc::Global;
 use std::sync::Wait;
@@ -44,8 +42,6 @@ pub fn run<
     K: Sink,
     N: Sink,
     Y: Yard + 'static,
-    X: DeviceIn + Send + 'static,
-    Z: DeviceOut + Send + 'static,
 >(
     rt: W,
     alloc: Global,
@@ -54,7 +50,7 @@ pub fn run<
     sink: &mut K,
     note: &mut N,
     yard: Y,
-    devices: Vec<Device<X, Z>>,
+    devices: Vec<YardDevice<Y>>,
 ) -> Ran<Y::Keeper>
     // The yard of a server has the recorder that the words ask for.
     requires records { is_serve (texts words.now) ≡ true → (asked : Serving)

@@ -12,11 +12,9 @@ ghost use Rattle.adb_top.specs.Usage.{SaysUsage};
 use crate::note::{say_door_fault, say_lost_line, say_out_of_memory, say_record_fault, say_usage};
 use crate::ran::Ran;
 use crate::status::Status;
-use adb_connections::{DeviceIn, DeviceOut};
 use adb_outside::Sink;
 use adb_server::{Ended, Served, serve};
-use adb_server_device_reader::Device;
-use adb_server_yard::Yard;
+use adb_server_yard::{Yard, YardDevice};
 use adb_words::{WordsError, read_serve};
 use std::alloc::Global;
 use std::sync::Wait;
@@ -27,15 +25,13 @@ pub(crate) fn run_serve<
     W: Threads + Wait + Copy + Send + Sync + Drop + 'static,
     N: Sink,
     Y: Yard + 'static,
-    X: DeviceIn + Send + 'static,
-    Z: DeviceOut + Send + 'static,
 >(
     rt: W,
     alloc: Global,
     words: &[String],
     note: &mut N,
     yard: Y,
-    devices: Vec<Device<X, Z>>,
+    devices: Vec<YardDevice<Y>>,
 ) -> Ran<Y::Keeper>
     requires serve { is_serve (texts words.now) ≡ true }
     requires records { (asked : Serving) → serve_of (texts words.now) ≡ Some asked
