@@ -3,9 +3,8 @@
 use adb_desk::Progress;
 use adb_hub::{Handed, Life, MAX_HELD};
 use adb_outside::HandOut;
-use adb_server_hall::Hall;
-use adb_server_log::{ClientIn, ClientOut, DeskError, Marks};
-use std::sync::ledger::Ledger;
+use adb_server_hall::{ClientInOf, ClientOutOf, Hall};
+use adb_server_log::{ClientIn, ClientOut, DeskError};
 
 /// The first packet of a device that takes at most 4,096 bytes at once.
 pub(crate) const CNXN: &[u8] =
@@ -26,18 +25,12 @@ pub(crate) fn lives(answer: Result<Progress, DeskError>) -> bool {
 }
 
 /// Returns whether a client is alive after it asked for the version.
-pub(crate) fn asks<E: Ledger, M: Ledger, K: Marks, H: Hall<E, M, K>>(
-    hall: &mut H,
-    reading: &mut ClientIn<E, M, K>,
-) -> bool {
+pub(crate) fn asks<H: Hall>(hall: &mut H, reading: &mut ClientInOf<H>) -> bool {
     lives(hall.read(reading, b"000Chost:version"))
 }
 
 /// Returns whether the version is handed out.
-pub(crate) fn is_answered<E: Ledger, M: Ledger, K: Marks, H: Hall<E, M, K>>(
-    hall: &mut H,
-    writing: &mut ClientOut<E, M, K>,
-) -> bool {
+pub(crate) fn is_answered<H: Hall>(hall: &mut H, writing: &mut ClientOutOf<H>) -> bool {
     hands_out(hall.put(writing, MAX_HELD), b"OKAY00040029")
 }
 

@@ -244,7 +244,7 @@ fn serves_in_two_threads<
     E: Ledger + Send + Sync + 'static,
     M: Ledger + Send + Sync + 'static,
     K: Marks + Send + Sync + 'static,
-    H: Hall<E, M, K> + Send,
+    H: Hall<Entries = E, Moved = M, Marks = K> + Send,
     W: Threads + Drop,
 >(
     rt: W,

@@ -5,7 +5,7 @@ ghost use Rattle.std.specs.Prelude.{◌≡◌};
 
 use adb_hub::MAX_HELD;
 use adb_recorder::NullRecorder;
-use adb_server_hall::Hall;
+use adb_server_hall::{ClientOutOf, Hall};
 use adb_server_locked_hall::LockedHall;
 use adb_server_log::{ALL_PARTS, ClientOut, DeskError, Marks};
 use std::alloc::{AllocError, Global};
@@ -32,9 +32,7 @@ struct Writer<H: Drop, P: Drop> {
 
 /// Waits for bytes of a client. Returns whether the wait ends by the answer of a hall that is
 /// halted.
-fn is_halted<E: Ledger, M: Ledger, K: Marks, H: Hall<E, M, K> + Drop>(
-    writer: Writer<H, ClientOut<E, M, K>>,
-) -> bool {
+fn is_halted<H: Hall + Drop>(writer: Writer<H, ClientOutOf<H>>) -> bool {
     let mut writer = writer;
     matches!(
         writer.hall.put(&mut writer.pass, MAX_HELD),
@@ -43,7 +41,7 @@ fn is_halted<E: Ledger, M: Ledger, K: Marks, H: Hall<E, M, K> + Drop>(
 }
 
 /// Halts a hall when its writers wait.
-fn halts<E: Ledger, M: Ledger, K: Marks, H: Hall<E, M, K>, W: Clock>(clock: &W, hall: &mut H) {
+fn halts<H: Hall, W: Clock>(clock: &W, hall: &mut H) {
     sleep(clock, Duration::from_millis(LATER));
     hall.halt();
 }
@@ -53,7 +51,7 @@ fn all_wait<
     E: Ledger + Send + Sync + 'static,
     M: Ledger + Send + Sync + 'static,
     K: Marks + Send + Sync + 'static,
-    H: Hall<E, M, K> + Send + Drop,
+    H: Hall<Entries = E, Moved = M, Marks = K> + Send + Drop,
     W: Threads + Sync,
 >(rt: &W, writers: Vec<Writer<H, ClientOut<E, M, K>>>) -> Result<Vec<bool>, AllocError> {
     thread::map_vec(rt, writers, &|writer| is_halted(writer))
@@ -65,7 +63,7 @@ fn all_end<
     E: Ledger + Send + Sync + 'static,
     M: Ledger + Send + Sync + 'static,
     K: Marks + Send + Sync + 'static,
-    H: Hall<E, M, K> + Send + Drop,
+    H: Hall<Entries = E, Moved = M, Marks = K> + Send + Drop,
     W: Threads + Clock + Sync + Drop,
 >(rt: W, hall: &mut H, writers: Vec<Writer<H, ClientOut<E, M, K>>>) -> Result<bool, AllocError> {
     let ((), ended) = thread::join(&rt, || halts(&rt, hall), || all_wait(&rt, writers));

@@ -8,8 +8,8 @@ use adb_desk::Progress;
 use adb_hub::{Handed, MAX_HELD, Room};
 use adb_outside::{Cause, Kind};
 use adb_recorder::MemoryRecorder;
-use adb_server_hall::Hall;
-use adb_server_log::{ALL_PARTS, ClientIn, ClientOut, DeskError, LinkIn, LinkOut, Marks};
+use adb_server_hall::{ClientInOf, ClientOutOf, Hall, LinkInOf, LinkOutOf};
+use adb_server_log::{ALL_PARTS, DeskError, LinkIn, LinkOut, Marks};
 use adb_server_one_desk::OneDesk;
 use std::alloc::{AllocError, Global};
 use std::marker::Brand;
@@ -29,20 +29,13 @@ fn is_faulty(answer: Result<Progress, DeskError>) -> bool {
 type Device<E, M, K> = (LinkIn<E, M, K>, LinkOut<E, M, K>);
 
 /// Returns whether a piece that exceeds the limit of held bytes is refused with `Later`.
-fn holds_so_much<E: Ledger, M: Ledger, K: Marks, H: Hall<E, M, K>>(
-    hall: &mut H,
-    reading: &mut ClientIn<E, M, K>,
-    piece: &[u8],
-) -> bool {
+fn holds_so_much<H: Hall>(hall: &mut H, reading: &mut ClientInOf<H>, piece: &[u8]) -> bool {
     is_late(hall.read(reading, &piece[..piece.len().min(MAX_HELD + 1)]))
         && hall.room(reading) == Ok(Room::Bytes(MAX_HELD))
 }
 
 /// Returns whether a recorder that fails shuts the hall: every later call returns that answer.
-fn is_shut_by_its_recorder<E: Ledger, M: Ledger, K: Marks, H: Hall<E, M, K>>(
-    hall: &mut H,
-    reading: &mut ClientIn<E, M, K>,
-) -> bool {
+fn is_shut_by_its_recorder<H: Hall>(hall: &mut H, reading: &mut ClientInOf<H>) -> bool {
     is_faulty(hall.read(reading, b"x"))
         && is_faulty(hall.end(reading, Cause::Eof))
         && hall.over() == Some(DeskError::RecordFault)
@@ -56,10 +49,10 @@ const WRTE: &[u8] = b"WRTE\x07\0\0\0\x01\0\0\0\0\x10\0\0\0\0\0\0\xa8\xad\xab\xba
 
 /// Opens a stream to a device for a client, and sends until a write is out and the maximum number
 /// of bytes is held. Returns whether each call succeeds.
-fn fills_a_stream<E: Ledger, M: Ledger, K: Marks, H: Hall<E, M, K>>(
+fn fills_a_stream<H: Hall>(
     hall: &mut H,
-    link: &mut LinkIn<E, M, K>,
-    reading: &mut ClientIn<E, M, K>,
+    link: &mut LinkInOf<H>,
+    reading: &mut ClientInOf<H>,
     piece: &[u8],
 ) -> bool {
     hall.recv(link, CNXN).is_ok()
@@ -75,10 +68,10 @@ fn fills_a_stream<E: Ledger, M: Ledger, K: Marks, H: Hall<E, M, K>>(
 
 /// Returns whether nothing more is taken while that write is out, and its answer makes room for the
 /// next write.
-fn frees_what_goes_up<E: Ledger, M: Ledger, K: Marks, H: Hall<E, M, K>>(
+fn frees_what_goes_up<H: Hall>(
     hall: &mut H,
-    link: &mut LinkIn<E, M, K>,
-    reading: &mut ClientIn<E, M, K>,
+    link: &mut LinkInOf<H>,
+    reading: &mut ClientInOf<H>,
 ) -> bool {
     is_late(hall.read(reading, b"x"))
         && hall.room(reading) == Ok(Room::Later)
@@ -88,10 +81,7 @@ fn frees_what_goes_up<E: Ledger, M: Ledger, K: Marks, H: Hall<E, M, K>>(
 
 /// Returns whether the bytes that are due before a large packet, a packet of 58 and one of 34
 /// bytes, are handed out to the device first, and then the large packet alone.
-fn sends_a_large_packet_alone<E: Ledger, M: Ledger, K: Marks, H: Hall<E, M, K>>(
-    hall: &mut H,
-    sender: &mut LinkOut<E, M, K>,
-) -> bool {
+fn sends_a_large_packet_alone<H: Hall>(hall: &mut H, sender: &mut LinkOutOf<H>) -> bool {
     len_of(hall.send_front(sender, MAX_HELD)) == 92
         && len_of(hall.send_front(sender, MAX_HELD)) == WRTE.len() + 4_096
         && len_of(hall.send_front(sender, MAX_HELD)) == 0
@@ -99,10 +89,10 @@ fn sends_a_large_packet_alone<E: Ledger, M: Ledger, K: Marks, H: Hall<E, M, K>>(
 
 /// Returns whether the bytes that are due before a large payload are handed out to the client
 /// first, and then the payload alone.
-fn puts_a_large_payload_alone<E: Ledger, M: Ledger, K: Marks, H: Hall<E, M, K>>(
+fn puts_a_large_payload_alone<H: Hall>(
     hall: &mut H,
-    link: &mut LinkIn<E, M, K>,
-    writing: &mut ClientOut<E, M, K>,
+    link: &mut LinkInOf<H>,
+    writing: &mut ClientOutOf<H>,
     piece: &[u8],
 ) -> bool {
     hall.recv(link, WRTE).is_ok()
@@ -124,7 +114,7 @@ enum Case {
 }
 
 impl Case {
-    fn holds<E: Ledger, M: Ledger, K: Marks, H: Hall<E, M, K>>(
+    fn holds<H: Hall>(
         self,
         hall: &mut H,
         client: &mut Client<E, M, K>,
@@ -210,10 +200,7 @@ const ROWS: &[Row] = &[
 ];
 
 /// Admits the first client and the first device.
-fn seats<E: Ledger, M: Ledger, K: Marks, H: Hall<E, M, K>>(
-    hall: &mut H,
-    port: u16,
-) -> Option<(Client<E, M, K>, Device<E, M, K>)> {
+fn seats<H: Hall>(hall: &mut H, port: u16) -> Option<(Client<E, M, K>, Device<E, M, K>)> {
     let client = if port == 0 {
         hall.join().ok()
     } else {

@@ -120,7 +120,7 @@ impl Event {
     }
 
     /// Makes the event while a reader waits.
-    fn comes_to_reader<E: Ledger, M: Ledger, K: Marks, H: Hall<E, M, K>, W: Clock>(
+    fn comes_to_reader<H: Hall, W: Clock>(
         self,
         clock: &W,
         half: Half,
@@ -139,7 +139,7 @@ impl Event {
     }
 
     /// Makes the event while a writer waits.
-    fn comes_to_writer<E: Ledger, M: Ledger, K: Marks, H: Hall<E, M, K>, W: Clock>(
+    fn comes_to_writer<H: Hall, W: Clock>(
         self,
         clock: &W,
         half: Half,
@@ -157,14 +157,14 @@ impl Event {
 }
 
 /// Requests a kill by a client that comes for it.
-fn kill<E: Ledger, M: Ledger, K: Marks, H: Hall<E, M, K>>(hall: &mut H) {
+fn kill<H: Hall>(hall: &mut H) {
     if let Ok((mut reading, _)) = hall.join() {
         let _ = hall.read(&mut reading, b"0009host:kill");
     }
 }
 
 /// Hands out what is due to a client or on a link, at most `PIECE` bytes.
-fn hand_out<E: Ledger, M: Ledger, K: Marks, H: Hall<E, M, K>>(
+fn hand_out<H: Hall>(
     half: Half,
     hall: &mut H,
     writers: &mut Writers<E, M, K>,
@@ -176,7 +176,7 @@ fn hand_out<E: Ledger, M: Ledger, K: Marks, H: Hall<E, M, K>>(
 }
 
 /// Asks for the room of a client or of a device.
-fn room<E: Ledger, M: Ledger, K: Marks, H: Hall<E, M, K>>(
+fn room<H: Hall>(
     half: Half,
     hall: &mut H,
     readers: &mut Readers<E, M, K>,
@@ -188,11 +188,7 @@ fn room<E: Ledger, M: Ledger, K: Marks, H: Hall<E, M, K>>(
 }
 
 /// Ends a client or a link because a write failed.
-fn breaks<E: Ledger, M: Ledger, K: Marks, H: Hall<E, M, K>>(
-    half: Half,
-    hall: &mut H,
-    writers: &mut Writers<E, M, K>,
-) {
+fn breaks<H: Hall>(half: Half, hall: &mut H, writers: &mut Writers<E, M, K>) {
     let _ = match half {
         Half::Client => hall.break_out(&mut writers.client, Cause::Fault),
         Half::Link => hall.break_send(&mut writers.link, Cause::Fault),
@@ -200,11 +196,7 @@ fn breaks<E: Ledger, M: Ledger, K: Marks, H: Hall<E, M, K>>(
 }
 
 /// Ends a client or a link because its input has ended.
-fn ends<E: Ledger, M: Ledger, K: Marks, H: Hall<E, M, K>>(
-    half: Half,
-    hall: &mut H,
-    readers: &mut Readers<E, M, K>,
-) {
+fn ends<H: Hall>(half: Half, hall: &mut H, readers: &mut Readers<E, M, K>) {
     let _ = match half {
         Half::Client => hall.end(&mut readers.client, Cause::Eof),
         Half::Link => hall.detach(&mut readers.link, Cause::Eof),
@@ -212,11 +204,7 @@ fn ends<E: Ledger, M: Ledger, K: Marks, H: Hall<E, M, K>>(
 }
 
 /// Makes bytes come due to the client, or on the link.
-fn asks<E: Ledger, M: Ledger, K: Marks, H: Hall<E, M, K>>(
-    half: Half,
-    hall: &mut H,
-    readers: &mut Readers<E, M, K>,
-) {
+fn asks<H: Hall>(half: Half, hall: &mut H, readers: &mut Readers<E, M, K>) {
     let request: &[u8] = match half {
         Half::Client => b"000Chost:version",
         Half::Link => b"0012host:transport-any0009shell:cat",
@@ -230,7 +218,7 @@ fn reader_wakes<
     E: Ledger + Send + Sync + 'static,
     M: Ledger + Send + Sync + 'static,
     K: Marks + Send + Sync + 'static,
-    H: Hall<E, M, K> + Send,
+    H: Hall<Entries = E, Moved = M, Marks = K> + Send,
     W: Threads + Clock + Sync + Drop,
 >(
     rt: W,
@@ -255,7 +243,7 @@ fn writer_wakes<
     E: Ledger + Send + Sync + 'static,
     M: Ledger + Send + Sync + 'static,
     K: Marks + Send + Sync + 'static,
-    H: Hall<E, M, K> + Send,
+    H: Hall<Entries = E, Moved = M, Marks = K> + Send,
     W: Threads + Clock + Sync + Drop,
 >(
     rt: W,
@@ -276,12 +264,7 @@ fn writer_wakes<
 
 /// Returns whether more is due to a client, or on a link, than its reader has room for, after it
 /// sent a piece again and again.
-fn fills<E: Ledger, M: Ledger, K: Marks, H: Hall<E, M, K>>(
-    half: Half,
-    hall: &mut H,
-    readers: &mut Readers<E, M, K>,
-    piece: &[u8],
-) -> bool {
+fn fills<H: Hall>(half: Half, hall: &mut H, readers: &mut Readers<E, M, K>, piece: &[u8]) -> bool {
     for _ in 0..PIECES {
         match sends(half, hall, readers, piece) {
             Ok(Progress { room, .. }) => {
@@ -295,7 +278,7 @@ fn fills<E: Ledger, M: Ledger, K: Marks, H: Hall<E, M, K>>(
     false
 }
 
-fn sends<E: Ledger, M: Ledger, K: Marks, H: Hall<E, M, K>>(
+fn sends<H: Hall>(
     half: Half,
     hall: &mut H,
     readers: &mut Readers<E, M, K>,
@@ -320,7 +303,7 @@ impl Call {
 
     /// Returns whether the call waits now: the device has said who it is, and too much is due, or
     /// nothing.
-    fn is_to_wait<E: Ledger, M: Ledger, K: Marks, H: Hall<E, M, K>>(
+    fn is_to_wait<H: Hall>(
         self,
         hall: &mut H,
         readers: &mut Readers<E, M, K>,
@@ -358,7 +341,7 @@ impl Row {
         E: Ledger + Send + Sync + 'static,
         M: Ledger + Send + Sync + 'static,
         K: Marks + Send + Sync + 'static,
-        H: Hall<E, M, K> + Send,
+        H: Hall<Entries = E, Moved = M, Marks = K> + Send,
         W: Threads + Clock + Sync + Drop,
     >(self, rt: W, here: &mut H, there: &mut H, piece: &[u8]) -> bool {
         let Some((mut readers, mut writers)) = seats(here) else {
@@ -383,9 +366,7 @@ impl Row {
 }
 
 /// Admits a client and a device.
-fn seats<E: Ledger, M: Ledger, K: Marks, H: Hall<E, M, K>>(
-    hall: &mut H,
-) -> Option<(Readers<E, M, K>, Writers<E, M, K>)> {
+fn seats<H: Hall>(hall: &mut H) -> Option<(Readers<E, M, K>, Writers<E, M, K>)> {
     let client = hall.join().ok()?;
     let link = hall.attach(Kind::Usb, b"emu1").ok()?;
     let readers = Readers {

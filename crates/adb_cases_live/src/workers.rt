@@ -84,7 +84,7 @@ const ROWS: &[Row] = &[
 ];
 
 /// Returns whether a device whose first write fails is unplugged, and no byte went out.
-fn fails_to_write<E: Ledger, M: Ledger, K: Marks, H: Hall<E, M, K>, W: Wait + Copy + Drop>(
+fn fails_to_write<H: Hall, W: Wait + Copy + Drop>(
     rt: W,
     alloc: Global,
     hall: &mut H,
@@ -99,7 +99,7 @@ fn fails_to_write<E: Ledger, M: Ledger, K: Marks, H: Hall<E, M, K>, W: Wait + Co
 
 /// Returns whether a client that asks for a forward of a connected device is answered as it should
 /// be, and its port is closed.
-fn forwards<E: Ledger, M: Ledger, K: Marks, H: Hall<E, M, K>, W: Wait + Copy + Drop>(
+fn forwards<H: Hall, W: Wait + Copy + Drop>(
     rt: W,
     alloc: Global,
     hall: &mut H,

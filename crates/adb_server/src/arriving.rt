@@ -59,7 +59,7 @@ struct Passes<P: Parts> {
 #[tactic(auto, using(crate::proofs::Closing::closed_last))]
 pub(crate) fn let_in<
     P: Parts,
-    H: Hall<P::Entries, P::Moved, P::Marks>,
+    H: Hall<Entries = P::Entries, Moved = P::Moved, Marks = P::Marks>,
     D: Door<In = P::ClientIn, Out = P::ClientOut, DeviceIn = P::DeviceIn, DeviceOut = P::DeviceOut>,
 >(hall: &mut H, door: &mut D) -> Result<Option<Comer<P>>, Served>
     ensures record { P.Marks.steady → result ≢ Err Served.RecordFault }
@@ -99,7 +99,7 @@ pub(crate) fn let_in<
 /// `Ok(None)`.
 ///
 /// `Err`: the hall refused the device with this error, and the device is unplugged and dropped.
-pub(crate) fn link_up<P: Parts, H: Hall<P::Entries, P::Moved, P::Marks>>(
+pub(crate) fn link_up<P: Parts, H: Hall<Entries = P::Entries, Moved = P::Moved, Marks = P::Marks>>(
     hall: &mut H,
     device: DeviceOf<P>,
     packets: Packets,
@@ -122,7 +122,7 @@ pub(crate) fn link_up<P: Parts, H: Hall<P::Entries, P::Moved, P::Marks>>(
 /// unplugged.
 ///
 /// `Err`: the hall refused the device with this error, and the device is unplugged.
-fn passes_of<P: Parts, H: Hall<P::Entries, P::Moved, P::Marks>>(
+fn passes_of<P: Parts, H: Hall<Entries = P::Entries, Moved = P::Moved, Marks = P::Marks>>(
     hall: &mut H,
     device: &mut DeviceOf<P>,
 ) -> Result<Option<Passes<P>>, DeskError>

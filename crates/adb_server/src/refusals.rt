@@ -13,7 +13,7 @@ use adb_server_work::Parts;
 ///
 /// - `OutOfMemory`: an allocation failed. The hall is halted.
 /// - `RecordFault`: the recorder failed, which shut the hall.
-pub(crate) fn go_on<P: Parts, H: Hall<P::Entries, P::Moved, P::Marks>>(
+pub(crate) fn go_on<P: Parts, H: Hall<Entries = P::Entries, Moved = P::Moved, Marks = P::Marks>>(
     hall: &mut H,
     error: DeskError,
 ) -> Result<(), Served>
@@ -37,10 +37,10 @@ pub(crate) fn go_on<P: Parts, H: Hall<P::Entries, P::Moved, P::Marks>>(
 ///
 /// - `OutOfMemory`: an allocation of the recorder failed, which shut the hall.
 /// - `RecordFault`: the recorder failed, which shut the hall.
-pub(crate) fn go_on_without<P: Parts, H: Hall<P::Entries, P::Moved, P::Marks>>(
-    hall: &mut H,
-    error: DeskError,
-) -> Result<(), Served>
+pub(crate) fn go_on_without<
+    P: Parts,
+    H: Hall<Entries = P::Entries, Moved = P::Moved, Marks = P::Marks>,
+>(hall: &mut H, error: DeskError) -> Result<(), Served>
     ensures record { P.Marks.steady → error ≢ DeskError.RecordFault
         → result ≢ Err Served.RecordFault }
     ensures other { (result ≢ Err Served.DoorFault) × (result ≢ Err Served.Done)

@@ -41,15 +41,15 @@ pub enum Admitted<I: Drop, O: Drop, X: DeviceIn, Z: DeviceOut, E: Ledger, M: Led
 /// Each answer of the door has its result: `Closed` and `Failed` are the door's, a device that came
 /// is returned, and a client that came is admitted or refused. That also holds over a hall that
 /// shows nothing to contracts.
-pub fn admit<E: Ledger, M: Ledger, K: Marks, H: Hall<E, M, K>, D: Door>(
+pub fn admit<H: Hall, D: Door>(
     hall: &mut H,
     door: &mut D,
-) -> Admitted<D::In, D::Out, D::DeviceIn, D::DeviceOut, E, M, K>
+) -> Admitted<D::In, D::Out, D::DeviceIn, D::DeviceOut, H::Entries, H::Moved, H::Marks>
     ensures told { IsAdmission result (H.tells hall.old) (H.tells hall.new) (D.came door.old)
         (D.came door.new) }
     ensures passes { HasPair result }
     ensures mark { H.marked hall.new ≡ marked_by result (H.marked hall.old) }
-    ensures steady { K.steady → result ≢ Admitted.Refused DeskError.RecordFault }
+    ensures steady { H.Marks.steady → result ≢ Admitted.Refused DeskError.RecordFault }
     ensures counts { Counts D.steady D.faults door.old door.new (is_failed result) }
     ensures lasts { Lasts (D.lasting door.old) (D.lasting door.new) (is_closed result) }
 {

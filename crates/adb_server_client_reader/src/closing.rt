@@ -5,15 +5,10 @@ ghost use Rattle.adb_server_client_reader.specs.Closing.{Spares, Stays};
 
 use adb_binder::Binder;
 use adb_server_hall::Hall;
-use adb_server_log::Marks;
-use std::sync::ledger::Ledger;
 
 /// Closes the next candidate of a binder, unless the hall has a forward at its port. Returns whether
 /// there was a candidate without a forward.
-fn close_next<E: Ledger, M: Ledger, K: Marks, H: Hall<E, M, K>, B: Binder>(
-    hall: &mut H,
-    binder: &mut B,
-) -> bool
+fn close_next<H: Hall, B: Binder>(hall: &mut H, binder: &mut B) -> bool
     ensures hall { Stays (H.tells hall.old) (H.tells hall.new) }
     ensures spares { Spares (H.tells hall.old) (B.closed binder.old) (B.closed binder.new) }
     ensures answered { B.answered binder.new ≡ B.answered binder.old }
@@ -38,10 +33,7 @@ fn close_next<E: Ledger, M: Ledger, K: Marks, H: Hall<E, M, K>, B: Binder>(
 /// It takes at most one section of the hall more than it closes listeners. The binder's candidates
 /// rotate, so each call passes one listener with a forward: after as many calls as there are
 /// forwards, every listener whose forward ended before is closed.
-pub fn close_unused<E: Ledger, M: Ledger, K: Marks, H: Hall<E, M, K>, B: Binder>(
-    hall: &mut H,
-    binder: &mut B,
-)
+pub fn close_unused<H: Hall, B: Binder>(hall: &mut H, binder: &mut B)
     ensures hall { Stays (H.tells hall.old) (H.tells hall.new) }
     ensures spares { Spares (H.tells hall.old) (B.closed binder.old) (B.closed binder.new) }
     ensures answered { B.answered binder.new ≡ B.answered binder.old }

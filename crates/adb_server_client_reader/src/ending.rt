@@ -6,9 +6,8 @@ ghost use Rattle.adb_server_client_reader.specs.Reading.{Finishes, GivesUp};
 
 use adb_hub::HubError;
 use adb_outside::Cause;
-use adb_server_hall::Hall;
-use adb_server_log::{ClientIn, DeskError, Marks};
-use std::sync::ledger::Ledger;
+use adb_server_hall::{ClientInOf, Hall};
+use adb_server_log::DeskError;
 
 /// Returns whether an error is an allocation failure.
 fn is_starved(error: DeskError) -> bool
@@ -18,11 +17,7 @@ fn is_starved(error: DeskError) -> bool
 }
 
 /// Ends a client's input, unless the hall refuses that.
-pub(crate) fn finish<E: Ledger, M: Ledger, K: Marks, H: Hall<E, M, K>>(
-    hall: &mut H,
-    pass: &mut ClientIn<E, M, K>,
-    cause: Cause,
-)
+pub(crate) fn finish<H: Hall>(hall: &mut H, pass: &mut ClientInOf<H>, cause: Cause)
     ensures number { pass.new.pass.number ≡ pass.old.pass.number }
     ensures starved { pass.old.pass.starved ≡ true → pass.new.pass.starved ≡ true }
     ensures told { Finishes cause pass.old.pass.number pass.old.pass.starved
@@ -33,11 +28,7 @@ pub(crate) fn finish<E: Ledger, M: Ledger, K: Marks, H: Hall<E, M, K>>(
 
 /// Stops after a call that the hall refused. Ends the client's input if the refusal is an
 /// allocation failure.
-pub(crate) fn give_up<E: Ledger, M: Ledger, K: Marks, H: Hall<E, M, K>>(
-    hall: &mut H,
-    pass: &mut ClientIn<E, M, K>,
-    error: DeskError,
-)
+pub(crate) fn give_up<H: Hall>(hall: &mut H, pass: &mut ClientInOf<H>, error: DeskError)
     ensures number { pass.new.pass.number ≡ pass.old.pass.number }
     ensures starved { pass.old.pass.starved ≡ true → pass.new.pass.starved ≡ true }
     ensures told { GivesUp (is_starved error) pass.old.pass.number pass.old.pass.starved

@@ -11,9 +11,7 @@ use crate::next::Next;
 use adb_binder::{Binder, Binding};
 use adb_desk::Progress;
 use adb_hub::Room;
-use adb_server_hall::Hall;
-use adb_server_log::{ClientIn, Marks};
-use std::sync::ledger::Ledger;
+use adb_server_hall::{ClientInOf, Hall};
 
 /// Binds a port. Returns the port that is bound, or 0 if that failed.
 fn bind<B: Binder>(binder: &mut B, asked: u16) -> u16
@@ -40,9 +38,9 @@ fn next_of(room: Room) -> Next
 
 /// Binds the port that a client waits for after a piece, if it waits for one. An allocation failure
 /// ends the client's input.
-fn settle<E: Ledger, M: Ledger, K: Marks, H: Hall<E, M, K>, B: Binder>(
+fn settle<H: Hall, B: Binder>(
     hall: &mut H,
-    pass: &mut ClientIn<E, M, K>,
+    pass: &mut ClientInOf<H>,
     binder: &mut B,
     progress: Progress,
 ) -> Next
@@ -74,9 +72,9 @@ fn settle<E: Ledger, M: Ledger, K: Marks, H: Hall<E, M, K>, B: Binder>(
 }
 
 /// Submits a piece for which there is room. An allocation failure ends the client's input.
-pub(crate) fn hand_in<E: Ledger, M: Ledger, K: Marks, H: Hall<E, M, K>, B: Binder>(
+pub(crate) fn hand_in<H: Hall, B: Binder>(
     hall: &mut H,
-    pass: &mut ClientIn<E, M, K>,
+    pass: &mut ClientInOf<H>,
     binder: &mut B,
     piece: &[u8],
 ) -> Next

@@ -12,10 +12,8 @@ use adb_binder::Binder;
 use adb_connections::{Gate, Place, PortIn};
 use adb_hub::Room;
 use adb_outside::{Cause, Got};
-use adb_server_hall::Hall;
-use adb_server_log::{ClientIn, Marks};
+use adb_server_hall::{ClientInOf, Hall};
 use std::sync::Wait;
-use std::sync::ledger::Ledger;
 
 /// The length of a reader's first buffer. It is small because most clients send little.
 pub const FIRST_PIECE: usize = 4_096;
@@ -25,10 +23,10 @@ pub const FIRST_PIECE: usize = 4_096;
 pub const MAX_PIECE: usize = 65_540;
 
 /// Reads into a buffer for which there is room, and submits the bytes.
-fn feed<E: Ledger, M: Ledger, K: Marks, H: Hall<E, M, K>, I: PortIn, B: Binder, G: Gate>(
+fn feed<H: Hall, I: PortIn, B: Binder, G: Gate>(
     hall: &mut H,
     port: &mut I,
-    pass: &mut ClientIn<E, M, K>,
+    pass: &mut ClientInOf<H>,
     binder: &mut B,
     into: &mut [u8],
     gate: &G,
@@ -66,10 +64,10 @@ fn feed<E: Ledger, M: Ledger, K: Marks, H: Hall<E, M, K>, I: PortIn, B: Binder, 
 }
 
 /// Takes one turn when the room is not known: queries the hall for it, reads, and submits.
-fn ask<E: Ledger, M: Ledger, K: Marks, H: Hall<E, M, K>, I: PortIn, B: Binder, G: Gate>(
+fn ask<H: Hall, I: PortIn, B: Binder, G: Gate>(
     hall: &mut H,
     port: &mut I,
-    pass: &mut ClientIn<E, M, K>,
+    pass: &mut ClientInOf<H>,
     binder: &mut B,
     buffer: &mut [u8],
     gate: &G,
@@ -98,10 +96,10 @@ fn ask<E: Ledger, M: Ledger, K: Marks, H: Hall<E, M, K>, I: PortIn, B: Binder, G
 }
 
 /// Takes one turn: reads if the room is known, and queries the hall for it otherwise.
-fn turn<E: Ledger, M: Ledger, K: Marks, H: Hall<E, M, K>, I: PortIn, B: Binder, G: Gate>(
+fn turn<H: Hall, I: PortIn, B: Binder, G: Gate>(
     hall: &mut H,
     port: &mut I,
-    pass: &mut ClientIn<E, M, K>,
+    pass: &mut ClientInOf<H>,
     binder: &mut B,
     buffer: &mut [u8],
     gate: &G,
@@ -131,24 +129,15 @@ fn turn<E: Ledger, M: Ledger, K: Marks, H: Hall<E, M, K>, I: PortIn, B: Binder, 
 
 /// Reads on, in pieces of up to `MAX_PIECE` bytes. It is a separate function so that a client that
 /// sends little needs no large buffer.
-fn read_bulk<
-    W: Wait + Copy + Drop,
-    E: Ledger,
-    M: Ledger,
-    K: Marks,
-    H: Hall<E, M, K>,
-    I: PortIn,
-    B: Binder,
-    G: Gate,
->(
+fn read_bulk<W: Wait + Copy + Drop, H: Hall, I: PortIn, B: Binder, G: Gate>(
     rt: W,
     hall: &mut H,
     port: &mut I,
-    pass: ClientIn<E, M, K>,
+    pass: ClientInOf<H>,
     binder: &mut B,
     gate: &G,
     room: Option<usize>,
-) -> ClientIn<E, M, K>
+) -> ClientInOf<H>
     requires { IsSome room }
     ensures number { result.pass.number ≡ pass.pass.number }
     ensures starved { pass.pass.starved ≡ true → result.pass.starved ≡ true }
@@ -185,23 +174,14 @@ fn read_bulk<
 /// The reader begins with a small buffer on its stack and takes a large one after a read that
 /// filled it. So neither buffer is allocated, and a client with one short request needs no large
 /// one.
-pub fn read_client<
-    W: Wait + Copy + Drop,
-    E: Ledger,
-    M: Ledger,
-    K: Marks,
-    H: Hall<E, M, K>,
-    I: PortIn,
-    B: Binder,
-    G: Gate,
->(
+pub fn read_client<W: Wait + Copy + Drop, H: Hall, I: PortIn, B: Binder, G: Gate>(
     rt: W,
     hall: &mut H,
     port: &mut I,
-    pass: ClientIn<E, M, K>,
+    pass: ClientInOf<H>,
     binder: &mut B,
     gate: &G,
-) -> ClientIn<E, M, K>
+) -> ClientInOf<H>
     ensures number { result.pass.number ≡ pass.pass.number }
     ensures starved { pass.pass.starved ≡ true → result.pass.starved ≡ true }
     ensures port_count { I.faults port.old ≤ I.faults port.new }

@@ -35,18 +35,18 @@ pub enum Plugged<E: Ledger, M: Ledger, K: Marks> {
 ///
 /// Each answer of the device has its result, also over a hall that shows nothing to contracts. The
 /// caller, which holds the other half, unplugs a device that has no link.
-pub fn plug_in<E: Ledger, M: Ledger, K: Marks, H: Hall<E, M, K>, I: DeviceIn>(
+pub fn plug_in<H: Hall, I: DeviceIn>(
     hall: &mut H,
     kind: Kind,
     serial: &[u8],
     input: &mut I,
-) -> Plugged<E, M, K>
+) -> Plugged<H::Entries, H::Moved, H::Marks>
     ensures asked { TellsOneMore (I.plugs input.old) (plug_of result) (I.plugs input.new) }
     ensures told { Where (H.tells hall.old) (Plugs kind serial.now result) (H.tells hall.new) }
     ensures passes { HasPasses result }
     ensures counts { Counts I.steady I.faults input.old input.new (is_failed_plugged result) }
     ensures left { I.left input.new ≡ I.left input.old }
-    ensures steady { K.steady → result ≢ Plugged.Refused DeskError.RecordFault }
+    ensures steady { H.Marks.steady → result ≢ Plugged.Refused DeskError.RecordFault }
     ensures mark { H.marked hall.new ≡ or_marked (marks_plugged result) (H.marked hall.old) }
 {
     match input.plug() {

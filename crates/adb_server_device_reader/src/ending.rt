@@ -14,16 +14,11 @@ use adb_connections::{Gate, Place};
 use adb_desk::Progress;
 use adb_hub::{HubError, Life, Room, Whole};
 use adb_outside::Cause;
-use adb_server_hall::Hall;
-use adb_server_log::{DeskError, LinkIn, Marks};
-use std::sync::ledger::Ledger;
+use adb_server_hall::{Hall, LinkInOf};
+use adb_server_log::DeskError;
 
 /// Ends the input of a link, unless the hall refuses that.
-pub fn finish<E: Ledger, M: Ledger, K: Marks, H: Hall<E, M, K>>(
-    hall: &mut H,
-    pass: &mut LinkIn<E, M, K>,
-    cause: Cause,
-)
+pub fn finish<H: Hall>(hall: &mut H, pass: &mut LinkInOf<H>, cause: Cause)
     ensures number { pass.new.pass.number ≡ pass.old.pass.number }
     ensures starved { pass.old.pass.starved ≡ true → pass.new.pass.starved ≡ true }
     ensures told { (entries : List Entry) → Stands entries (H.tells hall.old)
@@ -54,11 +49,7 @@ fn is_starved(error: DeskError) -> bool
 
 /// Stops after a piece that the hall refused. Ends the link's input if the refusal is an allocation
 /// failure.
-fn give_up<E: Ledger, M: Ledger, K: Marks, H: Hall<E, M, K>>(
-    hall: &mut H,
-    pass: &mut LinkIn<E, M, K>,
-    error: DeskError,
-)
+fn give_up<H: Hall>(hall: &mut H, pass: &mut LinkInOf<H>, error: DeskError)
     ensures number { pass.new.pass.number ≡ pass.old.pass.number }
     ensures starved { pass.old.pass.starved ≡ true → pass.new.pass.starved ≡ true }
     ensures told { (entries : List Entry) → Stands entries (H.tells hall.old)
@@ -73,9 +64,9 @@ fn give_up<E: Ledger, M: Ledger, K: Marks, H: Hall<E, M, K>>(
 
 /// Returns the decision after a piece, given the answer of the hall: `Stop` if the link is gone or
 /// the piece is refused. An allocation failure ends the link's input.
-fn settle<E: Ledger, M: Ledger, K: Marks, H: Hall<E, M, K>>(
+fn settle<H: Hall>(
     hall: &mut H,
-    pass: &mut LinkIn<E, M, K>,
+    pass: &mut LinkInOf<H>,
     answer: Result<Progress, DeskError>,
 ) -> Next
     ensures number { pass.new.pass.number ≡ pass.old.pass.number }
@@ -96,9 +87,9 @@ fn settle<E: Ledger, M: Ledger, K: Marks, H: Hall<E, M, K>>(
 
 /// Submits a piece. Returns `Stop` if the link is gone or the piece is refused. An allocation
 /// failure ends the link's input.
-pub(crate) fn hand_in<E: Ledger, M: Ledger, K: Marks, H: Hall<E, M, K>, G: Gate>(
+pub(crate) fn hand_in<H: Hall, G: Gate>(
     hall: &mut H,
-    pass: &mut LinkIn<E, M, K>,
+    pass: &mut LinkInOf<H>,
     piece: &[u8],
     gate: &G,
 ) -> Next
@@ -115,9 +106,9 @@ pub(crate) fn hand_in<E: Ledger, M: Ledger, K: Marks, H: Hall<E, M, K>, G: Gate>
 }
 
 /// Submits a whole packet, as `hand_in` submits its bytes.
-pub(crate) fn hand_in_packet<E: Ledger, M: Ledger, K: Marks, H: Hall<E, M, K>, G: Gate>(
+pub(crate) fn hand_in_packet<H: Hall, G: Gate>(
     hall: &mut H,
-    pass: &mut LinkIn<E, M, K>,
+    pass: &mut LinkInOf<H>,
     packet: &Whole,
     gate: &G,
 ) -> Next
@@ -135,10 +126,7 @@ pub(crate) fn hand_in_packet<E: Ledger, M: Ledger, K: Marks, H: Hall<E, M, K>, G
 
 /// Waits until the device has room again: the hall returns at once if it does not wait. Returns
 /// whether more bytes may follow: `false` if the link is gone or the hall is shut.
-pub(crate) fn wait_for_room<E: Ledger, M: Ledger, K: Marks, H: Hall<E, M, K>>(
-    hall: &mut H,
-    pass: &mut LinkIn<E, M, K>,
-) -> bool
+pub(crate) fn wait_for_room<H: Hall>(hall: &mut H, pass: &mut LinkInOf<H>) -> bool
     ensures number { pass.new.pass.number ≡ pass.old.pass.number }
     ensures told { (entries : List Entry) → Stands entries (H.tells hall.old)
         → Waited result pass.old.pass.number entries pass.old.pass.starved

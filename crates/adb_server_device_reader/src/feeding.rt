@@ -11,14 +11,12 @@ use crate::next::Next;
 use crate::packets::Packets;
 use adb_connections::Gate;
 use adb_outside::Cause;
-use adb_server_hall::Hall;
-use adb_server_log::{LinkIn, Marks};
-use std::sync::ledger::Ledger;
+use adb_server_hall::{Hall, LinkInOf};
 
 /// Submits the slice that is held, if it is whole. A packet in memory of its own is not copied.
-fn hand_in_held<E: Ledger, M: Ledger, K: Marks, H: Hall<E, M, K>, G: Gate>(
+fn hand_in_held<H: Hall, G: Gate>(
     hall: &mut H,
-    pass: &mut LinkIn<E, M, K>,
+    pass: &mut LinkInOf<H>,
     packets: &mut Packets,
     gate: &G,
 ) -> Next
@@ -44,9 +42,9 @@ fn hand_in_held<E: Ledger, M: Ledger, K: Marks, H: Hall<E, M, K>, G: Gate>(
 
 /// Submits the slice that is held, if it is whole, and then waits until the device has room.
 /// Returns whether more bytes may follow.
-fn hand_in_whole<E: Ledger, M: Ledger, K: Marks, H: Hall<E, M, K>, G: Gate>(
+fn hand_in_whole<H: Hall, G: Gate>(
     hall: &mut H,
-    pass: &mut LinkIn<E, M, K>,
+    pass: &mut LinkInOf<H>,
     packets: &mut Packets,
     gate: &G,
 ) -> bool
@@ -67,9 +65,9 @@ fn hand_in_whole<E: Ledger, M: Ledger, K: Marks, H: Hall<E, M, K>, G: Gate>(
 }
 
 /// Submits each slice that a piece completes. Returns whether more bytes may follow.
-pub fn feed<E: Ledger, M: Ledger, K: Marks, H: Hall<E, M, K>, G: Gate>(
+pub fn feed<H: Hall, G: Gate>(
     hall: &mut H,
-    pass: &mut LinkIn<E, M, K>,
+    pass: &mut LinkInOf<H>,
     packets: &mut Packets,
     piece: &[u8],
     gate: &G,
@@ -96,9 +94,9 @@ pub fn feed<E: Ledger, M: Ledger, K: Marks, H: Hall<E, M, K>, G: Gate>(
 }
 
 /// Submits the bytes that are held of a device that has ended, and ends its link's input.
-pub fn end_input<E: Ledger, M: Ledger, K: Marks, H: Hall<E, M, K>, G: Gate>(
+pub fn end_input<H: Hall, G: Gate>(
     hall: &mut H,
-    pass: &mut LinkIn<E, M, K>,
+    pass: &mut LinkInOf<H>,
     packets: &Packets,
     cause: Cause,
     gate: &G,

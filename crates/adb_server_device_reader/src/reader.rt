@@ -12,16 +12,14 @@ use crate::packets::Packets;
 use adb_capture::MAX_READ;
 use adb_connections::{DeviceIn, Gate};
 use adb_outside::{Cause, Got};
-use adb_server_hall::Hall;
-use adb_server_log::{LinkIn, Marks};
+use adb_server_hall::{Hall, LinkInOf};
 use std::sync::Wait;
-use std::sync::ledger::Ledger;
 
 /// Takes one turn: reads, and submits each complete packet. Returns whether more bytes may follow.
-fn turn<E: Ledger, M: Ledger, K: Marks, H: Hall<E, M, K>, I: DeviceIn, G: Gate>(
+fn turn<H: Hall, I: DeviceIn, G: Gate>(
     hall: &mut H,
     port: &mut I,
-    pass: &mut LinkIn<E, M, K>,
+    pass: &mut LinkInOf<H>,
     packets: &mut Packets,
     buffer: &mut [u8],
     gate: &G,
@@ -68,22 +66,14 @@ fn turn<E: Ledger, M: Ledger, K: Marks, H: Hall<E, M, K>, I: DeviceIn, G: Gate>(
 /// the link's input, and the piece is lost, with the bytes that were read after it. The reader
 /// passes the gate at `Place::DeviceReader` before each piece. The returned pass has its shares and
 /// its mark.
-pub fn read_device<
-    W: Wait + Copy + Drop,
-    E: Ledger,
-    M: Ledger,
-    K: Marks,
-    H: Hall<E, M, K>,
-    I: DeviceIn,
-    G: Gate,
->(
+pub fn read_device<W: Wait + Copy + Drop, H: Hall, I: DeviceIn, G: Gate>(
     rt: W,
     hall: &mut H,
     port: &mut I,
-    pass: LinkIn<E, M, K>,
+    pass: LinkInOf<H>,
     packets: Packets,
     gate: &G,
-) -> LinkIn<E, M, K>
+) -> LinkInOf<H>
     requires { packets ≡ [] }
     ensures number { result.pass.number ≡ pass.pass.number }
     ensures count { I.faults port.old ≤ I.faults port.new }

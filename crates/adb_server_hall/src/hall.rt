@@ -1,6 +1,7 @@
 //! The calls that the workers of a server make.
 
 use crate::alone::{EndWithoutThread, Halt, HasForward, Over};
+use crate::passes::{ClientInOf, ClientOutOf, LinkInOf, LinkOutOf, PassOf};
 use crate::sections::{Arrival, Call, Section};
 use crate::with_pass::{AskRoom, HandOut, Submit};
 use adb_capture::Owner;
@@ -25,7 +26,7 @@ use std::sync::ledger::Ledger;
 /// An implementation supplies `run`, `ask` and `seat`. It is generic in the section that it runs,
 /// so it can run no other. The calls of the workers are written once over these three, for every
 /// hall.
-pub trait Hall<E: Ledger, M: Ledger, K: Marks> {
+pub trait Hall {
     ghost use Rattle.std.specs.Prelude.{◌≡◌, ◌≢◌, ◌<◌, ◌≤◌, Bool, Option, Ok, Err, Some, IfOk};
     ghost use Rattle.std.specs.Prelude.{false, true, length, is_some};
     ghost use Rattle.adb_outside.specs.declared.kinds.Cause.{Cause};
@@ -50,6 +51,15 @@ pub trait Hall<E: Ledger, M: Ledger, K: Marks> {
     ghost use Rattle.adb_server_hall.specs.Passes.{ArePair, after_submit, after_handed};
     ghost use Rattle.adb_server_hall.specs.Passes.{after_room, or_marked};
 
+    /// The ledger of the count of entries.
+    type Entries: Ledger;
+
+    /// The ledger of the count of moved bytes.
+    type Moved: Ledger;
+
+    /// The ledger of the marks.
+    type Marks: Marks;
+
     /// The state of its hub, the entries that were kept, and the answer with which it is shut, if
     /// the hall shows them to contracts.
     ghost tells: { Self → Option Telling };
@@ -62,31 +72,31 @@ pub trait Hall<E: Ledger, M: Ledger, K: Marks> {
 
     /// Runs a section with a pass and returns its answer. If the answer idles, a hall that waits
     /// sleeps and runs the section again.
-    fn run<A: Drop, S: Section<A>>(&mut self, pass: &mut Pass<E, M, K>, section: &S) -> A
+    fn run<A: Drop, S: Section<A>>(&mut self, pass: &mut PassOf<Self>, section: &S) -> A
         requires { S.may section.now pass.old }
         ensures idle { S.idles result → waits ≡ false }
         ensures seen { S.seen section.now pass.old result pass.new }
         ensures told { Where (tells self.old) (S.does section.now pass.old result)
             (tells self.new) }
         ensures after { IsAt (tells self.new) (S.leaves section.now pass.old result) }
-        ensures steady { K.steady → S.sound result }
+        ensures steady { Self.Marks.steady → S.sound result }
         ensures mark { marked self.new ≡ marked self.old };
 
     /// Runs a section without a pass and returns its answer.
     fn ask<A: Drop, C: Call<A>>(&mut self, call: &C) -> A
         ensures told { Where (tells self.old) (C.does call.now result) (tells self.new) }
-        ensures steady { K.steady → C.sound result }
+        ensures steady { Self.Marks.steady → C.sound result }
         ensures mark { marked self.new ≡ or_marked (C.marks result) (marked self.old) };
 
     /// Runs the section in which a client or a device comes. Returns the passes of its reader and
     /// its writer.
-    fn seat<C: Arrival>(&mut self, arrival: &C) -> Result<(Pass<E, M, K>, Pass<E, M, K>), DeskError>
+    fn seat<C: Arrival>(&mut self, arrival: &C) -> Result<(PassOf<Self>, PassOf<Self>), DeskError>
         requires { C.may arrival.now }
         ensures passes { IfOk result (λ passes. ArePair passes.0 passes.1) }
         ensures serial { result ≡ Err (DeskError.Hub HubError.BadSerial) → C.bad arrival.now }
         ensures told { Where (tells self.old)
             (Draws (C.entry arrival.now) (λ passes. passes.0.number) result) (tells self.new) }
-        ensures steady { K.steady → result ≢ Err DeskError.RecordFault }
+        ensures steady { Self.Marks.steady → result ≢ Err DeskError.RecordFault }
         ensures mark { marked self.new ≡ or_marked (marks_error result) (marked self.old) };
 
     /// Admits a client or a device: one Join, Enter or Attach. Returns the pass of its reader,
@@ -97,14 +107,14 @@ pub trait Hall<E: Ledger, M: Ledger, K: Marks> {
     /// - `Hub(Full)`: a device came, and as many as the registry holds are attached.
     /// - `Hub(BadSerial)`: the device's serial is not valid.
     /// - `Hub(OutOfMemory)`: an allocation failed.
-    final fn admit(&mut self, comer: Comer<'_>) -> Result<(Pass<E, M, K>, Pass<E, M, K>), DeskError>
+    final fn admit(&mut self, comer: Comer<'_>) -> Result<(PassOf<Self>, PassOf<Self>), DeskError>
         requires { MayCome comer }
         ensures passes { IfOk result (λ passes. ArePair passes.0 passes.1) }
         ensures serial { result ≡ Err (DeskError.Hub HubError.BadSerial)
             → HasBadSerial comer.entry }
         ensures told { Where (tells self.old)
             (Draws (entry_by comer.entry) (λ passes. passes.0.number) result) (tells self.new) }
-        ensures steady { K.steady → result ≢ Err DeskError.RecordFault }
+        ensures steady { Self.Marks.steady → result ≢ Err DeskError.RecordFault }
         ensures mark { marked self.new ≡ or_marked (marks_error result) (marked self.old) }
     {
         self.seat(&comer)
@@ -118,11 +128,7 @@ pub trait Hall<E: Ledger, M: Ledger, K: Marks> {
     /// - `Later`: the bytes do not fit, and the hall does not wait.
     /// - `Hub(OutOfMemory)`: an allocation failed. If the act was an End or a Detach, the hall is
     ///   shut.
-    final fn submit(
-        &mut self,
-        pass: &mut Pass<E, M, K>,
-        act: Act<'_>,
-    ) -> Result<Progress, DeskError>
+    final fn submit(&mut self, pass: &mut PassOf<Self>, act: Act<'_>) -> Result<Progress, DeskError>
         requires { moves (entry_of act pass.old.number) ≤ MAX_DATA }
         ensures late { result ≡ Err DeskError.Later → waits ≡ false }
         ensures some { IsSomeProgress result }
@@ -132,7 +138,7 @@ pub trait Hall<E: Ledger, M: Ledger, K: Marks> {
             (Submits (entry_of act.entry pass.old.number) result) (tells self.new) }
         ensures memory { is_end (entry_of act.entry pass.old.number) ≡ true
             → result ≡ Err (DeskError.Hub HubError.OutOfMemory) → IsShutAt (tells self.new) }
-        ensures steady { K.steady → result ≢ Err DeskError.RecordFault }
+        ensures steady { Self.Marks.steady → result ≢ Err DeskError.RecordFault }
         ensures mark { marked self.new ≡ marked self.old }
     {
         self.run(pass, &Submit { act })
@@ -145,7 +151,7 @@ pub trait Hall<E: Ledger, M: Ledger, K: Marks> {
     /// - `Hub(OutOfMemory)`: an allocation failed.
     final fn hand_out(
         &mut self,
-        pass: &mut Pass<E, M, K>,
+        pass: &mut PassOf<Self>,
         half: Half,
         max: usize,
         piece: Piece,
@@ -156,7 +162,7 @@ pub trait Hall<E: Ledger, M: Ledger, K: Marks> {
         ensures pass { pass.new ≡ after_handed pass.old result }
         ensures told { Where (tells self.old) (HandsPiece piece (out_entry half pass.old.number)
             max (due_of half pass.old.number) result) (tells self.new) }
-        ensures steady { K.steady → result ≢ Err DeskError.RecordFault }
+        ensures steady { Self.Marks.steady → result ≢ Err DeskError.RecordFault }
         ensures mark { marked self.new ≡ marked self.old }
     {
         self.run(pass, &HandOut { half, max, piece })
@@ -166,13 +172,13 @@ pub trait Hall<E: Ledger, M: Ledger, K: Marks> {
     /// while there is no room.
     ///
     /// `Hub(NoClient)`: the number was never drawn.
-    final fn room(&mut self, pass: &mut ClientIn<E, M, K>) -> Result<Room, DeskError>
+    final fn room(&mut self, pass: &mut ClientInOf<Self>) -> Result<Room, DeskError>
         ensures late { result ≡ Ok Room.Later → waits ≡ false }
         ensures some { IsSomeRoom result }
         ensures pass { pass.new.pass ≡ after_room pass.old.pass result }
         ensures told { Where (tells self.old) (Rooms (Owner.Client pass.old.pass.number) result)
             (tells self.new) }
-        ensures steady { K.steady → result ≢ Err DeskError.RecordFault }
+        ensures steady { Self.Marks.steady → result ≢ Err DeskError.RecordFault }
         ensures mark { marked self.new ≡ marked self.old }
     {
         self.run(&mut pass.pass, &AskRoom { half: Half::Client })
@@ -183,13 +189,13 @@ pub trait Hall<E: Ledger, M: Ledger, K: Marks> {
     /// has drained, the link is gone, a kill was made, or the hall is shut.
     ///
     /// `Hub(NoLink)`: the number was never drawn.
-    final fn room_on(&mut self, pass: &mut LinkIn<E, M, K>) -> Result<Room, DeskError>
+    final fn room_on(&mut self, pass: &mut LinkInOf<Self>) -> Result<Room, DeskError>
         ensures late { result ≡ Ok Room.Later → waits ≡ false }
         ensures some { IsSomeRoom result }
         ensures pass { pass.new.pass ≡ after_room pass.old.pass result }
         ensures told { Where (tells self.old) (Rooms (Owner.Link pass.old.pass.number) result)
             (tells self.new) }
-        ensures steady { K.steady → result ≢ Err DeskError.RecordFault }
+        ensures steady { Self.Marks.steady → result ≢ Err DeskError.RecordFault }
         ensures mark { marked self.new ≡ marked self.old }
     {
         self.run(&mut pass.pass, &AskRoom { half: Half::Link })
@@ -207,7 +213,7 @@ pub trait Hall<E: Ledger, M: Ledger, K: Marks> {
     ) -> Result<Progress, DeskError>
         ensures told { Where (tells self.old) (Submits (ends_of owner Cause.NoThread) result)
             (tells self.new) }
-        ensures steady { K.steady → result ≢ Err DeskError.RecordFault }
+        ensures steady { Self.Marks.steady → result ≢ Err DeskError.RecordFault }
         ensures mark { marked self.new ≡ or_marked (marks_progress result) (marked self.old) }
     {
         let _ = &shown;
@@ -218,7 +224,7 @@ pub trait Hall<E: Ledger, M: Ledger, K: Marks> {
     /// allocates nothing.
     final fn over(&mut self) -> Option<DeskError>
         ensures told { Where (tells self.old) (Overs result) (tells self.new) }
-        ensures steady { K.steady → result ≢ Some DeskError.RecordFault }
+        ensures steady { Self.Marks.steady → result ≢ Some DeskError.RecordFault }
         ensures mark { marked self.new ≡ or_marked (is_some result) (marked self.old) }
     {
         self.ask(&Over {})
@@ -230,7 +236,7 @@ pub trait Hall<E: Ledger, M: Ledger, K: Marks> {
     /// A hall that is shut returns the answer with which it was shut.
     final fn has_forward(&mut self, port: u16) -> Result<bool, DeskError>
         ensures told { Where (tells self.old) (Forwards port result) (tells self.new) }
-        ensures steady { K.steady → result ≢ Err DeskError.RecordFault }
+        ensures steady { Self.Marks.steady → result ≢ Err DeskError.RecordFault }
         ensures mark { marked self.new ≡ or_marked (marks_error result) (marked self.old) }
     {
         self.ask(&HasForward { port })
@@ -245,11 +251,11 @@ pub trait Hall<E: Ledger, M: Ledger, K: Marks> {
     }
 
     /// Admits the next client: one Join. The errors are those of `admit`.
-    final fn join(&mut self) -> Result<(ClientIn<E, M, K>, ClientOut<E, M, K>), DeskError>
+    final fn join(&mut self) -> Result<(ClientInOf<Self>, ClientOutOf<Self>), DeskError>
         ensures passes { IfOk result (λ passes. ArePair passes.0.pass passes.1.pass) }
         ensures told { Where (tells self.old)
             (Draws Entry.Join (λ passes. passes.0.pass.number) result) (tells self.new) }
-        ensures steady { K.steady → result ≢ Err DeskError.RecordFault }
+        ensures steady { Self.Marks.steady → result ≢ Err DeskError.RecordFault }
         ensures mark { marked self.new ≡ or_marked (marks_error result) (marked self.old) }
     {
         match self.admit(Comer::Client) {
@@ -260,16 +266,13 @@ pub trait Hall<E: Ledger, M: Ledger, K: Marks> {
 
     /// Admits the next client through the forward of a port: one Enter. The errors are those of
     /// `admit`.
-    final fn enter(
-        &mut self,
-        port: u16,
-    ) -> Result<(ClientIn<E, M, K>, ClientOut<E, M, K>), DeskError>
+    final fn enter(&mut self, port: u16) -> Result<(ClientInOf<Self>, ClientOutOf<Self>), DeskError>
         requires { 0 < port }
         ensures passes { IfOk result (λ passes. ArePair passes.0.pass passes.1.pass) }
         ensures told { Where (tells self.old)
             (Draws (λ n. Entry.Enter n port)
             (λ passes. passes.0.pass.number) result) (tells self.new) }
-        ensures steady { K.steady → result ≢ Err DeskError.RecordFault }
+        ensures steady { Self.Marks.steady → result ≢ Err DeskError.RecordFault }
         ensures mark { marked self.new ≡ or_marked (marks_error result) (marked self.old) }
     {
         match self.admit(Comer::Forward(port)) {
@@ -283,14 +286,14 @@ pub trait Hall<E: Ledger, M: Ledger, K: Marks> {
         &mut self,
         kind: Kind,
         serial: &[u8],
-    ) -> Result<(LinkIn<E, M, K>, LinkOut<E, M, K>), DeskError>
+    ) -> Result<(LinkInOf<Self>, LinkOutOf<Self>), DeskError>
         ensures passes { IfOk result (λ passes. ArePair passes.0.pass passes.1.pass) }
         ensures serial { result ≡ Err (DeskError.Hub HubError.BadSerial)
             → is_serial serial.now ≡ false }
         ensures told { Where (tells self.old)
             (Draws (λ n. Entry.Attach n kind serial.now)
             (λ passes. passes.0.pass.number) result) (tells self.new) }
-        ensures steady { K.steady → result ≢ Err DeskError.RecordFault }
+        ensures steady { Self.Marks.steady → result ≢ Err DeskError.RecordFault }
         ensures mark { marked self.new ≡ or_marked (marks_error result) (marked self.old) }
     {
         match self.admit(Comer::Device(kind, serial)) {
@@ -302,7 +305,7 @@ pub trait Hall<E: Ledger, M: Ledger, K: Marks> {
     /// Submits bytes that came from the client: one Read. The errors are those of `submit`.
     final fn read(
         &mut self,
-        pass: &mut ClientIn<E, M, K>,
+        pass: &mut ClientInOf<Self>,
         piece: &[u8],
     ) -> Result<Progress, DeskError>
         requires { length piece.now ≤ MAX_DATA }
@@ -311,7 +314,7 @@ pub trait Hall<E: Ledger, M: Ledger, K: Marks> {
         ensures pass { pass.new.pass ≡ after_submit pass.old.pass (length piece.now) result }
         ensures told { Where (tells self.old)
             (Submits (Entry.Read pass.old.pass.number piece.now) result) (tells self.new) }
-        ensures steady { K.steady → result ≢ Err DeskError.RecordFault }
+        ensures steady { Self.Marks.steady → result ≢ Err DeskError.RecordFault }
         ensures mark { marked self.new ≡ marked self.old }
     {
         self.submit(&mut pass.pass, Act::Read(piece))
@@ -320,7 +323,7 @@ pub trait Hall<E: Ledger, M: Ledger, K: Marks> {
     /// Ends the client's input: one End. The errors are those of `submit`.
     final fn end(
         &mut self,
-        pass: &mut ClientIn<E, M, K>,
+        pass: &mut ClientInOf<Self>,
         cause: Cause,
     ) -> Result<Progress, DeskError>
         ensures some { IsSomeProgress result }
@@ -329,7 +332,7 @@ pub trait Hall<E: Ledger, M: Ledger, K: Marks> {
             (Submits (Entry.End pass.old.pass.number cause) result) (tells self.new) }
         ensures memory { result ≡ Err (DeskError.Hub HubError.OutOfMemory)
             → IsShutAt (tells self.new) }
-        ensures steady { K.steady → result ≢ Err DeskError.RecordFault }
+        ensures steady { Self.Marks.steady → result ≢ Err DeskError.RecordFault }
         ensures mark { marked self.new ≡ marked self.old }
     {
         self.submit(&mut pass.pass, Act::End(cause))
@@ -337,16 +340,12 @@ pub trait Hall<E: Ledger, M: Ledger, K: Marks> {
 
     /// Reports the port of the listener for which the client waits, or 0 if it could not be made:
     /// one Bound. The errors are those of `submit`.
-    final fn bound(
-        &mut self,
-        pass: &mut ClientIn<E, M, K>,
-        port: u16,
-    ) -> Result<Progress, DeskError>
+    final fn bound(&mut self, pass: &mut ClientInOf<Self>, port: u16) -> Result<Progress, DeskError>
         ensures some { IsSomeProgress result }
         ensures pass { pass.new.pass ≡ after_submit pass.old.pass 0 result }
         ensures told { Where (tells self.old)
             (Submits (Entry.Bound pass.old.pass.number port) result) (tells self.new) }
-        ensures steady { K.steady → result ≢ Err DeskError.RecordFault }
+        ensures steady { Self.Marks.steady → result ≢ Err DeskError.RecordFault }
         ensures mark { marked self.new ≡ marked self.old }
     {
         self.submit(&mut pass.pass, Act::Bound(port))
@@ -355,7 +354,7 @@ pub trait Hall<E: Ledger, M: Ledger, K: Marks> {
     /// Ends the client because a write to it failed: one End. The errors are those of `submit`.
     final fn break_out(
         &mut self,
-        pass: &mut ClientOut<E, M, K>,
+        pass: &mut ClientOutOf<Self>,
         cause: Cause,
     ) -> Result<Progress, DeskError>
         ensures some { IsSomeProgress result }
@@ -364,24 +363,20 @@ pub trait Hall<E: Ledger, M: Ledger, K: Marks> {
             (Submits (Entry.End pass.old.pass.number cause) result) (tells self.new) }
         ensures memory { result ≡ Err (DeskError.Hub HubError.OutOfMemory)
             → IsShutAt (tells self.new) }
-        ensures steady { K.steady → result ≢ Err DeskError.RecordFault }
+        ensures steady { Self.Marks.steady → result ≢ Err DeskError.RecordFault }
         ensures mark { marked self.new ≡ marked self.old }
     {
         self.submit(&mut pass.pass, Act::End(cause))
     }
 
     /// Submits bytes that came from the device: one Recv. The errors are those of `submit`.
-    final fn recv(
-        &mut self,
-        pass: &mut LinkIn<E, M, K>,
-        piece: &[u8],
-    ) -> Result<Progress, DeskError>
+    final fn recv(&mut self, pass: &mut LinkInOf<Self>, piece: &[u8]) -> Result<Progress, DeskError>
         requires { length piece.now ≤ MAX_DATA }
         ensures some { IsSomeProgress result }
         ensures pass { pass.new.pass ≡ after_submit pass.old.pass (length piece.now) result }
         ensures told { Where (tells self.old)
             (Submits (Entry.Recv pass.old.pass.number piece.now) result) (tells self.new) }
-        ensures steady { K.steady → result ≢ Err DeskError.RecordFault }
+        ensures steady { Self.Marks.steady → result ≢ Err DeskError.RecordFault }
         ensures mark { marked self.new ≡ marked self.old }
     {
         self.submit(&mut pass.pass, Act::Recv(piece))
@@ -391,7 +386,7 @@ pub trait Hall<E: Ledger, M: Ledger, K: Marks> {
     /// those of `submit`.
     final fn recv_whole(
         &mut self,
-        pass: &mut LinkIn<E, M, K>,
+        pass: &mut LinkInOf<Self>,
         packet: &Whole,
     ) -> Result<Progress, DeskError>
         requires { length packet.now ≤ MAX_DATA }
@@ -399,7 +394,7 @@ pub trait Hall<E: Ledger, M: Ledger, K: Marks> {
         ensures pass { pass.new.pass ≡ after_submit pass.old.pass (length packet.now) result }
         ensures told { Where (tells self.old)
             (Submits (Entry.Recv pass.old.pass.number packet.now) result) (tells self.new) }
-        ensures steady { K.steady → result ≢ Err DeskError.RecordFault }
+        ensures steady { Self.Marks.steady → result ≢ Err DeskError.RecordFault }
         ensures mark { marked self.new ≡ marked self.old }
     {
         self.submit(&mut pass.pass, Act::Packet(packet))
@@ -408,7 +403,7 @@ pub trait Hall<E: Ledger, M: Ledger, K: Marks> {
     /// Detaches the device: one Detach. The errors are those of `submit`.
     final fn detach(
         &mut self,
-        pass: &mut LinkIn<E, M, K>,
+        pass: &mut LinkInOf<Self>,
         cause: Cause,
     ) -> Result<Progress, DeskError>
         ensures some { IsSomeProgress result }
@@ -417,7 +412,7 @@ pub trait Hall<E: Ledger, M: Ledger, K: Marks> {
             (Submits (Entry.Detach pass.old.pass.number cause) result) (tells self.new) }
         ensures memory { result ≡ Err (DeskError.Hub HubError.OutOfMemory)
             → IsShutAt (tells self.new) }
-        ensures steady { K.steady → result ≢ Err DeskError.RecordFault }
+        ensures steady { Self.Marks.steady → result ≢ Err DeskError.RecordFault }
         ensures mark { marked self.new ≡ marked self.old }
     {
         self.submit(&mut pass.pass, Act::Detach(cause))
@@ -427,7 +422,7 @@ pub trait Hall<E: Ledger, M: Ledger, K: Marks> {
     /// `submit`.
     final fn break_send(
         &mut self,
-        pass: &mut LinkOut<E, M, K>,
+        pass: &mut LinkOutOf<Self>,
         cause: Cause,
     ) -> Result<Progress, DeskError>
         ensures some { IsSomeProgress result }
@@ -436,7 +431,7 @@ pub trait Hall<E: Ledger, M: Ledger, K: Marks> {
             (Submits (Entry.Detach pass.old.pass.number cause) result) (tells self.new) }
         ensures memory { result ≡ Err (DeskError.Hub HubError.OutOfMemory)
             → IsShutAt (tells self.new) }
-        ensures steady { K.steady → result ≢ Err DeskError.RecordFault }
+        ensures steady { Self.Marks.steady → result ≢ Err DeskError.RecordFault }
         ensures mark { marked self.new ≡ marked self.old }
     {
         self.submit(&mut pass.pass, Act::Detach(cause))
@@ -444,7 +439,7 @@ pub trait Hall<E: Ledger, M: Ledger, K: Marks> {
 
     /// Hands out the first bytes that are due to the client: one Put. The errors are those of
     /// `hand_out`.
-    final fn put(&mut self, pass: &mut ClientOut<E, M, K>, max: usize) -> Result<Handed, DeskError>
+    final fn put(&mut self, pass: &mut ClientOutOf<Self>, max: usize) -> Result<Handed, DeskError>
         requires { (0 < max) × (max ≤ MAX_DATA) }
         ensures idle { result ≡ Ok Handed.Nothing → waits ≡ false }
         ensures some { IsSomeHanded max result }
@@ -452,7 +447,7 @@ pub trait Hall<E: Ledger, M: Ledger, K: Marks> {
         ensures told { let n = pass.old.pass.number in Where (tells self.old)
             (Hands (Entry.Put n) max
             (λ (s : State). offered_to s.devices (s.clients n)) result) (tells self.new) }
-        ensures steady { K.steady → result ≢ Err DeskError.RecordFault }
+        ensures steady { Self.Marks.steady → result ≢ Err DeskError.RecordFault }
         ensures mark { marked self.new ≡ marked self.old }
     {
         self.hand_out(&mut pass.pass, Half::Client, max, Piece::All)
@@ -461,7 +456,7 @@ pub trait Hall<E: Ledger, M: Ledger, K: Marks> {
     /// Hands out bytes as `put` does, but only as many as need no copy of a large payload.
     final fn put_front(
         &mut self,
-        pass: &mut ClientOut<E, M, K>,
+        pass: &mut ClientOutOf<Self>,
         max: usize,
     ) -> Result<Handed, DeskError>
         requires { (0 < max) × (max ≤ MAX_DATA) }
@@ -471,7 +466,7 @@ pub trait Hall<E: Ledger, M: Ledger, K: Marks> {
         ensures told { let n = pass.old.pass.number in Where (tells self.old)
             (HandsFront (Entry.Put n) max
             (λ (s : State). offered_to s.devices (s.clients n)) result) (tells self.new) }
-        ensures steady { K.steady → result ≢ Err DeskError.RecordFault }
+        ensures steady { Self.Marks.steady → result ≢ Err DeskError.RecordFault }
         ensures mark { marked self.new ≡ marked self.old }
     {
         self.hand_out(&mut pass.pass, Half::Client, max, Piece::Front)
@@ -479,14 +474,14 @@ pub trait Hall<E: Ledger, M: Ledger, K: Marks> {
 
     /// Hands out the first bytes that are due on the link: one Send. The errors are those of
     /// `hand_out`.
-    final fn send(&mut self, pass: &mut LinkOut<E, M, K>, max: usize) -> Result<Handed, DeskError>
+    final fn send(&mut self, pass: &mut LinkOutOf<Self>, max: usize) -> Result<Handed, DeskError>
         requires { (0 < max) × (max ≤ MAX_DATA) }
         ensures idle { result ≡ Ok Handed.Nothing → waits ≡ false }
         ensures some { IsSomeHanded max result }
         ensures pass { pass.new.pass ≡ after_handed pass.old.pass result }
         ensures told { let n = pass.old.pass.number in Where (tells self.old)
             (Hands (Entry.Send n) max (λ (s : State). due_on (s.links n)) result) (tells self.new) }
-        ensures steady { K.steady → result ≢ Err DeskError.RecordFault }
+        ensures steady { Self.Marks.steady → result ≢ Err DeskError.RecordFault }
         ensures mark { marked self.new ≡ marked self.old }
     {
         self.hand_out(&mut pass.pass, Half::Link, max, Piece::All)
@@ -495,7 +490,7 @@ pub trait Hall<E: Ledger, M: Ledger, K: Marks> {
     /// Hands out bytes as `send` does, but only as many as need no copy of a large payload.
     final fn send_front(
         &mut self,
-        pass: &mut LinkOut<E, M, K>,
+        pass: &mut LinkOutOf<Self>,
         max: usize,
     ) -> Result<Handed, DeskError>
         requires { (0 < max) × (max ≤ MAX_DATA) }
@@ -505,7 +500,7 @@ pub trait Hall<E: Ledger, M: Ledger, K: Marks> {
         ensures told { let n = pass.old.pass.number in Where (tells self.old)
             (HandsFront (Entry.Send n) max
             (λ (s : State). due_on (s.links n)) result) (tells self.new) }
-        ensures steady { K.steady → result ≢ Err DeskError.RecordFault }
+        ensures steady { Self.Marks.steady → result ≢ Err DeskError.RecordFault }
         ensures mark { marked self.new ≡ marked self.old }
     {
         self.hand_out(&mut pass.pass, Half::Link, max, Piece::Front)

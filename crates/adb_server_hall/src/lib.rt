@@ -7,9 +7,11 @@
 mod alone;
 mod hall;
 mod notes;
+mod passes;
 mod sections;
 mod with_pass;
 
 pub use alone::{Over, mark_handle};
 pub use hall::Hall;
+pub use passes::{ClientInOf, ClientOutOf, LinkInOf, LinkOutOf, PassOf};
 pub use sections::{Arrival, Awaits, Call, Section};

@@ -13,8 +13,14 @@ use adb_server_log::{DeskError, Mark, Marks, Pass, marks_error};
 use std::sync::ledger::Ledger;
 use std::sync::{Mutex, Wait};
 
-impl<R: Recorder, E: Ledger, M: Ledger, K: Marks, W: Wait + Copy + Drop> Hall<E, M, K>
+impl<R: Recorder, E: Ledger, M: Ledger, K: Marks, W: Wait + Copy + Drop> Hall
     for LockedHall<R, E, M, K, W> {
+    type Entries = E;
+
+    type Moved = M;
+
+    type Marks = K;
+
     ghost use Rattle.std.specs.Prelude.{None, true};
 
     ghost tells = { λ h. None };

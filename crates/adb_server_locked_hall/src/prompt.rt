@@ -15,8 +15,14 @@ pub struct Prompt<R: Recorder, E: Ledger, M: Ledger, K: Marks, W: Wait + Copy + 
     pub hall: LockedHall<R, E, M, K, W>,
 }
 
-impl<R: Recorder, E: Ledger, M: Ledger, K: Marks, W: Wait + Copy + Drop> Hall<E, M, K>
+impl<R: Recorder, E: Ledger, M: Ledger, K: Marks, W: Wait + Copy + Drop> Hall
     for Prompt<R, E, M, K, W> {
+    type Entries = E;
+
+    type Moved = M;
+
+    type Marks = K;
+
     ghost use Rattle.std.specs.Prelude.{None, false};
 
     ghost tells = { λ h. None };

@@ -6,7 +6,13 @@ use adb_server_hall::{Arrival, Call, Hall, Section, mark_handle};
 use adb_server_log::{DeskError, Marks, Pass, marks_error};
 use std::sync::ledger::Ledger;
 
-impl<R: Recorder, E: Ledger, M: Ledger, K: Marks> Hall<E, M, K> for OneDesk<R, E, M, K> {
+impl<R: Recorder, E: Ledger, M: Ledger, K: Marks> Hall for OneDesk<R, E, M, K> {
+    type Entries = E;
+
+    type Moved = M;
+
+    type Marks = K;
+
     ghost use Rattle.std.specs.Prelude.{Some, false};
     ghost use Rattle.adb_server_hall.specs.Telling.{telling_of};
 

@@ -11,10 +11,8 @@ use crate::outlets::Clients;
 use crate::writer::write;
 use adb_connections::{Gate, PortOut};
 use adb_desk::Half;
-use adb_server_hall::Hall;
-use adb_server_log::{ClientOut, Marks};
+use adb_server_hall::{ClientOutOf, Hall};
 use std::sync::Wait;
-use std::sync::ledger::Ledger;
 
 /// Writes to a client the bytes that are handed out to it, at most a whole packet at a time. Closes
 /// the port and returns the pass when the client is gone, a write failed, the hall is shut, or an
@@ -27,15 +25,13 @@ use std::sync::ledger::Ledger;
 ///
 /// After a kill the writer continues until the client is gone, so the reply of the kill itself is
 /// written. It passes the gate at `Place::ClientWriter` before each write.
-pub fn write_client<
-    W: Wait + Copy + Drop,
-    E: Ledger,
-    M: Ledger,
-    K: Marks,
-    H: Hall<E, M, K>,
-    O: PortOut,
-    G: Gate,
->(rt: W, hall: &mut H, port: &mut O, pass: ClientOut<E, M, K>, gate: &G) -> ClientOut<E, M, K>
+pub fn write_client<W: Wait + Copy + Drop, H: Hall, O: PortOut, G: Gate>(
+    rt: W,
+    hall: &mut H,
+    port: &mut O,
+    pass: ClientOutOf<H>,
+    gate: &G,
+) -> ClientOutOf<H>
     ensures number { result.pass.number ≡ pass.pass.number }
     ensures mark { H.marked hall.new ≡ H.marked hall.old }
     ensures count { O.faults port.old ≤ O.faults port.new }

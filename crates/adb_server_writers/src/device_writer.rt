@@ -11,10 +11,8 @@ use crate::outlets::Devices;
 use crate::writer::write;
 use adb_connections::{DeviceOut, Gate};
 use adb_desk::Half;
-use adb_server_hall::Hall;
-use adb_server_log::{LinkOut, Marks};
+use adb_server_hall::{Hall, LinkOutOf};
 use std::sync::Wait;
-use std::sync::ledger::Ledger;
 
 /// Writes to a device the bytes that are handed out on its link, at most a whole packet at a time.
 /// Unplugs the device and returns the pass when the link is gone, a write failed, the hall is shut,
@@ -27,15 +25,13 @@ use std::sync::ledger::Ledger;
 ///
 /// After a kill the writer continues until the link is gone. It passes the gate at
 /// `Place::DeviceWriter` before each write.
-pub fn write_device<
-    W: Wait + Copy + Drop,
-    E: Ledger,
-    M: Ledger,
-    K: Marks,
-    H: Hall<E, M, K>,
-    O: DeviceOut,
-    G: Gate,
->(rt: W, hall: &mut H, port: &mut O, pass: LinkOut<E, M, K>, gate: &G) -> LinkOut<E, M, K>
+pub fn write_device<W: Wait + Copy + Drop, H: Hall, O: DeviceOut, G: Gate>(
+    rt: W,
+    hall: &mut H,
+    port: &mut O,
+    pass: LinkOutOf<H>,
+    gate: &G,
+) -> LinkOutOf<H>
     ensures number { result.pass.number ≡ pass.pass.number }
     ensures mark { H.marked hall.new ≡ H.marked hall.old }
     ensures count { O.faults port.old ≤ O.faults port.new }

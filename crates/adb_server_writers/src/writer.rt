@@ -15,11 +15,10 @@ use adb_connections::{Gate, Place};
 use adb_desk::{Act, Half, Piece};
 use adb_hub::{Handed, HubError};
 use adb_outside::{Cause, HandOut, Parts, Wrote};
-use adb_server_hall::Hall;
-use adb_server_log::{DeskError, Marks, Pass};
+use adb_server_hall::{Hall, PassOf};
+use adb_server_log::DeskError;
 use adb_wire::MAX_PACKET;
 use std::sync::Wait;
-use std::sync::ledger::Ledger;
 
 /// Returns whether an error is an allocation failure.
 fn is_starved(error: DeskError) -> bool
@@ -29,12 +28,7 @@ fn is_starved(error: DeskError) -> bool
 }
 
 /// Ends the input of a client or the link of a device, unless the hall refuses that.
-fn break_off<E: Ledger, M: Ledger, K: Marks, H: Hall<E, M, K>>(
-    hall: &mut H,
-    pass: &mut Pass<E, M, K>,
-    half: Half,
-    cause: Cause,
-)
+fn break_off<H: Hall>(hall: &mut H, pass: &mut PassOf<H>, half: Half, cause: Cause)
     ensures number { pass.new.number ≡ pass.old.number }
     ensures starved { pass.old.starved ≡ true → pass.new.starved ≡ true }
     ensures mark { H.marked hall.new ≡ H.marked hall.old }
@@ -53,12 +47,7 @@ fn break_off<E: Ledger, M: Ledger, K: Marks, H: Hall<E, M, K>>(
 
 /// Stops after a hand-out that the hall refused. Ends the connection if the refusal is an
 /// allocation failure.
-fn give_up<E: Ledger, M: Ledger, K: Marks, H: Hall<E, M, K>>(
-    hall: &mut H,
-    pass: &mut Pass<E, M, K>,
-    half: Half,
-    error: DeskError,
-)
+fn give_up<H: Hall>(hall: &mut H, pass: &mut PassOf<H>, half: Half, error: DeskError)
     ensures number { pass.new.number ≡ pass.old.number }
     ensures starved { pass.old.starved ≡ true → pass.new.starved ≡ true }
     ensures quiet { is_starved error ≡ false → pass.new ≡ pass.old }
@@ -73,11 +62,11 @@ fn give_up<E: Ledger, M: Ledger, K: Marks, H: Hall<E, M, K>>(
 }
 
 /// Writes a piece that was handed out. A write that fails ends the connection.
-fn write_out<E: Ledger, M: Ledger, K: Marks, H: Hall<E, M, K>, O, S: Outlets<O>>(
+fn write_out<H: Hall, O, S: Outlets<O>>(
     side: &S,
     hall: &mut H,
     port: &mut O,
-    pass: &mut Pass<E, M, K>,
+    pass: &mut PassOf<H>,
     half: Half,
     bytes: &HandOut,
 ) -> Next
@@ -113,11 +102,11 @@ fn place_of(half: Half) -> Place {
 }
 
 /// Takes one turn: requests the next hand-out, and writes it.
-fn turn<E: Ledger, M: Ledger, K: Marks, H: Hall<E, M, K>, O, S: Outlets<O>, G: Gate>(
+fn turn<H: Hall, O, S: Outlets<O>, G: Gate>(
     side: &S,
     hall: &mut H,
     port: &mut O,
-    pass: &mut Pass<E, M, K>,
+    pass: &mut PassOf<H>,
     half: Half,
     gate: &G,
 ) -> Next
@@ -148,21 +137,12 @@ fn turn<E: Ledger, M: Ledger, K: Marks, H: Hall<E, M, K>, O, S: Outlets<O>, G: G
 /// Writes the bytes that are handed out until nothing more will be, and then closes the port.
 /// Returns whether it stopped because nothing is due for now, with the port unchanged. Over a hall
 /// that waits it never returns that.
-pub(crate) fn write<
-    W: Wait + Copy + Drop,
-    E: Ledger,
-    M: Ledger,
-    K: Marks,
-    H: Hall<E, M, K>,
-    O,
-    S: Outlets<O>,
-    G: Gate,
->(
+pub(crate) fn write<W: Wait + Copy + Drop, H: Hall, O, S: Outlets<O>, G: Gate>(
     rt: W,
     side: &S,
     hall: &mut H,
     port: &mut O,
-    pass: &mut Pass<E, M, K>,
+    pass: &mut PassOf<H>,
     half: Half,
     gate: &G,
 ) -> bool
