@@ -8,7 +8,7 @@ use adb_capture::Owner;
 use adb_desk::{Act, Comer, Half, Piece, Progress};
 use adb_hub::{Handed, Room, Whole};
 use adb_outside::{Cause, Kind};
-use adb_server_log::{ClientIn, ClientOut, DeskError, LinkIn, LinkOut, Marks, Pass};
+use adb_server_log::{ClientIn, ClientOut, DeskError, LinkIn, LinkOut, Marks};
 use adb_spawner::NoThread;
 use std::sync::ledger::Ledger;
 
