@@ -4,17 +4,9 @@ ghost use Rattle.std.specs.Prelude.{◌≡◌, true};
 ghost use Rattle.adb_server_hall.specs.Passes.{is_starved};
 ghost use Rattle.adb_server_client_reader.specs.Reading.{Finishes, GivesUp};
 
-use adb_hub::HubError;
 use adb_outside::Cause;
-use adb_server_hall::{ClientInOf, Hall};
+use adb_server_hall::{ClientInOf, Hall, is_starved};
 use adb_server_log::DeskError;
-
-/// Returns whether an error is an allocation failure.
-fn is_starved(error: DeskError) -> bool
-    ensures { result ≡ is_starved error }
-{
-    matches!(error, DeskError::Hub(HubError::OutOfMemory))
-}
 
 /// Ends a client's input, unless the hall refuses that.
 pub(crate) fn finish<H: Hall>(hall: &mut H, pass: &mut ClientInOf<H>, cause: Cause)

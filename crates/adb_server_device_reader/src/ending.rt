@@ -12,9 +12,9 @@ ghost use Rattle.adb_server_device_reader.specs.Handing.{Waited, goes_on, is_liv
 use crate::next::Next;
 use adb_connections::{Gate, Place};
 use adb_desk::Progress;
-use adb_hub::{HubError, Life, Room, Whole};
+use adb_hub::{Life, Room, Whole};
 use adb_outside::Cause;
-use adb_server_hall::{Hall, LinkInOf};
+use adb_server_hall::{Hall, LinkInOf, is_starved};
 use adb_server_log::DeskError;
 
 /// Ends the input of a link, unless the hall refuses that.
@@ -38,13 +38,6 @@ fn next_of(progress: Progress) -> Next
         (Life::Live, Room::Later) => Next::Pause,
         (Life::Live, Room::Bytes(_) | Room::Shut) => Next::Go,
     }
-}
-
-/// Returns whether an error is an allocation failure.
-fn is_starved(error: DeskError) -> bool
-    ensures { result ≡ is_starved error }
-{
-    matches!(error, DeskError::Hub(HubError::OutOfMemory))
 }
 
 /// Stops after a piece that the hall refused. Ends the link's input if the refusal is an allocation

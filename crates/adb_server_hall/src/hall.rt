@@ -24,8 +24,7 @@ use std::sync::ledger::Ledger;
 /// nothing else.
 ///
 /// An implementation supplies `run`, `ask` and `seat`. It is generic in the section that it runs,
-/// so it can run no other. The calls of the workers are written once over these three, for every
-/// hall.
+/// so it can run no other. The calls of the workers are written once over these three.
 pub trait Hall {
     ghost use Rattle.std.specs.Prelude.{◌≡◌, ◌≢◌, ◌<◌, ◌≤◌, Bool, Option, Ok, Err, Some, IfOk};
     ghost use Rattle.std.specs.Prelude.{false, true, length, is_some};
@@ -43,13 +42,9 @@ pub trait Hall {
     ghost use Rattle.adb_server_log.specs.declared.error.DeskError.{DeskError};
     ghost use Rattle.adb_server_log.specs.Marked.{marks_error};
     ghost use Rattle.adb_server_log.specs.Log.{moves};
-    ghost use Rattle.adb_desk.specs.Acts.{HasBadSerial, MayCome, due_of, entry_by, entry_of, marks_progress};
-    ghost use Rattle.adb_desk.specs.Acts.{is_end, out_entry};
-    ghost use Rattle.adb_server_hall.specs.Telling.{Telling, Where, Submits, Draws, Hands, HandsFront, HandsPiece};
-    ghost use Rattle.adb_server_hall.specs.Telling.{IsAt, IsShutAt, ends_of};
-    ghost use Rattle.adb_server_hall.specs.Telling.{Rooms, Overs, Forwards, Halts, IsSomeRoom, IsSomeHanded, IsSomeProgress};
-    ghost use Rattle.adb_server_hall.specs.Passes.{ArePair, after_submit, after_handed};
-    ghost use Rattle.adb_server_hall.specs.Passes.{after_room, or_marked};
+    ghost use Rattle.adb_desk.specs.Acts.{HasBadSerial, MayCome, due_of, entry_by, entry_of, marks_progress, is_end, out_entry};
+    ghost use Rattle.adb_server_hall.specs.Telling.{Telling, Where, Submits, Draws, Hands, HandsFront, HandsPiece, IsAt, IsShutAt, ends_of, Rooms, Overs, Forwards, Halts, IsSomeRoom, IsSomeHanded, IsSomeProgress};
+    ghost use Rattle.adb_server_hall.specs.Passes.{ArePair, after_submit, after_handed, after_room, or_marked};
 
     /// The ledger of the count of entries.
     type Entries: Ledger;
@@ -88,8 +83,7 @@ pub trait Hall {
         ensures steady { Self.Marks.steady → C.sound result }
         ensures mark { marked self.new ≡ or_marked (C.marks result) (marked self.old) };
 
-    /// Runs the section in which a client or a device comes. Returns the passes of its reader and
-    /// its writer.
+    /// Runs the section in which a client or a device comes. Returns its reader's and writer's pass.
     fn seat<C: Arrival>(&mut self, arrival: &C) -> Result<(PassOf<Self>, PassOf<Self>), DeskError>
         requires { C.may arrival.now }
         ensures passes { IfOk result (λ passes. ArePair passes.0 passes.1) }
@@ -201,8 +195,7 @@ pub trait Hall {
         self.run(&mut pass.pass, &AskRoom { half: Half::Link })
     }
 
-    /// Ends a client or a link for which no thread started: one End or Detach by `NoThread`,
-    /// counted in no pass.
+    /// Ends a client or a link without a thread: an End or Detach by NoThread, which no pass counts.
     ///
     /// - `Hub(Stopped)`: a kill was made.
     /// - `Hub(NoClient)`, `Hub(NoLink)`: the number was never drawn.
@@ -230,8 +223,7 @@ pub trait Hall {
         self.ask(&Over {})
     }
 
-    /// Returns whether the hub has a forward of this local port. It makes no entry and allocates
-    /// nothing.
+    /// Returns whether the hub has a forward of this local port. No entry, and no allocation.
     ///
     /// A hall that is shut returns the answer with which it was shut.
     final fn has_forward(&mut self, port: u16) -> Result<bool, DeskError>

@@ -13,5 +13,6 @@ mod with_pass;
 
 pub use alone::{Over, mark_handle};
 pub use hall::Hall;
+pub use notes::is_starved;
 pub use passes::{ClientInOf, ClientOutOf, LinkInOf, LinkOutOf, PassOf};
 pub use sections::{Arrival, Awaits, Call, Section};

@@ -12,9 +12,9 @@ use adb_recorder::Recorder;
 use adb_server_log::{DeskError, Marks, Pass, is_marked};
 use std::sync::ledger::Ledger;
 
-/// Returns whether an error is an allocation failure.
-fn is_starved(error: &DeskError) -> bool
-    ensures { result ≡ is_starved error.now }
+/// Returns whether an error is an allocation failure of the hub.
+pub fn is_starved(error: DeskError) -> bool
+    ensures { result ≡ is_starved error }
 {
     matches!(error, DeskError::Hub(HubError::OutOfMemory))
 }
@@ -32,7 +32,7 @@ pub(crate) fn note_error<R: Recorder, E: Ledger, M: Ledger, K: Marks>(
     match error {
         DeskError::Later => {}
         DeskError::Halted | DeskError::RecordFault => desk.note(pass, false, 0, true, false),
-        DeskError::Hub(_) => desk.note(pass, false, 0, is_marked(error), is_starved(error)),
+        DeskError::Hub(_) => desk.note(pass, false, 0, is_marked(error), is_starved(*error)),
     }
 }
 

@@ -13,19 +13,12 @@ use crate::next::Next;
 use crate::outlets::Outlets;
 use adb_connections::{Gate, Place};
 use adb_desk::{Act, Half, Piece};
-use adb_hub::{Handed, HubError};
+use adb_hub::Handed;
 use adb_outside::{Cause, HandOut, Parts, Wrote};
-use adb_server_hall::{Hall, PassOf};
+use adb_server_hall::{Hall, PassOf, is_starved};
 use adb_server_log::DeskError;
 use adb_wire::MAX_PACKET;
 use std::sync::Wait;
-
-/// Returns whether an error is an allocation failure.
-fn is_starved(error: DeskError) -> bool
-    ensures { result ≡ is_starved error }
-{
-    matches!(error, DeskError::Hub(HubError::OutOfMemory))
-}
 
 /// Ends the input of a client or the link of a device, unless the hall refuses that.
 fn break_off<H: Hall>(hall: &mut H, pass: &mut PassOf<H>, half: Half, cause: Cause)
