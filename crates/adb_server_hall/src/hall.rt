@@ -83,7 +83,7 @@ pub trait Hall {
         ensures steady { Self.Marks.steady → C.sound result }
         ensures mark { marked self.new ≡ or_marked (C.marks result) (marked self.old) };
 
-    /// Runs the section in which a client or a device comes. Returns its reader's and writer's pass.
+    /// Runs the section in which a client or a device comes. Returns the passes of its workers.
     fn seat<C: Arrival>(&mut self, arrival: &C) -> Result<(PassOf<Self>, PassOf<Self>), DeskError>
         requires { C.may arrival.now }
         ensures passes { IfOk result (λ passes. ArePair passes.0 passes.1) }
@@ -195,7 +195,7 @@ pub trait Hall {
         self.run(&mut pass.pass, &AskRoom { half: Half::Link })
     }
 
-    /// Ends a client or a link without a thread: an End or Detach by NoThread, which no pass counts.
+    /// Ends a client or a link that got no thread: one End or Detach, which no pass counts.
     ///
     /// - `Hub(Stopped)`: a kill was made.
     /// - `Hub(NoClient)`, `Hub(NoLink)`: the number was never drawn.
