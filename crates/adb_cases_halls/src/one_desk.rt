@@ -28,6 +28,12 @@ fn is_faulty(answer: Result<Progress, DeskError>) -> bool {
 /// The passes of a device.
 type Device<E, M, K> = (LinkIn<E, M, K>, LinkOut<E, M, K>);
 
+/// The passes of a client of a hall.
+type ClientOf<H: Hall> = (ClientInOf<H>, ClientOutOf<H>);
+
+/// The passes of a device of a hall.
+type DeviceOf<H: Hall> = (LinkInOf<H>, LinkOutOf<H>);
+
 /// Returns whether a piece that exceeds the limit of held bytes is refused with `Later`.
 fn holds_so_much<H: Hall>(hall: &mut H, reading: &mut ClientInOf<H>, piece: &[u8]) -> bool {
     is_late(hall.read(reading, &piece[..piece.len().min(MAX_HELD + 1)]))
@@ -117,8 +123,8 @@ impl Case {
     fn holds<H: Hall>(
         self,
         hall: &mut H,
-        client: &mut Client<E, M, K>,
-        device: &mut Device<E, M, K>,
+        client: &mut ClientOf<H>,
+        device: &mut DeviceOf<H>,
         piece: &[u8],
     ) -> bool {
         let (reading, writing) = client;
@@ -200,7 +206,7 @@ const ROWS: &[Row] = &[
 ];
 
 /// Admits the first client and the first device.
-fn seats<H: Hall>(hall: &mut H, port: u16) -> Option<(Client<E, M, K>, Device<E, M, K>)> {
+fn seats<H: Hall>(hall: &mut H, port: u16) -> Option<(ClientOf<H>, DeviceOf<H>)> {
     let client = if port == 0 {
         hall.join().ok()
     } else {

@@ -8,9 +8,9 @@ use adb_desk::{Half, Progress};
 use adb_hub::{Handed, MAX_HELD, Room};
 use adb_outside::{Cause, Kind};
 use adb_recorder::NullRecorder;
-use adb_server_hall::Hall;
+use adb_server_hall::{ClientInOf, ClientOutOf, Hall, LinkInOf, LinkOutOf};
 use adb_server_locked_hall::LockedHall;
-use adb_server_log::{ALL_PARTS, ClientIn, ClientOut, DeskError, LinkIn, LinkOut, Marks};
+use adb_server_log::{ALL_PARTS, DeskError, Marks};
 use std::alloc::{AllocError, Global};
 use std::marker::Brand;
 use std::sync::Wait;
@@ -33,16 +33,16 @@ const PIECES: u32 = 100;
 
 /// The passes of the readers of a client and a device.
 #[derive(Drop)]
-struct Readers<E: Ledger, M: Ledger, K: Marks> {
-    client: ClientIn<E, M, K>,
-    link: LinkIn<E, M, K>,
+struct Readers<H: Hall> {
+    client: ClientInOf<H>,
+    link: LinkInOf<H>,
 }
 
 /// The passes of their writers.
 #[derive(Drop)]
-struct Writers<E: Ledger, M: Ledger, K: Marks> {
-    client: ClientOut<E, M, K>,
-    link: LinkOut<E, M, K>,
+struct Writers<H: Hall> {
+    client: ClientOutOf<H>,
+    link: LinkOutOf<H>,
 }
 
 /// A call that waits.
@@ -125,7 +125,7 @@ impl Event {
         clock: &W,
         half: Half,
         hall: &mut H,
-        writers: &mut Writers<E, M, K>,
+        writers: &mut Writers<H>,
     ) {
         sleep(clock, Duration::from_millis(LATER));
         match self {
@@ -144,7 +144,7 @@ impl Event {
         clock: &W,
         half: Half,
         hall: &mut H,
-        readers: &mut Readers<E, M, K>,
+        readers: &mut Readers<H>,
     ) {
         sleep(clock, Duration::from_millis(LATER));
         match self {
@@ -167,7 +167,7 @@ fn kill<H: Hall>(hall: &mut H) {
 fn hand_out<H: Hall>(
     half: Half,
     hall: &mut H,
-    writers: &mut Writers<E, M, K>,
+    writers: &mut Writers<H>,
 ) -> Result<Handed, DeskError> {
     match half {
         Half::Client => hall.put(&mut writers.client, PIECE),
@@ -176,11 +176,7 @@ fn hand_out<H: Hall>(
 }
 
 /// Asks for the room of a client or of a device.
-fn room<H: Hall>(
-    half: Half,
-    hall: &mut H,
-    readers: &mut Readers<E, M, K>,
-) -> Result<Room, DeskError> {
+fn room<H: Hall>(half: Half, hall: &mut H, readers: &mut Readers<H>) -> Result<Room, DeskError> {
     match half {
         Half::Client => hall.room(&mut readers.client),
         Half::Link => hall.room_on(&mut readers.link),
@@ -188,7 +184,7 @@ fn room<H: Hall>(
 }
 
 /// Ends a client or a link because a write failed.
-fn breaks<H: Hall>(half: Half, hall: &mut H, writers: &mut Writers<E, M, K>) {
+fn breaks<H: Hall>(half: Half, hall: &mut H, writers: &mut Writers<H>) {
     let _ = match half {
         Half::Client => hall.break_out(&mut writers.client, Cause::Fault),
         Half::Link => hall.break_send(&mut writers.link, Cause::Fault),
@@ -196,7 +192,7 @@ fn breaks<H: Hall>(half: Half, hall: &mut H, writers: &mut Writers<E, M, K>) {
 }
 
 /// Ends a client or a link because its input has ended.
-fn ends<H: Hall>(half: Half, hall: &mut H, readers: &mut Readers<E, M, K>) {
+fn ends<H: Hall>(half: Half, hall: &mut H, readers: &mut Readers<H>) {
     let _ = match half {
         Half::Client => hall.end(&mut readers.client, Cause::Eof),
         Half::Link => hall.detach(&mut readers.link, Cause::Eof),
@@ -204,7 +200,7 @@ fn ends<H: Hall>(half: Half, hall: &mut H, readers: &mut Readers<E, M, K>) {
 }
 
 /// Makes bytes come due to the client, or on the link.
-fn asks<H: Hall>(half: Half, hall: &mut H, readers: &mut Readers<E, M, K>) {
+fn asks<H: Hall>(half: Half, hall: &mut H, readers: &mut Readers<H>) {
     let request: &[u8] = match half {
         Half::Client => b"000Chost:version",
         Half::Link => b"0012host:transport-any0009shell:cat",
@@ -224,8 +220,8 @@ fn reader_wakes<
     rt: W,
     here: &mut H,
     there: &mut H,
-    readers: &mut Readers<E, M, K>,
-    writers: &mut Writers<E, M, K>,
+    readers: &mut Readers<H>,
+    writers: &mut Writers<H>,
     half: Half,
     event: Event,
 ) -> bool {
@@ -249,8 +245,8 @@ fn writer_wakes<
     rt: W,
     here: &mut H,
     there: &mut H,
-    readers: &mut Readers<E, M, K>,
-    writers: &mut Writers<E, M, K>,
+    readers: &mut Readers<H>,
+    writers: &mut Writers<H>,
     half: Half,
     event: Event,
 ) -> bool {
@@ -264,7 +260,7 @@ fn writer_wakes<
 
 /// Returns whether more is due to a client, or on a link, than its reader has room for, after it
 /// sent a piece again and again.
-fn fills<H: Hall>(half: Half, hall: &mut H, readers: &mut Readers<E, M, K>, piece: &[u8]) -> bool {
+fn fills<H: Hall>(half: Half, hall: &mut H, readers: &mut Readers<H>, piece: &[u8]) -> bool {
     for _ in 0..PIECES {
         match sends(half, hall, readers, piece) {
             Ok(Progress { room, .. }) => {
@@ -281,7 +277,7 @@ fn fills<H: Hall>(half: Half, hall: &mut H, readers: &mut Readers<E, M, K>, piec
 fn sends<H: Hall>(
     half: Half,
     hall: &mut H,
-    readers: &mut Readers<E, M, K>,
+    readers: &mut Readers<H>,
     piece: &[u8],
 ) -> Result<Progress, DeskError> {
     let piece = &piece[..piece.len().min(PIECE)];
@@ -306,8 +302,8 @@ impl Call {
     fn is_to_wait<H: Hall>(
         self,
         hall: &mut H,
-        readers: &mut Readers<E, M, K>,
-        writers: &mut Writers<E, M, K>,
+        readers: &mut Readers<H>,
+        writers: &mut Writers<H>,
         piece: &[u8],
     ) -> bool {
         let begun = hand_out(Half::Link, hall, writers).is_ok()
@@ -366,7 +362,7 @@ impl Row {
 }
 
 /// Admits a client and a device.
-fn seats<H: Hall>(hall: &mut H) -> Option<(Readers<E, M, K>, Writers<E, M, K>)> {
+fn seats<H: Hall>(hall: &mut H) -> Option<(Readers<H>, Writers<H>)> {
     let client = hall.join().ok()?;
     let link = hall.attach(Kind::Usb, b"emu1").ok()?;
     let readers = Readers {
