@@ -4,7 +4,7 @@ ghost use Rattle.std.specs.Prelude.{◌≡◌, ◌≢◌, ◌<◌, ◌≤◌, Er
 ghost use Rattle.adb_outside.specs.Outside.{Rises};
 ghost use Rattle.adb_server.specs.Served.{HasClosed};
 
-use crate::arriving::{ArrivalOf, Comer, let_in, link_up};
+use crate::arriving::{Arrival, Comer, let_in, link_up};
 use crate::refusals::{go_on, go_on_without};
 use crate::server::Served;
 use crate::workers::{Jobs, Pair, client_jobs, device_jobs, start, start_all};
@@ -116,13 +116,13 @@ fn plug<
         return Err(Served::OutOfMemory);
     };
     let Provision { contexts, packets } = provision;
-    match link_up(hall, device, packets) {
+    match link_up::<P, HallOf<W, P>>(hall, device, packets) {
         Ok(Some(linked)) => {
             plugged.push_reserved(device_jobs::<W, P, S>(&supplies.jobs, contexts, linked));
             Ok(())
         }
         Ok(None) => Ok(()),
-        Err(error) => go_on(hall, error),
+        Err(error) => go_on::<P, HallOf<W, P>>(hall, error),
     }
 }
 
@@ -181,7 +181,7 @@ fn take<
         hall.halt();
         return Err(Served::OutOfMemory);
     };
-    match let_in(hall, door)? {
+    match let_in::<P, HallOf<W, P>, D>(hall, door)? {
         Some(Comer::Client(arrival)) => {
             serve_client::<W, P, Y, S>(supplies, pool, hall, contexts, arrival);
             Ok(())
@@ -204,7 +204,7 @@ fn serve_client<
     pool: &mut WorkerPool<W, S::Job>,
     hall: &mut HallOf<W, P>,
     contexts: Contexts<W, P>,
-    arrival: ArrivalOf<P>,
+    arrival: Arrival<P>,
 ) {
     let binder = supplies.yard.ports();
     let pair = client_jobs::<W, P, S>(&supplies.jobs, contexts, binder, arrival);
@@ -238,14 +238,14 @@ fn serve_device<
         device.output.unplug();
         return Ok(());
     };
-    match link_up(hall, device, packets) {
+    match link_up::<P, HallOf<W, P>>(hall, device, packets) {
         Ok(Some(linked)) => {
             let pair = device_jobs::<W, P, S>(&supplies.jobs, contexts, linked);
             start::<W, S::Job, P>(pool, hall, pair);
             Ok(())
         }
         Ok(None) => Ok(()),
-        Err(error) => go_on_without(hall, error),
+        Err(error) => go_on_without::<P, HallOf<W, P>>(hall, error),
     }
 }
 

@@ -7,71 +7,47 @@ ghost use Rattle.adb_server.specs.Served.{HasClosed};
 
 use crate::refusals::go_on;
 use crate::server::Served;
-use adb_connections::{Device, DeviceIn, DeviceOut, Door};
+use adb_connections::{DeviceOut, Door};
 use adb_server_client_reader::{Admitted, admit};
 use adb_server_device_reader::{Packets, Plugged, plug_in};
-use adb_server_hall::{Hall, LinkInOf, LinkOutOf};
-use adb_server_log::{ClientIn, ClientOut, DeskError, LinkIn, LinkOut, Marks};
-use adb_server_work::Parts;
-use std::sync::ledger::Ledger;
+use adb_server_hall::Hall;
+use adb_server_log::{ClientIn, ClientOut, DeskError, LinkIn, LinkOut};
+use adb_server_work::{DeviceOf, Parts};
 
 /// A client that was admitted: the two halves of its connection and the passes of its reader and
 /// its writer.
 #[derive(Drop)]
-pub(crate) struct Arrival<I: Drop, O: Drop, E: Ledger, M: Ledger, K: Marks> {
-    pub(crate) input: I,
-    pub(crate) output: O,
-    pub(crate) reading: ClientIn<E, M, K>,
-    pub(crate) writing: ClientOut<E, M, K>,
+pub(crate) struct Arrival<P: Parts> {
+    pub(crate) input: P::ClientIn,
+    pub(crate) output: P::ClientOut,
+    pub(crate) reading: ClientIn<P::Entries, P::Moved, P::Marks>,
+    pub(crate) writing: ClientOut<P::Entries, P::Moved, P::Marks>,
 }
-
-/// A client that a server admitted.
-pub(crate) type ArrivalOf<P: Parts> = Arrival<
-    <P as Parts>::ClientIn,
-    <P as Parts>::ClientOut,
-    <P as Parts>::Entries,
-    <P as Parts>::Moved,
-    <P as Parts>::Marks,
->;
 
 /// A client or a device that came through the door.
 #[derive(Drop)]
-pub(crate) enum Comer<A: Drop, X: Drop> {
-    Client(A),
+pub(crate) enum Comer<P: Parts> {
+    Client(Arrival<P>),
     /// A device that has no link yet.
-    Device(X),
+    Device(DeviceOf<P>),
 }
-
-/// What `let_in` returns.
-type ComerOf<H: Hall, D: Door> = Comer<
-    Arrival<
-        <D as Door>::In,
-        <D as Door>::Out,
-        <H as Hall>::Entries,
-        <H as Hall>::Moved,
-        <H as Hall>::Marks,
-    >,
-    Device<<D as Door>::DeviceIn, <D as Door>::DeviceOut>,
->;
 
 /// A device that has a link: its two halves, the reader of its packets, and the passes of its
 /// reader and its writer.
 #[derive(Drop)]
-pub(crate) struct Linked<I: DeviceIn, O: DeviceOut, E: Ledger, M: Ledger, K: Marks> {
-    pub(crate) device: Device<I, O>,
+pub(crate) struct Linked<P: Parts> {
+    pub(crate) device: DeviceOf<P>,
     pub(crate) packets: Packets,
-    pub(crate) reading: LinkIn<E, M, K>,
-    pub(crate) writing: LinkOut<E, M, K>,
+    pub(crate) reading: LinkIn<P::Entries, P::Moved, P::Marks>,
+    pub(crate) writing: LinkOut<P::Entries, P::Moved, P::Marks>,
 }
 
-/// A device of a server that has a link.
-pub(crate) type LinkedOf<P: Parts> = Linked<
-    <P as Parts>::DeviceIn,
-    <P as Parts>::DeviceOut,
-    <P as Parts>::Entries,
-    <P as Parts>::Moved,
-    <P as Parts>::Marks,
->;
+/// The passes of a device's reader and of its writer.
+#[derive(Drop)]
+struct Passes<P: Parts> {
+    reading: LinkIn<P::Entries, P::Moved, P::Marks>,
+    writing: LinkOut<P::Entries, P::Moved, P::Marks>,
+}
 
 /// Accepts one client or device and admits a client. A client that the hall refuses is dropped,
 /// which is `Ok(None)`.
@@ -81,11 +57,12 @@ pub(crate) type LinkedOf<P: Parts> = Linked<
 /// - `RecordFault`: the recorder failed. The hall is shut.
 /// - `OutOfMemory`: an allocation for a client failed. The hall is halted.
 #[tactic(auto, using(crate::proofs::Closing::closed_last))]
-pub(crate) fn let_in<H: Hall, D: Door>(
-    hall: &mut H,
-    door: &mut D,
-) -> Result<Option<ComerOf<H, D>>, Served>
-    ensures record { H.Marks.steady → result ≢ Err Served.RecordFault }
+pub(crate) fn let_in<
+    P: Parts,
+    H: Hall<Entries = P::Entries, Moved = P::Moved, Marks = P::Marks>,
+    D: Door<In = P::ClientIn, Out = P::ClientOut, DeviceIn = P::DeviceIn, DeviceOut = P::DeviceOut>,
+>(hall: &mut H, door: &mut D) -> Result<Option<Comer<P>>, Served>
+    ensures record { P.Marks.steady → result ≢ Err Served.RecordFault }
     ensures door { D.steady door.old → (D.steady door.new) × (result ≢ Err Served.DoorFault) }
     ensures fault { result ≡ Err Served.DoorFault → Rises (D.faults door.old) (D.faults door.new) }
     ensures count { D.faults door.old ≤ D.faults door.new }
@@ -112,7 +89,7 @@ pub(crate) fn let_in<H: Hall, D: Door>(
             Err(Served::DoorFault)
         }
         Admitted::Refused(error) => {
-            go_on(hall, error)?;
+            go_on::<P, H>(hall, error)?;
             Ok(None)
         }
     }
@@ -122,16 +99,16 @@ pub(crate) fn let_in<H: Hall, D: Door>(
 /// `Ok(None)`.
 ///
 /// `Err`: the hall refused the device with this error, and the device is unplugged and dropped.
-pub(crate) fn link_up<H: Hall, I: DeviceIn, O: DeviceOut>(
+pub(crate) fn link_up<P: Parts, H: Hall<Entries = P::Entries, Moved = P::Moved, Marks = P::Marks>>(
     hall: &mut H,
-    device: Device<I, O>,
+    device: DeviceOf<P>,
     packets: Packets,
-) -> Result<Option<Linked<I, O, H::Entries, H::Moved, H::Marks>>, DeskError>
-    ensures record { H.Marks.steady → result ≢ Err DeskError.RecordFault }
+) -> Result<Option<Linked<P>>, DeskError>
+    ensures record { P.Marks.steady → result ≢ Err DeskError.RecordFault }
 {
     let mut device = device;
-    match passes_of(hall, &mut device)? {
-        Some((reading, writing)) => Ok(Some(Linked {
+    match passes_of::<P, H>(hall, &mut device)? {
+        Some(Passes { reading, writing }) => Ok(Some(Linked {
             device,
             packets,
             reading,
@@ -145,11 +122,11 @@ pub(crate) fn link_up<H: Hall, I: DeviceIn, O: DeviceOut>(
 /// unplugged.
 ///
 /// `Err`: the hall refused the device with this error, and the device is unplugged.
-fn passes_of<H: Hall, I: DeviceIn, O: DeviceOut>(
+fn passes_of<P: Parts, H: Hall<Entries = P::Entries, Moved = P::Moved, Marks = P::Marks>>(
     hall: &mut H,
-    device: &mut Device<I, O>,
-) -> Result<Option<(LinkInOf<H>, LinkOutOf<H>)>, DeskError>
-    ensures record { H.Marks.steady → result ≢ Err DeskError.RecordFault }
+    device: &mut DeviceOf<P>,
+) -> Result<Option<Passes<P>>, DeskError>
+    ensures record { P.Marks.steady → result ≢ Err DeskError.RecordFault }
 {
     match plug_in(
         hall,
@@ -157,7 +134,7 @@ fn passes_of<H: Hall, I: DeviceIn, O: DeviceOut>(
         device.serial.as_slice(),
         &mut device.input,
     ) {
-        Plugged::Link { reading, writing } => Ok(Some((reading, writing))),
+        Plugged::Link { reading, writing } => Ok(Some(Passes { reading, writing })),
         Plugged::Refused(error) => {
             device.output.unplug();
             Err(error)

@@ -7,12 +7,16 @@ use crate::server::Served;
 use adb_hub::HubError;
 use adb_server_hall::Hall;
 use adb_server_log::DeskError;
+use adb_server_work::Parts;
 
 /// Returns `Ok` if the server continues after this refusal.
 ///
 /// - `OutOfMemory`: an allocation failed. The hall is halted.
 /// - `RecordFault`: the recorder failed, which shut the hall.
-pub(crate) fn go_on<H: Hall>(hall: &mut H, error: DeskError) -> Result<(), Served>
+pub(crate) fn go_on<P: Parts, H: Hall<Entries = P::Entries, Moved = P::Moved, Marks = P::Marks>>(
+    hall: &mut H,
+    error: DeskError,
+) -> Result<(), Served>
     ensures record { error ≢ DeskError.RecordFault → result ≢ Err Served.RecordFault }
     ensures other { (result ≢ Err Served.DoorFault) × (result ≢ Err Served.Done)
         × (result ≢ Err Served.WriteFault) }
@@ -33,8 +37,11 @@ pub(crate) fn go_on<H: Hall>(hall: &mut H, error: DeskError) -> Result<(), Serve
 ///
 /// - `OutOfMemory`: an allocation of the recorder failed, which shut the hall.
 /// - `RecordFault`: the recorder failed, which shut the hall.
-pub(crate) fn go_on_without<H: Hall>(hall: &mut H, error: DeskError) -> Result<(), Served>
-    ensures record { H.Marks.steady → error ≢ DeskError.RecordFault
+pub(crate) fn go_on_without<
+    P: Parts,
+    H: Hall<Entries = P::Entries, Moved = P::Moved, Marks = P::Marks>,
+>(hall: &mut H, error: DeskError) -> Result<(), Served>
+    ensures record { P.Marks.steady → error ≢ DeskError.RecordFault
         → result ≢ Err Served.RecordFault }
     ensures other { (result ≢ Err Served.DoorFault) × (result ≢ Err Served.Done)
         × (result ≢ Err Served.WriteFault) }
@@ -42,7 +49,7 @@ pub(crate) fn go_on_without<H: Hall>(hall: &mut H, error: DeskError) -> Result<(
     match error {
         DeskError::RecordFault => Err(Served::RecordFault),
         DeskError::Hub(HubError::OutOfMemory) => match hall.over() {
-            Some(over) => go_on(hall, over),
+            Some(over) => go_on::<P, H>(hall, over),
             None => Ok(()),
         },
         _ => Ok(()),

@@ -1,6 +1,6 @@
 //! The jobs of a server's clients and devices, and the threads that run them.
 
-use crate::arriving::{Arrival, ArrivalOf, Linked, LinkedOf};
+use crate::arriving::{Arrival, Linked};
 use adb_binder::Binder;
 use adb_connections::{Bell, DeviceIn, DeviceOut, Gate, PortIn, PortOut};
 use adb_hub::Owner;
@@ -120,7 +120,7 @@ pub(crate) fn client_jobs<W: Wait + Copy + Drop, P: Parts, S: Jobs<Work<W, P>>>(
     jobs: &S,
     contexts: Contexts<W, P>,
     binder: P::Binder,
-    arrival: ArrivalOf<P>,
+    arrival: Arrival<P>,
 ) -> Pair<S::Job> {
     let Arrival {
         input,
@@ -149,7 +149,7 @@ pub(crate) fn client_jobs<W: Wait + Copy + Drop, P: Parts, S: Jobs<Work<W, P>>>(
 pub(crate) fn device_jobs<W: Wait + Copy + Drop, P: Parts, S: Jobs<Work<W, P>>>(
     jobs: &S,
     contexts: Contexts<W, P>,
-    linked: LinkedOf<P>,
+    linked: Linked<P>,
 ) -> Pair<S::Job> {
     let Linked {
         device,
