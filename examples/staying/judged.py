@@ -9,6 +9,7 @@ import time
 
 from checks import check
 from client import Client, Refused, host
+from recorded import entries
 from server import Server, is_listed, until
 
 VERSION = "0029"
@@ -79,7 +80,7 @@ def is_killed(server, status=0):
 def is_legal(program, record):
     judged = subprocess.run([program, "check"], input=record, capture_output=True, check=False)
     told = (judged.stdout or judged.stderr).decode().strip()
-    check("the record is legal", judged.returncode == 0, told)
+    check("the record is legal, with as many entries as it has", told == f"legal {len(entries(record))}", told)
 
 
 def is_answered(port, seconds=PATIENCE):
