@@ -25,7 +25,7 @@ returns-clause-record g c = λ keeps.
       done = λ is. refl;
       fault = λ is. inl refl;
       given = λ had at_first.
-          inl (serves_history Keeps live_faults c.in-Some.recorder k.0 had _ c.in-Some-end_record.whole
+          inl (serves_history Keeps live_faults c.in-Some.recorder k.0 had _ c.in-Some-end_record.field-0.whole
           (live_faults c.in-Some.recorder) c.ended-2.result
           (c.in-Some-end_record.ensures (reverse k.0.history) k.0.kept had at_first)
           (λ is. (let both = c.ended-2.ensures.done is in (both.1, k.1 both.0))));
